@@ -1,0 +1,66 @@
+-- Which replies a request may have (protocol.txt).
+use Rattle.std.specs.Prelude.{Bool, true, false, not, ◌&&◌, is_some, length, nat_le}
+use Rattle.mc_protocol.specs.declared.request.Verb.{Verb}
+use Rattle.mc_protocol.specs.declared.request.Verb.TheVariants.{Set, Get, Delete}
+use Rattle.mc_protocol.specs.declared.request.Request.{Request}
+use Rattle.mc_protocol.specs.declared.reply.Class.{Class}
+use Rattle.mc_protocol.specs.declared.reply.Class.TheVariants as class
+use Rattle.mc_protocol.specs.declared.reply.Reply.{Reply}
+use Rattle.mc_protocol.specs.declared.reply.Reply.TheVariants as reply
+use Rattle.mc_protocol.specs.declared.legal.TheConstants.{BODY_LIMIT}
+
+-- a reply without what it carries
+abbrev pub class_of : Reply → Class
+class_of reply.Stored = class.Stored
+class_of reply.NotStored = class.NotStored
+class_of reply.Exists = class.Exists
+class_of reply.NotFound = class.NotFound
+class_of (reply.Hit flags body cas) = class.Hit
+class_of reply.Miss = class.Miss
+class_of reply.Deleted = class.Deleted
+
+-- what a storage verb may be answered
+abbrev pub is_storage_reply : Class → Bool
+is_storage_reply class.Stored = true
+is_storage_reply class.NotStored = true
+is_storage_reply class.Exists = true
+is_storage_reply class.NotFound = true
+is_storage_reply _ = false
+
+-- what a retrieval may be answered
+abbrev pub is_retrieval_reply : Class → Bool
+is_retrieval_reply class.Hit = true
+is_retrieval_reply class.Miss = true
+is_retrieval_reply _ = false
+
+-- what a deletion may be answered
+abbrev pub is_deletion_reply : Class → Bool
+is_deletion_reply class.Deleted = true
+is_deletion_reply class.NotFound = true
+is_deletion_reply _ = false
+
+-- the protocol has a reply of this class to the verb
+abbrev pub is_legal : Verb → Class → Bool
+is_legal Set c = is_storage_reply c
+is_legal Get c = is_retrieval_reply c
+is_legal Delete c = is_deletion_reply c
+
+-- a hit for the verb shows the item's cas number
+abbrev pub shows_number : Verb → Bool
+shows_number Set = false
+shows_number Get = false
+shows_number Delete = false
+
+-- both or neither
+abbrev pub same : Bool → Bool → Bool
+same true b = b
+same false b = not b
+
+-- what the reply carries is right for the verb: a hit has a cas number exactly where the verb shows it, and its body is within the limit
+abbrev pub suits : Verb → Reply → Bool
+suits verb (reply.Hit flags body cas) = same (is_some cas) (shows_number verb) && nat_le (length body) BODY_LIMIT
+suits verb _ = true
+
+-- the request may have this reply
+abbrev pub is_fit : Request → Reply → Bool
+is_fit request r = is_legal request.verb (class_of r) && suits request.verb r

@@ -1,0 +1,6 @@
+pub mod Fields
+pub mod Legal
+pub mod Lines
+pub mod Merge
+pub mod TextLines
+pub mod Words

@@ -1,0 +1,52 @@
+ghost use Rattle.std.specs.Prelude.{◌≡◌};
+ghost use Rattle.mc_protocol.specs.Legal as legal;
+
+use crate::{Class, Reply, Request, Verb};
+
+/// The most bytes of a body that a reply may show.
+pub const BODY_LIMIT: usize = 65_536;
+
+/// Whether the protocol has a reply of this class to the verb (`protocol.txt`).
+pub fn is_legal(verb: Verb, class: Class) -> bool
+    ensures { result ≡ legal.is_legal verb class }
+{
+    match verb {
+        Verb::Set => {
+            matches!(
+                class,
+                Class::Stored | Class::NotStored | Class::Exists | Class::NotFound
+            )
+        }
+        Verb::Get => matches!(class, Class::Hit | Class::Miss),
+        Verb::Delete => matches!(class, Class::Deleted | Class::NotFound),
+    }
+}
+
+/// Whether the request may have this reply: its class is legal, a hit shows a cas number exactly to `gets`, and its
+/// body has at most [`BODY_LIMIT`] bytes.
+pub fn fits(request: &Request, reply: &Reply) -> bool
+    ensures { result ≡ legal.is_fit request.now reply.now }
+{
+    is_legal(request.verb, reply.class()) && suits(request.verb, reply)
+}
+
+// Whether what the reply carries is right for the verb.
+fn suits(verb: Verb, reply: &Reply) -> bool
+    ensures { result ≡ legal.suits verb reply.now }
+{
+    match reply {
+        Reply::Hit { body, cas, .. } => {
+            cas.is_some() == shows_number(verb) && body.as_slice().len() <= BODY_LIMIT
+        }
+        _ => true,
+    }
+}
+
+// Whether a hit for the verb shows the cas number.
+fn shows_number(verb: Verb) -> bool
+    ensures { result ≡ legal.shows_number verb }
+{
+    match verb {
+        Verb::Set | Verb::Get | Verb::Delete => false,
+    }
+}
