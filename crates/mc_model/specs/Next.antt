@@ -1,0 +1,44 @@
+-- What is tested of a request that comes next. No public contract cites these: they say of one request what the rules
+-- of `History.antt` say of all.
+use Rattle.std.specs.Prelude.{◌≡◌, ℕ, ◌+◌, nat_le, Bool, true, false, not, ◌&&◌, ◌||◌, Some, List, length, take, if◌then◌else◌, slice_get}
+use Rattle.mc_protocol.specs.declared.actor.Actor.{Actor}
+use Rattle.mc_protocol.specs.declared.actor.Actor.TheVariants as actor
+use Rattle.mc_model.specs.declared.sent.Sent.{Sent}
+use Rattle.mc_model.specs.declared.rules.TheConstants.{KEYS_LIMIT, REQUESTS_LIMIT}
+use Rattle.mc_model.specs.Sections.{Sections, section_of}
+use Rattle.mc_model.specs.declared.rules.HistoryKind.{HistoryKind}
+use Rattle.mc_model.specs.History.{is_history, fault_at, key_count, has_key, are_answered, is_none_sent, is_delete}
+
+abbrev pub is_full : Sections → Actor → Sent → Bool
+is_full s actor sent =
+    nat_le REQUESTS_LIMIT (length (section_of s actor))
+    || (nat_le KEYS_LIMIT (key_count s) && not (has_key sent.request.key s.p))
+
+-- how many keys there are with the request: P has each key that a history has
+abbrev pub keys_with : Sections → Sent → ℕ
+keys_with s sent = if has_key sent.request.key s.p then key_count s else key_count s + 1
+
+abbrev pub may_come : Sections → Actor → Bool
+may_come s actor.P = is_none_sent s.a && is_none_sent s.b && are_answered s.p
+may_come s actor.A = are_answered s.p && are_answered s.a
+may_come s actor.B = are_answered s.p && are_answered s.b
+
+abbrev pub is_prefix : Actor → Bool
+is_prefix actor.P = true
+is_prefix _ = false
+
+abbrev pub clears : Sections → Actor → Sent → Bool
+clears s actor sent = has_key sent.request.key s.p || (is_prefix actor && is_delete sent.request.verb)
+
+-- the sections with these requests in place of one section's
+abbrev pub with_section : Sections → Actor → List Sent → Sections
+with_section s actor.P requests = record s { p = requests }
+with_section s actor.A requests = record s { a = requests }
+with_section s actor.B requests = record s { b = requests }
+
+-- of the requests that one section is to have, those before this place make a history, and the one there has this fault
+pub record FailsAt (s : Sections) (actor : Actor) (requests : List Sent) (kind : HistoryKind) (place : ℕ) : Type 0 where
+  pub history : is_history (with_section s actor (take place requests)) ≡ true
+  pub sent : Sent
+  pub request : slice_get requests place ≡ Some sent
+  pub fault : fault_at (with_section s actor (take place requests)) actor sent ≡ Some kind

@@ -1,0 +1,150 @@
+-- What the readers of words answer, fault by fault. Of public contracts only those of `read_number` and `read_body`
+-- cite it, which say by it which fault comes: `Words.antt` says what words
+-- spell, and the proofs join the two.
+use Rattle.std.specs.Prelude.{◌≡◌, ℕ, ◌+◌, ◌*◌, ◌==◌, nat_le, nat_lt, not, ◌||◌, Option, Some, None, Result, Ok, Err, List, [], ◌∷◌, length, if◌then◌else◌}
+use Rattle.std.specs.List.{find}
+use Rattle.std.specs.Str.{bytes_eq}
+use Rattle.std.specs.Str.Parse.{digits_value}
+use Rattle.mc_protocol.specs.Words.{verb_word}
+use Rattle.mc_protocol.specs.Fields.{fields_of}
+use Rattle.mc_protocol.specs.declared.request.Verb.{Verb}
+use Rattle.mc_protocol.specs.declared.request.Verb.TheVariants as verb
+use Rattle.mc_protocol.specs.declared.request.Fields.{Fields}
+use Rattle.mc_protocol.specs.declared.request.Fields.TheVariants as fields
+use Rattle.mc_protocol.specs.declared.request.Request.{Request}
+use Rattle.mc_protocol.specs.declared.reply.Reply.{Reply}
+use Rattle.mc_protocol.specs.declared.reply.Reply.TheVariants as reply
+use Rattle.mc_protocol.specs.declared.reply.Class.{Class}
+use Rattle.mc_protocol.specs.declared.reply.Class.TheVariants as class
+use Rattle.mc_protocol.specs.declared.legal.TheConstants.{BODY_LIMIT}
+use Rattle.mc_model.specs.declared.number.TheConstants.{DIGITS_LIMIT}
+use Rattle.mc_model.specs.declared.words.WordsFault.{WordsFault}
+use Rattle.mc_model.specs.declared.words.WordsFault.TheVariants as fault
+use Rattle.mc_model.specs.Words.{Word, is_key, are_digits, is_plain, hex_value, class_word, MAX_32, MAX_64}
+
+infixl 10 ◌>>=◌
+abbrev pub ◌>>=◌ : {A B : Type 0} → Result A WordsFault → (A → Result B WordsFault) → Result B WordsFault
+(Ok x) >>= f = f x
+(Err e) >>= f = Err e
+
+-- what was returned, seen by view, is what reading gives, unless memory ran out
+abbrev pub Fails : {Y : Type 0} → WordsFault → Result Y WordsFault → Type 0
+Fails fault.OutOfMemory read = Unit {0}
+Fails fault.Form read = read ≡ Err fault.Form
+Fails fault.Number read = read ≡ Err fault.Number
+
+abbrev pub Gives : {X Y : Type 0} → (X → Y) → Result X WordsFault → Result Y WordsFault → Type 0
+Gives view (Ok x) read = read ≡ Ok (view x)
+Gives view (Err e) read = Fails e read
+
+unfoldable pub number_in : ℕ → Word → Result ℕ WordsFault
+number_in greatest word =
+    if (length word == 0) || not (are_digits word) then Err fault.Form
+    else (if nat_lt DIGITS_LIMIT (length word) then Err fault.Number
+    else (if nat_le (digits_value 10 word) greatest then Ok (digits_value 10 word) else Err fault.Number))
+
+abbrev pub flags_in : Word → Result ℕ WordsFault
+flags_in word = number_in MAX_32 word
+
+abbrev pub if_plain : ℕ → List ℕ → Result (Option (ℕ × List ℕ)) WordsFault
+if_plain byte rest = if is_plain byte then Ok (Some (byte, rest)) else Err fault.Form
+
+abbrev pub if_hex : Option ℕ → Option ℕ → List ℕ → Result (Option (ℕ × List ℕ)) WordsFault
+if_hex (Some high) (Some low) rest = Ok (Some (high * 16 + low, rest))
+if_hex _ _ rest = Err fault.Form
+
+-- the first byte that a text stands for, and what follows
+abbrev pub first_byte_in : List ℕ → Result (Option (ℕ × List ℕ)) WordsFault
+first_byte_in [] = Ok None
+first_byte_in (a ∷ []) = if_plain a []
+first_byte_in (a ∷ b ∷ []) = if_plain a (b ∷ [])
+first_byte_in (a ∷ b ∷ c ∷ rest) = if a == 37 then if_hex (hex_value b) (hex_value c) rest else if_plain a (b ∷ c ∷ rest)
+
+-- a byte in front of the bytes that follow
+abbrev pub in_front : ℕ → Result (List ℕ) WordsFault → Result (List ℕ) WordsFault
+in_front byte (Ok bytes) = Ok (byte ∷ bytes)
+in_front byte (Err e) = Err e
+
+abbrev pub plain_before : ℕ → Result (List ℕ) WordsFault → Result (List ℕ) WordsFault
+plain_before byte read = if is_plain byte then in_front byte read else Err fault.Form
+
+abbrev pub hex_before : Option ℕ → Option ℕ → Result (List ℕ) WordsFault → Result (List ℕ) WordsFault
+hex_before (Some high) (Some low) read = in_front (high * 16 + low) read
+hex_before _ _ read = Err fault.Form
+
+-- the bytes that a text stands for
+abbrev pub bytes_in : List ℕ → Result (List ℕ) WordsFault
+bytes_in [] = Ok []
+bytes_in (a ∷ []) = plain_before a (Ok [])
+bytes_in (a ∷ b ∷ []) = plain_before a (bytes_in (b ∷ []))
+bytes_in (a ∷ b ∷ c ∷ rest) = if a == 37 then hex_before (hex_value b) (hex_value c) (bytes_in rest) else plain_before a (bytes_in (b ∷ c ∷ rest))
+
+abbrev pub within_limit : List ℕ → Result (List ℕ) WordsFault
+within_limit bytes = if nat_le (length bytes) BODY_LIMIT then Ok bytes else Err fault.Form
+
+unfoldable pub body_in : Word → Result (List ℕ) WordsFault
+body_in [] = Err fault.Form
+body_in (first ∷ text) = if first == 61 then (bytes_in text >>= within_limit) else Err fault.Form
+
+abbrev pub all_verbs : List Verb
+all_verbs = verb.Set ∷ verb.Get ∷ verb.Delete ∷ []
+
+unfoldable pub verb_of : Word → Option Verb
+verb_of word = find (λ v. bytes_eq (verb_word v) word) all_verbs
+
+abbrev pub key_alone_in : Verb → List ℕ → List Word → Result Request WordsFault
+key_alone_in verb key [] = Ok (record { verb = verb; key = key; flags = 0; body = []; number = 0 })
+key_alone_in verb key (_ ∷ _) = Err fault.Form
+
+abbrev pub item_in : Verb → List ℕ → List Word → Result Request WordsFault
+item_in verb key [] = Err fault.Form
+item_in verb key (flags ∷ []) = flags_in flags >>= λ f. Err fault.Form
+item_in verb key (flags ∷ body ∷ []) = flags_in flags >>= λ f. body_in body >>= λ b. Ok (record { verb = verb; key = key; flags = f; body = b; number = 0 })
+item_in verb key (flags ∷ body ∷ _ ∷ _) = flags_in flags >>= λ f. body_in body >>= λ b. Err fault.Form
+
+abbrev pub fields_in : Fields → Verb → List ℕ → List Word → Result Request WordsFault
+fields_in fields.KeyAlone verb key words = key_alone_in verb key words
+fields_in fields.Item verb key words = item_in verb key words
+
+abbrev pub behind_verb : Option Verb → List Word → Result Request WordsFault
+behind_verb None words = Err fault.Form
+behind_verb (Some verb) [] = Err fault.Form
+behind_verb (Some verb) (key ∷ others) = if is_key key then fields_in (fields_of verb) verb key others else Err fault.Form
+
+unfoldable pub request_in : List Word → Result Request WordsFault
+request_in [] = Err fault.Form
+request_in (word ∷ words) = behind_verb (verb_of word) words
+
+abbrev pub all_classes : List Class
+all_classes = class.Stored ∷ class.NotStored ∷ class.Exists ∷ class.NotFound ∷ class.Hit ∷ class.Miss ∷ class.Deleted ∷ []
+
+unfoldable pub class_of_word : Word → Option Class
+class_of_word word = find (λ c. bytes_eq (class_word c) word) all_classes
+
+abbrev pub bare_in : Reply → List Word → Result Reply WordsFault
+bare_in r [] = Ok r
+bare_in r (_ ∷ _) = Err fault.Form
+
+abbrev pub shown_number_in : List Word → Result (Option ℕ) WordsFault
+shown_number_in [] = Ok None
+shown_number_in (number ∷ []) = number_in MAX_64 number >>= λ n. Ok (Some n)
+shown_number_in (number ∷ _ ∷ _) = number_in MAX_64 number >>= λ n. Err fault.Form
+
+abbrev pub hit_in : List Word → Result Reply WordsFault
+hit_in [] = Err fault.Form
+hit_in (flags ∷ []) = flags_in flags >>= λ f. Err fault.Form
+hit_in (flags ∷ body ∷ shown) = flags_in flags >>= λ f. body_in body >>= λ b. shown_number_in shown >>= λ n. Ok (reply.Hit f b n)
+
+abbrev pub behind_class : Option Class → List Word → Result Reply WordsFault
+behind_class None words = Err fault.Form
+behind_class (Some class.Stored) words = bare_in reply.Stored words
+behind_class (Some class.NotStored) words = bare_in reply.NotStored words
+behind_class (Some class.Exists) words = bare_in reply.Exists words
+behind_class (Some class.NotFound) words = bare_in reply.NotFound words
+behind_class (Some class.Hit) words = hit_in words
+behind_class (Some class.Miss) words = bare_in reply.Miss words
+behind_class (Some class.Deleted) words = bare_in reply.Deleted words
+
+unfoldable pub reply_in : List Word → Result Reply WordsFault
+reply_in [] = Err fault.Form
+reply_in (word ∷ words) = behind_class (class_of_word word) words

@@ -1,0 +1,31 @@
+-- The requests of three sections, with their replies.
+use Rattle.std.specs.Prelude.{ℕ, List, [], ◌∷◌, ◌++◌, take}
+use Rattle.mc_protocol.specs.declared.actor.Actor.{Actor}
+use Rattle.mc_protocol.specs.declared.actor.Actor.TheVariants as actor
+use Rattle.mc_model.specs.declared.sent.Sent.{Sent}
+
+-- what each section sent and received, in order
+pub record Sections : Type 0 where
+  pub p : List Sent
+  pub a : List Sent
+  pub b : List Sent
+
+abbrev pub no_sections : Sections
+no_sections = record { p = []; a = []; b = [] }
+
+abbrev pub section_of : Sections → Actor → List Sent
+section_of s actor.P = s.p
+section_of s actor.A = s.a
+section_of s actor.B = s.b
+
+-- with one more request of a section
+abbrev pub added : Sections → Actor → Sent → Sections
+added s actor.P sent = record s { p = s.p ++ sent ∷ [] }
+added s actor.A sent = record s { a = s.a ++ sent ∷ [] }
+added s actor.B sent = record s { b = s.b ++ sent ∷ [] }
+
+-- what stands before a request, in the order P, A, B: the first of its section, and the sections before
+abbrev pub before : Sections → Actor → ℕ → Sections
+before s actor.P n = record { p = take n s.p; a = []; b = [] }
+before s actor.A n = record { p = s.p; a = take n s.a; b = [] }
+before s actor.B n = record { p = s.p; a = s.a; b = take n s.b }

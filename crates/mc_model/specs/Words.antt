@@ -1,0 +1,134 @@
+-- The words of requests and replies, as histories and step lists have them.
+use Rattle.std.specs.Prelude.{◌≡◌, ℕ, ◌+◌, ◌-◌, ◌*◌, ◌≤◌, ◌==◌, nat_le, Bool, true, not, ◌&&◌, ◌||◌, ◌⊎◌, Option, Some, None, List, [], ◌∷◌, length, codes, if◌then◌else◌}
+use Rattle.std.specs.List.{list_all}
+use Rattle.std.specs.Str.Parse.{digits_value}
+use Rattle.mc_protocol.specs.Words.{verb_word}
+use Rattle.mc_protocol.specs.Fields.{fields_of}
+use Rattle.mc_protocol.specs.declared.request.Fields.{Fields}
+use Rattle.mc_protocol.specs.declared.request.Fields.TheVariants as fields
+use Rattle.mc_protocol.specs.declared.request.Request.{Request}
+use Rattle.mc_protocol.specs.declared.reply.Reply.{Reply}
+use Rattle.mc_protocol.specs.declared.reply.Reply.TheVariants as reply
+use Rattle.mc_protocol.specs.declared.reply.Class.{Class}
+use Rattle.mc_protocol.specs.declared.reply.Class.TheVariants as class
+use Rattle.mc_protocol.specs.declared.legal.TheConstants.{BODY_LIMIT}
+use Rattle.mc_model.specs.declared.rules.TheConstants.{KEY_BYTES_LIMIT}
+use Rattle.mc_model.specs.declared.number.TheConstants.{DIGITS_LIMIT}
+
+-- a word: its bytes
+abbrev pub Word : Type 0
+Word = List ℕ
+
+-- ---- keys
+
+-- a lower case letter, a digit or a dash
+abbrev pub is_key_byte : ℕ → Bool
+is_key_byte byte = (nat_le 97 byte && nat_le byte 122) || (nat_le 48 byte && nat_le byte 57) || byte == 45
+
+abbrev pub are_key_bytes : List ℕ → Bool
+are_key_bytes bytes = list_all is_key_byte bytes
+
+-- a key that a text may have: 1 to 40 bytes, each a lower case letter, a digit or a dash
+abbrev pub is_key : List ℕ → Bool
+is_key bytes = not (length bytes == 0) && nat_le (length bytes) KEY_BYTES_LIMIT && are_key_bytes bytes
+
+-- ---- numbers
+
+abbrev pub is_digit : ℕ → Bool
+is_digit byte = nat_le 48 byte && nat_le byte 57
+
+abbrev pub are_digits : Word → Bool
+are_digits word = list_all is_digit word
+
+-- the word is a decimal of 1 to 20 digits for n, which is at most the greatest; zeros may lead
+pub record SpellsNumber (greatest : ℕ) (word : Word) (n : ℕ) : Type 0 where
+  pub some : not (length word == 0) ≡ true
+  pub digits : are_digits word ≡ true
+  pub short : length word ≤ DIGITS_LIMIT
+  pub value : digits_value 10 word ≡ n
+  pub small : n ≤ greatest
+
+-- the greatest numbers of 32 and of 64 bits
+abbrev pub MAX_32 : ℕ
+MAX_32 = 4294967295
+
+abbrev pub MAX_64 : ℕ
+MAX_64 = 18446744073709551615
+
+-- ---- bodies
+
+-- a byte that stands for itself: 33 to 126, other than `%`
+abbrev pub is_plain : ℕ → Bool
+is_plain byte = nat_le 33 byte && nat_le byte 126 && not (byte == 37)
+
+-- the value of a hexadecimal digit, in either case
+abbrev pub hex_value : ℕ → Option ℕ
+hex_value byte =
+    if nat_le 48 byte && nat_le byte 57 then Some (byte - 48)
+    else (if nat_le 97 byte && nat_le byte 102 then Some (byte - 97 + 10)
+    else (if nat_le 65 byte && nat_le byte 70 then Some (byte - 65 + 10) else None))
+
+-- the text begins with a byte, as itself or as `%` and two hexadecimal digits, and the rest follows
+abbrev pub SpellsByte : List ℕ → ℕ → List ℕ → Type 0
+SpellsByte text byte rest =
+    ((text ≡ byte ∷ rest) × (is_plain byte ≡ true))
+    ⊎ ((high : ℕ) × (low : ℕ) × (h : ℕ) × (l : ℕ) × (text ≡ 37 ∷ high ∷ low ∷ rest)
+    × (hex_value high ≡ Some h) × (hex_value low ≡ Some l) × (byte ≡ h * 16 + l))
+
+-- the text stands for these bytes
+abbrev pub SpellsBytes : List ℕ → List ℕ → Type 0
+SpellsBytes text [] = text ≡ []
+SpellsBytes text (byte ∷ bytes) = (rest : List ℕ) × SpellsByte text byte rest × SpellsBytes rest bytes
+
+-- the word is `=` and a text that stands for the body, which is within the limit
+abbrev pub SpellsBody : Word → List ℕ → Type 0
+SpellsBody word body = (text : List ℕ) × (word ≡ 61 ∷ text) × SpellsBytes text body × (length body ≤ BODY_LIMIT)
+
+-- ---- requests
+
+-- the words behind the key, by what the verb has there; a field that it lacks is 0 or empty
+abbrev pub SpellsFields : Fields → List Word → Request → Type 0
+SpellsFields fields.KeyAlone words r = (words ≡ []) × (r.flags ≡ 0) × (r.body ≡ []) × (r.number ≡ 0)
+SpellsFields fields.Item words r =
+    (flags : Word) × (body : Word) × (words ≡ flags ∷ body ∷ [])
+    × SpellsNumber MAX_32 flags r.flags × SpellsBody body r.body × (r.number ≡ 0)
+
+-- the words of a request: its verb, its key, and what else the verb has
+abbrev pub SpellsRequest : List Word → Request → Type 0
+SpellsRequest words r =
+    (others : List Word) × (words ≡ verb_word r.verb ∷ r.key ∷ others)
+    × (is_key r.key ≡ true) × SpellsFields (fields_of r.verb) others r
+
+-- ---- replies
+
+-- the word that a reply of the class begins with
+abbrev pub class_word : Class → Word
+class_word class.Stored = codes "STORED"
+class_word class.NotStored = codes "NOT_STORED"
+class_word class.Exists = codes "EXISTS"
+class_word class.NotFound = codes "NOT_FOUND"
+class_word class.Hit = codes "HIT"
+class_word class.Miss = codes "MISS"
+class_word class.Deleted = codes "DELETED"
+
+-- the words behind a hit's body: the cas number, where it is shown
+abbrev pub SpellsShown : List Word → Option ℕ → Type 0
+SpellsShown words None = words ≡ []
+SpellsShown words (Some n) = (word : Word) × (words ≡ word ∷ []) × SpellsNumber MAX_64 word n
+
+-- the words of a reply
+abbrev pub SpellsReply : List Word → Reply → Type 0
+SpellsReply words (reply.Hit flags body cas) =
+    (f : Word) × (b : Word) × (shown : List Word) × (words ≡ class_word class.Hit ∷ f ∷ b ∷ shown)
+    × SpellsNumber MAX_32 f flags × SpellsBody b body × SpellsShown shown cas
+SpellsReply words reply.Stored = words ≡ class_word class.Stored ∷ []
+SpellsReply words reply.NotStored = words ≡ class_word class.NotStored ∷ []
+SpellsReply words reply.Exists = words ≡ class_word class.Exists ∷ []
+SpellsReply words reply.NotFound = words ≡ class_word class.NotFound ∷ []
+SpellsReply words reply.Miss = words ≡ class_word class.Miss ∷ []
+SpellsReply words reply.Deleted = words ≡ class_word class.Deleted ∷ []
+
+-- ---- words spell at most one value
+
+abbrev pub SpellAtMostOne : {W V : Type 0} → (W → V → Type 0) → Type 0
+SpellAtMostOne {W} {V} Spells = (words : W) (v w : V) → Spells words v → Spells words w → v ≡ w
