@@ -1,0 +1,123 @@
+-- Words are read as a request exactly where they spell it.
+use Rattle.std.proofs.Common.{◌≡◌, ◌≢◌, ℕ, ◌==◌, Bool, true, false, Option, Some, None, is_some, Ok, Err, List, [], ◌∷◌, codes, refl, sym, ap, ◌∙◌, subst}
+use Rattle.std.specs.Str.{bytes_eq}
+use Rattle.std.proofs.lemmas.Bool.{false≢true}
+use Rattle.std.proofs.lemmas.Slice.Eq.{bytes_eq-Decides}
+use Rattle.mc_protocol.specs.Words.{verb_word}
+use Rattle.mc_protocol.specs.Fields.{fields_of}
+use Rattle.mc_protocol.specs.declared.request.Verb.{Verb}
+use Rattle.mc_protocol.specs.declared.request.Verb.TheVariants.{Set, Get, Delete}
+use Rattle.mc_protocol.specs.declared.request.Fields.{Fields}
+use Rattle.mc_protocol.specs.declared.request.Fields.TheVariants as fields
+use Rattle.mc_protocol.specs.declared.request.Request.{Request}
+use Rattle.mc_model.specs.declared.words.WordsFault.TheVariants as fault
+use Rattle.mc_model.specs.Words.{Word, SpellsBody, SpellsFields, SpellsRequest, is_key, are_digits, MAX_32}
+use Rattle.mc_model.specs.Reading.{◌>>=◌, all_verbs, verb_of, body_in, flags_in, fields_in, key_alone_in, item_in, behind_verb, request_in}
+use Rattle.mc_model.proofs.Outcomes.{then-ok, steps-ok, ok-same, find-passes}
+use Rattle.mc_model.proofs.NumberWords.{number-spelled, number-read}
+use Rattle.mc_model.proofs.BodyWords.{body-spelled, body-read}
+
+-- ---- verbs
+
+-- the verb with a verb's word is that verb
+pub verb_of-word : (verb : Verb) → verb_of (verb_word verb) ≡ Some verb
+unfolding verb_of
+verb_of-word Set = refl
+verb_of-word Get = refl
+verb_of-word Delete = refl
+
+pub word-of_verb : (word : Word) (verb : Verb) → verb_of word ≡ Some verb → verb_word verb ≡ word
+unfolding verb_of
+word-of_verb word verb h = (bytes_eq-Decides (verb_word verb) word).0 (find-passes (λ v. bytes_eq (verb_word v) word) all_verbs verb h)
+
+-- ---- what stands behind the key, by its shape
+
+-- the request is for the verb and the key, and the words spell what it has besides
+abbrev SpellsBehind : Fields → Verb → List ℕ → List Word → Request → Type 0
+SpellsBehind shape verb key words r = (r.verb ≡ verb) × (r.key ≡ key) × SpellsFields shape words r
+
+key_alone-spelled : (verb : Verb) (key : List ℕ) (words : List Word) (r : Request) → key_alone_in verb key words ≡ Ok r → SpellsBehind fields.KeyAlone verb key words r
+key_alone-spelled verb key [] r h = subst (SpellsBehind fields.KeyAlone verb key []) (ok-same _ r h) (refl, refl, (refl, refl, refl, refl))
+key_alone-spelled verb key (word ∷ words) r h = absurd (cc)
+
+item-spelled : (verb : Verb) (key : List ℕ) (words : List Word) (r : Request) → item_in verb key words ≡ Ok r → SpellsBehind fields.Item verb key words r
+item-spelled verb key [] r h = absurd (cc)
+item-spelled verb key (flags ∷ []) r h = absurd (let p = steps-ok (flags_in flags) (λ f. Err fault.Form) r h in cc)
+item-spelled verb key (flags ∷ body ∷ []) r h =
+    let made : ℕ → List ℕ → Request = λ f b. record { verb = verb; key = key; flags = f; body = b; number = 0 } in
+    let p = steps-ok (flags_in flags) (λ f. body_in body >>= λ b. Ok (made f b)) r h in
+    let q = steps-ok (body_in body) (λ b. Ok (made p.0 b)) r p.2 in
+    subst (SpellsBehind fields.Item verb key (flags ∷ body ∷ [])) (ok-same (made p.0 q.0) r q.2) (refl, refl, (flags, body, refl, number-spelled MAX_32 flags p.0 p.1, body-spelled body q.0 q.1, refl))
+item-spelled verb key (flags ∷ body ∷ word ∷ words) r h =
+    absurd (let p = steps-ok (flags_in flags) (λ f. body_in body >>= λ b. Err fault.Form) r h in let q = steps-ok (body_in body) (λ b. Err fault.Form) r p.2 in cc)
+
+fields-spelled : (shape : Fields) (verb : Verb) (key : List ℕ) (words : List Word) (r : Request) → fields_in shape verb key words ≡ Ok r → SpellsBehind shape verb key words r
+fields-spelled fields.KeyAlone verb key words r h = key_alone-spelled verb key words r h
+fields-spelled fields.Item verb key words r h = item-spelled verb key words r h
+
+-- a request is what its parts make
+same_request : (r : Request) (flags : ℕ) (body : List ℕ) (number : ℕ) → r.flags ≡ flags → r.body ≡ body → r.number ≡ number → ◌≡◌ {A = Request} (record { verb = r.verb; key = r.key; flags = flags; body = body; number = number }) r
+same_request r flags body number f b n = rw (← f, ← b, ← n) refl
+
+fields-read : (shape : Fields) (r : Request) (words : List Word) → SpellsFields shape words r → fields_in shape r.verb r.key words ≡ Ok r
+fields-read fields.KeyAlone r words (e, f, b, n) = rw e (ap Ok (same_request r 0 [] 0 f b n))
+fields-read fields.Item r words (flags, body, e, f, b, n) =
+    rw (e, number-read MAX_32 flags r.flags f, body-read body r.body b) (ap Ok (same_request r r.flags r.body 0 refl refl n))
+
+-- ---- requests
+
+behind-spelled : (word : Word) (verb : Option Verb) (words : List Word) (r : Request) → verb_of word ≡ verb → behind_verb verb words ≡ Ok r → SpellsRequest (word ∷ words) r
+behind-spelled word None words r e h = absurd (cc)
+behind-spelled word (Some verb) [] r e h = absurd (cc)
+behind-spelled word (Some verb) (key ∷ others) r e h =
+    let p = then-ok (is_key key) (fields_in (fields_of verb) verb key others) fault.Form r h in
+    let q = fields-spelled (fields_of verb) verb key others r p.1 in
+    let w = word-of_verb word verb e in
+    (others, rw (q.0, q.1, w) refl, subst (λ k. is_key k ≡ true) (sym q.1) p.0, subst (λ v. SpellsFields (fields_of v) others r) (sym q.0) q.2)
+
+pub request-spelled : (words : List Word) (r : Request) → request_in words ≡ Ok r → SpellsRequest words r
+unfolding request_in
+request-spelled [] r h = absurd (cc)
+request-spelled (word ∷ words) r h = behind-spelled word (verb_of word) words r refl h
+
+pub request-read : (words : List Word) (r : Request) → SpellsRequest words r → request_in words ≡ Ok r
+unfolding request_in
+request-read words r (others, e, key, spelled) = rw (e, verb_of-word r.verb, key) (fields-read (fields_of r.verb) r others spelled)
+
+-- words spell one request
+pub one_request : (words : List Word) (r s : Request) → SpellsRequest words r → SpellsRequest words s → r ≡ s
+one_request words r s a b = ok-same r s (sym (request-read words r a) ∙ request-read words s b)
+
+-- ---- no word of a request is `->`
+
+abbrev pub arrow : Word
+arrow = codes "->"
+
+abbrev pub HasNoArrow : List Word → Type 0
+HasNoArrow [] = Unit {0}
+HasNoArrow (word ∷ words) = (arrow ≢ word) × HasNoArrow words
+
+-- a word that passes a test which the arrow fails
+apart : (test : Word → Bool) (word : Word) → test arrow ≡ false → test word ≡ true → arrow ≢ word
+apart test word fails passes e = false≢true (sym fails ∙ ap test e ∙ passes)
+
+verb-apart : (verb : Verb) → arrow ≢ verb_word verb
+unfolding verb_of
+verb-apart verb = apart (λ w. is_some (verb_of w)) (verb_word verb) refl (ap is_some (verb_of-word verb))
+
+begins_body : Word → Bool
+begins_body [] = false
+begins_body (byte ∷ bytes) = byte == 61
+
+body-apart : (word : Word) (body : List ℕ) → SpellsBody word body → arrow ≢ word
+unfolding begins_body
+body-apart word body (text, e, spelled, small) = apart begins_body word refl (ap begins_body e)
+
+fields-apart : (shape : Fields) (words : List Word) (r : Request) → SpellsFields shape words r → HasNoArrow words
+fields-apart fields.KeyAlone words r (e, f, b, n) = subst HasNoArrow (sym e) tt
+fields-apart fields.Item words r (flags, body, e, f, b, n) =
+    subst HasNoArrow (sym e) (apart are_digits flags refl f.digits, (body-apart body r.body b, tt))
+
+pub no_arrow_in_request : (words : List Word) (r : Request) → SpellsRequest words r → HasNoArrow words
+no_arrow_in_request words r (others, e, key, spelled) =
+    subst HasNoArrow (sym e) (verb-apart r.verb, (apart is_key r.key refl key, fields-apart (fields_of r.verb) others r spelled))

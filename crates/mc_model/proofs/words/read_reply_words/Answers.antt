@@ -1,0 +1,17 @@
+-- The words are read as a reply exactly where they spell it.
+use Rattle.std.proofs.Common.{map}
+use Rattle.mc_model.specs.Words.{SpellsReply}
+use Rattle.mc_model.specs.Reading.{reply_in}
+use Rattle.mc_model.proofs.Readings.{IfOk-from_gives, IfErr-from_gives}
+use Rattle.mc_model.proofs.ReplyWords.{reply-spelled, reply-read}
+use Rattle.mc_model.proofs.words.read_reply_words.Goals as goal
+
+pub returns-clause-found : goal.returns-clause-found
+returns-clause-found c =
+    let words = map (λ w. w.now) c.args.words.now in
+    IfOk-from_gives (SpellsReply words) (reply_in words) c.reply_in.result (reply-spelled words) c.reply_in.ensures.exact
+
+pub returns-clause-none : goal.returns-clause-none
+returns-clause-none c =
+    let words = map (λ w. w.now) c.args.words.now in
+    IfErr-from_gives (SpellsReply words) (reply_in words) c.reply_in.result (reply-read words) c.reply_in.ensures.exact

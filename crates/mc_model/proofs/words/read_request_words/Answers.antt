@@ -1,0 +1,17 @@
+-- The words are read as a request exactly where they spell it.
+use Rattle.std.proofs.Common.{map}
+use Rattle.mc_model.specs.Words.{SpellsRequest}
+use Rattle.mc_model.specs.Reading.{request_in}
+use Rattle.mc_model.proofs.Readings.{IfOk-from_gives, IfErr-from_gives}
+use Rattle.mc_model.proofs.RequestWords.{request-spelled, request-read}
+use Rattle.mc_model.proofs.words.read_request_words.Goals as goal
+
+pub returns-clause-found : goal.returns-clause-found
+returns-clause-found c =
+    let words = map (λ w. w.now) c.args.words.now in
+    IfOk-from_gives (SpellsRequest words) (request_in words) c.request_in.result (request-spelled words) c.request_in.ensures.exact
+
+pub returns-clause-none : goal.returns-clause-none
+returns-clause-none c =
+    let words = map (λ w. w.now) c.args.words.now in
+    IfErr-from_gives (SpellsRequest words) (request_in words) c.request_in.result (request-read words) c.request_in.ensures.exact

@@ -1,0 +1,90 @@
+ghost use Rattle.std.specs.Prelude.{◌≡◌, ◌≢◌, ℕ, List, IfOk, IfErr};
+ghost use Rattle.std.specs.Option.{option_map};
+ghost use Rattle.mc_model.specs.Words as spec;
+ghost use Rattle.mc_model.specs.Reading as reading;
+
+use crate::WordsFault;
+use mc_protocol::{BODY_LIMIT, Bytes};
+use std::alloc::Global;
+
+/// Reads a body: `=`, and behind it the bytes. A byte from 33 to 126 other than `%` stands for itself, and `%hh` for
+/// the byte with these two hexadecimal digits. A word that is none, or a body of more than [`BODY_LIMIT`] bytes, is
+/// [`WordsFault::Form`].
+pub fn read_body(alloc: Global, word: &[u8]) -> Result<Bytes, WordsFault>
+    ensures exact { reading.Gives (λ b. b) result (reading.body_in word.now) }
+    ensures found { IfOk result (spec.SpellsBody word.now) }
+    ensures none { IfErr result (λ fault. fault ≢ WordsFault.OutOfMemory
+        → (body : List ℕ) → spec.SpellsBody word.now body → ⊥) }
+    ensures form { IfErr result (λ fault. fault ≢ WordsFault.Number) }
+{
+    body_in(alloc, word)
+}
+
+#[tactic(auto, unfolding(crate::specs::Reading::body_in))]
+fn body_in(alloc: Global, word: &[u8]) -> Result<Bytes, WordsFault>
+    ensures exact { reading.Gives (λ b. b) result (reading.body_in word.now) }
+{
+    let [first, text @ ..] = word else {
+        return Err(WordsFault::Form);
+    };
+    if *first != b'=' {
+        return Err(WordsFault::Form);
+    }
+    let bytes = unescaped(alloc, text)?;
+    if bytes.len() > BODY_LIMIT {
+        return Err(WordsFault::Form);
+    }
+    Ok(Bytes::new(bytes))
+}
+
+// The bytes that an escaped text stands for.
+fn unescaped(alloc: Global, text: &[u8]) -> Result<Vec<u8>, WordsFault>
+    ensures exact { reading.Gives (λ v. v.items) result (reading.bytes_in text.now) }
+{
+    let mut bytes = Vec::new(alloc);
+    let mut rest = text;
+    'bytes: while let Some((byte, after)) = first_byte(rest)? {
+        bytes.push(byte)?;
+        rest = after;
+    }
+    Ok(bytes)
+}
+
+// The first byte that the text stands for, and what follows; nothing of an empty text.
+fn first_byte(text: &[u8]) -> Result<Option<(u8, &[u8])>, WordsFault>
+    ensures exact { reading.Gives (λ o. option_map (λ x. (x.0, x.1.now)) o) result (reading.first_byte_in text.now) }
+{
+    match text {
+        [] => Ok(None),
+        [b'%', high, low, after @ ..] => {
+            let (Some(high), Some(low)) = (hex_value(*high), hex_value(*low)) else {
+                return Err(WordsFault::Form);
+            };
+            Ok(Some((high * 16 + low, after)))
+        }
+        [byte, after @ ..] => {
+            if !is_plain(*byte) {
+                return Err(WordsFault::Form);
+            }
+            Ok(Some((*byte, after)))
+        }
+    }
+}
+
+fn hex_value(byte: u8) -> Option<u8>
+    ensures { result ≡ spec.hex_value byte }
+{
+    match byte {
+        b'0'..=b'9' => Some(byte - b'0'),
+        b'a'..=b'f' => Some(byte - b'a' + 10),
+        b'A'..=b'F' => Some(byte - b'A' + 10),
+        _ => None,
+    }
+}
+
+// Whether the byte stands for itself in a body.
+fn is_plain(byte: u8) -> bool
+    ensures { result ≡ spec.is_plain byte }
+{
+    byte >= 33 && byte <= 126 && byte != b'%'
+}

@@ -1,0 +1,157 @@
+ghost use Rattle.std.specs.Prelude.{◌≡◌, ◌≢◌, true, Some, None, OnOk, OnErr, IfErr};
+ghost use Rattle.mc_model.specs.Sections as sections;
+ghost use Rattle.mc_model.specs.History as rule;
+ghost use Rattle.mc_model.specs.Next as next;
+
+use crate::rules::{
+    HistoryKind, KEYS_LIMIT, REQUESTS_LIMIT, are_answered, has_key, has_words, is_answered_rightly,
+    is_delete,
+};
+use crate::{History, Sent};
+use mc_protocol::Actor;
+use std::alloc::Global;
+use std::marker::Model;
+
+/// A history that is made request by request, in the order in which a text has them. Contracts see the sections so
+/// far, which are a history.
+#[derive(Debug, Drop)]
+pub struct HistoryBuilder {
+    p: Vec<Sent>,
+    a: Vec<Sent>,
+    b: Vec<Sent>,
+    // how many keys there are
+    keys: usize,
+}
+
+impl Model for HistoryBuilder {
+    ghost use Rattle.mc_model.specs.Sections.{Sections};
+
+    ghost Value = { Sections };
+
+    ghost view = { λ h. record { p = h.p.items; a = h.a.items; b = h.b.items } };
+
+    ghost use Rattle.std.specs.Prelude.{◌≡◌, true};
+    ghost use Rattle.mc_model.specs.History.{is_history, key_count};
+
+    ghost invariant = { λ h. (is_history (record { p = h.p.items; a = h.a.items; b = h.b.items }) ≡ true)
+        × (h.keys ≡ key_count (record { p = h.p.items; a = h.a.items; b = h.b.items })) };
+}
+
+impl HistoryBuilder {
+    /// Of no request yet.
+    pub fn new(alloc: Global) -> Self
+        ensures { result ≡ sections.no_sections }
+    {
+        HistoryBuilder {
+            p: Vec::new(alloc),
+            a: Vec::new(alloc),
+            b: Vec::new(alloc),
+            keys: 0,
+        }
+    }
+
+    /// Adds the next request of a section. Where the sections would be no history with it, or it is one of P behind
+    /// one of A or B, the fault is the first rule that is broken, in the order of `first_broken`. An `Err` changes
+    /// nothing, and the sections are a history all along.
+    pub fn push(&mut self, actor: Actor, sent: Sent) -> Result<(), HistoryKind>
+        ensures ok { OnOk result (self.new ≡ sections.added self.old actor sent) }
+        ensures history { OnOk result (rule.fault_at self.old actor sent ≡ None) }
+        ensures fault { IfErr result (λ kind. kind ≢ HistoryKind.OutOfMemory → rule.fault_at self.old actor sent ≡ Some kind) }
+        ensures err { OnErr result (self.new ≡ self.old) }
+        ensures kept { rule.is_history self.new ≡ true }
+    {
+        if let Some(kind) = self.fault_of(actor, &sent) {
+            return Err(kind);
+        }
+        let keys = self.keys_with(&sent);
+        match actor {
+            Actor::P => self.p.push(sent)?,
+            Actor::A => self.a.push(sent)?,
+            Actor::B => self.b.push(sent)?,
+        }
+        self.keys = keys;
+        Ok(())
+    }
+
+    // How many keys there are with the request, which is counted by P alone: it has each key of a history.
+    fn keys_with(&self, sent: &Sent) -> usize
+        ensures { result ≡ next.keys_with self.now sent.now }
+    {
+        if has_key(self.p.as_slice(), sent.request.key.as_slice()) {
+            self.keys
+        } else {
+            self.keys + 1
+        }
+    }
+
+    // The first rule that the sections break with the request added.
+    fn fault_of(&self, actor: Actor, sent: &Sent) -> Option<HistoryKind>
+        ensures { result ≡ rule.fault_at self.now actor sent.now }
+    {
+        // The tests of one request say what the rules say of all only since the sections are a history: to read a
+        // field makes that known.
+        let _ = &self.p;
+        if !has_words(&sent.request) {
+            return Some(HistoryKind::Line);
+        }
+        if self.is_full(actor, sent) {
+            return Some(HistoryKind::TooMany);
+        }
+        if !self.may_come(actor) {
+            return Some(HistoryKind::Order);
+        }
+        if !self.is_cleared(actor, sent) {
+            return Some(HistoryKind::NotCleared);
+        }
+        if !is_answered_rightly(sent) {
+            return Some(HistoryKind::WrongReply);
+        }
+        None
+    }
+
+    // Whether the section has all its requests, or the history all its keys and this is another.
+    fn is_full(&self, actor: Actor, sent: &Sent) -> bool
+        ensures { result ≡ next.is_full self.now actor sent.now }
+    {
+        self.section(actor).len() >= REQUESTS_LIMIT
+            || (self.keys >= KEYS_LIMIT && !has_key(self.p.as_slice(), sent.request.key.as_slice()))
+    }
+
+    // Whether the section may have one more request: all that it waits for came.
+    fn may_come(&self, actor: Actor) -> bool
+        ensures { result ≡ next.may_come self.now actor }
+    {
+        match actor {
+            Actor::P => self.a.is_empty() && self.b.is_empty() && are_answered(self.p.as_slice()),
+            Actor::A => are_answered(self.p.as_slice()) && are_answered(self.a.as_slice()),
+            Actor::B => are_answered(self.p.as_slice()) && are_answered(self.b.as_slice()),
+        }
+    }
+
+    // Whether the request's key is cleared before it, or by it.
+    fn is_cleared(&self, actor: Actor, sent: &Sent) -> bool
+        ensures { result ≡ next.clears self.now actor sent.now }
+    {
+        has_key(self.p.as_slice(), sent.request.key.as_slice())
+            || (actor == Actor::P && is_delete(sent.request.verb))
+    }
+
+    fn section(&self, actor: Actor) -> &[Sent]
+        ensures { result.now ≡ sections.section_of self.now actor }
+    {
+        match actor {
+            Actor::P => self.p.as_slice(),
+            Actor::A => self.a.as_slice(),
+            Actor::B => self.b.as_slice(),
+        }
+    }
+
+    /// The history of what was added.
+    pub fn finish(self) -> History
+        ensures same { result ≡ self }
+        ensures history { rule.is_history result ≡ true }
+    {
+        let HistoryBuilder { p, a, b, .. } = self;
+        History::from_sections(p, a, b)
+    }
+}

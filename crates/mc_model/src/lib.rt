@@ -1,0 +1,42 @@
+//! The model of a cache server, and what a history of requests and replies is.
+//!
+//! Below it stands `mc_protocol`. The crates above use three things: what a cache answers to a request
+//! (`Cache::act`, by `specs/Act.antt`), that a `History` keeps the rules of `specs/History.antt`, and the words of
+//! requests and replies (`specs/Words.antt`).
+#![tactic(auto)]
+
+mod act;
+mod body;
+mod builder;
+mod cache;
+mod history;
+mod history_laws;
+mod laws;
+mod number;
+mod rules;
+mod sent;
+mod word_laws;
+mod words;
+
+pub use act::Choice;
+pub use body::read_body;
+pub use builder::HistoryBuilder;
+pub use cache::{Cache, Item};
+pub use history::History;
+pub use history_laws::{
+    faultless_make_histories, faulty_are_no_histories, first_faults_are_one,
+    others_have_a_first_fault, places_end_histories, prefixes_are_histories,
+};
+pub use laws::{
+    bodies_stay_short, deleted_is_gone, other_keys_stay, replies_fit, versions_are_stored,
+};
+pub use number::{is_key, read_number};
+pub use rules::{HistoryKind, KEY_BYTES_LIMIT, KEYS_LIMIT, REQUESTS_LIMIT};
+pub use sent::Sent;
+pub use word_laws::{
+    word_spells_one_body, word_spells_one_number, words_spell_one_reply, words_spell_one_request,
+};
+pub use words::{WordsFault, read_reply_words, read_request_words};
+
+#[cfg(test)]
+mod tests;

@@ -1,0 +1,118 @@
+ghost use Rattle.std.specs.Prelude.{◌≡◌, ◌↔◌, IsTrue};
+ghost use Rattle.mc_model.specs.History as rule;
+ghost use Rattle.mc_model.specs.Next as next;
+
+use crate::{Sent, is_key};
+use mc_protocol::{BODY_LIMIT, Fields, Request, Verb, fits};
+use std::alloc::{AllocError, AllocFailed};
+use thiserror::Error;
+
+/// The most bytes of a key.
+pub const KEY_BYTES_LIMIT: usize = 40;
+
+/// The most requests of a section.
+pub const REQUESTS_LIMIT: usize = 24;
+
+/// The most keys of a history.
+pub const KEYS_LIMIT: usize = 8;
+
+/// Why a text, or requests with their replies, are no history.
+#[derive(Clone, Copy, Debug, Drop, PartialEq, Eq, Error)]
+pub enum HistoryKind {
+    #[error("the first line is not `history 1`")]
+    Header,
+    #[error("the line is not one that may stand there")]
+    Line,
+    #[error("a number is too large")]
+    Number,
+    #[error("a request stands behind an unanswered one of its section, or the prefix's requests don't come first")]
+    Order,
+    #[error("the reply is none that the request may have")]
+    WrongReply,
+    #[error("the key's first request is not a delete in the prefix")]
+    NotCleared,
+    #[error("no earlier `gets` of the key showed this cas number to the section")]
+    UnseenNumber,
+    #[error("a section has more than 24 requests, or the history more than 8 keys")]
+    TooMany,
+    #[error("the line `end` is missing")]
+    Unended,
+    #[error("out of memory")]
+    OutOfMemory,
+}
+
+impl From<AllocError> for HistoryKind {
+    ghost use Rattle.mc_model.specs.declared.rules.HistoryKind.TheVariants.{OutOfMemory};
+
+    ghost from_gives = { λ _ e. e ≡ OutOfMemory };
+
+    fn from(_e: AllocError) -> HistoryKind {
+        HistoryKind::OutOfMemory
+    }
+}
+
+impl<T: Drop> From<AllocFailed<T>> for HistoryKind {
+    ghost use Rattle.mc_model.specs.declared.rules.HistoryKind.TheVariants.{OutOfMemory};
+
+    ghost from_gives = { λ _ e. e ≡ OutOfMemory };
+
+    fn from(_e: AllocFailed<T>) -> HistoryKind {
+        HistoryKind::OutOfMemory
+    }
+}
+
+// Whether some text spells the request: its key and body keep their limits, and a field that its verb lacks is 0 or
+// empty.
+pub(crate) fn has_words(request: &Request) -> bool
+    ensures { result ≡ rule.has_words request.now }
+{
+    is_key(request.key.as_slice())
+        && request.body.as_slice().len() <= BODY_LIMIT
+        && has_its_fields(request)
+}
+
+fn has_its_fields(request: &Request) -> bool
+    ensures { result ≡ rule.has_its_fields request.now }
+{
+    match request.verb.fields() {
+        Fields::KeyAlone => {
+            request.flags == 0 && request.body.as_slice().is_empty() && request.number == 0
+        }
+        Fields::Item => request.number == 0,
+    }
+}
+
+// Whether every request of the section was answered.
+pub(crate) fn are_answered(section: &[Sent]) -> bool
+    ensures { result ≡ rule.are_answered section.now }
+{
+    section.iter().all(|sent| sent.reply.is_some())
+}
+
+// Whether the section has a request on the key.
+pub(crate) fn has_key(section: &[Sent], key: &[u8]) -> bool
+    ensures { result ≡ rule.has_key key.now section.now }
+{
+    section
+        .iter()
+        .any(|sent| sent.request.key.as_slice() == key)
+}
+
+pub(crate) fn is_delete(verb: Verb) -> bool
+    ensures { result ≡ rule.is_delete verb }
+{
+    match verb {
+        Verb::Delete => true,
+        Verb::Set | Verb::Get => false,
+    }
+}
+
+// Whether the reply, if one came, is one that the request may have.
+pub(crate) fn is_answered_rightly(sent: &Sent) -> bool
+    ensures { result ≡ rule.is_answered_rightly sent.now }
+{
+    match &sent.reply {
+        Some(reply) => fits(&sent.request, reply),
+        None => true,
+    }
+}

@@ -1,0 +1,242 @@
+ghost use Rattle.std.specs.Prelude.{◌≡◌, ◌≢◌, map, IfOk, IfErr};
+ghost use Rattle.std.specs.Option.{option_copied};
+ghost use Rattle.mc_model.specs.Words as spec;
+ghost use Rattle.mc_model.specs.Reading as reading;
+
+use crate::{is_key, read_body, read_number};
+use mc_protocol::{Bytes, Class, Fields, Reply, Request, Verb};
+use std::alloc::{AllocError, AllocFailed, Global};
+use thiserror::Error;
+
+/// Why words are no request, or no reply.
+#[derive(Clone, Copy, Debug, Drop, PartialEq, Eq, Error)]
+pub enum WordsFault {
+    /// A word is missing, is one too many, or isn't what stands in its place.
+    #[error("a word is missing, or isn't what is expected there")]
+    Form,
+    /// A number has more than 20 digits, or is too large.
+    #[error("a number is too large")]
+    Number,
+    #[error("out of memory")]
+    OutOfMemory,
+}
+
+impl From<AllocError> for WordsFault {
+    ghost use Rattle.mc_model.specs.declared.words.WordsFault.TheVariants.{OutOfMemory};
+
+    ghost from_gives = { λ _ e. e ≡ OutOfMemory };
+
+    fn from(_e: AllocError) -> WordsFault {
+        WordsFault::OutOfMemory
+    }
+}
+
+impl<T: Drop> From<AllocFailed<T>> for WordsFault {
+    ghost use Rattle.mc_model.specs.declared.words.WordsFault.TheVariants.{OutOfMemory};
+
+    ghost from_gives = { λ _ e. e ≡ OutOfMemory };
+
+    fn from(_e: AllocFailed<T>) -> WordsFault {
+        WordsFault::OutOfMemory
+    }
+}
+
+static VERBS: [Verb; 3] = [Verb::Set, Verb::Get, Verb::Delete];
+
+// The verb with this word.
+#[tactic(auto, unfolding(crate::specs::Reading::verb_of))]
+fn verb_of(word: &[u8]) -> Option<Verb>
+    ensures { result ≡ reading.verb_of word.now }
+{
+    VERBS
+        .iter()
+        .copied()
+        .find(|verb| verb.word().as_bytes() == word)
+}
+
+/// Reads the words of a request: its verb, its key, and what the verb has behind it. The fault is that of the leftmost
+/// faulty word; a missing word stands behind the last.
+pub fn read_request_words(alloc: Global, words: &[&[u8]]) -> Result<Request, WordsFault>
+    ensures found { IfOk result (spec.SpellsRequest (map (λ w. w.now) words.now)) }
+    ensures none { IfErr result (λ fault. fault ≢ WordsFault.OutOfMemory
+        → (r : Request) → spec.SpellsRequest (map (λ w. w.now) words.now) r → ⊥) }
+{
+    request_in(alloc, words)
+}
+
+#[tactic(auto, unfolding(crate::specs::Reading::request_in))]
+fn request_in(alloc: Global, words: &[&[u8]]) -> Result<Request, WordsFault>
+    ensures exact { reading.Gives (λ r. r) result (reading.request_in (map (λ w. w.now) words.now)) }
+{
+    let [verb, rest @ ..] = words else {
+        return Err(WordsFault::Form);
+    };
+    let Some(verb) = verb_of(verb) else {
+        return Err(WordsFault::Form);
+    };
+    let [key, fields @ ..] = rest else {
+        return Err(WordsFault::Form);
+    };
+    if !is_key(key) {
+        return Err(WordsFault::Form);
+    }
+    let key = Bytes::new(Vec::from_slice(alloc, key)?);
+    match verb.fields() {
+        Fields::KeyAlone => key_alone(alloc, verb, key, fields),
+        Fields::Item => item(alloc, verb, key, fields),
+    }
+}
+
+// A request with nothing behind its key.
+fn key_alone(alloc: Global, verb: Verb, key: Bytes, fields: &[&[u8]]) -> Result<Request, WordsFault>
+    ensures exact { reading.Gives (λ r. r) result (reading.key_alone_in verb key (map (λ w. w.now) fields.now)) }
+{
+    if !fields.is_empty() {
+        return Err(WordsFault::Form);
+    }
+    Ok(Request {
+        verb,
+        key,
+        flags: 0,
+        body: Bytes::new(Vec::new(alloc)),
+        number: 0,
+    })
+}
+
+// A request with flags and a body behind its key.
+fn item(alloc: Global, verb: Verb, key: Bytes, fields: &[&[u8]]) -> Result<Request, WordsFault>
+    ensures exact { reading.Gives (λ r. r) result (reading.item_in verb key (map (λ w. w.now) fields.now)) }
+{
+    let [flags, rest @ ..] = fields else {
+        return Err(WordsFault::Form);
+    };
+    let flags = read_flags(flags)?;
+    let [body, rest @ ..] = rest else {
+        return Err(WordsFault::Form);
+    };
+    let body = read_body(alloc, body)?;
+    if !rest.is_empty() {
+        return Err(WordsFault::Form);
+    }
+    Ok(Request {
+        verb,
+        key,
+        flags,
+        body,
+        number: 0,
+    })
+}
+
+fn read_flags(word: &[u8]) -> Result<u32, WordsFault>
+    ensures exact { reading.Gives (λ n. n) result (reading.flags_in word.now) }
+{
+    let flags = read_number(u64::from(u32::MAX), word)?;
+    Ok(flags as u32)
+}
+
+static CLASSES: [Class; 7] = [
+    Class::Stored,
+    Class::NotStored,
+    Class::Exists,
+    Class::NotFound,
+    Class::Hit,
+    Class::Miss,
+    Class::Deleted,
+];
+
+// The word that a reply of the class begins with.
+fn class_word(class: Class) -> &'static str
+    ensures { result.now ≡ spec.class_word class }
+{
+    match class {
+        Class::Stored => "STORED",
+        Class::NotStored => "NOT_STORED",
+        Class::Exists => "EXISTS",
+        Class::NotFound => "NOT_FOUND",
+        Class::Hit => "HIT",
+        Class::Miss => "MISS",
+        Class::Deleted => "DELETED",
+    }
+}
+
+// The class with this word.
+#[tactic(auto, unfolding(crate::specs::Reading::class_of_word))]
+fn class_of_word(word: &[u8]) -> Option<Class>
+    ensures { result ≡ reading.class_of_word word.now }
+{
+    CLASSES
+        .iter()
+        .copied()
+        .find(|class| class_word(*class).as_bytes() == word)
+}
+
+/// Reads the words of a reply, without looking at the request that it answers. The fault is that of the leftmost
+/// faulty word; a missing word stands behind the last.
+pub fn read_reply_words(alloc: Global, words: &[&[u8]]) -> Result<Reply, WordsFault>
+    ensures found { IfOk result (spec.SpellsReply (map (λ w. w.now) words.now)) }
+    ensures none { IfErr result (λ fault. fault ≢ WordsFault.OutOfMemory
+        → (r : Reply) → spec.SpellsReply (map (λ w. w.now) words.now) r → ⊥) }
+{
+    reply_in(alloc, words)
+}
+
+#[tactic(auto, unfolding(crate::specs::Reading::reply_in))]
+fn reply_in(alloc: Global, words: &[&[u8]]) -> Result<Reply, WordsFault>
+    ensures exact { reading.Gives (λ r. r) result (reading.reply_in (map (λ w. w.now) words.now)) }
+{
+    let [class, fields @ ..] = words else {
+        return Err(WordsFault::Form);
+    };
+    let Some(class) = class_of_word(class) else {
+        return Err(WordsFault::Form);
+    };
+    match class {
+        Class::Stored => bare(Reply::Stored, fields),
+        Class::NotStored => bare(Reply::NotStored, fields),
+        Class::Exists => bare(Reply::Exists, fields),
+        Class::NotFound => bare(Reply::NotFound, fields),
+        Class::Hit => hit(alloc, fields),
+        Class::Miss => bare(Reply::Miss, fields),
+        Class::Deleted => bare(Reply::Deleted, fields),
+    }
+}
+
+// A reply with nothing behind its word.
+fn bare(reply: Reply, fields: &[&[u8]]) -> Result<Reply, WordsFault>
+    ensures exact { reading.Gives (λ r. r) result (reading.bare_in reply (map (λ w. w.now) fields.now)) }
+{
+    if !fields.is_empty() {
+        return Err(WordsFault::Form);
+    }
+    Ok(reply)
+}
+
+// A hit: flags, a body, and the cas number where one is shown.
+fn hit(alloc: Global, fields: &[&[u8]]) -> Result<Reply, WordsFault>
+    ensures exact { reading.Gives (λ r. r) result (reading.hit_in (map (λ w. w.now) fields.now)) }
+{
+    let [flags, rest @ ..] = fields else {
+        return Err(WordsFault::Form);
+    };
+    let flags = read_flags(flags)?;
+    let [body, rest @ ..] = rest else {
+        return Err(WordsFault::Form);
+    };
+    let body = read_body(alloc, body)?;
+    let cas = shown_number(rest)?;
+    Ok(Reply::Hit { flags, body, cas })
+}
+
+// The cas number that the last word shows, if there is one.
+fn shown_number(words: &[&[u8]]) -> Result<Option<u64>, WordsFault>
+    ensures exact { reading.Gives (λ n. n) result (reading.shown_number_in (map (λ w. w.now) words.now)) }
+{
+    match words {
+        [] => Ok(None),
+        [number] => Ok(Some(read_number(u64::MAX, number)?)),
+        [number, ..] => {
+            read_number(u64::MAX, number)?;
+            Err(WordsFault::Form)
+        }
+    }
+}
