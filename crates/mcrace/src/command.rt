@@ -1,0 +1,130 @@
+//! The whole program, over any streams.
+ghost use Rattle.std.specs.Prelude.{◌≡◌, ◌≢◌, ◌⊎◌, [], ◌+◌, ◌<◌, ◌≤◌, true, false, map, string_bytes, length, IfOk, IfErr};
+ghost use Rattle.mcrace.specs.Answers as answers;
+ghost use Rattle.mcrace.specs.CommandLine.{line_faults};
+ghost use Rattle.mcrace.specs.Command.{AsksForJudge, Answers, IsWritten};
+ghost use Rattle.mcrace.specs.Streams.{Grows, TakesAtMost};
+ghost use Rattle.clap.specs.Words.{kind_of};
+
+use crate::arguments::parsed;
+use crate::input::{InputFault, read_input};
+use crate::judge::{Answer, INPUT_LIMIT, judge_text, status_of, text_of};
+use crate::streams::{Sink, Source};
+use clap::Error;
+use clap::error::ErrorKind;
+use std::alloc::Global;
+use std::io;
+
+const OUT_OF_MEMORY: &str = "out of memory\n";
+
+const NOT_UTF8: &str = "error: the command line is not UTF-8\n";
+
+// The status where input or output failed, or memory ran out.
+const NO_ANSWER: u8 = 4;
+
+const WRONG_LINE: u8 = 2;
+
+/// Does what the line asks for, and answers the exit status. The line's first word is the program's name.
+///
+/// At most 1,048,577 bytes of the input are read, and they are read whole before a byte is written.
+pub fn command<I: Source, O: Sink, F: Sink>(
+    alloc: Global,
+    line: &[String],
+    input: &mut I,
+    output: &mut O,
+    faults: &mut F,
+) -> u8
+    ensures judged { AsksForJudge (map string_bytes line.now)
+        → I.has_failed input.old ≡ false → I.has_failed input.new ≡ false
+        → O.has_failed output.old ≡ false → O.has_failed output.new ≡ false
+        → Answers (I.left input.old) (O.written output.old) (O.written output.new) result }
+    ensures no_fault { AsksForJudge (map string_bytes line.now) → faults.new ≡ faults.old }
+    ensures unread { line_faults (map string_bytes line.now) ≢ [] → input.new ≡ input.old }
+    ensures broken_input { I.has_failed input.old ≡ false → I.has_failed input.new ≡ true
+        → (result ≡ 4) × (output.new ≡ output.old) }
+    ensures broken_output { O.has_failed output.old ≡ false → O.has_failed output.new ≡ true → result ≡ 4 }
+    ensures broken_faults { F.has_failed faults.old ≡ false → F.has_failed faults.new ≡ true → result ≡ 4 }
+    ensures taken { TakesAtMost 1048577 (I.left input.old) (I.left input.new) }
+{
+    match parsed(alloc, line) {
+        Ok(()) => judge(alloc, input, output),
+        Err(error) => explain(alloc, &error, output, faults),
+    }
+}
+
+/// The exit status where the line could not be read: memory ran out, or a word of it is not UTF-8.
+pub fn unread_line<O: Sink, F: Sink>(error: &io::Error, output: &mut O, faults: &mut F) -> u8
+    ensures broken_output { O.has_failed output.old ≡ false → O.has_failed output.new ≡ true → result ≡ 4 }
+    ensures broken_faults { F.has_failed faults.old ≡ false → F.has_failed faults.new ≡ true → result ≡ 4 }
+    ensures fails { (result ≡ 2) ⊎ (result ≡ 4) }
+{
+    match error.kind() {
+        io::ErrorKind::OutOfMemory => write_text(OUT_OF_MEMORY, NO_ANSWER, output),
+        _ => write_text(NOT_UTF8, WRONG_LINE, faults),
+    }
+}
+
+fn judge<I: Source, O: Sink>(alloc: Global, input: &mut I, output: &mut O) -> u8
+    ensures judged { I.has_failed input.old ≡ false → I.has_failed input.new ≡ false
+        → O.has_failed output.old ≡ false → O.has_failed output.new ≡ false
+        → Answers (I.left input.old) (O.written output.old) (O.written output.new) result }
+    ensures broken_input { I.has_failed input.old ≡ false → I.has_failed input.new ≡ true
+        → (result ≡ 4) × (output.new ≡ output.old) }
+    ensures broken_output { O.has_failed output.old ≡ false → O.has_failed output.new ≡ true → result ≡ 4 }
+    ensures taken { TakesAtMost 1048577 (I.left input.old) (I.left input.new) }
+{
+    match read_input(alloc, input, INPUT_LIMIT) {
+        Ok(text) => {
+            let answer = judge_text(alloc, text.as_slice());
+            write_answer(alloc, &answer, output)
+        }
+        Err(InputFault::Broken) => NO_ANSWER,
+        Err(InputFault::OutOfMemory) => write_answer(alloc, &Answer::OutOfMemory, output),
+    }
+}
+
+// Writes the answer by one call; where memory runs out for its text, that is the answer.
+fn write_answer<O: Sink>(alloc: Global, answer: &Answer, output: &mut O) -> u8
+    ensures written { O.has_failed output.old ≡ false → O.has_failed output.new ≡ false
+        → IsWritten answer.now (O.written output.old) (O.written output.new) result }
+    ensures broken { O.has_failed output.old ≡ false → O.has_failed output.new ≡ true → result ≡ 4 }
+{
+    match text_of(alloc, answer) {
+        Ok(text) => write_text(text.as_str(), status_of(answer), output),
+        Err(_) => write_text(OUT_OF_MEMORY, NO_ANSWER, output),
+    }
+}
+
+// Writes clap's text: help to the output, and a fault of the line to the faults.
+fn explain<O: Sink, F: Sink>(alloc: Global, error: &Error, output: &mut O, faults: &mut F) -> u8
+    ensures memory { kind_of error.now ≡ ErrorKind.OutOfMemory
+        → O.has_failed output.old ≡ false → O.has_failed output.new ≡ false
+        → IsWritten Answer.OutOfMemory (O.written output.old) (O.written output.new) result }
+    ensures no_fault { kind_of error.now ≡ ErrorKind.OutOfMemory → faults.new ≡ faults.old }
+    ensures broken_output { O.has_failed output.old ≡ false → O.has_failed output.new ≡ true → result ≡ 4 }
+    ensures broken_faults { F.has_failed faults.old ≡ false → F.has_failed faults.new ≡ true → result ≡ 4 }
+    ensures fault { kind_of error.now ≢ ErrorKind.DisplayHelp → kind_of error.now ≢ ErrorKind.DisplayVersion
+        → (result ≡ 2) ⊎ (result ≡ 4) }
+{
+    if error.kind() == ErrorKind::OutOfMemory {
+        return write_text(OUT_OF_MEMORY, NO_ANSWER, output);
+    }
+    match error.to_string(alloc) {
+        Ok(text) if error.use_stderr() => write_text(text.as_str(), WRONG_LINE, faults),
+        Ok(text) => write_text(text.as_str(), 0, output),
+        Err(_) => write_text(OUT_OF_MEMORY, NO_ANSWER, output),
+    }
+}
+
+// Writes the text by one call, and answers the status, or that of a failure.
+fn write_text<S: Sink>(text: &str, status: u8, sink: &mut S) -> u8
+    ensures written { S.has_failed sink.old ≡ false → S.has_failed sink.new ≡ false
+        → Grows (S.written sink.old) (S.written sink.new) text.now × (result ≡ status) }
+    ensures broken { S.has_failed sink.old ≡ false → S.has_failed sink.new ≡ true → result ≡ 4 }
+    ensures status { (result ≡ status) ⊎ (result ≡ 4) }
+{
+    match sink.write_all(text.as_bytes()) {
+        Ok(()) => status,
+        Err(_) => NO_ANSWER,
+    }
+}
