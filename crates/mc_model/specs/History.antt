@@ -13,6 +13,7 @@ use Rattle.mc_protocol.specs.declared.request.Verb.{Verb}
 use Rattle.mc_protocol.specs.declared.request.Verb.TheVariants as verb
 use Rattle.mc_protocol.specs.declared.request.Request.{Request}
 use Rattle.mc_protocol.specs.declared.reply.Reply.{Reply}
+use Rattle.mc_protocol.specs.declared.reply.Reply.TheVariants as replies
 use Rattle.mc_protocol.specs.declared.actor.Actor.{Actor}
 use Rattle.mc_protocol.specs.declared.actor.Actor.TheVariants as actor
 use Rattle.mc_protocol.specs.declared.legal.TheConstants.{BODY_LIMIT}
@@ -35,7 +36,10 @@ is_empty bytes = length bytes == 0
 -- a field that the verb lacks is 0 or empty
 abbrev pub lacks_the_others : Fields → Request → Bool
 lacks_the_others fields.KeyAlone r = (r.flags == 0) && is_empty r.body && (r.number == 0)
+lacks_the_others fields.Expiry r = (r.flags == 0) && is_empty r.body && (r.number == 0)
 lacks_the_others fields.Item r = r.number == 0
+lacks_the_others fields.Swap r = true
+lacks_the_others fields.Amount r = (r.flags == 0) && is_empty r.body
 
 abbrev pub has_its_fields : Request → Bool
 has_its_fields r = lacks_the_others (fields_of r.verb) r
@@ -112,6 +116,38 @@ clears p key = is_a_delete (find (is_on key) p)
 abbrev pub is_cleared : Sections → Bool
 is_cleared s = every (λ sent. clears s.p sent.request.key) s
 
+-- ---- Numbers: each cas number was shown by an earlier answered gets of the same key, in P or in the request's own section
+
+abbrev pub is_cas : Verb → Bool
+is_cas verb.Cas = true
+is_cas _ = false
+
+abbrev pub is_gets : Verb → Bool
+is_gets verb.Gets = true
+is_gets _ = false
+
+-- the reply is a hit with this cas number
+abbrev pub tells : ℕ → Option Reply → Bool
+tells number (Some (replies.Hit flags body (Some cas))) = cas == number
+tells number _ = false
+
+-- the request is a gets of the key that was answered with this number
+abbrev pub shows : List ℕ → ℕ → Sent → Bool
+shows key number sent = is_gets sent.request.verb && is_on key sent && tells number sent.reply
+
+-- one of the earlier requests shows the number of a cas: other requests need none
+abbrev pub is_seen : List Sent → Sent → Bool
+is_seen earlier sent = not (is_cas sent.request.verb) || list_any (shows sent.request.key sent.request.number) earlier
+
+-- the same of each request of a section, which sees those before it too
+abbrev pub are_seen : List Sent → List Sent → Bool
+are_seen earlier [] = true
+are_seen earlier (sent ∷ others) = is_seen earlier sent && are_seen (earlier ++ sent ∷ []) others
+
+-- P sees its own requests, and a branch P's and its own
+abbrev pub numbers_are_seen : Sections → Bool
+numbers_are_seen s = are_seen [] s.p && are_seen s.p s.a && are_seen s.p s.b
+
 -- ---- Replies: each reply is one that its request may have
 
 abbrev pub is_rightly : Request → Option Reply → Bool
@@ -127,7 +163,8 @@ are_answered_rightly s = every is_answered_rightly s
 -- ---- A history keeps all rules
 
 unfoldable pub is_history : Sections → Bool
-is_history s = all_have_words s && is_within_limits s && is_in_turn s && is_cleared s && are_answered_rightly s
+is_history s =
+    all_have_words s && is_within_limits s && is_in_turn s && is_cleared s && numbers_are_seen s && are_answered_rightly s
 
 -- ---- Faults
 
@@ -144,8 +181,9 @@ first_broken late s =
     else (if not (is_within_limits s) then Some kind.TooMany
     else (if late || not (is_in_turn s) then Some kind.Order
     else (if not (is_cleared s) then Some kind.NotCleared
+    else (if not (numbers_are_seen s) then Some kind.UnseenNumber
     else (if not (are_answered_rightly s) then Some kind.WrongReply
-    else None))))
+    else None)))))
 
 -- what is wrong with a request that comes next
 unfoldable pub fault_at : Sections → Actor → Sent → Option HistoryKind

@@ -4,12 +4,17 @@ pub use Rattle.mc_protocol.specs.Legal
 pub use Rattle.mc_protocol.specs.Lines
 pub use Rattle.mc_protocol.specs.Words as VerbWords
 pub mod Contents
+pub mod Numeral
 pub mod Act
 pub mod ActLaws
+pub mod NumeralLaws
 pub mod Words
 pub mod Sections
 pub mod History
 pub mod HistoryLaws
+pub mod WordLaws
 -- What private contracts cite.
 pub mod Reading
+pub mod Printing
 pub mod Next
+pub mod Counting

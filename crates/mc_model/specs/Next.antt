@@ -7,7 +7,7 @@ use Rattle.mc_model.specs.declared.sent.Sent.{Sent}
 use Rattle.mc_model.specs.declared.rules.TheConstants.{KEYS_LIMIT, REQUESTS_LIMIT}
 use Rattle.mc_model.specs.Sections.{Sections, section_of}
 use Rattle.mc_model.specs.declared.rules.HistoryKind.{HistoryKind}
-use Rattle.mc_model.specs.History.{is_history, fault_at, key_count, has_key, are_answered, is_none_sent, is_delete}
+use Rattle.mc_model.specs.History.{is_history, fault_at, key_count, has_key, are_answered, is_none_sent, is_delete, is_seen}
 
 abbrev pub is_full : Sections → Actor → Sent → Bool
 is_full s actor sent =
@@ -29,6 +29,10 @@ is_prefix _ = false
 
 abbrev pub clears : Sections → Actor → Sent → Bool
 clears s actor sent = has_key sent.request.key s.p || (is_prefix actor && is_delete sent.request.verb)
+
+-- P or the section shows the request's number
+abbrev pub number_is_seen : Sections → Actor → Sent → Bool
+number_is_seen s actor sent = is_seen s.p sent || is_seen (section_of s actor) sent
 
 -- the sections with these requests in place of one section's
 abbrev pub with_section : Sections → Actor → List Sent → Sections

@@ -87,7 +87,8 @@ body_in [] = Err fault.Form
 body_in (first ∷ text) = if first == 61 then (bytes_in text >>= within_limit) else Err fault.Form
 
 abbrev pub all_verbs : List Verb
-all_verbs = verb.Set ∷ verb.Get ∷ verb.Delete ∷ []
+all_verbs =
+    verb.Set ∷ verb.Add ∷ verb.Replace ∷ verb.Append ∷ verb.Prepend ∷ verb.Cas ∷ verb.Get ∷ verb.Gets ∷ verb.Incr ∷ verb.Decr ∷ verb.Delete ∷ verb.Touch ∷ []
 
 unfoldable pub verb_of : Word → Option Verb
 verb_of word = find (λ v. bytes_eq (verb_word v) word) all_verbs
@@ -102,9 +103,24 @@ item_in verb key (flags ∷ []) = flags_in flags >>= λ f. Err fault.Form
 item_in verb key (flags ∷ body ∷ []) = flags_in flags >>= λ f. body_in body >>= λ b. Ok (record { verb = verb; key = key; flags = f; body = b; number = 0 })
 item_in verb key (flags ∷ body ∷ _ ∷ _) = flags_in flags >>= λ f. body_in body >>= λ b. Err fault.Form
 
+abbrev pub swap_in : Verb → List ℕ → List Word → Result Request WordsFault
+swap_in verb key [] = Err fault.Form
+swap_in verb key (flags ∷ []) = flags_in flags >>= λ f. Err fault.Form
+swap_in verb key (flags ∷ body ∷ []) = flags_in flags >>= λ f. body_in body >>= λ b. Err fault.Form
+swap_in verb key (flags ∷ body ∷ number ∷ []) = flags_in flags >>= λ f. body_in body >>= λ b. number_in MAX_64 number >>= λ n. Ok (record { verb = verb; key = key; flags = f; body = b; number = n })
+swap_in verb key (flags ∷ body ∷ number ∷ _ ∷ _) = flags_in flags >>= λ f. body_in body >>= λ b. number_in MAX_64 number >>= λ n. Err fault.Form
+
+abbrev pub amount_in : Verb → List ℕ → List Word → Result Request WordsFault
+amount_in verb key [] = Err fault.Form
+amount_in verb key (number ∷ []) = number_in MAX_64 number >>= λ n. Ok (record { verb = verb; key = key; flags = 0; body = []; number = n })
+amount_in verb key (number ∷ _ ∷ _) = number_in MAX_64 number >>= λ n. Err fault.Form
+
 abbrev pub fields_in : Fields → Verb → List ℕ → List Word → Result Request WordsFault
 fields_in fields.KeyAlone verb key words = key_alone_in verb key words
+fields_in fields.Expiry verb key words = key_alone_in verb key words
 fields_in fields.Item verb key words = item_in verb key words
+fields_in fields.Swap verb key words = swap_in verb key words
+fields_in fields.Amount verb key words = amount_in verb key words
 
 abbrev pub behind_verb : Option Verb → List Word → Result Request WordsFault
 behind_verb None words = Err fault.Form
@@ -116,7 +132,8 @@ request_in [] = Err fault.Form
 request_in (word ∷ words) = behind_verb (verb_of word) words
 
 abbrev pub all_classes : List Class
-all_classes = class.Stored ∷ class.NotStored ∷ class.Exists ∷ class.NotFound ∷ class.Hit ∷ class.Miss ∷ class.Deleted ∷ []
+all_classes =
+    class.Stored ∷ class.NotStored ∷ class.Exists ∷ class.NotFound ∷ class.Hit ∷ class.Miss ∷ class.Deleted ∷ class.Touched ∷ class.Number ∷ class.NotNumber ∷ []
 
 unfoldable pub class_of_word : Word → Option Class
 class_of_word word = find (λ c. bytes_eq (class_word c) word) all_classes
@@ -135,6 +152,11 @@ hit_in [] = Err fault.Form
 hit_in (flags ∷ []) = flags_in flags >>= λ f. Err fault.Form
 hit_in (flags ∷ body ∷ shown) = flags_in flags >>= λ f. body_in body >>= λ b. shown_number_in shown >>= λ n. Ok (reply.Hit f b n)
 
+abbrev pub count_in : List Word → Result Reply WordsFault
+count_in [] = Err fault.Form
+count_in (number ∷ []) = number_in MAX_64 number >>= λ n. Ok (reply.Number n)
+count_in (number ∷ _ ∷ _) = number_in MAX_64 number >>= λ n. Err fault.Form
+
 abbrev pub behind_class : Option Class → List Word → Result Reply WordsFault
 behind_class None words = Err fault.Form
 behind_class (Some class.Stored) words = bare_in reply.Stored words
@@ -144,6 +166,9 @@ behind_class (Some class.NotFound) words = bare_in reply.NotFound words
 behind_class (Some class.Hit) words = hit_in words
 behind_class (Some class.Miss) words = bare_in reply.Miss words
 behind_class (Some class.Deleted) words = bare_in reply.Deleted words
+behind_class (Some class.Touched) words = bare_in reply.Touched words
+behind_class (Some class.Number) words = count_in words
+behind_class (Some class.NotNumber) words = bare_in reply.NotNumber words
 
 unfoldable pub reply_in : List Word → Result Reply WordsFault
 reply_in [] = Err fault.Form

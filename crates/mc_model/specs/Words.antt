@@ -1,6 +1,7 @@
 -- The words of requests and replies, as histories and step lists have them.
-use Rattle.std.specs.Prelude.{◌≡◌, ℕ, ◌+◌, ◌-◌, ◌*◌, ◌≤◌, ◌==◌, nat_le, Bool, true, not, ◌&&◌, ◌||◌, ◌⊎◌, Option, Some, None, List, [], ◌∷◌, length, codes, if◌then◌else◌}
-use Rattle.std.specs.List.{list_all}
+use Rattle.std.specs.Prelude.{◌≡◌, ℕ, ◌+◌, ◌-◌, ◌*◌, ◌≤◌, ◌==◌, nat_le, Bool, true, not, ◌&&◌, ◌||◌, ◌⊎◌, Option, Some, None, List, [], ◌∷◌, length, codes, if◌then◌else◌, ◌/◌, ◌%◌, false, decimal}
+use Rattle.std.specs.List.{list_all, flat_map, join_with_byte}
+use Rattle.std.specs.Fmt.{digit_glyph}
 use Rattle.std.specs.Str.Parse.{digits_value}
 use Rattle.mc_protocol.specs.Words.{verb_word}
 use Rattle.mc_protocol.specs.Fields.{fields_of}
@@ -89,9 +90,15 @@ SpellsBody word body = (text : List ℕ) × (word ≡ 61 ∷ text) × SpellsByte
 -- the words behind the key, by what the verb has there; a field that it lacks is 0 or empty
 abbrev pub SpellsFields : Fields → List Word → Request → Type 0
 SpellsFields fields.KeyAlone words r = (words ≡ []) × (r.flags ≡ 0) × (r.body ≡ []) × (r.number ≡ 0)
+SpellsFields fields.Expiry words r = (words ≡ []) × (r.flags ≡ 0) × (r.body ≡ []) × (r.number ≡ 0)
 SpellsFields fields.Item words r =
     (flags : Word) × (body : Word) × (words ≡ flags ∷ body ∷ [])
     × SpellsNumber MAX_32 flags r.flags × SpellsBody body r.body × (r.number ≡ 0)
+SpellsFields fields.Swap words r =
+    (flags : Word) × (body : Word) × (number : Word) × (words ≡ flags ∷ body ∷ number ∷ [])
+    × SpellsNumber MAX_32 flags r.flags × SpellsBody body r.body × SpellsNumber MAX_64 number r.number
+SpellsFields fields.Amount words r =
+    (number : Word) × (words ≡ number ∷ []) × (r.flags ≡ 0) × (r.body ≡ []) × SpellsNumber MAX_64 number r.number
 
 -- the words of a request: its verb, its key, and what else the verb has
 abbrev pub SpellsRequest : List Word → Request → Type 0
@@ -110,6 +117,9 @@ class_word class.NotFound = codes "NOT_FOUND"
 class_word class.Hit = codes "HIT"
 class_word class.Miss = codes "MISS"
 class_word class.Deleted = codes "DELETED"
+class_word class.Touched = codes "TOUCHED"
+class_word class.Number = codes "NUMBER"
+class_word class.NotNumber = codes "NOT_A_NUMBER"
 
 -- the words behind a hit's body: the cas number, where it is shown
 abbrev pub SpellsShown : List Word → Option ℕ → Type 0
@@ -127,8 +137,55 @@ SpellsReply words reply.Exists = words ≡ class_word class.Exists ∷ []
 SpellsReply words reply.NotFound = words ≡ class_word class.NotFound ∷ []
 SpellsReply words reply.Miss = words ≡ class_word class.Miss ∷ []
 SpellsReply words reply.Deleted = words ≡ class_word class.Deleted ∷ []
+SpellsReply words reply.Touched = words ≡ class_word class.Touched ∷ []
+SpellsReply words (reply.Number n) = (word : Word) × (words ≡ class_word class.Number ∷ word ∷ []) × SpellsNumber MAX_64 word n
+SpellsReply words reply.NotNumber = words ≡ class_word class.NotNumber ∷ []
 
 -- ---- words spell at most one value
 
 abbrev pub SpellAtMostOne : {W V : Type 0} → (W → V → Type 0) → Type 0
 SpellAtMostOne {W} {V} Spells = (words : W) (v w : V) → Spells words v → Spells words w → v ≡ w
+
+-- ---- what is printed: numbers without leading zeros, and no byte escaped that may stand for itself
+
+-- `%` and the byte's two hexadecimal digits, in lower case
+abbrev pub escaped_byte : ℕ → List ℕ
+escaped_byte byte = 37 ∷ digit_glyph false (byte / 16) ∷ digit_glyph false (byte % 16) ∷ []
+
+abbrev pub printed_byte : ℕ → List ℕ
+printed_byte byte = if is_plain byte then byte ∷ [] else escaped_byte byte
+
+abbrev pub body_word : List ℕ → Word
+body_word body = 61 ∷ flat_map printed_byte body
+
+-- the words behind the key
+abbrev pub field_words : Fields → Request → List Word
+field_words fields.KeyAlone r = []
+field_words fields.Expiry r = []
+field_words fields.Item r = decimal r.flags ∷ body_word r.body ∷ []
+field_words fields.Swap r = decimal r.flags ∷ body_word r.body ∷ decimal r.number ∷ []
+field_words fields.Amount r = decimal r.number ∷ []
+
+abbrev pub request_words : Request → List Word
+request_words r = verb_word r.verb ∷ r.key ∷ field_words (fields_of r.verb) r
+
+-- the word behind a hit's body, where the cas number is shown
+abbrev pub shown_words : Option ℕ → List Word
+shown_words None = []
+shown_words (Some n) = decimal n ∷ []
+
+abbrev pub reply_words : Reply → List Word
+reply_words reply.Stored = class_word class.Stored ∷ []
+reply_words reply.NotStored = class_word class.NotStored ∷ []
+reply_words reply.Exists = class_word class.Exists ∷ []
+reply_words reply.NotFound = class_word class.NotFound ∷ []
+reply_words (reply.Hit flags body cas) = class_word class.Hit ∷ decimal flags ∷ body_word body ∷ shown_words cas
+reply_words reply.Miss = class_word class.Miss ∷ []
+reply_words reply.Deleted = class_word class.Deleted ∷ []
+reply_words reply.Touched = class_word class.Touched ∷ []
+reply_words (reply.Number n) = class_word class.Number ∷ decimal n ∷ []
+reply_words reply.NotNumber = class_word class.NotNumber ∷ []
+
+-- the words, with one space between them
+abbrev pub joined : List Word → List ℕ
+joined words = join_with_byte 32 words

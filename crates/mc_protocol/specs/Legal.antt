@@ -1,7 +1,7 @@
 -- Which replies a request may have (protocol.txt).
 use Rattle.std.specs.Prelude.{Bool, true, false, not, ◌&&◌, is_some, length, nat_le}
 use Rattle.mc_protocol.specs.declared.request.Verb.{Verb}
-use Rattle.mc_protocol.specs.declared.request.Verb.TheVariants.{Set, Get, Delete}
+use Rattle.mc_protocol.specs.declared.request.Verb.TheVariants.{Set, Add, Replace, Append, Prepend, Cas, Get, Gets, Incr, Decr, Delete, Touch}
 use Rattle.mc_protocol.specs.declared.request.Request.{Request}
 use Rattle.mc_protocol.specs.declared.reply.Class.{Class}
 use Rattle.mc_protocol.specs.declared.reply.Class.TheVariants as class
@@ -18,6 +18,9 @@ class_of reply.NotFound = class.NotFound
 class_of (reply.Hit flags body cas) = class.Hit
 class_of reply.Miss = class.Miss
 class_of reply.Deleted = class.Deleted
+class_of reply.Touched = class.Touched
+class_of (reply.Number n) = class.Number
+class_of reply.NotNumber = class.NotNumber
 
 -- what a storage verb may be answered
 abbrev pub is_storage_reply : Class → Bool
@@ -39,17 +42,38 @@ is_deletion_reply class.Deleted = true
 is_deletion_reply class.NotFound = true
 is_deletion_reply _ = false
 
+-- what a touch may be answered
+abbrev pub is_touch_reply : Class → Bool
+is_touch_reply class.Touched = true
+is_touch_reply class.NotFound = true
+is_touch_reply _ = false
+
+-- what an increment or a decrement may be answered
+abbrev pub is_count_reply : Class → Bool
+is_count_reply class.Number = true
+is_count_reply class.NotFound = true
+is_count_reply class.NotNumber = true
+is_count_reply _ = false
+
 -- the protocol has a reply of this class to the verb
 abbrev pub is_legal : Verb → Class → Bool
 is_legal Set c = is_storage_reply c
+is_legal Add c = is_storage_reply c
+is_legal Replace c = is_storage_reply c
+is_legal Append c = is_storage_reply c
+is_legal Prepend c = is_storage_reply c
+is_legal Cas c = is_storage_reply c
 is_legal Get c = is_retrieval_reply c
+is_legal Gets c = is_retrieval_reply c
+is_legal Incr c = is_count_reply c
+is_legal Decr c = is_count_reply c
 is_legal Delete c = is_deletion_reply c
+is_legal Touch c = is_touch_reply c
 
 -- a hit for the verb shows the item's cas number
 abbrev pub shows_number : Verb → Bool
-shows_number Set = false
-shows_number Get = false
-shows_number Delete = false
+shows_number Gets = true
+shows_number _ = false
 
 -- both or neither
 abbrev pub same : Bool → Bool → Bool

@@ -1,0 +1,35 @@
+-- Which bodies say a number, by how they are written.
+use Rattle.std.specs.Prelude.{◌≡◌, ◌↔◌, ℕ, ◌<◌, ◌≤◌, ◌^◌, true, false, Some, List, ◌++◌, length, replicate}
+use Rattle.std.specs.Str.Parse.{digits_value}
+use Rattle.mc_model.specs.Words.{are_digits}
+use Rattle.mc_model.specs.Numeral.{numeral_of, read_as, ends_or_has_space}
+
+-- digits, and behind them nothing, or a space and what follows it
+pub record BeginsWithNumber (body : List ℕ) (n : ℕ) : Type 0 where
+  pub digits : List ℕ
+  pub rest : List ℕ
+  pub whole : body ≡ digits ++ rest
+  pub are : are_digits digits ≡ true
+  pub some : 0 < length digits
+  pub ends : ends_or_has_space rest ≡ true
+  pub value : digits_value 10 digits ≡ n
+  pub small : n < 2 ^ 64
+
+-- up to 20 digits, and spaces
+pub record IsPlainNumber (body : List ℕ) (n : ℕ) : Type 0 where
+  pub digits : List ℕ
+  pub spaces : ℕ
+  pub whole : body ≡ digits ++ replicate spaces 32
+  pub are : are_digits digits ≡ true
+  pub some : 0 < length digits
+  pub few : length digits ≤ 20
+  pub value : digits_value 10 digits ≡ n
+  pub small : n < 2 ^ 64
+
+-- who reads what may be read reads the bodies that begin with a number
+abbrev pub WillingReads : Type 0
+WillingReads = (body : List ℕ) (n : ℕ) → (read_as true (numeral_of body) ≡ Some n) ↔ BeginsWithNumber body n
+
+-- who doesn't reads the plain ones
+abbrev pub StrictReads : Type 0
+StrictReads = (body : List ℕ) (n : ℕ) → (read_as false (numeral_of body) ≡ Some n) ↔ IsPlainNumber body n
