@@ -1,119 +1,149 @@
--- The laws of what a server does with a request.
-use Rattle.std.proofs.Common.{◌≡◌, ◌≢◌, ℕ, true, false, cond, Option, Some, None, List, refl, ap, ◌∙◌}
-use Rattle.std.specs.Ordering.{nat_cmp, eq_by_cmp}
-use Rattle.std.specs.Cmp.{eq_by_cmp_equiv}
-use Rattle.std.specs.Cmp.Lexicographic.{slice_cmp, nat_list_cmp_total, texts_ties}
+-- The laws of what a server does with a request, by what its effect is.
+use Rattle.std.proofs.Common.{◌≡◌, ℕ, ◌+◌, ◌≤◌, true, false, leb, Option, Some, None, List, length, max, refl, ap, ◌∙◌, arith}
 use Rattle.std.specs.FinMap as finite_map
-use Rattle.std.specs.FinMap.{get-insert, get-remove}
-use Rattle.std.proofs.lemmas.Slice.Eq.{bytes_eq-Decides}
+use Rattle.std.proofs.lemmas.Bool.{leb-true, le-leb, both_ways}
 use Rattle.mc_protocol.specs.Legal.{class_of, is_fit}
 use Rattle.mc_protocol.specs.declared.request.Request.{Request}
-use Rattle.mc_protocol.specs.declared.request.Verb.{Verb}
 use Rattle.mc_protocol.specs.declared.request.Verb.TheVariants as verb
-use Rattle.mc_protocol.specs.declared.reply.Class.TheVariants as class
+use Rattle.mc_protocol.specs.declared.reply.Reply.TheVariants as reply
+use Rattle.mc_protocol.specs.declared.legal.TheConstants.{BODY_LIMIT}
 use Rattle.mc_model.specs.declared.cache.Item.{Item}
+use Rattle.mc_model.specs.declared.numeral.Numeral.TheVariants.{Is}
 use Rattle.mc_model.specs.declared.act.Choice.{Choice}
 use Rattle.mc_model.specs.Contents.{Contents}
-use Rattle.mc_model.specs.Act.{Change, Keeps, Puts, Removes, effect_by, effect_of, changed, version}
-use Rattle.mc_model.specs.ActLaws.{OtherKeysStay, RepliesFit, BodiesStayShort, DeletedIsGone, StoredMakesVersion, VersionIsStored, is_short}
+use Rattle.mc_model.specs.Numeral.{numeral_of}
+use Rattle.mc_model.specs.Act.{Puts, Effect, effect_by, effect_of, act}
+use Rattle.mc_model.specs.ActLaws.{OtherKeysStay, RepliesFit, BodiesStayShort, JoinedBodiesAddUp, DeletedIsGone, ToldVersionIsMade, MadeVersionIsTold, AnsweredNumberIsThere, is_short, body_length, joins, tells_version}
+use Rattle.mc_model.proofs.Changes.{after, get_changed, get_other}
+use Rattle.mc_model.proofs.Effects.{NewBody, own, joining, counting, Does, answering, removing, putting, does}
 
--- two keys that differ don't tie
-apart : (q key : List ℕ) → q ≢ key → eq_by_cmp (slice_cmp nat_cmp) q key ≡ false
-apart q key differ = elim (eq_by_cmp (slice_cmp nat_cmp) q key) as (λ b. eq_by_cmp (slice_cmp nat_cmp) q key ≡ b → b ≡ false) [
-  | true ↦ λ e. absurd (differ ((bytes_eq-Decides q key).0 (texts_ties q key ∙ e)))
-  | false ↦ λ e. refl
-] refl
+-- what is at the request's key
+abbrev at : Contents → Request → Option Item
+at contents request = finite_map.get contents request.key
 
--- a key ties with itself
-alike : (key : List ℕ) → eq_by_cmp (slice_cmp nat_cmp) key key ≡ true
-alike key = (eq_by_cmp_equiv nat_list_cmp_total).refl key
+-- what is at it afterwards
+left : (contents : Contents) (request : Request) (choice : Choice) (number : ℕ)
+    → at (act contents request choice number).contents request ≡ after (effect_of contents request choice number).change (at contents request)
+left contents request choice number = get_changed contents request.key (effect_of contents request choice number).change
 
--- what is at the key after its change
-abbrev after : Change → Option Item → Option Item
-after Keeps found = found
-after (Puts item) found = Some item
-after Removes found = None
+-- what the request's effect does
+does_here : (contents : Contents) (request : Request) (choice : Choice) (number : ℕ) → Does request number (at contents request) (effect_of contents request choice number)
+does_here contents request choice number = does request.verb request choice number (at contents request) refl
 
-get_changed : (contents : Contents) (key : List ℕ) (change : Change) → finite_map.get (changed contents key change) key ≡ after change (finite_map.get contents key)
-get_changed contents key Keeps = refl
-get_changed contents key (Puts item) =
-    get-insert nat_list_cmp_total contents key item key ∙ ap (λ b. cond b (Some item) (finite_map.get contents key)) (alike key)
-get_changed contents key Removes =
-    get-remove nat_list_cmp_total contents key key ∙ ap (λ b. cond b None (finite_map.get contents key)) (alike key)
-
--- what is at another key
-get_other : (contents : Contents) (key : List ℕ) (change : Change) (q : List ℕ) → q ≢ key → finite_map.get (changed contents key change) q ≡ finite_map.get contents q
-get_other contents key Keeps q differ = refl
-get_other contents key (Puts item) q differ =
-    get-insert nat_list_cmp_total contents key item q ∙ ap (λ b. cond b (Some item) (finite_map.get contents q)) (apart q key differ)
-get_other contents key Removes q differ =
-    get-remove nat_list_cmp_total contents key q ∙ ap (λ b. cond b None (finite_map.get contents q)) (apart q key differ)
-
+-- another key isn't the one that is changed
 pub other_keys_stay : OtherKeysStay
 other_keys_stay contents request choice number key differ = get_other contents request.key (effect_of contents request choice number).change key differ
 
--- by the verb and what is there
-fits : (v : Verb) (request : Request) (choice : Choice) (number : ℕ) (found : Option Item) → request.verb ≡ v → is_short found ≡ true
-    → is_fit request (effect_by v request choice number found).reply ≡ true
-fits verb.Set request choice number found e short = rw e refl
-fits verb.Get request choice number None e short = rw e refl
-fits verb.Get request choice number (Some item) e short = rw e short
-fits verb.Delete request choice number None e short = rw e refl
-fits verb.Delete request choice number (Some item) e short = rw e refl
+-- each answer of an effect is one that fits
+fits : (request : Request) (number : ℕ) (found : Option Item) (effect : Effect) → Does request number found effect → is_short found ≡ true → is_fit request effect.reply ≡ true
+fits request number found effect (answering r told fit) short = fit short
+fits request number found effect (removing fit) short = fit
+fits request number found effect (putting item r numbered told fit says new) short = fit
 
+-- and so is the request's
 pub replies_fit : RepliesFit
-replies_fit contents request choice number short = fits request.verb request choice number (finite_map.get contents request.key) refl short
+replies_fit contents request choice number short =
+    fits request number (at contents request) (effect_of contents request choice number) (does_here contents request choice number) short
 
-stays_short : (v : Verb) (request : Request) (choice : Choice) (number : ℕ) (found : Option Item) → is_short (Some (version request number)) ≡ true → is_short found ≡ true
-    → is_short (after (effect_by v request choice number found).change found) ≡ true
-stays_short verb.Set request choice number found new old = new
-stays_short verb.Get request choice number None new old = refl
-stays_short verb.Get request choice number (Some item) new old = old
-stays_short verb.Delete request choice number None new old = refl
-stays_short verb.Delete request choice number (Some item) new old = refl
+-- what is at most as long as 20 bytes or an old body within the limit is within the limit
+no_longer : (found : Option Item) (n : ℕ) → n ≤ max 20 (body_length found) → is_short found ≡ true → leb n BODY_LIMIT ≡ true
+no_longer None n few short = le-leb n BODY_LIMIT (omega arith)
+no_longer (Some item) n few short = let below = leb-true (length item.body) BODY_LIMIT short in le-leb n BODY_LIMIT (omega arith)
 
+-- a new body that isn't joined is within the limit
+new_short : (request : Request) (found : Option Item) (body : List ℕ) → NewBody request found body → joins request.verb ≡ false → leb (length request.body) BODY_LIMIT ≡ true → is_short found ≡ true
+    → leb (length body) BODY_LIMIT ≡ true
+new_short request found body (own alone) not_joined given short = given
+new_short request found body (joining _ both is) not_joined given short = absurd (both_ways (joins request.verb) not_joined both)
+new_short request found body (counting _ alone few) not_joined given short = no_longer found (length body) few short
+
+-- and so is what is at the key after an effect
+stays_short : (request : Request) (number : ℕ) (found : Option Item) (effect : Effect) → Does request number found effect → joins request.verb ≡ false → leb (length request.body) BODY_LIMIT ≡ true → is_short found ≡ true
+    → is_short (after effect.change found) ≡ true
+stays_short request number found effect (answering r told fit) alone given short = short
+stays_short request number found effect (removing fit) alone given short = refl
+stays_short request number found effect (putting item r numbered told fit says new) alone given short = new_short request found item.body new alone given short
+
+-- or after the request
 pub bodies_stay_short : BodiesStayShort
-bodies_stay_short contents request choice number new old =
-    ap is_short (get_changed contents request.key (effect_of contents request choice number).change)
-    ∙ stays_short request.verb request choice number (finite_map.get contents request.key) new old
+bodies_stay_short contents request choice number alone given short =
+    ap is_short (left contents request choice number)
+    ∙ stays_short request number (at contents request) (effect_of contents request choice number) (does_here contents request choice number) alone given short
 
+-- a body that is joined is as long as both
+new_adds_up : (request : Request) (found : Option Item) (body : List ℕ) → NewBody request found body → joins request.verb ≡ true → length body ≤ body_length found + length request.body
+new_adds_up request found body (own alone) both = absurd (both_ways (joins request.verb) alone both)
+new_adds_up request found body (joining _ joined is) both = omega arith
+new_adds_up request found body (counting _ alone few) both = absurd (both_ways (joins request.verb) alone both)
+
+-- so what is at the key grows by the request's body at most
+adds_up : (request : Request) (number : ℕ) (found : Option Item) (effect : Effect) → Does request number found effect → joins request.verb ≡ true
+    → body_length (after effect.change found) ≤ body_length found + length request.body
+adds_up request number found effect (answering r told fit) both = omega arith
+adds_up request number found effect (removing fit) both = omega arith
+adds_up request number found effect (putting item r numbered told fit says new) both = new_adds_up request found item.body new both
+
+-- under the request
+pub joined_bodies_add_up : JoinedBodiesAddUp
+joined_bodies_add_up contents request choice number both =
+    rw (left contents request choice number)
+    (adds_up request number (at contents request) (effect_of contents request choice number) (does_here contents request choice number) both)
+
+-- a delete leaves nothing
 gone : (request : Request) (choice : Choice) (number : ℕ) (found : Option Item) → after (effect_by verb.Delete request choice number found).change found ≡ None
 gone request choice number None = refl
 gone request choice number (Some item) = refl
 
+-- and so does the request
 pub deleted_is_gone : DeletedIsGone
 deleted_is_gone contents request choice number is =
-    get_changed contents request.key (effect_of contents request choice number).change
-    ∙ ap (λ v. after (effect_by v request choice number (finite_map.get contents request.key)).change (finite_map.get contents request.key)) is
-    ∙ gone request choice number (finite_map.get contents request.key)
+    left contents request choice number
+    ∙ ap (λ v. after (effect_by v request choice number (at contents request)).change (at contents request)) is
+    ∙ gone request choice number (at contents request)
 
--- an effect that answers `STORED` puts an item of this number
-puts : (v : Verb) (request : Request) (choice : Choice) (number : ℕ) (found : Option Item) → class_of (effect_by v request choice number found).reply ≡ class.Stored
-    → (item : Item) × ((effect_by v request choice number found).change ≡ Puts item) × (item.number ≡ number)
-puts verb.Set request choice number found is = (version request number, refl, refl)
-puts verb.Get request choice number None is = absurd cc
-puts verb.Get request choice number (Some item) is = absurd cc
-puts verb.Delete request choice number None is = absurd cc
-puts verb.Delete request choice number (Some item) is = absurd cc
+-- the version that an effect makes
+record Made (number : ℕ) (effect : Effect) : Type 0 where
+  item : Item
+  puts : effect.change ≡ Puts item
+  numbered : item.number ≡ number
 
-pub stored_makes_version : StoredMakesVersion
-stored_makes_version contents request choice number is =
-    let made = puts request.verb request choice number (finite_map.get contents request.key) is in
+-- an effect whose answer tells of a version makes one
+made : (request : Request) (number : ℕ) (found : Option Item) (effect : Effect) → Does request number found effect → tells_version (class_of effect.reply) ≡ true → Made number effect
+made request number found effect (answering r untold fit) told = absurd (both_ways (tells_version (class_of r)) untold told)
+made request number found effect (removing fit) told = absurd cc
+made request number found effect (putting item r numbered told_of fit says new) told = record { item = item; puts = refl; numbered = numbered }
+
+-- and it is at the key
+pub told_version_is_made : ToldVersionIsMade
+told_version_is_made contents request choice number told =
+    let m = made request number (at contents request) (effect_of contents request choice number) (does_here contents request choice number) told in
     record {
-      item = made.0;
-      puts = made.1;
-      numbered = made.2;
-      there = get_changed contents request.key (effect_of contents request choice number).change
-          ∙ ap (λ change. after change (finite_map.get contents request.key)) made.1;
+      item = m.item;
+      puts = m.puts;
+      numbered = m.numbered;
+      there = left contents request choice number ∙ ap (λ change. after change (at contents request)) m.puts;
     }
 
-stored : (v : Verb) (request : Request) (choice : Choice) (number : ℕ) (found : Option Item) (item : Item) → (effect_by v request choice number found).change ≡ Puts item
-    → class_of (effect_by v request choice number found).reply ≡ class.Stored
-stored verb.Set request choice number found item is = refl
-stored verb.Get request choice number None item is = absurd cc
-stored verb.Get request choice number (Some _) item is = absurd cc
-stored verb.Delete request choice number None item is = absurd cc
-stored verb.Delete request choice number (Some _) item is = absurd cc
+-- an effect that makes a version tells of it
+told : (request : Request) (number : ℕ) (found : Option Item) (effect : Effect) (item : Item) → Does request number found effect → effect.change ≡ Puts item → tells_version (class_of effect.reply) ≡ true
+told request number found effect item (answering r untold fit) is = absurd cc
+told request number found effect item (removing fit) is = absurd cc
+told request number found effect item (putting _ r numbered told_of fit says new) is = told_of
 
-pub version_is_stored : VersionIsStored
-version_is_stored contents request choice number item is = stored request.verb request choice number (finite_map.get contents request.key) item is
+-- and so does the request's
+pub made_version_is_told : MadeVersionIsTold
+made_version_is_told contents request choice number item is =
+    told request number (at contents request) (effect_of contents request choice number) item (does_here contents request choice number) is
+
+-- a number that an effect answers is what its new body says
+says_number : (request : Request) (number n : ℕ) (found : Option Item) (effect : Effect) → Does request number found effect → effect.reply ≡ reply.Number n
+    → (item : Item) × (after effect.change found ≡ Some item) × (numeral_of item.body ≡ Is n)
+says_number request number n found effect (answering r untold fit) is = absurd (both_ways (tells_version (class_of r)) untold (ap (λ r. tells_version (class_of r)) is))
+says_number request number n found effect (removing fit) is = absurd cc
+says_number request number n found effect (putting item r numbered told_of fit says new) is = (item, refl, says n is)
+
+-- and that body is at the key
+pub answered_number_is_there : AnsweredNumberIsThere
+answered_number_is_there contents request choice number n is =
+    let s = says_number request number n (at contents request) (effect_of contents request choice number) (does_here contents request choice number) is in
+    (s.0, left contents request choice number ∙ s.1, s.2)

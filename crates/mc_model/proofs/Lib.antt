@@ -1,6 +1,9 @@
 pub mod Entries
 pub mod Numbers
+pub mod Changes
+pub mod Effects
 pub mod Acts
+pub mod Choices
 pub mod Escaped
 pub mod Outcomes
 pub mod Readings
@@ -8,11 +11,15 @@ pub mod NumberWords
 pub mod BodyWords
 pub mod RequestWords
 pub mod ReplyWords
+pub mod PrintedWords
+pub mod WholeWords
 pub mod Added
 pub mod Keys
 pub mod Turns
 pub mod Cleared
+pub mod Seen
 pub mod Limits
 pub mod Faults
 pub mod Prefixes
 pub mod FirstFaults
+pub mod NumeralReadings

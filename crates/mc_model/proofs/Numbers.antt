@@ -11,7 +11,7 @@ use Rattle.std.proofs.lemmas.Str.Parse.{IsNumeralModel, numerals_by_value, digit
 use Rattle.mc_model.specs.Words.{are_digits, MAX_64}
 
 -- the digits are those of std, and they have its value
-digits : IsNumeralModel (λ ds. are_digits ds ≡ true) (digits_value 10)
+pub digits : IsNumeralModel (λ ds. are_digits ds ≡ true) (digits_value 10)
 digits = numerals_by_value _ (search rules)
 
 -- digits are a text

@@ -14,6 +14,7 @@ use Rattle.mc_model.proofs.Added.{every_added}
 use Rattle.mc_model.proofs.Limits.{requests_before, keys_before}
 use Rattle.mc_model.proofs.Turns.{turn_before, no_branch, none_sent}
 use Rattle.mc_model.proofs.Cleared.{cleared_parts, cleared_before}
+use Rattle.mc_model.proofs.Seen.{numbers_before}
 use Rattle.mc_model.proofs.Faults.{rules_of, history_of, no_fault_of}
 
 every_before : (test : Sent → Bool) (s : Sections) (who : Actor) (sent : Sent) → every test (added s who sent) ≡ true → every test s ≡ true
@@ -36,6 +37,7 @@ history_before s who sent late h =
       few_keys = keys_before s who sent r.few_keys;
       turn = turn_before s who sent late r.turn;
       cleared = keys_cleared_before s who sent late r.cleared;
+      numbers = numbers_before s who sent late r.numbers;
       replies = every_before is_answered_rightly s who sent r.replies;
     })
 

@@ -7,8 +7,8 @@ use Rattle.mc_protocol.specs.declared.reply.Reply.TheVariants as reply
 use Rattle.mc_protocol.specs.declared.reply.Class.{Class}
 use Rattle.mc_protocol.specs.declared.reply.Class.TheVariants as class
 use Rattle.mc_model.specs.declared.words.WordsFault.TheVariants as fault
-use Rattle.mc_model.specs.Words.{Word, SpellsShown, SpellsReply, class_word, MAX_32, MAX_64}
-use Rattle.mc_model.specs.Reading.{◌>>=◌, all_classes, class_of_word, number_in, flags_in, body_in, bare_in, shown_number_in, hit_in, behind_class, reply_in}
+use Rattle.mc_model.specs.Words.{Word, SpellsNumber, SpellsShown, SpellsReply, class_word, MAX_32, MAX_64}
+use Rattle.mc_model.specs.Reading.{◌>>=◌, all_classes, class_of_word, number_in, flags_in, body_in, bare_in, shown_number_in, hit_in, count_in, behind_class, reply_in}
 use Rattle.mc_model.proofs.Outcomes.{steps-ok, ok-same, find-passes}
 use Rattle.mc_model.proofs.NumberWords.{number-spelled, number-read}
 use Rattle.mc_model.proofs.BodyWords.{body-spelled, body-read}
@@ -25,6 +25,9 @@ class_of-word class.NotFound = refl
 class_of-word class.Hit = refl
 class_of-word class.Miss = refl
 class_of-word class.Deleted = refl
+class_of-word class.Touched = refl
+class_of-word class.Number = refl
+class_of-word class.NotNumber = refl
 
 pub word-of_class : (word : Word) (c : Class) → class_of_word word ≡ Some c → class_word c ≡ word
 unfolding class_of_word
@@ -62,6 +65,18 @@ hit-spelled word (flags ∷ body ∷ shown) r w h =
 hit-read : (f b : Word) (shown : List Word) (flags : ℕ) (body : List ℕ) (cas : Option ℕ) → flags_in f ≡ Ok flags → body_in b ≡ Ok body → shown_number_in shown ≡ Ok cas → hit_in (f ∷ b ∷ shown) ≡ Ok (reply.Hit flags body cas)
 hit-read f b shown flags body cas p q s = rw (p, q, s) refl
 
+-- ---- numbers that were counted
+
+count-spelled : (word : Word) (words : List Word) (r : Reply) → class_word class.Number ≡ word → count_in words ≡ Ok r → SpellsReply (word ∷ words) r
+count-spelled word [] r w h = absurd (cc)
+count-spelled word (number ∷ []) r w h =
+    let p = steps-ok (number_in MAX_64 number) (λ n. Ok (reply.Number n)) r h in
+    subst (SpellsReply (word ∷ number ∷ [])) (ok-same (reply.Number p.0) r p.2) (number, ap (λ x. x ∷ number ∷ []) (sym w), number-spelled MAX_64 number p.0 p.1)
+count-spelled word (number ∷ other ∷ others) r w h = absurd (let p = steps-ok (number_in MAX_64 number) (λ n. Err fault.Form) r h in cc)
+
+count-read : (word : Word) (n : ℕ) → SpellsNumber MAX_64 word n → count_in (word ∷ []) ≡ Ok (reply.Number n)
+count-read word n s = rw (number-read MAX_64 word n s) refl
+
 -- ---- replies
 
 behind-spelled : (word : Word) (c : Option Class) (words : List Word) (r : Reply) → class_of_word word ≡ c → behind_class c words ≡ Ok r → SpellsReply (word ∷ words) r
@@ -73,6 +88,9 @@ behind-spelled word (Some class.NotFound) words r e h = bare-spelled class.NotFo
 behind-spelled word (Some class.Hit) words r e h = hit-spelled word words r (word-of_class word class.Hit e) h
 behind-spelled word (Some class.Miss) words r e h = bare-spelled class.Miss reply.Miss (λ _ p. p) word words r (word-of_class word class.Miss e) h
 behind-spelled word (Some class.Deleted) words r e h = bare-spelled class.Deleted reply.Deleted (λ _ p. p) word words r (word-of_class word class.Deleted e) h
+behind-spelled word (Some class.Touched) words r e h = bare-spelled class.Touched reply.Touched (λ _ p. p) word words r (word-of_class word class.Touched e) h
+behind-spelled word (Some class.Number) words r e h = count-spelled word words r (word-of_class word class.Number e) h
+behind-spelled word (Some class.NotNumber) words r e h = bare-spelled class.NotNumber reply.NotNumber (λ _ p. p) word words r (word-of_class word class.NotNumber e) h
 
 pub reply-spelled : (words : List Word) (r : Reply) → reply_in words ≡ Ok r → SpellsReply words r
 unfolding reply_in
@@ -93,6 +111,9 @@ reply-read words (reply.Hit flags body cas) (f, b, shown, e, p, q, s) =
     class-read class.Hit words (f ∷ b ∷ shown) (reply.Hit flags body cas) e (hit-read f b shown flags body cas (number-read MAX_32 f flags p) (body-read b body q) (shown-read shown cas s))
 reply-read words reply.Miss e = class-read class.Miss words [] reply.Miss e refl
 reply-read words reply.Deleted e = class-read class.Deleted words [] reply.Deleted e refl
+reply-read words reply.Touched e = class-read class.Touched words [] reply.Touched e refl
+reply-read words (reply.Number n) (word, e, number) = class-read class.Number words (word ∷ []) (reply.Number n) e (count-read word n number)
+reply-read words reply.NotNumber e = class-read class.NotNumber words [] reply.NotNumber e refl
 
 -- words spell one reply
 pub one_reply : (words : List Word) (r s : Reply) → SpellsReply words r → SpellsReply words s → r ≡ s

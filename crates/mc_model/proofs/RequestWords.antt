@@ -6,13 +6,13 @@ use Rattle.std.proofs.lemmas.Slice.Eq.{bytes_eq-Decides}
 use Rattle.mc_protocol.specs.Words.{verb_word}
 use Rattle.mc_protocol.specs.Fields.{fields_of}
 use Rattle.mc_protocol.specs.declared.request.Verb.{Verb}
-use Rattle.mc_protocol.specs.declared.request.Verb.TheVariants.{Set, Get, Delete}
+use Rattle.mc_protocol.specs.declared.request.Verb.TheVariants.{Set, Add, Replace, Append, Prepend, Cas, Get, Gets, Incr, Decr, Delete, Touch}
 use Rattle.mc_protocol.specs.declared.request.Fields.{Fields}
 use Rattle.mc_protocol.specs.declared.request.Fields.TheVariants as fields
 use Rattle.mc_protocol.specs.declared.request.Request.{Request}
 use Rattle.mc_model.specs.declared.words.WordsFault.TheVariants as fault
-use Rattle.mc_model.specs.Words.{Word, SpellsBody, SpellsFields, SpellsRequest, is_key, are_digits, MAX_32}
-use Rattle.mc_model.specs.Reading.{◌>>=◌, all_verbs, verb_of, body_in, flags_in, fields_in, key_alone_in, item_in, behind_verb, request_in}
+use Rattle.mc_model.specs.Words.{Word, SpellsBody, SpellsFields, SpellsRequest, is_key, are_digits, MAX_32, MAX_64}
+use Rattle.mc_model.specs.Reading.{◌>>=◌, all_verbs, verb_of, body_in, flags_in, fields_in, key_alone_in, item_in, behind_verb, request_in, number_in, swap_in, amount_in}
 use Rattle.mc_model.proofs.Outcomes.{then-ok, steps-ok, ok-same, find-passes}
 use Rattle.mc_model.proofs.NumberWords.{number-spelled, number-read}
 use Rattle.mc_model.proofs.BodyWords.{body-spelled, body-read}
@@ -23,8 +23,17 @@ use Rattle.mc_model.proofs.BodyWords.{body-spelled, body-read}
 pub verb_of-word : (verb : Verb) → verb_of (verb_word verb) ≡ Some verb
 unfolding verb_of
 verb_of-word Set = refl
+verb_of-word Add = refl
+verb_of-word Replace = refl
+verb_of-word Append = refl
+verb_of-word Prepend = refl
+verb_of-word Cas = refl
 verb_of-word Get = refl
+verb_of-word Gets = refl
+verb_of-word Incr = refl
+verb_of-word Decr = refl
 verb_of-word Delete = refl
+verb_of-word Touch = refl
 
 pub word-of_verb : (word : Word) (verb : Verb) → verb_of word ≡ Some verb → verb_word verb ≡ word
 unfolding verb_of
@@ -51,9 +60,39 @@ item-spelled verb key (flags ∷ body ∷ []) r h =
 item-spelled verb key (flags ∷ body ∷ word ∷ words) r h =
     absurd (let p = steps-ok (flags_in flags) (λ f. body_in body >>= λ b. Err fault.Form) r h in let q = steps-ok (body_in body) (λ b. Err fault.Form) r p.2 in cc)
 
+swap-spelled : (verb : Verb) (key : List ℕ) (words : List Word) (r : Request) → swap_in verb key words ≡ Ok r → SpellsBehind fields.Swap verb key words r
+swap-spelled verb key [] r h = absurd (cc)
+swap-spelled verb key (flags ∷ []) r h = absurd (let p = steps-ok (flags_in flags) (λ f. Err fault.Form) r h in cc)
+swap-spelled verb key (flags ∷ body ∷ []) r h =
+    absurd (let p = steps-ok (flags_in flags) (λ f. body_in body >>= λ b. Err fault.Form) r h in let q = steps-ok (body_in body) (λ b. Err fault.Form) r p.2 in cc)
+swap-spelled verb key (flags ∷ body ∷ number ∷ []) r h =
+    let made : ℕ → List ℕ → ℕ → Request = λ f b n. record { verb = verb; key = key; flags = f; body = b; number = n } in
+    let p = steps-ok (flags_in flags) (λ f. body_in body >>= λ b. number_in MAX_64 number >>= λ n. Ok (made f b n)) r h in
+    let q = steps-ok (body_in body) (λ b. number_in MAX_64 number >>= λ n. Ok (made p.0 b n)) r p.2 in
+    let s = steps-ok (number_in MAX_64 number) (λ n. Ok (made p.0 q.0 n)) r q.2 in
+    subst (SpellsBehind fields.Swap verb key (flags ∷ body ∷ number ∷ [])) (ok-same (made p.0 q.0 s.0) r s.2)
+    (refl, refl, (flags, body, number, refl, number-spelled MAX_32 flags p.0 p.1, body-spelled body q.0 q.1, number-spelled MAX_64 number s.0 s.1))
+swap-spelled verb key (flags ∷ body ∷ number ∷ word ∷ words) r h =
+    absurd (
+    let p = steps-ok (flags_in flags) (λ f. body_in body >>= λ b. number_in MAX_64 number >>= λ n. Err fault.Form) r h in
+    let q = steps-ok (body_in body) (λ b. number_in MAX_64 number >>= λ n. Err fault.Form) r p.2 in
+    let s = steps-ok (number_in MAX_64 number) (λ n. Err fault.Form) r q.2 in
+    cc)
+
+amount-spelled : (verb : Verb) (key : List ℕ) (words : List Word) (r : Request) → amount_in verb key words ≡ Ok r → SpellsBehind fields.Amount verb key words r
+amount-spelled verb key [] r h = absurd (cc)
+amount-spelled verb key (number ∷ []) r h =
+    let made : ℕ → Request = λ n. record { verb = verb; key = key; flags = 0; body = []; number = n } in
+    let p = steps-ok (number_in MAX_64 number) (λ n. Ok (made n)) r h in
+    subst (SpellsBehind fields.Amount verb key (number ∷ [])) (ok-same (made p.0) r p.2) (refl, refl, (number, refl, refl, refl, number-spelled MAX_64 number p.0 p.1))
+amount-spelled verb key (number ∷ word ∷ words) r h = absurd (let p = steps-ok (number_in MAX_64 number) (λ n. Err fault.Form) r h in cc)
+
 fields-spelled : (shape : Fields) (verb : Verb) (key : List ℕ) (words : List Word) (r : Request) → fields_in shape verb key words ≡ Ok r → SpellsBehind shape verb key words r
 fields-spelled fields.KeyAlone verb key words r h = key_alone-spelled verb key words r h
+fields-spelled fields.Expiry verb key words r h = key_alone-spelled verb key words r h
 fields-spelled fields.Item verb key words r h = item-spelled verb key words r h
+fields-spelled fields.Swap verb key words r h = swap-spelled verb key words r h
+fields-spelled fields.Amount verb key words r h = amount-spelled verb key words r h
 
 -- a request is what its parts make
 same_request : (r : Request) (flags : ℕ) (body : List ℕ) (number : ℕ) → r.flags ≡ flags → r.body ≡ body → r.number ≡ number → ◌≡◌ {A = Request} (record { verb = r.verb; key = r.key; flags = flags; body = body; number = number }) r
@@ -61,8 +100,13 @@ same_request r flags body number f b n = rw (← f, ← b, ← n) refl
 
 fields-read : (shape : Fields) (r : Request) (words : List Word) → SpellsFields shape words r → fields_in shape r.verb r.key words ≡ Ok r
 fields-read fields.KeyAlone r words (e, f, b, n) = rw e (ap Ok (same_request r 0 [] 0 f b n))
+fields-read fields.Expiry r words (e, f, b, n) = rw e (ap Ok (same_request r 0 [] 0 f b n))
 fields-read fields.Item r words (flags, body, e, f, b, n) =
     rw (e, number-read MAX_32 flags r.flags f, body-read body r.body b) (ap Ok (same_request r r.flags r.body 0 refl refl n))
+fields-read fields.Swap r words (flags, body, number, e, f, b, n) =
+    rw (e, number-read MAX_32 flags r.flags f, body-read body r.body b, number-read MAX_64 number r.number n) (ap Ok (same_request r r.flags r.body r.number refl refl refl))
+fields-read fields.Amount r words (number, e, f, b, n) =
+    rw (e, number-read MAX_64 number r.number n) (ap Ok (same_request r 0 [] r.number f b refl))
 
 -- ---- requests
 
@@ -115,8 +159,12 @@ body-apart word body (text, e, spelled, small) = apart begins_body word refl (ap
 
 fields-apart : (shape : Fields) (words : List Word) (r : Request) → SpellsFields shape words r → HasNoArrow words
 fields-apart fields.KeyAlone words r (e, f, b, n) = subst HasNoArrow (sym e) tt
+fields-apart fields.Expiry words r (e, f, b, n) = subst HasNoArrow (sym e) tt
 fields-apart fields.Item words r (flags, body, e, f, b, n) =
     subst HasNoArrow (sym e) (apart are_digits flags refl f.digits, (body-apart body r.body b, tt))
+fields-apart fields.Swap words r (flags, body, number, e, f, b, n) =
+    subst HasNoArrow (sym e) (apart are_digits flags refl f.digits, (body-apart body r.body b, (apart are_digits number refl n.digits, tt)))
+fields-apart fields.Amount words r (number, e, f, b, n) = subst HasNoArrow (sym e) (apart are_digits number refl n.digits, tt)
 
 pub no_arrow_in_request : (words : List Word) (r : Request) → SpellsRequest words r → HasNoArrow words
 no_arrow_in_request words r (others, e, key, spelled) =

@@ -1,6 +1,6 @@
 ghost use Rattle.std.specs.Prelude.{◌≡◌, IfOk, OnErr};
 ghost use Rattle.std.specs.FinMap as finite_map;
-ghost use Rattle.mc_model.specs.Act.{act, acted, stored, read, deleted};
+ghost use Rattle.mc_model.specs.Act.{act, acted, read, read_with_number, deleted, touched};
 
 use crate::{Cache, Item};
 use mc_protocol::{OutOfMemory, Reply, Request, Verb};
@@ -30,39 +30,37 @@ impl Cache {
         ensures err { OnErr result (self.new ≡ self.old) }
     {
         match request.verb {
-            Verb::Set => self.set(alloc, request, number),
+            Verb::Set => self.store(alloc, request, number),
+            Verb::Add => self.add(alloc, request, number),
+            Verb::Replace => self.replace(alloc, request, number),
+            Verb::Append => self.append(alloc, request, number),
+            Verb::Prepend => self.prepend(alloc, request, number),
+            Verb::Cas => self.swap(alloc, request, number),
             Verb::Get => self.get(alloc, request),
+            Verb::Gets => self.gets(alloc, request),
+            Verb::Incr => self.incr(alloc, request, choice, number),
+            Verb::Decr => self.decr(alloc, request, choice, number),
             Verb::Delete => Ok(self.delete(request)),
+            Verb::Touch => Ok(self.touch(request)),
         }
     }
 }
 
 impl Cache {
-    fn set(&mut self, alloc: Global, request: &Request, number: u64) -> Result<Reply, OutOfMemory>
-        ensures reply { IfOk result (λ reply. reply ≡ (acted self.old request.now (stored request.now number)).reply) }
-        ensures contents { IfOk result (λ _. self.new ≡ (acted self.old request.now (stored request.now number)).contents) }
-        ensures err { OnErr result (self.new ≡ self.old) }
-    {
-        let key = request.key.copy(alloc)?;
-        let body = request.body.copy(alloc)?;
-        let item = Item {
-            flags: request.flags,
-            body,
-            number,
-        };
-        self.put(key, item)?;
-        Ok(Reply::Stored)
-    }
-
     fn get(&self, alloc: Global, request: &Request) -> Result<Reply, OutOfMemory>
         ensures { IfOk result (λ reply. reply ≡ (read (finite_map.get self.now request.now.key)).reply) }
     {
         match self.find(request.key.as_slice()) {
-            Some(item) => Ok(Reply::Hit {
-                flags: item.flags,
-                body: item.body.copy(alloc)?,
-                cas: None,
-            }),
+            Some(item) => hit(alloc, item, None),
+            None => Ok(Reply::Miss),
+        }
+    }
+
+    fn gets(&self, alloc: Global, request: &Request) -> Result<Reply, OutOfMemory>
+        ensures { IfOk result (λ reply. reply ≡ (read_with_number (finite_map.get self.now request.now.key)).reply) }
+    {
+        match self.find(request.key.as_slice()) {
+            Some(item) => hit(alloc, item, Some(item.number)),
             None => Ok(Reply::Miss),
         }
     }
@@ -78,4 +76,24 @@ impl Cache {
         self.remove(key);
         Reply::Deleted
     }
+
+    // The time of expiry is always 0, so nothing changes.
+    fn touch(&self, request: &Request) -> Reply
+        ensures { result ≡ (touched (finite_map.get self.now request.now.key)).reply }
+    {
+        match self.find(request.key.as_slice()) {
+            Some(_) => Reply::Touched,
+            None => Reply::NotFound,
+        }
+    }
+}
+
+fn hit(alloc: Global, item: &Item, cas: Option<u64>) -> Result<Reply, OutOfMemory>
+    ensures { IfOk result (λ reply. reply ≡ Reply.Hit item.now.flags item.now.body cas) }
+{
+    Ok(Reply::Hit {
+        flags: item.flags,
+        body: item.body.copy(alloc)?,
+        cas,
+    })
 }

@@ -1,11 +1,13 @@
-ghost use Rattle.std.specs.Prelude.{◌≡◌, ◌≢◌, ℕ, List, IfOk, IfErr};
+ghost use Rattle.std.specs.Prelude.{◌≡◌, ◌≢◌, ◌++◌, ◌<◌, ℕ, List, false, IfOk, IfErr, OnOk, OnErr};
+ghost use Rattle.std.specs.Fmt.{digit_glyph};
 ghost use Rattle.std.specs.Option.{option_map};
 ghost use Rattle.mc_model.specs.Words as spec;
+ghost use Rattle.mc_model.specs.WordLaws.{AreBytes};
 ghost use Rattle.mc_model.specs.Reading as reading;
 
 use crate::WordsFault;
-use mc_protocol::{BODY_LIMIT, Bytes};
-use std::alloc::Global;
+use mc_protocol::{BODY_LIMIT, Bytes, OutOfMemory};
+use std::alloc::{AllocError, Global};
 
 /// Reads a body: `=`, and behind it the bytes. A byte from 33 to 126 other than `%` stands for itself, and `%hh` for
 /// the byte with these two hexadecimal digits. A word that is none, or a body of more than [`BODY_LIMIT`] bytes, is
@@ -87,4 +89,43 @@ fn is_plain(byte: u8) -> bool
     ensures { result ≡ spec.is_plain byte }
 {
     byte >= 33 && byte <= 126 && byte != b'%'
+}
+
+// Appends the word of a body. Want of memory leaves `out` as it was.
+pub(crate) fn append_body(out: &mut Vec<u8>, body: &[u8]) -> Result<(), OutOfMemory>
+    ensures ok { OnOk result (out.new.items ≡ out.old.items ++ spec.body_word body.now) }
+    ensures bytes { OnOk result (AreBytes body.now) }
+    ensures err { OnErr result (out.new.items ≡ out.old.items) }
+{
+    let start = out.len();
+    out.extend_from_slice(b"=")?;
+    'bytes: for byte in body {
+        if append_byte(out, *byte).is_err() {
+            out.truncate(start);
+            return Err(AllocError);
+        }
+    }
+    Ok(())
+}
+
+fn append_byte(out: &mut Vec<u8>, byte: u8) -> Result<(), OutOfMemory>
+    ensures ok { OnOk result (out.new.items ≡ out.old.items ++ spec.printed_byte byte) }
+    ensures err { OnErr result (out.new.items ≡ out.old.items) }
+{
+    if is_plain(byte) {
+        out.extend_from_slice(&[byte])
+    } else {
+        out.extend_from_slice(&[b'%', hex_digit(byte / 16), hex_digit(byte % 16)])
+    }
+}
+
+fn hex_digit(value: u8) -> u8
+    requires { value < 16 }
+    ensures { result ≡ digit_glyph false value }
+{
+    if value < 10 {
+        b'0' + value
+    } else {
+        b'a' + (value - 10)
+    }
 }

@@ -5,7 +5,7 @@ ghost use Rattle.mc_model.specs.Next as next;
 
 use crate::rules::{
     HistoryKind, KEYS_LIMIT, REQUESTS_LIMIT, are_answered, has_key, has_words, is_answered_rightly,
-    is_delete,
+    is_delete, is_seen,
 };
 use crate::{History, Sent};
 use mc_protocol::Actor;
@@ -85,6 +85,7 @@ impl HistoryBuilder {
     }
 
     // The first rule that the sections break with the request added.
+    #[tactic(auto, using(crate::proofs::Faults::fault_by_tests))]
     fn fault_of(&self, actor: Actor, sent: &Sent) -> Option<HistoryKind>
         ensures { result ≡ rule.fault_at self.now actor sent.now }
     {
@@ -102,6 +103,9 @@ impl HistoryBuilder {
         }
         if !self.is_cleared(actor, sent) {
             return Some(HistoryKind::NotCleared);
+        }
+        if !self.number_is_seen(actor, sent) {
+            return Some(HistoryKind::UnseenNumber);
         }
         if !is_answered_rightly(sent) {
             return Some(HistoryKind::WrongReply);
@@ -134,6 +138,13 @@ impl HistoryBuilder {
     {
         has_key(self.p.as_slice(), sent.request.key.as_slice())
             || (actor == Actor::P && is_delete(sent.request.verb))
+    }
+
+    // Whether P or the section shows the request's cas number, if it has one. The other branch's replies don't count.
+    fn number_is_seen(&self, actor: Actor, sent: &Sent) -> bool
+        ensures { result ≡ next.number_is_seen self.now actor sent.now }
+    {
+        is_seen(self.p.as_slice(), sent) || is_seen(self.section(actor), sent)
     }
 
     fn section(&self, actor: Actor) -> &[Sent]

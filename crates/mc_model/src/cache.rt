@@ -1,4 +1,4 @@
-ghost use Rattle.std.specs.Prelude.{◌≡◌, ◌≤◌, OnOk, OnErr, vec_len};
+ghost use Rattle.std.specs.Prelude.{◌≡◌, ◌≤◌, IfOk, OnOk, OnErr, vec_len};
 ghost use Rattle.std.specs.Vec.{vec_capacity};
 ghost use Rattle.std.specs.FinMap as finite_map;
 ghost use Rattle.std.specs.Option.{option_copied};
@@ -17,6 +17,18 @@ pub struct Item {
     pub body: Bytes,
     /// The cas unique.
     pub number: u64,
+}
+
+impl Item {
+    fn copy(&self, alloc: Global) -> Result<Item, OutOfMemory>
+        ensures { IfOk result (λ copy. copy ≡ self.now) }
+    {
+        Ok(Item {
+            flags: self.flags,
+            body: self.body.copy(alloc)?,
+            number: self.number,
+        })
+    }
 }
 
 /// A cache: a finite map from keys to items. It is made for the few keys of a history, so a look-up goes through its
@@ -55,6 +67,16 @@ impl Cache {
         Cache { entries }
     }
 
+    /// A copy, in memory of its own from where the cache has its memory.
+    pub fn copy(&self) -> Result<Cache, OutOfMemory>
+        ensures { IfOk result (λ copy. copy ≡ self.now) }
+    {
+        let alloc = *self.entries.allocator();
+        Ok(Cache {
+            entries: copied_entries(alloc, self.entries.as_slice())?,
+        })
+    }
+
     /// What the cache holds at the key.
     pub fn find(&self, key: &[u8]) -> Option<&Item>
         ensures { option_copied result ≡ finite_map.get self.now key.now }
@@ -79,6 +101,21 @@ impl Cache {
     {
         remove_key(&mut self.entries, key);
     }
+}
+
+fn copied_entries(
+    alloc: Global,
+    entries: &[(Bytes, Item)],
+) -> Result<Vec<(Bytes, Item)>, OutOfMemory>
+    ensures { IfOk result (λ copies. copies.items ≡ entries.entry.now) }
+{
+    let mut copies = Vec::with_capacity(alloc, entries.len())?;
+    'copying: for entry in entries {
+        let key = entry.0.copy(alloc)?;
+        let item = entry.1.copy(alloc)?;
+        copies.push((key, item))?;
+    }
+    Ok(copies)
 }
 
 fn find_item<'a>(entries: &'a [(Bytes, Item)], key: &[u8]) -> Option<&'a Item>

@@ -9,12 +9,17 @@ mod act;
 mod body;
 mod builder;
 mod cache;
+mod counting;
 mod history;
 mod history_laws;
 mod laws;
 mod number;
+mod numeral;
+mod numeral_laws;
+mod print;
 mod rules;
 mod sent;
+mod storage;
 mod word_laws;
 mod words;
 
@@ -28,15 +33,28 @@ pub use history_laws::{
     others_have_a_first_fault, places_end_histories, prefixes_are_histories,
 };
 pub use laws::{
-    bodies_stay_short, deleted_is_gone, other_keys_stay, replies_fit, versions_are_stored,
+    answered_numbers_are_there, bodies_stay_short, deleted_is_gone, only_counts_choose,
+    other_keys_stay, replies_fit, versions_are_told,
 };
 pub use number::{is_key, read_number};
+pub use numeral::{Numeral, numeral_of};
+pub use numeral_laws::bodies_say_numbers;
+pub use print::{print_reply_words, print_request_words};
 pub use rules::{HistoryKind, KEY_BYTES_LIMIT, KEYS_LIMIT, REQUESTS_LIMIT};
 pub use sent::Sent;
 pub use word_laws::{
-    word_spells_one_body, word_spells_one_number, words_spell_one_reply, words_spell_one_request,
+    joined_words_end_no_line, joined_words_fall_apart, what_is_printed_spells_the_reply,
+    what_is_printed_spells_the_request, word_spells_one_body, word_spells_one_number,
+    words_of_a_reply_are_whole, words_of_a_request_are_whole, words_spell_one_reply,
+    words_spell_one_request,
 };
 pub use words::{WordsFault, read_reply_words, read_request_words};
 
 #[cfg(test)]
+mod act_tests;
+#[cfg(test)]
+mod history_tests;
+#[cfg(test)]
 mod tests;
+#[cfg(test)]
+mod word_tests;

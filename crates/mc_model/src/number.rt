@@ -36,7 +36,7 @@ fn are_digits(word: &[u8]) -> bool
     word.iter().all(|byte| is_digit(*byte))
 }
 
-fn is_digit(byte: u8) -> bool
+pub(crate) fn is_digit(byte: u8) -> bool
     ensures { result ≡ spec.is_digit byte }
 {
     byte >= b'0' && byte <= b'9'
@@ -66,7 +66,7 @@ pub fn read_number(greatest: u64, word: &[u8]) -> Result<u64, WordsFault>
 }
 
 // The number that these digits stand for, where 64 bits hold it.
-fn value_of(digits: &[u8]) -> Option<u64>
+pub(crate) fn value_of(digits: &[u8]) -> Option<u64>
     requires some { 0 < length digits.now }
     requires digits { spec.are_digits digits.now ≡ true }
     ensures { MatchOption result (spec.MAX_64 < digits_value 10 digits.now) (λ n. n ≡ digits_value 10 digits.now) }

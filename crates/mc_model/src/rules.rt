@@ -1,9 +1,10 @@
 ghost use Rattle.std.specs.Prelude.{◌≡◌, ◌↔◌, IsTrue};
+ghost use Rattle.std.specs.List.{list_any};
 ghost use Rattle.mc_model.specs.History as rule;
 ghost use Rattle.mc_model.specs.Next as next;
 
 use crate::{Sent, is_key};
-use mc_protocol::{BODY_LIMIT, Fields, Request, Verb, fits};
+use mc_protocol::{BODY_LIMIT, Fields, Reply, Request, Verb, fits};
 use std::alloc::{AllocError, AllocFailed};
 use thiserror::Error;
 
@@ -75,10 +76,12 @@ fn has_its_fields(request: &Request) -> bool
     ensures { result ≡ rule.has_its_fields request.now }
 {
     match request.verb.fields() {
-        Fields::KeyAlone => {
+        Fields::KeyAlone | Fields::Expiry => {
             request.flags == 0 && request.body.as_slice().is_empty() && request.number == 0
         }
         Fields::Item => request.number == 0,
+        Fields::Swap => true,
+        Fields::Amount => request.flags == 0 && request.body.as_slice().is_empty(),
     }
 }
 
@@ -101,9 +104,50 @@ pub(crate) fn has_key(section: &[Sent], key: &[u8]) -> bool
 pub(crate) fn is_delete(verb: Verb) -> bool
     ensures { result ≡ rule.is_delete verb }
 {
-    match verb {
-        Verb::Delete => true,
-        Verb::Set | Verb::Get => false,
+    matches!(verb, Verb::Delete)
+}
+
+// Whether one of the earlier requests shows the number of a cas. Other requests need none.
+pub(crate) fn is_seen(earlier: &[Sent], sent: &Sent) -> bool
+    ensures { result ≡ rule.is_seen earlier.now sent.now }
+{
+    !is_cas(sent.request.verb) || is_shown(earlier, &sent.request)
+}
+
+fn is_cas(verb: Verb) -> bool
+    ensures { result ≡ rule.is_cas verb }
+{
+    matches!(verb, Verb::Cas)
+}
+
+fn is_shown(earlier: &[Sent], request: &Request) -> bool
+    ensures { result ≡ list_any (rule.shows request.now.key request.now.number) earlier.now }
+{
+    earlier.iter().any(|sent| shows(sent, request))
+}
+
+// Whether what was sent is a `gets` of the request's key, answered with its number.
+fn shows(sent: &Sent, request: &Request) -> bool
+    ensures { result ≡ rule.shows request.now.key request.now.number sent.now }
+{
+    is_gets(sent.request.verb)
+        && sent.request.key.as_slice() == request.key.as_slice()
+        && tells(sent, request.number)
+}
+
+fn is_gets(verb: Verb) -> bool
+    ensures { result ≡ rule.is_gets verb }
+{
+    matches!(verb, Verb::Gets)
+}
+
+// Whether the reply is a hit with this cas number.
+fn tells(sent: &Sent, number: u64) -> bool
+    ensures { result ≡ rule.tells number sent.now.reply }
+{
+    match &sent.reply {
+        Some(Reply::Hit { cas: Some(cas), .. }) => *cas == number,
+        _ => false,
     }
 }
 

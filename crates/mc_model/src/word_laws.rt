@@ -1,6 +1,13 @@
 //! What holds of the words of requests and replies, whatever reads or writes them.
 ghost use Rattle.std.specs.Prelude.{ℕ};
 ghost use Rattle.mc_model.specs.Words.{SpellAtMostOne, SpellsNumber, SpellsBody, SpellsRequest, SpellsReply};
+ghost use Rattle.mc_model.specs.WordLaws.{
+  PrintedWordsSpellTheRequest,
+  PrintedWordsSpellTheReply,
+  SpellingWordsAreWhole,
+  JoinedWordsFallApart,
+  JoinedWordsEndNoLine,
+};
 
 /// A word spells at most one number.
 pub fn word_spells_one_number()
@@ -20,4 +27,34 @@ pub fn words_spell_one_request()
 /// Words spell at most one reply.
 pub fn words_spell_one_reply()
     ensures { SpellAtMostOne SpellsReply }
+{}
+
+/// The words that are printed of a request spell it, where it is one that words can spell.
+pub fn what_is_printed_spells_the_request()
+    ensures { PrintedWordsSpellTheRequest }
+{}
+
+/// The words that are printed of a reply spell it, where its body is within the limit.
+pub fn what_is_printed_spells_the_reply()
+    ensures { PrintedWordsSpellTheReply }
+{}
+
+/// No word of a request is empty, or has a space, the end of a line or any other byte that isn't visible.
+pub fn words_of_a_request_are_whole()
+    ensures { SpellingWordsAreWhole SpellsRequest }
+{}
+
+/// No word of a reply is empty, or has a space, the end of a line or any other byte that isn't visible.
+pub fn words_of_a_reply_are_whole()
+    ensures { SpellingWordsAreWhole SpellsReply }
+{}
+
+/// Whole words with one space between them are the words of their line again.
+pub fn joined_words_fall_apart()
+    ensures { JoinedWordsFallApart }
+{}
+
+/// No end of a line stands within whole words with one space between them.
+pub fn joined_words_end_no_line()
+    ensures { JoinedWordsEndNoLine }
 {}

@@ -41,7 +41,20 @@ impl<T: Drop> From<AllocFailed<T>> for WordsFault {
     }
 }
 
-static VERBS: [Verb; 3] = [Verb::Set, Verb::Get, Verb::Delete];
+static VERBS: [Verb; 12] = [
+    Verb::Set,
+    Verb::Add,
+    Verb::Replace,
+    Verb::Append,
+    Verb::Prepend,
+    Verb::Cas,
+    Verb::Get,
+    Verb::Gets,
+    Verb::Incr,
+    Verb::Decr,
+    Verb::Delete,
+    Verb::Touch,
+];
 
 // The verb with this word.
 #[tactic(auto, unfolding(crate::specs::Reading::verb_of))]
@@ -82,8 +95,10 @@ fn request_in(alloc: Global, words: &[&[u8]]) -> Result<Request, WordsFault>
     }
     let key = Bytes::new(Vec::from_slice(alloc, key)?);
     match verb.fields() {
-        Fields::KeyAlone => key_alone(alloc, verb, key, fields),
+        Fields::KeyAlone | Fields::Expiry => key_alone(alloc, verb, key, fields),
         Fields::Item => item(alloc, verb, key, fields),
+        Fields::Swap => swap(alloc, verb, key, fields),
+        Fields::Amount => amount(alloc, verb, key, fields),
     }
 }
 
@@ -127,6 +142,54 @@ fn item(alloc: Global, verb: Verb, key: Bytes, fields: &[&[u8]]) -> Result<Reque
     })
 }
 
+// A request with flags, a body and a cas unique behind its key.
+fn swap(alloc: Global, verb: Verb, key: Bytes, fields: &[&[u8]]) -> Result<Request, WordsFault>
+    ensures exact { reading.Gives (λ r. r) result (reading.swap_in verb key (map (λ w. w.now) fields.now)) }
+{
+    let [flags, rest @ ..] = fields else {
+        return Err(WordsFault::Form);
+    };
+    let flags = read_flags(flags)?;
+    let [body, rest @ ..] = rest else {
+        return Err(WordsFault::Form);
+    };
+    let body = read_body(alloc, body)?;
+    let [cas, rest @ ..] = rest else {
+        return Err(WordsFault::Form);
+    };
+    let cas = read_number(u64::MAX, cas)?;
+    if !rest.is_empty() {
+        return Err(WordsFault::Form);
+    }
+    Ok(Request {
+        verb,
+        key,
+        flags,
+        body,
+        number: cas,
+    })
+}
+
+// A request with an amount behind its key.
+fn amount(alloc: Global, verb: Verb, key: Bytes, fields: &[&[u8]]) -> Result<Request, WordsFault>
+    ensures exact { reading.Gives (λ r. r) result (reading.amount_in verb key (map (λ w. w.now) fields.now)) }
+{
+    let [number, rest @ ..] = fields else {
+        return Err(WordsFault::Form);
+    };
+    let number = read_number(u64::MAX, number)?;
+    if !rest.is_empty() {
+        return Err(WordsFault::Form);
+    }
+    Ok(Request {
+        verb,
+        key,
+        flags: 0,
+        body: Bytes::new(Vec::new(alloc)),
+        number,
+    })
+}
+
 fn read_flags(word: &[u8]) -> Result<u32, WordsFault>
     ensures exact { reading.Gives (λ n. n) result (reading.flags_in word.now) }
 {
@@ -134,7 +197,7 @@ fn read_flags(word: &[u8]) -> Result<u32, WordsFault>
     Ok(flags as u32)
 }
 
-static CLASSES: [Class; 7] = [
+static CLASSES: [Class; 10] = [
     Class::Stored,
     Class::NotStored,
     Class::Exists,
@@ -142,10 +205,13 @@ static CLASSES: [Class; 7] = [
     Class::Hit,
     Class::Miss,
     Class::Deleted,
+    Class::Touched,
+    Class::Number,
+    Class::NotNumber,
 ];
 
 // The word that a reply of the class begins with.
-fn class_word(class: Class) -> &'static str
+pub(crate) fn class_word(class: Class) -> &'static str
     ensures { result.now ≡ spec.class_word class }
 {
     match class {
@@ -156,6 +222,9 @@ fn class_word(class: Class) -> &'static str
         Class::Hit => "HIT",
         Class::Miss => "MISS",
         Class::Deleted => "DELETED",
+        Class::Touched => "TOUCHED",
+        Class::Number => "NUMBER",
+        Class::NotNumber => "NOT_A_NUMBER",
     }
 }
 
@@ -198,6 +267,9 @@ fn reply_in(alloc: Global, words: &[&[u8]]) -> Result<Reply, WordsFault>
         Class::Hit => hit(alloc, fields),
         Class::Miss => bare(Reply::Miss, fields),
         Class::Deleted => bare(Reply::Deleted, fields),
+        Class::Touched => bare(Reply::Touched, fields),
+        Class::Number => count(fields),
+        Class::NotNumber => bare(Reply::NotNumber, fields),
     }
 }
 
@@ -209,6 +281,20 @@ fn bare(reply: Reply, fields: &[&[u8]]) -> Result<Reply, WordsFault>
         return Err(WordsFault::Form);
     }
     Ok(reply)
+}
+
+// A number that was counted.
+fn count(fields: &[&[u8]]) -> Result<Reply, WordsFault>
+    ensures exact { reading.Gives (λ r. r) result (reading.count_in (map (λ w. w.now) fields.now)) }
+{
+    let [number, rest @ ..] = fields else {
+        return Err(WordsFault::Form);
+    };
+    let number = read_number(u64::MAX, number)?;
+    if !rest.is_empty() {
+        return Err(WordsFault::Form);
+    }
+    Ok(Reply::Number(number))
 }
 
 // A hit: flags, a body, and the cas number where one is shown.

@@ -11,15 +11,25 @@ pub fn is_legal(verb: Verb, class: Class) -> bool
     ensures { result ≡ legal.is_legal verb class }
 {
     match verb {
-        Verb::Set => {
-            matches!(
-                class,
-                Class::Stored | Class::NotStored | Class::Exists | Class::NotFound
-            )
+        Verb::Set | Verb::Add | Verb::Replace | Verb::Append | Verb::Prepend | Verb::Cas => {
+            is_storage_reply(class)
         }
-        Verb::Get => matches!(class, Class::Hit | Class::Miss),
+        Verb::Get | Verb::Gets => matches!(class, Class::Hit | Class::Miss),
+        Verb::Incr | Verb::Decr => {
+            matches!(class, Class::Number | Class::NotFound | Class::NotNumber)
+        }
         Verb::Delete => matches!(class, Class::Deleted | Class::NotFound),
+        Verb::Touch => matches!(class, Class::Touched | Class::NotFound),
     }
+}
+
+fn is_storage_reply(class: Class) -> bool
+    ensures { result ≡ legal.is_storage_reply class }
+{
+    matches!(
+        class,
+        Class::Stored | Class::NotStored | Class::Exists | Class::NotFound
+    )
 }
 
 /// Whether the request may have this reply: its class is legal, a hit shows a cas number exactly to `gets`, and its
@@ -46,7 +56,5 @@ fn suits(verb: Verb, reply: &Reply) -> bool
 fn shows_number(verb: Verb) -> bool
     ensures { result ≡ legal.shows_number verb }
 {
-    match verb {
-        Verb::Set | Verb::Get | Verb::Delete => false,
-    }
+    matches!(verb, Verb::Gets)
 }

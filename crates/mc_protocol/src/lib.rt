@@ -10,6 +10,7 @@ mod actor;
 mod bytes;
 mod legal;
 mod lines;
+mod render;
 mod reply;
 mod request;
 
@@ -17,6 +18,7 @@ pub use actor::Actor;
 pub use bytes::Bytes;
 pub use legal::{BODY_LIMIT, fits, is_legal};
 pub use lines::{Line, Lines, Separator, words_in};
+pub use render::{append_all, render_reply, render_request, render_value, request_len};
 pub use reply::{Class, Reply};
 pub use request::{Fields, Request, Verb};
 use std::alloc::AllocError;

@@ -24,6 +24,12 @@ pub enum Reply {
     Miss,
     /// `DELETED`
     Deleted,
+    /// `TOUCHED`
+    Touched,
+    /// The new value of `incr` or `decr`.
+    Number(u64),
+    /// A `CLIENT_ERROR` to `incr` or `decr`: what is there is no number.
+    NotNumber,
 }
 
 /// A reply without what it carries.
@@ -36,6 +42,9 @@ pub enum Class {
     Hit,
     Miss,
     Deleted,
+    Touched,
+    Number,
+    NotNumber,
 }
 
 impl Reply {
@@ -51,6 +60,9 @@ impl Reply {
             Reply::Hit { .. } => Class::Hit,
             Reply::Miss => Class::Miss,
             Reply::Deleted => Class::Deleted,
+            Reply::Touched => Class::Touched,
+            Reply::Number(_) => Class::Number,
+            Reply::NotNumber => Class::NotNumber,
         }
     }
 }

@@ -9,10 +9,28 @@ use crate::Bytes;
 pub enum Verb {
     /// Stores an item whatever is there.
     Set,
+    /// Stores an item where none is there.
+    Add,
+    /// Stores an item where one is there.
+    Replace,
+    /// Joins a body behind the one that is there.
+    Append,
+    /// Joins a body in front of the one that is there.
+    Prepend,
+    /// Stores an item where the one that is there has this cas unique.
+    Cas,
     /// Reads an item.
     Get,
+    /// Reads an item with its cas unique.
+    Gets,
+    /// Adds to a decimal.
+    Incr,
+    /// Takes from a decimal.
+    Decr,
     /// Removes an item.
     Delete,
+    /// Would set an item's time of expiry; the tester sends 0, which changes nothing.
+    Touch,
 }
 
 /// Which fields a verb has behind its key, in this order.
@@ -20,8 +38,14 @@ pub enum Verb {
 pub enum Fields {
     /// None.
     KeyAlone,
+    /// A time of expiry, which is always 0.
+    Expiry,
     /// Flags and a body.
     Item,
+    /// Flags, a body and a cas unique.
+    Swap,
+    /// An amount.
+    Amount,
 }
 
 impl Verb {
@@ -31,8 +55,17 @@ impl Verb {
     {
         match self {
             Verb::Set => "set",
+            Verb::Add => "add",
+            Verb::Replace => "replace",
+            Verb::Append => "append",
+            Verb::Prepend => "prepend",
+            Verb::Cas => "cas",
             Verb::Get => "get",
+            Verb::Gets => "gets",
+            Verb::Incr => "incr",
+            Verb::Decr => "decr",
             Verb::Delete => "delete",
+            Verb::Touch => "touch",
         }
     }
 
@@ -41,8 +74,11 @@ impl Verb {
         ensures { result ≡ fields_of self }
     {
         match self {
-            Verb::Set => Fields::Item,
-            Verb::Get | Verb::Delete => Fields::KeyAlone,
+            Verb::Set | Verb::Add | Verb::Replace | Verb::Append | Verb::Prepend => Fields::Item,
+            Verb::Cas => Fields::Swap,
+            Verb::Get | Verb::Gets | Verb::Delete => Fields::KeyAlone,
+            Verb::Incr | Verb::Decr => Fields::Amount,
+            Verb::Touch => Fields::Expiry,
         }
     }
 }

@@ -1,5 +1,8 @@
+ghost use Rattle.std.specs.Prelude.{◌≡◌, IfOk};
+
 use crate::{
-    Actor, Bytes, Class, Fields, Lines, Reply, Request, Separator, Verb, fits, is_legal, words_in,
+    Actor, Bytes, Class, Fields, Lines, Reply, Request, Separator, Verb, fits, is_legal,
+    render_reply, render_request, render_value, request_len, words_in,
 };
 use std::alloc::{AllocError, Global};
 use std::test::Fail;
@@ -24,20 +27,31 @@ fn knows_legal_replies(rt: HostRuntime) {
         Class::Hit,
         Class::Miss,
         Class::Deleted,
+        Class::Touched,
+        Class::Number,
+        Class::NotNumber,
     ];
+    // A mark for each class, in this order.
+    let storage = b"yyyy------";
     let table = [
-        (Verb::Set, [true, true, true, true, false, false, false]),
-        (Verb::Get, [false, false, false, false, true, true, false]),
-        (
-            Verb::Delete,
-            [false, false, false, true, false, false, true],
-        ),
+        (Verb::Set, storage),
+        (Verb::Add, storage),
+        (Verb::Replace, storage),
+        (Verb::Append, storage),
+        (Verb::Prepend, storage),
+        (Verb::Cas, storage),
+        (Verb::Get, b"----yy----"),
+        (Verb::Gets, b"----yy----"),
+        (Verb::Incr, b"---y----yy"),
+        (Verb::Decr, b"---y----yy"),
+        (Verb::Delete, b"---y--y---"),
+        (Verb::Touch, b"---y---y--"),
     ];
     for (verb, row) in table {
-        for i in 0..7 {
+        for i in 0..10 {
             assert_eq!(rt;
                 is_legal(verb, classes[i]),
-                row[i],
+                row[i] == b'y',
                 "{verb:?} {:?}",
                 classes[i]
             );
@@ -75,6 +89,96 @@ fn knows_what_fits(rt: HostRuntime) -> Result<(), Fail> {
     assert!(rt; Reply::Miss != Reply::Deleted);
     assert!(rt; hit_of(rt.alloc(), 2, None)? == hit_of(rt.alloc(), 2, None)?);
     assert!(rt; hit_of(rt.alloc(), 2, None)? != hit_of(rt.alloc(), 3, None)?);
+    Ok(())
+}
+
+fn request_of(
+    alloc: Global,
+    verb: Verb,
+    key: &[u8],
+    body: &[u8],
+    number: u64,
+) -> Result<Request, AllocError>
+    ensures { IfOk result (λ request. request.key ≡ key.now) }
+{
+    Ok(Request {
+        verb,
+        key: Bytes::new(Vec::from_slice(alloc, key)?),
+        flags: 0,
+        body: Bytes::new(Vec::from_slice(alloc, body)?),
+        number,
+    })
+}
+
+// As protocol.txt writes them, with the time of expiry 0.
+#[test]
+fn renders_requests(rt: HostRuntime) -> Result<(), Fail> {
+    let alloc = rt.alloc();
+    let rows = [
+        (Verb::Set, b"5".as_slice(), 0, "set a 0 0 1\r\n5\r\n"),
+        (Verb::Add, b"", 0, "add a 0 0 0\r\n\r\n"),
+        (Verb::Replace, b"5", 0, "replace a 0 0 1\r\n5\r\n"),
+        (Verb::Append, b"5", 0, "append a 0 0 1\r\n5\r\n"),
+        (Verb::Prepend, b"5", 0, "prepend a 0 0 1\r\n5\r\n"),
+        (Verb::Cas, b"2", 11, "cas a 0 0 1 11\r\n2\r\n"),
+        (Verb::Get, b"", 0, "get a\r\n"),
+        (Verb::Gets, b"", 0, "gets a\r\n"),
+        (Verb::Incr, b"", 10, "incr a 10\r\n"),
+        (Verb::Decr, b"", u64::MAX, "decr a 18446744073709551615\r\n"),
+        (Verb::Delete, b"", 0, "delete a\r\n"),
+        (Verb::Touch, b"", 0, "touch a 0\r\n"),
+    ];
+    for (verb, body, number, text) in rows {
+        let request = request_of(alloc, verb, b"a", body, number)?;
+        let mut out = Vec::new(alloc);
+        render_request(&request, &mut out)?;
+        assert_eq!(rt; out.as_slice(), text.as_bytes(), "{text}");
+        assert_eq!(rt; request_len(&request), text.len(), "{text}");
+        let long = request_of(alloc, verb, &[b'k'; 250], body, number)?;
+        assert_eq!(rt; request_len(&long), text.len() + 249, "{text}");
+    }
+    Ok(())
+}
+
+#[test]
+fn renders_replies(rt: HostRuntime) -> Result<(), Fail> {
+    let alloc = rt.alloc();
+    let body = Bytes::new(Vec::from_slice(alloc, b"1")?);
+    let shown = Reply::Hit {
+        flags: 0,
+        body,
+        cas: Some(11),
+    };
+    let body = Bytes::new(Vec::from_slice(alloc, b"\r\n")?);
+    let plain = Reply::Hit {
+        flags: 7,
+        body,
+        cas: None,
+    };
+    let rows = [
+        (shown, "VALUE a 0 1 11\r\n1\r\nEND\r\n"),
+        (plain, "VALUE a 7 2\r\n\r\n\r\nEND\r\n"),
+        (Reply::Stored, "STORED\r\n"),
+        (Reply::NotStored, "NOT_STORED\r\n"),
+        (Reply::Exists, "EXISTS\r\n"),
+        (Reply::NotFound, "NOT_FOUND\r\n"),
+        (Reply::Miss, "END\r\n"),
+        (Reply::Deleted, "DELETED\r\n"),
+        (Reply::Touched, "TOUCHED\r\n"),
+        (Reply::Number(u64::MAX), "18446744073709551615\r\n"),
+        (
+            Reply::NotNumber,
+            "CLIENT_ERROR cannot increment or decrement non-numeric value\r\n",
+        ),
+    ];
+    for (reply, text) in &rows {
+        let mut out = Vec::new(alloc);
+        render_reply(b"a", reply, &mut out)?;
+        assert_eq!(rt; out.as_slice(), text.as_bytes(), "{text}");
+    }
+    let mut out = Vec::new(alloc);
+    render_value(b"a", 0, b"1", Some(11), &mut out)?;
+    assert_eq!(rt; out.as_slice(), b"VALUE a 0 1 11\r\n1\r\n".as_slice());
     Ok(())
 }
 

@@ -1,0 +1,43 @@
+-- What a change at a key leaves.
+use Rattle.std.proofs.Common.{◌≡◌, ◌≢◌, ℕ, true, false, cond, Option, Some, None, List, refl, ap, ◌∙◌}
+use Rattle.std.specs.Ordering.{nat_cmp, eq_by_cmp}
+use Rattle.std.specs.Cmp.{eq_by_cmp_equiv}
+use Rattle.std.specs.Cmp.Lexicographic.{slice_cmp, nat_list_cmp_total, texts_ties}
+use Rattle.std.specs.FinMap as finite_map
+use Rattle.std.specs.FinMap.{get-insert, get-remove}
+use Rattle.std.proofs.lemmas.Slice.Eq.{bytes_eq-Decides}
+use Rattle.mc_model.specs.declared.cache.Item.{Item}
+use Rattle.mc_model.specs.Contents.{Contents}
+use Rattle.mc_model.specs.Act.{Change, Keeps, Puts, Removes, changed}
+
+-- two keys that differ don't tie
+apart : (q key : List ℕ) → q ≢ key → eq_by_cmp (slice_cmp nat_cmp) q key ≡ false
+apart q key differ = elim (eq_by_cmp (slice_cmp nat_cmp) q key) as (λ b. eq_by_cmp (slice_cmp nat_cmp) q key ≡ b → b ≡ false) [
+  | true ↦ λ e. absurd (differ ((bytes_eq-Decides q key).0 (texts_ties q key ∙ e)))
+  | false ↦ λ e. refl
+] refl
+
+-- a key ties with itself
+alike : (key : List ℕ) → eq_by_cmp (slice_cmp nat_cmp) key key ≡ true
+alike key = (eq_by_cmp_equiv nat_list_cmp_total).refl key
+
+-- what is at the key after its change
+abbrev pub after : Change → Option Item → Option Item
+after Keeps found = found
+after (Puts item) found = Some item
+after Removes found = None
+
+pub get_changed : (contents : Contents) (key : List ℕ) (change : Change) → finite_map.get (changed contents key change) key ≡ after change (finite_map.get contents key)
+get_changed contents key Keeps = refl
+get_changed contents key (Puts item) =
+    get-insert nat_list_cmp_total contents key item key ∙ ap (λ b. cond b (Some item) (finite_map.get contents key)) (alike key)
+get_changed contents key Removes =
+    get-remove nat_list_cmp_total contents key key ∙ ap (λ b. cond b None (finite_map.get contents key)) (alike key)
+
+-- what is at another key
+pub get_other : (contents : Contents) (key : List ℕ) (change : Change) (q : List ℕ) → q ≢ key → finite_map.get (changed contents key change) q ≡ finite_map.get contents q
+get_other contents key Keeps q differ = refl
+get_other contents key (Puts item) q differ =
+    get-insert nat_list_cmp_total contents key item q ∙ ap (λ b. cond b (Some item) (finite_map.get contents q)) (apart q key differ)
+get_other contents key Removes q differ =
+    get-remove nat_list_cmp_total contents key q ∙ ap (λ b. cond b None (finite_map.get contents q)) (apart q key differ)

@@ -1,0 +1,150 @@
+-- What is printed spells the value.
+use Rattle.std.proofs.Common.{◌≡◌, ℕ, ◌/◌, ◌%◌, ◌^◌, ◌<◌, ◌≤◌, ◌==◌, ◌++◌, nat_le, Bool, true, false, not, ◌&&◌, cond, Option, Some, None, List, [], ◌∷◌, length, decimal, refl, sym, subst, inl, inr, arith}
+use Rattle.std.specs.List.{flat_map}
+use Rattle.std.specs.Fmt.{digit_glyph}
+use Rattle.std.specs.Option.{IfSome}
+use Rattle.std.proofs.lemmas.Bool.{and_parts, eqb-true, leb-true}
+use Rattle.std.proofs.lemmas.Bool.Decides.{nat_tests}
+use Rattle.std.proofs.lemmas.Fmt.{decimal_nonempty, digits_decimal, digits_value-decimal, length-decimal-le}
+use Rattle.std.proofs.lemmas.List.Elements.{All-nil, All-head, All-tail}
+use Rattle.mc_protocol.specs.Fields.{fields_of}
+use Rattle.mc_protocol.specs.declared.legal.TheConstants.{BODY_LIMIT}
+use Rattle.mc_protocol.specs.declared.request.Fields.{Fields}
+use Rattle.mc_protocol.specs.declared.request.Fields.TheVariants as fields
+use Rattle.mc_protocol.specs.declared.request.Request.{Request}
+use Rattle.mc_protocol.specs.declared.reply.Reply.{Reply}
+use Rattle.mc_protocol.specs.declared.reply.Reply.TheVariants as reply
+use Rattle.mc_model.specs.Words.{SpellsNumber, SpellsByte, SpellsBytes, SpellsBody, SpellsFields, SpellsRequest, SpellsShown, SpellsReply, is_key, is_plain, hex_value, escaped_byte, printed_byte, body_word, field_words, request_words, shown_words, reply_words, MAX_32, MAX_64}
+use Rattle.mc_model.specs.History.{has_words, has_its_fields, lacks_the_others, is_empty}
+use Rattle.mc_model.specs.WordLaws.{AreBytes, FitsRequest, FitsReply, has_short_body, PrintedWordsSpellTheRequest, PrintedWordsSpellTheReply}
+use Rattle.mc_model.proofs.Numbers.{digits}
+
+-- ---- numbers
+
+not_empty : (n : ℕ) → 0 < n → not (n == 0) ≡ true
+not_empty n some = grind (arith, nat_tests)
+
+-- a decimal spells its number
+pub decimal-spells : (greatest n : ℕ) → greatest ≤ MAX_64 → n ≤ greatest → SpellsNumber greatest (decimal n) n
+decimal-spells greatest n large small =
+    let below : n < 2 ^ 64 = omega arith in
+    record {
+      some = not_empty (length (decimal n)) (decimal_nonempty n below);
+      digits = digits_decimal digits n below;
+      short = length-decimal-le 20 n (omega arith) (omega arith) below;
+      value = digits_value-decimal digits n below;
+      small = small;
+    }
+
+-- ---- bodies
+
+-- the digit for a value has it
+glyph-value : (d : ℕ) → d < 16 → hex_value (digit_glyph false d) ≡ Some d
+glyph-value d small = grind (arith, nat_tests)
+
+-- a byte is spelled by what is printed for it
+byte-spelled : (plain : Bool) (byte : ℕ) (rest : List ℕ) → byte < 256 → is_plain byte ≡ plain → SpellsByte (cond plain (byte ∷ []) (escaped_byte byte) ++ rest) byte rest
+byte-spelled true byte rest small p = inl (refl, p)
+byte-spelled false byte rest small p =
+    inr (digit_glyph false (byte / 16), digit_glyph false (byte % 16), byte / 16, byte % 16, refl, glyph-value (byte / 16) (omega arith), glyph-value (byte % 16) (omega arith), omega arith)
+
+bytes-spelled : (body : List ℕ) → AreBytes body → SpellsBytes (flat_map printed_byte body) body
+bytes-spelled [] all = refl
+bytes-spelled (byte ∷ body) all =
+    (flat_map printed_byte body, byte-spelled (is_plain byte) byte (flat_map printed_byte body) (All-head (λ b. b < 256) byte body all) refl, bytes-spelled body (All-tail (λ b. b < 256) byte body all))
+
+pub body-spells : (body : List ℕ) → AreBytes body → length body ≤ BODY_LIMIT → SpellsBody (body_word body) body
+body-spells body all small = (flat_map printed_byte body, refl, bytes-spelled body all, small)
+
+-- ---- requests
+
+empty-is : (bytes : List ℕ) → is_empty bytes ≡ true → bytes ≡ []
+empty-is [] h = refl
+empty-is (byte ∷ bytes) h = absurd (omega (arith, eqb-true (length (byte ∷ bytes)) 0 h))
+
+lacks_all : (r : Request) → lacks_the_others fields.KeyAlone r ≡ true → (r.flags ≡ 0) × (r.body ≡ []) × (r.number ≡ 0)
+lacks_all r lacks =
+    let p = and_parts ((r.flags == 0) && is_empty r.body) (r.number == 0) lacks in
+    let q = and_parts (r.flags == 0) (is_empty r.body) p.0 in
+    (eqb-true r.flags 0 q.0, empty-is r.body q.1, eqb-true r.number 0 p.1)
+
+lacks_item : (r : Request) → lacks_the_others fields.Amount r ≡ true → (r.flags ≡ 0) × (r.body ≡ [])
+lacks_item r lacks =
+    let q = and_parts (r.flags == 0) (is_empty r.body) lacks in
+    (eqb-true r.flags 0 q.0, empty-is r.body q.1)
+
+fields-spell : (shape : Fields) (r : Request) → lacks_the_others shape r ≡ true → length r.body ≤ BODY_LIMIT → FitsRequest r → SpellsFields shape (field_words shape r) r
+fields-spell fields.KeyAlone r lacks short fits = let p = lacks_all r lacks in (refl, p.0, p.1, p.2)
+fields-spell fields.Expiry r lacks short fits = let p = lacks_all r lacks in (refl, p.0, p.1, p.2)
+fields-spell fields.Item r lacks short fits =
+    (decimal r.flags, body_word r.body, refl, decimal-spells MAX_32 r.flags (omega arith) fits.flags, body-spells r.body fits.body short, eqb-true r.number 0 lacks)
+fields-spell fields.Swap r lacks short fits =
+    (decimal r.flags, body_word r.body, decimal r.number, refl, decimal-spells MAX_32 r.flags (omega arith) fits.flags, body-spells r.body fits.body short, decimal-spells MAX_64 r.number (omega arith) fits.number)
+fields-spell fields.Amount r lacks short fits =
+    let p = lacks_item r lacks in
+    (decimal r.number, refl, p.0, p.1, decimal-spells MAX_64 r.number (omega arith) fits.number)
+
+pub printed_request : PrintedWordsSpellTheRequest
+printed_request r has fits =
+    let p = and_parts (is_key r.key && nat_le (length r.body) BODY_LIMIT) (has_its_fields r) has in
+    let q = and_parts (is_key r.key) (nat_le (length r.body) BODY_LIMIT) p.0 in
+    (field_words (fields_of r.verb) r, refl, q.0, fields-spell (fields_of r.verb) r p.1 (leb-true (length r.body) BODY_LIMIT q.1) fits)
+
+-- ---- replies
+
+shown-spells : (cas : Option ℕ) → IfSome cas (λ n. n ≤ MAX_64) → SpellsShown (shown_words cas) cas
+shown-spells None fits = refl
+shown-spells (Some n) fits = (decimal n, refl, decimal-spells MAX_64 n (omega arith) fits)
+
+pub printed_reply : PrintedWordsSpellTheReply
+printed_reply reply.Stored short fits = refl
+printed_reply reply.NotStored short fits = refl
+printed_reply reply.Exists short fits = refl
+printed_reply reply.NotFound short fits = refl
+printed_reply (reply.Hit flags body cas) short (f, b, n) =
+    let spelled = body-spells body b (leb-true (length body) BODY_LIMIT short) in
+    (decimal flags, body_word body, shown_words cas, refl, decimal-spells MAX_32 flags (omega arith) f, spelled, shown-spells cas n)
+printed_reply reply.Miss short fits = refl
+printed_reply reply.Deleted short fits = refl
+printed_reply reply.Touched short fits = refl
+printed_reply (reply.Number n) short fits = (decimal n, refl, decimal-spells MAX_64 n (omega arith) fits)
+printed_reply reply.NotNumber short fits = refl
+
+-- the same of a reply that carries these
+pub printed_hit : (r : Reply) (flags : ℕ) (body : List ℕ) (cas : Option ℕ) → r ≡ reply.Hit flags body cas → FitsReply (reply.Hit flags body cas) → has_short_body r ≡ true → SpellsReply (reply_words r) r
+printed_hit r flags body cas e fits short = printed_reply r short (subst FitsReply (sym e) fits)
+
+pub printed_number : (r : Reply) (n : ℕ) → r ≡ reply.Number n → n ≤ MAX_64 → SpellsReply (reply_words r) r
+printed_number r n e fits = subst (λ q. SpellsReply (reply_words q) q) (sym e) (printed_reply (reply.Number n) refl fits)
+
+-- ---- what the fields of a shape tell of the request
+
+-- each field that the shape has holds a value of its type
+abbrev pub FitsFields : Fields → Request → Type 0
+FitsFields fields.KeyAlone r = Unit {0}
+FitsFields fields.Expiry r = Unit {0}
+FitsFields fields.Item r = (r.flags ≤ MAX_32) × AreBytes r.body
+FitsFields fields.Swap r = (r.flags ≤ MAX_32) × AreBytes r.body × (r.number ≤ MAX_64)
+FitsFields fields.Amount r = r.number ≤ MAX_64
+
+are_bytes-empty : (bytes : List ℕ) → bytes ≡ [] → AreBytes bytes
+are_bytes-empty bytes e = rw e (All-nil (λ b. b < 256))
+
+fits_fields-all : (shape : Fields) (r : Request) → lacks_the_others shape r ≡ true → FitsFields shape r → FitsRequest r
+fits_fields-all fields.KeyAlone r lacks known =
+    let p = lacks_all r lacks in
+    record { flags = omega (arith, p.0); body = are_bytes-empty r.body p.1; number = omega (arith, p.2) }
+fits_fields-all fields.Expiry r lacks known =
+    let p = lacks_all r lacks in
+    record { flags = omega (arith, p.0); body = are_bytes-empty r.body p.1; number = omega (arith, p.2) }
+fits_fields-all fields.Item r lacks known = record { flags = known.0; body = known.1; number = omega (arith, eqb-true r.number 0 lacks) }
+fits_fields-all fields.Swap r lacks known = record { flags = known.0; body = known.1; number = known.2 }
+fits_fields-all fields.Amount r lacks known =
+    let p = lacks_item r lacks in
+    record { flags = omega (arith, p.0); body = are_bytes-empty r.body p.1; number = known }
+
+-- so what is printed spells the request
+pub printed_shape : (shape : Fields) (r : Request) → fields_of r.verb ≡ shape → FitsFields shape r → has_words r ≡ true → SpellsRequest (request_words r) r
+printed_shape shape r e known has =
+    let p = and_parts (is_key r.key && nat_le (length r.body) BODY_LIMIT) (has_its_fields r) has in
+    printed_request r has (fits_fields-all shape r (rw e at p.1) known)

@@ -1,0 +1,187 @@
+-- Words that spell something are whole, and whole words that were joined fall apart again.
+use Rattle.std.proofs.Common.{◌≡◌, ℕ, ◌==◌, nat_le, Bool, true, false, not, ◌&&◌, ◌||◌, cond, Option, Some, None, List, [], ◌∷◌, length, filter, refl, ap, ◌∙◌, inl, inr, arith}
+use Rattle.std.specs.List.{All, list_all, slice_split}
+use Rattle.std.proofs.lemmas.Bool.{and_parts, and_from}
+use Rattle.std.proofs.lemmas.Bool.Decides.{nat_tests}
+use Rattle.std.proofs.lemmas.List.Elements.{All-weaker}
+use Rattle.std.proofs.lemmas.List.Folds.{list_all-append}
+use Rattle.std.proofs.lemmas.List.Splits.{slice_split_none, slice_split_at}
+use Rattle.std.proofs.lemmas.List.Sums.{AllPass-from_list_all, list_all-from_AllPass}
+use Rattle.mc_protocol.specs.Words.{verb_word}
+use Rattle.mc_protocol.specs.Fields.{fields_of}
+use Rattle.mc_protocol.specs.Lines.{separates}
+use Rattle.mc_protocol.specs.declared.lines.Separator.{Separator}
+use Rattle.mc_protocol.specs.declared.lines.Separator.TheVariants as separator
+use Rattle.mc_protocol.specs.declared.request.Verb.{Verb}
+use Rattle.mc_protocol.specs.declared.request.Verb.TheVariants.{Set, Add, Replace, Append, Prepend, Cas, Get, Gets, Incr, Decr, Delete, Touch}
+use Rattle.mc_protocol.specs.declared.request.Fields.{Fields}
+use Rattle.mc_protocol.specs.declared.request.Fields.TheVariants as fields
+use Rattle.mc_protocol.specs.declared.request.Request.{Request}
+use Rattle.mc_protocol.specs.declared.reply.Reply.TheVariants as reply
+use Rattle.mc_model.specs.declared.rules.TheConstants.{KEY_BYTES_LIMIT}
+use Rattle.mc_model.specs.Words.{Word, SpellsNumber, SpellsBytes, SpellsBody, SpellsFields, SpellsRequest, SpellsShown, SpellsReply, is_key, is_key_byte, are_key_bytes, is_digit, is_plain, hex_value, joined, MAX_32, MAX_64}
+use Rattle.mc_model.specs.WordLaws.{is_visible, is_whole, are_whole, is_in_line, SpellingWordsAreWhole, JoinedWordsFallApart, JoinedWordsEndNoLine}
+
+-- ---- bytes
+
+list_all-weaker : (p q : ℕ → Bool) → ((x : ℕ) → p x ≡ true → q x ≡ true) → (xs : List ℕ) → list_all p xs ≡ true → list_all q xs ≡ true
+list_all-weaker p q weaker xs all =
+    list_all-from_AllPass q xs (All-weaker (λ x. p x ≡ true) (λ x. q x ≡ true) weaker xs (AllPass-from_list_all p xs all))
+
+digit-visible : (byte : ℕ) → is_digit byte ≡ true → is_visible byte ≡ true
+digit-visible byte h = grind (arith, nat_tests)
+
+key-visible : (byte : ℕ) → is_key_byte byte ≡ true → is_visible byte ≡ true
+key-visible byte h = grind (arith, nat_tests)
+
+plain-visible : (byte : ℕ) → is_plain byte ≡ true → is_visible byte ≡ true
+plain-visible byte h = (and_parts (is_visible byte) (not (byte == 37)) h).0
+
+some-passes : (a b c : Bool) (x y z h : ℕ) → cond a (Some x) (cond b (Some y) (cond c (Some z) None)) ≡ Some h → (a || b || c) ≡ true
+some-passes true b c x y z h e = refl
+some-passes false true c x y z h e = refl
+some-passes false false true x y z h e = refl
+some-passes false false false x y z h e = absurd (cc)
+
+is_hex : ℕ → Bool
+is_hex byte = (nat_le 48 byte && nat_le byte 57) || (nat_le 97 byte && nat_le byte 102) || (nat_le 65 byte && nat_le byte 70)
+
+hex-visible : (byte h : ℕ) → hex_value byte ≡ Some h → is_visible byte ≡ true
+hex-visible byte h e =
+    let k = some-passes (nat_le 48 byte && nat_le byte 57) (nat_le 97 byte && nat_le byte 102) (nat_le 65 byte && nat_le byte 70) _ _ _ h e in
+    grind (arith, nat_tests)
+
+-- ---- words
+
+some_byte : (byte : ℕ) (bytes : List ℕ) → not (length (byte ∷ bytes) == 0) ≡ true
+some_byte byte bytes = grind (arith, nat_tests)
+
+whole : (word : Word) → not (length word == 0) ≡ true → list_all is_visible word ≡ true → is_whole word ≡ true
+whole word some visible = and_from (not (length word == 0)) (list_all is_visible word) some visible
+
+number-whole : (greatest : ℕ) (word : Word) (n : ℕ) → SpellsNumber greatest word n → is_whole word ≡ true
+number-whole greatest word n s = whole word s.some (list_all-weaker is_digit is_visible digit-visible word s.digits)
+
+key-whole : (key : Word) → is_key key ≡ true → is_whole key ≡ true
+key-whole key h =
+    let p = and_parts (not (length key == 0) && nat_le (length key) KEY_BYTES_LIMIT) (are_key_bytes key) h in
+    let q = and_parts (not (length key == 0)) (nat_le (length key) KEY_BYTES_LIMIT) p.0 in
+    whole key q.0 (list_all-weaker is_key_byte is_visible key-visible key p.1)
+
+bytes-visible : (text body : List ℕ) → SpellsBytes text body → list_all is_visible text ≡ true
+bytes-visible text [] e = rw e refl
+bytes-visible text (byte ∷ body) (rest, inl (e, plain), others) =
+    rw e (and_from (is_visible byte) (list_all is_visible rest) (plain-visible byte plain) (bytes-visible rest body others))
+bytes-visible text (byte ∷ body) (rest, inr (high, low, h, l, e, p, q, v), others) =
+    let after = and_from (is_visible low) (list_all is_visible rest) (hex-visible low l q) (bytes-visible rest body others) in
+    rw e (and_from (is_visible high) (is_visible low && list_all is_visible rest) (hex-visible high h p) after)
+
+body-whole : (word : Word) (body : List ℕ) → SpellsBody word body → is_whole word ≡ true
+body-whole word body (text, e, spelled, short) = rw e (whole (61 ∷ text) (some_byte 61 text) (bytes-visible text body spelled))
+
+-- one more word
+more_whole : (word : Word) (words : List Word) → is_whole word ≡ true → are_whole words ≡ true → are_whole (word ∷ words) ≡ true
+more_whole word words one others = and_from (is_whole word) (are_whole words) one others
+
+-- ---- requests
+
+verb-whole : (verb : Verb) → is_whole (verb_word verb) ≡ true
+verb-whole Set = refl
+verb-whole Add = refl
+verb-whole Replace = refl
+verb-whole Append = refl
+verb-whole Prepend = refl
+verb-whole Cas = refl
+verb-whole Get = refl
+verb-whole Gets = refl
+verb-whole Incr = refl
+verb-whole Decr = refl
+verb-whole Delete = refl
+verb-whole Touch = refl
+
+fields-whole : (shape : Fields) (words : List Word) (r : Request) → SpellsFields shape words r → are_whole words ≡ true
+fields-whole fields.KeyAlone words r (e, f, b, n) = rw e refl
+fields-whole fields.Expiry words r (e, f, b, n) = rw e refl
+fields-whole fields.Item words r (flags, body, e, f, b, n) =
+    rw e (more_whole flags (body ∷ []) (number-whole MAX_32 flags r.flags f) (more_whole body [] (body-whole body r.body b) refl))
+fields-whole fields.Swap words r (flags, body, number, e, f, b, n) =
+    let behind = more_whole body (number ∷ []) (body-whole body r.body b) (more_whole number [] (number-whole MAX_64 number r.number n) refl) in
+    rw e (more_whole flags (body ∷ number ∷ []) (number-whole MAX_32 flags r.flags f) behind)
+fields-whole fields.Amount words r (number, e, f, b, n) = rw e (more_whole number [] (number-whole MAX_64 number r.number n) refl)
+
+pub request-whole : SpellingWordsAreWhole SpellsRequest
+request-whole words r (others, e, key, spelled) =
+    let behind = more_whole r.key others (key-whole r.key key) (fields-whole (fields_of r.verb) others r spelled) in
+    rw e (more_whole (verb_word r.verb) (r.key ∷ others) (verb-whole r.verb) behind)
+
+-- ---- replies
+
+shown-whole : (words : List Word) (cas : Option ℕ) → SpellsShown words cas → are_whole words ≡ true
+shown-whole words None e = rw e refl
+shown-whole words (Some n) (word, e, number) = rw e (more_whole word [] (number-whole MAX_64 word n number) refl)
+
+pub reply-whole : SpellingWordsAreWhole SpellsReply
+reply-whole words reply.Stored e = rw e refl
+reply-whole words reply.NotStored e = rw e refl
+reply-whole words reply.Exists e = rw e refl
+reply-whole words reply.NotFound e = rw e refl
+reply-whole words (reply.Hit flags body cas) (f, b, shown, e, p, q, s) =
+    rw e (more_whole f (b ∷ shown) (number-whole MAX_32 f flags p) (more_whole b shown (body-whole b body q) (shown-whole shown cas s)))
+reply-whole words reply.Miss e = rw e refl
+reply-whole words reply.Deleted e = rw e refl
+reply-whole words reply.Touched e = rw e refl
+reply-whole words (reply.Number n) (word, e, number) = rw e (more_whole word [] (number-whole MAX_64 word n number) refl)
+reply-whole words reply.NotNumber e = rw e refl
+
+-- ---- joined
+
+-- no visible byte separates words
+visible-apart : (by : Separator) (byte : ℕ) → is_visible byte ≡ true → separates by byte ≡ false
+visible-apart separator.Space byte h = grind (arith, nat_tests)
+visible-apart separator.SpaceOrTab byte h = grind (arith, nat_tests)
+
+space-separates : (by : Separator) → separates by 32 ≡ true
+space-separates separator.Space = refl
+space-separates separator.SpaceOrTab = refl
+
+none-separates : (by : Separator) (word : Word) → list_all is_visible word ≡ true → All (λ byte. separates by byte ≡ false) word
+none-separates by word visible =
+    All-weaker (λ byte. is_visible byte ≡ true) (λ byte. separates by byte ≡ false) (visible-apart by) word (AllPass-from_list_all is_visible word visible)
+
+-- the pieces between the spaces are the words
+splits : (by : Separator) (word : Word) (words : List Word) → are_whole (word ∷ words) ≡ true → slice_split (separates by) (joined (word ∷ words)) ≡ word ∷ words
+splits by word [] all =
+    let p = and_parts (is_whole word) true all in
+    let q = and_parts (not (length word == 0)) (list_all is_visible word) p.0 in
+    slice_split_none (separates by) word (none-separates by word q.1)
+splits by word (next ∷ words) all =
+    let p = and_parts (is_whole word) (are_whole (next ∷ words)) all in
+    let q = and_parts (not (length word == 0)) (list_all is_visible word) p.0 in
+    slice_split_at (separates by) word 32 (joined (next ∷ words)) (none-separates by word q.1) (space-separates by)
+    ∙ ap (λ pieces. word ∷ pieces) (splits by next words p.1)
+
+-- no word is left out
+keeps : (words : List Word) → are_whole words ≡ true → filter (λ word. not (length word == 0)) words ≡ words
+keeps [] all = refl
+keeps (word ∷ words) all =
+    let p = and_parts (is_whole word) (are_whole words) all in
+    let q = and_parts (not (length word == 0)) (list_all is_visible word) p.0 in
+    rw q.0 (ap (λ others. word ∷ others) (keeps words p.1))
+
+pub falls_apart : JoinedWordsFallApart
+falls_apart by [] all = refl
+falls_apart by (word ∷ words) all = ap (filter (λ w. not (length w == 0))) (splits by word words all) ∙ keeps (word ∷ words) all
+
+visible-in_line : (byte : ℕ) → is_visible byte ≡ true → is_in_line byte ≡ true
+visible-in_line byte h = grind (arith, nat_tests)
+
+word-in_line : (word : Word) → is_whole word ≡ true → list_all is_in_line word ≡ true
+word-in_line word h = list_all-weaker is_visible is_in_line visible-in_line word (and_parts (not (length word == 0)) (list_all is_visible word) h).1
+
+pub ends_no_line : JoinedWordsEndNoLine
+ends_no_line [] all = refl
+ends_no_line (word ∷ []) all = word-in_line word (and_parts (is_whole word) true all).0
+ends_no_line (word ∷ next ∷ words) all =
+    let p = and_parts (is_whole word) (are_whole (next ∷ words)) all in
+    rw (list_all-append is_in_line word (32 ∷ joined (next ∷ words)))
+    (and_from (list_all is_in_line word) (list_all is_in_line (joined (next ∷ words))) (word-in_line word p.0) (ends_no_line (next ∷ words) p.1))

@@ -1,0 +1,69 @@
+ghost use Rattle.std.specs.Prelude.{◌≡◌, length};
+ghost use Rattle.mc_model.specs.Numeral as spec;
+
+use crate::number::{DIGITS_LIMIT, is_digit, value_of};
+
+/// What a body says as a number.
+#[derive(Clone, Copy, Debug, PartialEq, Eq)]
+pub enum Numeral {
+    /// No number.
+    NoNumber,
+    /// This number.
+    Is(u64),
+    /// This number to one server, and none to another.
+    MayBe(u64),
+}
+
+impl Numeral {
+    // The number that is read, by the choice where there is one.
+    pub(crate) fn read_as(self, read: bool) -> Option<u64>
+        ensures { result ≡ spec.read_as read self }
+    {
+        match self {
+            Numeral::NoNumber => None,
+            Numeral::Is(number) => Some(number),
+            Numeral::MayBe(number) => read.then_some(number),
+        }
+    }
+}
+
+/// What `incr` and `decr` make of a body: what its leading digits say, where 64 bits hold that and nothing or a space
+/// stands behind them.
+pub fn numeral_of(body: &[u8]) -> Numeral
+    ensures { result ≡ spec.numeral_of body.now }
+{
+    let (digits, rest) = body.split_at(digit_count(body));
+    if digits.is_empty() || !ends_or_has_space(rest) {
+        return Numeral::NoNumber;
+    }
+    let Some(value) = value_of(digits) else {
+        return Numeral::NoNumber;
+    };
+    if digits.len() <= DIGITS_LIMIT && are_spaces(rest) {
+        Numeral::Is(value)
+    } else {
+        Numeral::MayBe(value)
+    }
+}
+
+// How many digits stand before anything else.
+fn digit_count(body: &[u8]) -> usize
+    ensures { result ≡ length (spec.leading_digits body.now) }
+{
+    body.iter().take_while(|byte| is_digit(**byte)).count()
+}
+
+fn ends_or_has_space(rest: &[u8]) -> bool
+    ensures { result ≡ spec.ends_or_has_space rest.now }
+{
+    match rest.first() {
+        Some(byte) => *byte == b' ',
+        None => true,
+    }
+}
+
+fn are_spaces(bytes: &[u8]) -> bool
+    ensures { result ≡ spec.are_spaces bytes.now }
+{
+    bytes.iter().all(|byte| *byte == b' ')
+}

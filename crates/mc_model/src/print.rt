@@ -1,0 +1,118 @@
+ghost use Rattle.std.specs.Prelude.{◌≡◌, ◌++◌, ◌≤◌, true, map, IfSome, OnOk, OnErr};
+ghost use Rattle.std.specs.List.{concat};
+ghost use Rattle.mc_protocol.specs.Words.{verb_word};
+ghost use Rattle.mc_model.specs.History.{has_words};
+ghost use Rattle.mc_model.specs.Words.{
+  SpellsRequest,
+  SpellsReply,
+  joined,
+  request_words,
+  reply_words,
+  MAX_32,
+  MAX_64,
+};
+ghost use Rattle.mc_model.specs.WordLaws.{AreBytes, has_short_body};
+ghost use Rattle.mc_model.specs.Printing.{item_text, number_text};
+
+use crate::body::append_body;
+use crate::words::class_word;
+use itoa::Buffer;
+use mc_protocol::{Fields, OutOfMemory, Reply, Request, append_all};
+use std::alloc::AllocError;
+
+/// Appends the words of a request, with one space between them. They spell the request, if it is one that words can
+/// spell. Want of memory leaves `out` as it was.
+pub fn print_request_words(request: &Request, out: &mut Vec<u8>) -> Result<(), OutOfMemory>
+    ensures ok { OnOk result (out.new.items ≡ out.old.items ++ joined (request_words request.now)) }
+    ensures spelled { OnOk result (has_words request.now ≡ true → SpellsRequest (request_words request.now) request.now) }
+    ensures err { OnErr result (out.new.items ≡ out.old.items) }
+{
+    print_request_as(request.verb.word().as_bytes(), request, out)
+}
+
+// The same, given the verb's word.
+fn print_request_as(verb: &[u8], request: &Request, out: &mut Vec<u8>) -> Result<(), OutOfMemory>
+    requires { verb.now ≡ verb_word request.now.verb }
+    ensures ok { OnOk result (out.new.items ≡ out.old.items ++ joined (request_words request.now)) }
+    ensures spelled { OnOk result (has_words request.now ≡ true → SpellsRequest (request_words request.now) request.now) }
+    ensures err { OnErr result (out.new.items ≡ out.old.items) }
+{
+    let key = request.key.as_slice();
+    let body = request.body.as_slice();
+    match request.verb.fields() {
+        Fields::KeyAlone | Fields::Expiry => append_all(out, &[verb, b" ", key]),
+        Fields::Item => append_item(out, &[verb, b" ", key], request.flags, body, None),
+        Fields::Swap => {
+            let cas = Some(request.number);
+            append_item(out, &[verb, b" ", key], request.flags, body, cas)
+        }
+        Fields::Amount => {
+            let mut number_text = Buffer::new();
+            let number = number_text.format(request.number).as_bytes();
+            append_all(out, &[verb, b" ", key, b" ", number])
+        }
+    }
+}
+
+/// Appends the words of a reply, with one space between them. They spell the reply, if it has no body beyond the
+/// limit. Want of memory leaves `out` as it was.
+pub fn print_reply_words(reply: &Reply, out: &mut Vec<u8>) -> Result<(), OutOfMemory>
+    ensures ok { OnOk result (out.new.items ≡ out.old.items ++ joined (reply_words reply.now)) }
+    ensures spelled { OnOk result (has_short_body reply.now ≡ true → SpellsReply (reply_words reply.now) reply.now) }
+    ensures err { OnErr result (out.new.items ≡ out.old.items) }
+{
+    let word = class_word(reply.class()).as_bytes();
+    match reply {
+        Reply::Hit { flags, body, cas } => {
+            append_item(out, &[word], *flags, body.as_slice(), *cas)
+        }
+        Reply::Number(number) => {
+            let mut number_text = Buffer::new();
+            let number = number_text.format(*number).as_bytes();
+            append_all(out, &[word, b" ", number])
+        }
+        _ => out.extend_from_slice(word),
+    }
+}
+
+// Appends the pieces and, behind them, the words for flags, a body and, where there is one, a number: all or none.
+fn append_item(
+    out: &mut Vec<u8>,
+    pieces: &[&[u8]],
+    flags: u32,
+    body: &[u8],
+    number: Option<u64>,
+) -> Result<(), OutOfMemory>
+    ensures ok { OnOk result (out.new.items ≡ out.old.items
+        ++ (concat (map (λ p. p.now) pieces.now) ++ item_text flags body.now number)) }
+    ensures fits { OnOk result ((flags ≤ MAX_32) × AreBytes body.now × IfSome number (λ n. n ≤ MAX_64)) }
+    ensures err { OnErr result (out.new.items ≡ out.old.items) }
+{
+    let start = out.len();
+    let mut flags_text = Buffer::new();
+    let flags = flags_text.format(flags).as_bytes();
+    append_all(out, pieces)?;
+    if append_all(out, &[b" ", flags, b" "]).is_err()
+        || append_body(out, body).is_err()
+        || append_number(out, number).is_err()
+    {
+        out.truncate(start);
+        return Err(AllocError);
+    }
+    Ok(())
+}
+
+// Appends a space and the number, if there is one.
+fn append_number(out: &mut Vec<u8>, number: Option<u64>) -> Result<(), OutOfMemory>
+    ensures ok { OnOk result (out.new.items ≡ out.old.items ++ number_text number) }
+    ensures fits { IfSome number (λ n. n ≤ MAX_64) }
+    ensures err { OnErr result (out.new.items ≡ out.old.items) }
+{
+    match number {
+        None => Ok(()),
+        Some(number) => {
+            let mut number_text = Buffer::new();
+            append_all(out, &[b" ", number_text.format(number).as_bytes()])
+        }
+    }
+}
