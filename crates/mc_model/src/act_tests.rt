@@ -1,5 +1,5 @@
 use crate::{Cache, Choice, Item, Numeral, numeral_of};
-use mc_protocol::{Bytes, Class, Reply, Request, Verb};
+use mc_protocol::{Bytes, Class, OutOfMemory, Reply, Request, Verb};
 use std::alloc::{AllocError, Global};
 use std::process::Abort;
 use std::test::Fail;
@@ -51,6 +51,19 @@ fn has(cache: &Cache, expected: Option<(u32, &[u8], u64)>) -> bool {
         (None, None) => true,
         _ => false,
     }
+}
+
+// Gives on what the cache answered, which had just this at the key: without memory it is as it was.
+fn acted(
+    rt: &impl Abort,
+    answer: Result<Reply, OutOfMemory>,
+    cache: &Cache,
+    before: Option<(u32, &[u8], u64)>,
+) -> Result<Reply, OutOfMemory> {
+    if answer.is_err() {
+        assert!(rt; has(cache, before));
+    }
+    answer
 }
 
 const OLD: Option<(u32, &[u8], u64)> = Some((5, b"old", 4));
@@ -108,7 +121,10 @@ fn acts_as_the_protocol_says(rt: HostRuntime) -> Result<(), Fail> {
         } else {
             Cache::new(rt.alloc())
         };
-        let reply = cache.act(rt.alloc(), &request(rt.alloc(), verb, number)?, PLAIN, NEXT)?;
+        let request = request(rt.alloc(), verb, number)?;
+        let answer = cache.act(rt.alloc(), &request, PLAIN, NEXT);
+        let before = if is_there { OLD } else { None };
+        let reply = acted(&rt, answer, &cache, before)?;
         assert_eq!(rt; reply.class(), class, "{verb:?} {is_there}");
         assert!(rt; has(&cache, after), "{verb:?} {is_there}");
     }
@@ -153,7 +169,8 @@ fn check_counts(rt: &impl Abort, alloc: Global, counts: &[Count]) -> Result<(), 
     for (body, verb, amount, choice, expected) in counts {
         let mut cache = cache_of(alloc, body)?;
         let request = request(alloc, *verb, *amount)?;
-        let reply = cache.act(alloc, &request, *choice, NEXT)?;
+        let answer = cache.act(alloc, &request, *choice, NEXT);
+        let reply = acted(rt, answer, &cache, Some((5, *body, 4)))?;
         match expected {
             Some((number, new)) => {
                 assert!(rt;
@@ -197,6 +214,7 @@ fn counts_from_what_the_body_says(rt: HostRuntime) -> Result<(), Fail> {
             (b"x", Verb::Decr, 1, READS, None),
             (b"5x", Verb::Incr, 1, READS, None),
             (b"5x", Verb::Decr, 1, READS, None),
+            // By the definition: there are servers that read these two.
             (b" 5", Verb::Incr, 1, READS, None),
             (b"+5", Verb::Incr, 1, READS, None),
         ],

@@ -58,15 +58,13 @@ fn last_fault(alloc: Global, steps: &[Step]) -> Result<Option<HistoryKind>, Fail
             sent(alloc, Verb::Delete, key, 0, Some(Reply::NotFound))?,
         )?;
     }
-    let mut fault = None;
+    let mut pushed = Ok(());
     for (actor, verb, key, number, answer) in steps {
-        if fault.is_some() {
-            return Err("a fault before the last step".into());
-        }
+        pushed?;
         let next = sent(alloc, *verb, key, *number, reply(alloc, *answer)?)?;
-        fault = builder.push(*actor, next).err();
+        pushed = builder.push(*actor, next);
     }
-    Ok(fault)
+    Ok(pushed.err())
 }
 
 #[test]
@@ -121,8 +119,8 @@ fn finds_numbers_shown_too_late(rt: HostRuntime) -> Result<(), Fail> {
     p.push(sent(alloc, Verb::Gets, b"a", 0, shown)?)?;
     let fault = History::new(alloc, p, Vec::new(alloc), Vec::new(alloc));
     let fault = fault.err().ok_or("a fault")?;
-    assert!(rt; fault.0 == HistoryKind::UnseenNumber);
-    assert!(rt; fault.1 == Actor::P);
+    assert_eq!(rt; fault.0, HistoryKind::UnseenNumber);
+    assert_eq!(rt; fault.1, Actor::P);
     assert_eq!(rt; fault.2, 1);
     Ok(())
 }

@@ -56,26 +56,47 @@ fn acts(rt: HostRuntime) -> Result<(), Fail> {
     Ok(())
 }
 
+fn item(alloc: Global, body: &[u8], number: u64) -> Result<Item, AllocError> {
+    Ok(Item {
+        flags: 1,
+        body: bytes(alloc, body)?,
+        number,
+    })
+}
+
+// The number of what the cache holds at the key.
+fn number_at(cache: &Cache, key: &[u8]) -> Option<u64> {
+    cache.find(key).map(|item| item.number)
+}
+
+#[test]
+fn takes_the_first_item_of_a_key(rt: HostRuntime) -> Result<(), Fail> {
+    let alloc = rt.alloc();
+    let mut entries = Vec::new(alloc);
+    entries.push((bytes(alloc, b"a")?, item(alloc, b"x", 2)?))?;
+    entries.push((bytes(alloc, b"b")?, item(alloc, b"y", 3)?))?;
+    entries.push((bytes(alloc, b"a")?, item(alloc, b"z", 4)?))?;
+    let cache = Cache::from_entries(entries);
+    assert_eq!(rt; number_at(&cache, b"a"), Some(2));
+    assert_eq!(rt; number_at(&cache, b"b"), Some(3));
+    assert_eq!(rt; number_at(&cache, b"c"), None);
+    Ok(())
+}
+
 #[test]
 fn puts(rt: HostRuntime) -> Result<(), Fail> {
     let alloc = rt.alloc();
-    let item = Item {
-        flags: 1,
-        body: bytes(alloc, b"x")?,
-        number: 2,
-    };
-    let mut entries = Vec::new(alloc);
-    entries.push((bytes(alloc, b"a")?, item))?;
-    let mut cache = Cache::from_entries(entries);
-    let item = Item {
-        flags: 3,
-        body: bytes(alloc, b"y")?,
-        number: 4,
-    };
-    cache.put(bytes(alloc, b"a")?, item)?;
-    let found = cache.find(b"a").ok_or("an item")?;
-    assert_eq!(rt; found.flags, 3);
-    assert_eq!(rt; found.number, 4);
+    let mut cache = Cache::new(alloc);
+    cache.put(bytes(alloc, b"a")?, item(alloc, b"x", 2)?)?;
+    for (key, number) in [(b"b".as_slice(), 3), (b"a", 4)] {
+        let put = cache.put(bytes(alloc, key)?, item(alloc, b"y", number)?);
+        if put.is_err() {
+            assert_eq!(rt; number_at(&cache, b"a"), Some(2));
+        }
+        put?;
+        assert_eq!(rt; number_at(&cache, key), Some(number));
+    }
+    assert_eq!(rt; number_at(&cache, b"b"), Some(3));
     Ok(())
 }
 
@@ -158,9 +179,36 @@ fn finds_first_faults(rt: HostRuntime) -> Result<(), Fail> {
     b.push(sent(alloc, Verb::Get, b"a", None)?)?;
     b.push(sent(alloc, Verb::Get, b"a", None)?)?;
     let fault = History::new(alloc, p, a, b).err().ok_or("a fault")?;
-    assert!(rt; fault.0 == HistoryKind::Order);
-    assert!(rt; fault.1 == Actor::B);
+    assert_eq!(rt; fault.0, HistoryKind::Order);
+    assert_eq!(rt; fault.1, Actor::B);
     assert_eq!(rt; fault.2, 1);
+    Ok(())
+}
+
+#[test]
+fn takes_histories(rt: HostRuntime) -> Result<(), Fail> {
+    let alloc = rt.alloc();
+    let mut p = Vec::new(alloc);
+    p.push(sent(alloc, Verb::Delete, b"a", Some(Reply::NotFound))?)?;
+    let mut a = Vec::new(alloc);
+    a.push(sent(alloc, Verb::Get, b"a", Some(Reply::Miss))?)?;
+    a.push(sent(alloc, Verb::Touch, b"a", Some(Reply::NotFound))?)?;
+    let mut b = Vec::new(alloc);
+    b.push(sent(alloc, Verb::Gets, b"a", None)?)?;
+    let history = History::new(alloc, p, a, b).map_err(|fault| fault.0)?;
+    for (actor, verbs) in [
+        (Actor::P, [Verb::Delete].as_slice()),
+        (Actor::A, &[Verb::Get, Verb::Touch]),
+        (Actor::B, &[Verb::Gets]),
+    ] {
+        let section = history.sent(actor);
+        assert!(rt;
+            section
+                .iter()
+                .map(|sent| sent.request.verb)
+                .eq(verbs.iter().copied())
+        );
+    }
     Ok(())
 }
 
@@ -191,5 +239,21 @@ fn builds_histories(rt: HostRuntime) -> Result<(), Fail> {
     assert_eq!(rt; history.sent(Actor::P).len(), 1);
     assert_eq!(rt; history.sent(Actor::A).len(), 1);
     assert_eq!(rt; history.sent(Actor::B).len(), 0);
+    Ok(())
+}
+
+#[test]
+fn tells_faults(rt: HostRuntime) -> Result<(), Fail> {
+    let alloc = rt.alloc();
+    let kind = HistoryKind::TooMany;
+    assert_eq!(rt;
+        format!(in alloc; "{kind}")?.as_str(),
+        "a section has more than 24 requests, or the history more than 8 keys"
+    );
+    let fault = WordsFault::Number;
+    assert_eq!(rt;
+        format!(in alloc; "{fault}")?.as_str(),
+        "a number is too large"
+    );
     Ok(())
 }

@@ -1,9 +1,12 @@
+ghost use Rattle.std.specs.Prelude.{◌≡◌};
+
 use crate::{
     WordsFault, print_reply_words, print_request_words, read_body, read_number, read_reply_words,
     read_request_words,
 };
 use mc_protocol::{Bytes, OutOfMemory, Reply, Request, Separator, Verb, words_in};
 use std::alloc::{AllocError, Global};
+use std::process::Abort;
 use std::test::Fail;
 
 fn bytes(alloc: Global, text: &[u8]) -> Result<Bytes, AllocError> {
@@ -18,6 +21,21 @@ fn request_in(alloc: Global, line: &[u8]) -> Result<Request, WordsFault> {
 fn reply_in(alloc: Global, line: &[u8]) -> Result<Reply, WordsFault> {
     let words = words_in(alloc, Separator::Space, line)?;
     read_reply_words(alloc, words.as_slice())
+}
+
+// Gives on what a call answered that prints to `out`: without memory it has printed nothing.
+fn printed(
+    rt: &impl Abort,
+    answer: Result<(), OutOfMemory>,
+    out: &[u8],
+    before: &[u8],
+) -> Result<(), OutOfMemory>
+    ensures { result ≡ answer }
+{
+    if answer.is_err() {
+        assert_eq!(rt; out, before);
+    }
+    answer
 }
 
 #[test]
@@ -58,7 +76,8 @@ fn prints_and_reads_each_verb(rt: HostRuntime) -> Result<(), Fail> {
             number,
         };
         let mut out = Vec::from_slice(alloc, b"P ")?;
-        print_request_words(&request, &mut out)?;
+        let answer = print_request_words(&request, &mut out);
+        printed(&rt, answer, out.as_slice(), b"P ")?;
         assert_eq!(rt; &out[..2], b"P ".as_slice());
         assert_eq!(rt; &out[2..], line);
         let read = request_in(alloc, line)?;
@@ -96,7 +115,8 @@ fn prints_and_reads_each_reply(rt: HostRuntime) -> Result<(), Fail> {
         (Reply::NotNumber, b"NOT_A_NUMBER"),
     ] {
         let mut out = Vec::from_slice(alloc, b"-> ")?;
-        print_reply_words(&reply, &mut out)?;
+        let answer = print_reply_words(&reply, &mut out);
+        printed(&rt, answer, out.as_slice(), b"-> ")?;
         assert_eq!(rt; &out[..3], b"-> ".as_slice());
         assert_eq!(rt; &out[3..], line);
         assert!(rt; reply_in(alloc, line)? == reply);

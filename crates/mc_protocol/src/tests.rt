@@ -1,10 +1,11 @@
 ghost use Rattle.std.specs.Prelude.{◌≡◌, IfOk};
 
 use crate::{
-    Actor, Bytes, Class, Fields, Lines, Reply, Request, Separator, Verb, fits, is_legal,
-    render_reply, render_request, render_value, request_len, words_in,
+    Actor, Bytes, Class, Fields, Lines, OutOfMemory, Reply, Request, Separator, Verb, append_all,
+    fits, is_legal, render_reply, render_request, render_value, request_len, words_in,
 };
 use std::alloc::{AllocError, Global};
+use std::process::Abort;
 use std::test::Fail;
 
 #[test]
@@ -110,6 +111,28 @@ fn request_of(
     })
 }
 
+// Gives on what a call answered that appends to `out`: without memory it has appended nothing.
+fn appended(
+    rt: &impl Abort,
+    answer: Result<(), OutOfMemory>,
+    out: &[u8],
+    before: &[u8],
+) -> Result<(), OutOfMemory> {
+    if answer.is_err() {
+        assert_eq!(rt; out, before);
+    }
+    answer
+}
+
+#[test]
+fn appends_pieces(rt: HostRuntime) -> Result<(), Fail> {
+    let mut out = Vec::from_slice(rt.alloc(), b"a")?;
+    let answer = append_all(&mut out, &[b"bc", b"", b"\xff"]);
+    appended(&rt, answer, out.as_slice(), b"a")?;
+    assert_eq!(rt; out.as_slice(), b"abc\xff".as_slice());
+    Ok(())
+}
+
 // As protocol.txt writes them, with the time of expiry 0.
 #[test]
 fn renders_requests(rt: HostRuntime) -> Result<(), Fail> {
@@ -131,7 +154,8 @@ fn renders_requests(rt: HostRuntime) -> Result<(), Fail> {
     for (verb, body, number, text) in rows {
         let request = request_of(alloc, verb, b"a", body, number)?;
         let mut out = Vec::new(alloc);
-        render_request(&request, &mut out)?;
+        let answer = render_request(&request, &mut out);
+        appended(&rt, answer, out.as_slice(), b"")?;
         assert_eq!(rt; out.as_slice(), text.as_bytes(), "{text}");
         assert_eq!(rt; request_len(&request), text.len(), "{text}");
         let long = request_of(alloc, verb, &[b'k'; 250], body, number)?;
@@ -173,11 +197,13 @@ fn renders_replies(rt: HostRuntime) -> Result<(), Fail> {
     ];
     for (reply, text) in &rows {
         let mut out = Vec::new(alloc);
-        render_reply(b"a", reply, &mut out)?;
+        let answer = render_reply(b"a", reply, &mut out);
+        appended(&rt, answer, out.as_slice(), b"")?;
         assert_eq!(rt; out.as_slice(), text.as_bytes(), "{text}");
     }
     let mut out = Vec::new(alloc);
-    render_value(b"a", 0, b"1", Some(11), &mut out)?;
+    let answer = render_value(b"a", 0, b"1", Some(11), &mut out);
+    appended(&rt, answer, out.as_slice(), b"")?;
     assert_eq!(rt; out.as_slice(), b"VALUE a 0 1 11\r\n1\r\n".as_slice());
     Ok(())
 }
@@ -213,6 +239,19 @@ fn takes_lines(rt: HostRuntime) -> Result<(), Fail> {
     assert!(rt; lines.next().is_none());
     assert_eq!(rt; lines.number(), 7);
     Ok(())
+}
+
+#[test]
+fn knows_separators(rt: HostRuntime) {
+    for (byte, is_space, is_space_or_tab) in [
+        (b' ', true, true),
+        (b'\t', false, true),
+        (b'\r', false, false),
+        (b'a', false, false),
+    ] {
+        assert_eq!(rt; Separator::Space.separates(byte), is_space);
+        assert_eq!(rt; Separator::SpaceOrTab.separates(byte), is_space_or_tab);
+    }
 }
 
 #[test]

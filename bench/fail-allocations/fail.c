@@ -1,0 +1,35 @@
+// Loaded in front of the C library, it makes allocations of a program fail: with FAIL_ALLOCATION=N the Nth, counted
+// from 1, and with FAIL_ALLOCATION=N+ all from there on. At the end of the program it writes how many it was asked for to
+// the file that COUNT_ALLOCATIONS names, if one is named.
+typedef __SIZE_TYPE__ size_t;
+
+extern void *__libc_malloc(size_t);
+extern void *__libc_realloc(void *, size_t);
+extern char *getenv(const char *);
+extern int open(const char *, int, ...);
+extern int dprintf(int, const char *, ...);
+
+static const int FOR_WRITING = 1;
+
+static long asked;
+
+static int fails(void) {
+  const char *text = getenv("FAIL_ALLOCATION");
+  long number = 0;
+  asked++;
+  if (!text)
+    return 0;
+  for (; '0' <= *text && *text <= '9'; text++)
+    number = number * 10 + (*text - '0');
+  return *text == '+' ? asked >= number : asked == number;
+}
+
+void *malloc(size_t size) { return fails() ? 0 : __libc_malloc(size); }
+
+void *realloc(void *block, size_t size) { return fails() ? 0 : __libc_realloc(block, size); }
+
+__attribute__((destructor)) static void tell(void) {
+  const char *name = getenv("COUNT_ALLOCATIONS");
+  if (name)
+    dprintf(open(name, FOR_WRITING), "%ld\n", asked);
+}
