@@ -1,11 +1,22 @@
 -- What clap finds in the program's command line.
-use Rattle.std.proofs.Common.{refl, ap, inl, inr, codes, true, ℕ, List, [], ◌∷◌, ◌≡◌, ◌∙◌}
-use Rattle.clap.specs.Words.{App, HasKind, fault_of, is_simple_and_free, kind_of}
+use Rattle.std.proofs.Common.{refl, sym, arith, ap, ap₂, unwrap_or, inl, inr, codes, true, false, ℕ, List, [], ◌∷◌, ◌++◌, ◌≡◌, ◌∙◌, Some, None}
+use Rattle.clap.specs.Words.{App, HasKind, fault_of, is_simple_and_free, kind_of, subcommand_of, subcommand_rows_of, HasMatchesOf, is_simple, built, one_of, Shape, Kinds}
+use Rattle.clap.specs.Faults.{check_fault, defaults_fault, settle_fault, walk_fault}
+use Rattle.clap.specs.Kinds.{or_else}
+use Rattle.clap.specs.Simple.{label_of}
+use Rattle.clap.specs.Walk.{Walk, answers_to, finished, nothing_held, settled, walk, walk_from}
+use Rattle.clap.specs.ValueTests.{accepts}
+use Rattle.clap.specs.declared.builder.value_parser.ValueParser.TheVariants as parser
+use Rattle.clap.specs.declared.parser.matches.ArgMatches.{ArgMatches}
 use Rattle.clap.specs.declared.error.Error.{Error}
 use Rattle.clap.specs.declared.error.kind.ErrorKind.TheVariants as kind
 use Rattle.clap.proofs.OnLiterals.{clap_on_literals}
-use Rattle.mcrace.specs.Command.{AsksForJudge}
-use Rattle.mcrace.specs.CommandLine.{line_faults, program_app}
+use Rattle.std.specs.Prelude.{find}
+use Rattle.std.specs.Str.Parse.{IsNumeral}
+use Rattle.mcrace.proofs.Limit.{limit_is_taken, no_hyphen}
+use Rattle.mcrace.proofs.OptionValue.{IsNoFlag, no_flag, value_walked, value_has_no_fault}
+use Rattle.mcrace.specs.Command.{AsksForJudge, SpellsLimit}
+use Rattle.mcrace.specs.CommandLine.{GREATEST_LIMIT, DEFAULT_LIMIT, judge_app, given_limit, line_faults, program_app}
 
 -- the faults of the command that the program makes
 pub line_faults-is : (app : App) (words : List (List ℕ)) → app ≡ program_app
@@ -17,13 +28,103 @@ pub program_is_simple : (app : App) → app ≡ program_app → is_simple_and_fr
 unfolding clap_on_literals
 program_is_simple app is = ap is_simple_and_free is
 
-judge_has_no_faults : (program : List ℕ) → line_faults (program ∷ codes "judge" ∷ []) ≡ []
-unfolding line_faults clap_on_literals
-judge_has_no_faults program = refl
+-- and what a parse by it finds for the subcommand
+pub subcommand-is : (app : App) (words : List (List ℕ)) (m : ArgMatches) → app ≡ program_app → HasMatchesOf app words m
+    → subcommand_rows_of m ≡ subcommand_of program_app words
+unfolding clap_on_literals
+subcommand-is app words m is found = (found (ap is_simple is)).1 ∙ ap (λ (a : App). subcommand_of a words) is
 
--- a line that asks for a judgement fails only where memory runs out
-pub judge_lacks_memory : (words : List (List ℕ)) (e : Error) → AsksForJudge words → HasKind (line_faults words) e
+-- ---- the lines that ask for a judgement: clap finds no fault in them, and the limit that they name
+
+default_has_no_faults : (program : List ℕ) → line_faults (program ∷ codes "judge" ∷ []) ≡ []
+unfolding line_faults clap_on_literals
+default_has_no_faults program = refl
+
+default_is_found : (program : List ℕ) → given_limit (subcommand_of program_app (program ∷ codes "judge" ∷ [])) ≡ None
+unfolding clap_on_literals
+default_is_found program = refl
+
+-- the subcommand, as clap builds it
+judge_shape : Shape
+judge_shape = unwrap_or (find (λ s. answers_to (codes "judge") (label_of s)) (built program_app).subs) judge_app.top
+
+abbrev limit_words : List ℕ → List (List ℕ)
+limit_words number = codes "--limit" ∷ number ∷ []
+
+-- the walk over the option and its value
+abbrev value_taken : List ℕ → Walk
+value_taken number = record (walk_from nothing_held) { held = record nothing_held { pending = Some (codes "limit", number ∷ []) } }
+
+value_is_taken : (number : List ℕ) → IsNoFlag number → walk judge_shape.rules [] nothing_held (limit_words number) ≡ value_taken number
+unfolding clap_on_literals judge_shape
+value_is_taken number plain = value_walked (codes "limit") 1 number (record nothing_held { pending = Some (codes "limit", []) }) plain judge_shape.rules
+
+value_has_no_faults : (number : List ℕ) → IsNoFlag number → walk_fault judge_shape [] (walk_from nothing_held) (limit_words number) ≡ []
+unfolding clap_on_literals judge_shape
+value_has_no_faults number plain =
+    ap (λ kinds. or_else kinds []) (value_has_no_fault (codes "limit") 1 number (record nothing_held { pending = Some (codes "limit", []) }) plain judge_shape)
+
+-- the faults of the subcommand, by the walk over its words
+faults_behind : Kinds → Walk → Kinds
+faults_behind kinds w = or_else (or_else kinds (or_else (settle_fault judge_shape.rules judge_shape.args_override_self w.held)
+    (or_else (defaults_fault (settled judge_shape.rules w.held).rows judge_shape.rules)
+    (check_fault judge_shape (finished judge_shape.rules w.held) false)))) []
+
+named_has_no_faults : (program : List ℕ) (number : List ℕ) → IsNoFlag number
+    → accepts false (parser.Unsigned 0 GREATEST_LIMIT) number ≡ true
+    → line_faults (program ∷ codes "judge" ∷ limit_words number) ≡ []
+unfolding line_faults clap_on_literals judge_shape faults_behind
+named_has_no_faults program number plain accepted =
+    ap₂ faults_behind (value_has_no_faults number plain) (value_is_taken number plain) ∙ rw accepted refl
+
+named_is_found : (program : List ℕ) (number : List ℕ) → IsNoFlag number
+    → given_limit (subcommand_of program_app (program ∷ codes "judge" ∷ limit_words number)) ≡ Some number
+unfolding clap_on_literals judge_shape
+named_is_found program number plain = ap (λ (w : Walk). one_of (codes "limit") (finished judge_shape.rules w.held)) (value_is_taken number plain)
+
+joined_has_no_faults : (program : List ℕ) (number : List ℕ)
+    → accepts false (parser.Unsigned 0 GREATEST_LIMIT) number ≡ true
+    → line_faults (program ∷ codes "judge" ∷ (codes "--limit=" ++ number) ∷ []) ≡ []
+unfolding line_faults clap_on_literals
+joined_has_no_faults program number accepted = rw accepted refl
+
+joined_is_found : (program : List ℕ) (number : List ℕ)
+    → given_limit (subcommand_of program_app (program ∷ codes "judge" ∷ (codes "--limit=" ++ number) ∷ [])) ≡ Some number
+unfolding clap_on_literals
+joined_is_found program number = refl
+
+-- ---- what the line asks for
+
+numeral_is_no_flag : (number : List ℕ) → IsNumeral 10 number → IsNoFlag number
+numeral_is_no_flag [] h = absurd (omega (arith, h.0))
+numeral_is_no_flag (d ∷ ds) h = no_flag d ds (no_hyphen d ds h)
+
+pub judge_has_no_faults : (words : List (List ℕ)) (limit : ℕ) → AsksForJudge words limit → line_faults words ≡ []
+judge_has_no_faults words limit asks = elim asks.3 [
+  | inl without ↦ rw (asks.2, without.0) (default_has_no_faults asks.0)
+  | inr (number, spells, inl named) ↦
+      rw (asks.2, named) (named_has_no_faults asks.0 number (numeral_is_no_flag number spells.0) (limit_is_taken number limit spells))
+  | inr (number, spells, inr joined) ↦ rw (asks.2, joined) (joined_has_no_faults asks.0 number (limit_is_taken number limit spells))
+]
+
+-- a line without a fault fails only where memory runs out, and so does one that asks for a judgement
+pub faultless_lacks_memory : (words : List (List ℕ)) (e : Error) → line_faults words ≡ [] → HasKind (line_faults words) e
     → kind_of e ≡ kind.OutOfMemory
-judge_lacks_memory words e asks (inl memory) = memory
-judge_lacks_memory words e asks (inr among) =
-    absurd (rw (ap line_faults asks.1 ∙ judge_has_no_faults asks.0) at among)
+faultless_lacks_memory words e none (inl memory) = memory
+faultless_lacks_memory words e none (inr among) = absurd (rw none at among)
+
+pub judge_lacks_memory : (words : List (List ℕ)) (limit : ℕ) (e : Error) → AsksForJudge words limit → HasKind (line_faults words) e
+    → kind_of e ≡ kind.OutOfMemory
+judge_lacks_memory words limit e asks = faultless_lacks_memory words e (judge_has_no_faults words limit asks)
+
+-- what is found of the limit gives the limit that is asked for
+pub limit_is_found : (words : List (List ℕ)) (limit : ℕ) (given : ℕ) → AsksForJudge words limit
+    → ((word : List ℕ) (n : ℕ) → given_limit (subcommand_of program_app words) ≡ Some word → SpellsLimit word n → given ≡ n)
+    → (given_limit (subcommand_of program_app words) ≡ None → given ≡ DEFAULT_LIMIT)
+    → given ≡ limit
+limit_is_found words limit given asks named none = elim asks.3 [
+  | inl without ↦ none (rw (asks.2, without.0) (default_is_found asks.0)) ∙ sym without.1
+  | inr (number, spells, inl named_by) ↦
+      named number limit (rw (asks.2, named_by) (named_is_found asks.0 number (numeral_is_no_flag number spells.0))) spells
+  | inr (number, spells, inr joined) ↦ named number limit (rw (asks.2, joined) (joined_is_found asks.0 number)) spells
+]

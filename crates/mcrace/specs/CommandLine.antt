@@ -1,11 +1,27 @@
 -- What the program's command line may be.
-use Rattle.std.specs.Prelude.{ℕ, List, [], true, codes}
-use Rattle.clap.specs.Words.{App, Kinds, fault_of, new_app, with_subcommand}
+use Rattle.std.specs.Prelude.{ℕ, Option, Some, List, [], true, codes, option_and_then}
+use Rattle.clap.specs.Words.{App, Kinds, Row, Rule, Text, fault_of, new_app, new_rule, one_of, with_rule, with_subcommand}
 use Rattle.clap.specs.Simple.{new_shape}
+use Rattle.clap.specs.declared.builder.value_parser.ValueParser.TheVariants as parser
+
+-- the turns of a search where the line names no limit, and the most that it may name
+abbrev pub DEFAULT_LIMIT : ℕ
+DEFAULT_LIMIT = 1000000
+
+abbrev pub GREATEST_LIMIT : ℕ
+GREATEST_LIMIT = 1000000000
+
+-- the option `--limit`, with a number as its value
+abbrev pub limit_rule : Rule
+limit_rule = record (new_rule (codes "limit")) {
+  long = Some (codes "limit");
+  value_names = 1;
+  parser = Some (parser.Unsigned 0 GREATEST_LIMIT);
+}
 
 -- the subcommand `judge`
 abbrev pub judge_app : App
-judge_app = new_app (codes "judge")
+judge_app = with_rule (new_app (codes "judge")) limit_rule
 
 -- the program, without its subcommands
 abbrev pub bare_app : App
@@ -21,3 +37,9 @@ program_app = with_subcommand bare_app judge_app.top
 -- the kinds of the first fault that clap finds in the words, of which it gives one; a call for help is one too
 unfoldable pub line_faults : List (List ℕ) → Kinds
 line_faults words = fault_of program_app words
+
+-- ---- what private clauses cite
+
+-- the value of `--limit` that clap found for the subcommand, if it found one
+abbrev pub given_limit : Option (Text × List Row) → Option Text
+given_limit entered = option_and_then (λ found. one_of (codes "limit") found.1) entered

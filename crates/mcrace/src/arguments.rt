@@ -1,56 +1,96 @@
 //! The command line.
-ghost use Rattle.std.specs.Prelude.{◌≡◌, map, string_bytes, IfOk};
-ghost use Rattle.clap.specs.Words.{FailsBy, app_of};
-ghost use Rattle.mcrace.specs.CommandLine.{line_faults, program_app};
+ghost use Rattle.std.specs.Prelude.{◌≡◌, ℕ, List, Some, None, false, map, string_bytes, IfOk};
+ghost use Rattle.clap.specs.Words.{FailsBy, app_of, rule_of, subcommand_rows_of};
+ghost use Rattle.mcrace.specs.CommandLine.{given_limit, limit_rule, line_faults, program_app};
+ghost use Rattle.mcrace.specs.CommandLine as command_line;
+ghost use Rattle.mcrace.specs.Command.{AsksForJudge, SpellsLimit};
 
-use clap::{Command, Error};
+use clap::{Arg, ArgMatches, Command, Error, value_parser};
 use std::alloc::{AllocError, Global};
+
+// The most turns of a search where the line names no limit.
+const DEFAULT_LIMIT: u64 = 1_000_000;
+
+// The most turns that the line may name.
+const GREATEST_LIMIT: i64 = 1_000_000_000;
 
 const ABOUT: &str = "Tests servers that speak memcached's text protocol";
 
-const JUDGE_ABOUT: &str = "Judges the history on standard input by the explanation in it";
+const JUDGE_ABOUT: &str = "Judges the history on standard input";
 
-const JUDGE_LONG_ABOUT: &str = "Judges the history on standard input by the explanation in it.
+const JUDGE_LONG_ABOUT: &str =
+    "Judges the history on standard input: whether one cache can have given every reply in it.
 
 A history is what three clients of one server sent and received: P, which ran alone first, and then
 A and B, which ran side by side. A line names the client, its request, and behind `->` the reply, or
 `?` where none came. P deletes each key before any other request of it.
 
-The explanation is an order in which the server may have acted on the requests. A line names the
+An explanation is an order in which the server may have acted on the requests. A line names the
 client whose next request acts, and the number of the version that it makes, or any number where it
-makes none. It is confirmed where a cache that acts in that order gives every reply that was
-received.
+makes none. It explains the history where a cache that acts in that order gives every reply that was
+received. In front may stand `start` lines, each with a key that held something before and the number
+of it; behind a move `pad` and `refuse`, what the server chose where the protocol leaves it a choice.
 
-An example, which is confirmed: A's `set` acts before B's `get`.
+An explanation is searched for, and the answer is written:
+  explained    one was found; its lines follow, and `end`
+  unexplained  there is none
+  undecided    the turns of the search were used up before either was known
+A turn tries one request at one place in the order.
+
+An example:
 
   history 1
   P delete a -> NOT_FOUND
   P set a 0 =5 -> STORED
   A set a 0 =6 -> STORED
   B get a -> HIT 0 =6
-  explain
+  end
+
+Its answer, in which A's `set` acts before B's `get`:
+
+  explained
   P 0
   P 1
   A 2
   B 0
   end
 
-One line is written: `confirmed`, `not confirmed`, `undecided`, or `refused` with the reason.";
+Where the history has an explanation already, `explain` and its lines in front of `end`, that one is
+judged and none is searched for:
+  confirmed      it explains the history
+  not confirmed  it does not
+
+A text that is no history is `refused`, with the reason.";
+
+const LIMIT_HELP: &str = "Search for at most N turns, 0 to 1000000000 [default: 1000000]";
 
 const STATUSES: &str = "Exit status:
-  0  confirmed
-  1  not confirmed
+  0  confirmed or explained
+  1  not confirmed or unexplained
   2  the command line is wrong
   3  refused: the input is no history, or has more than 1,048,576 bytes
-  4  undecided: the history has no explanation; out of memory; or input or output failed";
+  4  undecided; out of memory; or input or output failed";
 
-/// Reads the line, whose first word is the program's name. It may ask for a judgement, or the error says what to write
-/// and where.
-pub fn parsed(alloc: Global, line: &[String]) -> Result<(), Error>
-    ensures { FailsBy (line_faults (map string_bytes line.now)) result }
+/// Reads the line, whose first word is the program's name. It asks for a judgement, and the answer is the most turns of its
+/// search; or the error says what to write and where.
+pub fn parsed(alloc: Global, line: &[String]) -> Result<u64, Error>
+    ensures fails { FailsBy (line_faults (map string_bytes line.now)) result }
+    ensures limit { IfOk result (λ given. (limit : ℕ) → AsksForJudge (map string_bytes line.now) limit → given ≡ limit) }
 {
-    program(alloc)?.try_get_matches_from(line)?;
-    Ok(())
+    let matches = program(alloc)?.try_get_matches_from(line)?;
+    Ok(limit_of(&matches))
+}
+
+// The limit that the words behind `judge` name, or the default.
+fn limit_of(matches: &ArgMatches) -> u64
+    ensures given { (word : List ℕ) (limit : ℕ) → given_limit (subcommand_rows_of matches.now) ≡ Some word
+        → SpellsLimit word limit → result ≡ limit }
+    ensures none { given_limit (subcommand_rows_of matches.now) ≡ None → result ≡ command_line.DEFAULT_LIMIT }
+{
+    match matches.subcommand() {
+        Some((_, options)) => options.get_one("limit").unwrap_or(DEFAULT_LIMIT),
+        None => DEFAULT_LIMIT,
+    }
 }
 
 fn program<'a>(alloc: Global) -> Result<Command<'a>, AllocError>
@@ -59,11 +99,24 @@ fn program<'a>(alloc: Global) -> Result<Command<'a>, AllocError>
     let judge = Command::new(alloc, "judge")
         .about(JUDGE_ABOUT)
         .long_about(JUDGE_LONG_ABOUT)
-        .after_help(STATUSES);
+        .after_help(STATUSES)
+        .arg(limit(alloc))?;
     Command::new(alloc, "mcrace")
         .about(ABOUT)
         .after_help(STATUSES)
         .subcommand_required(true)
         .arg_required_else_help(true)
         .subcommand(judge)
+}
+
+// The option `--limit`.
+fn limit<'a>(alloc: Global) -> Arg<'a>
+    ensures rule { rule_of result ≡ limit_rule }
+    ensures local { result.global ≡ false }
+{
+    Arg::new(alloc, "limit")
+        .long("limit")
+        .value_name("N")
+        .value_parser(value_parser!(u64).range(..=GREATEST_LIMIT))
+        .help(LIMIT_HELP)
 }

@@ -1,5 +1,5 @@
 //! The whole program, over any streams.
-ghost use Rattle.std.specs.Prelude.{◌≡◌, ◌≢◌, ◌⊎◌, [], ◌+◌, ◌<◌, ◌≤◌, true, false, map, string_bytes, length, IfOk, IfErr};
+ghost use Rattle.std.specs.Prelude.{◌≡◌, ◌≢◌, ◌⊎◌, ℕ, [], ◌+◌, ◌<◌, ◌≤◌, true, false, map, string_bytes, length, IfOk, IfErr};
 ghost use Rattle.mcrace.specs.Answers as answers;
 ghost use Rattle.mcrace.specs.CommandLine.{line_faults};
 ghost use Rattle.mcrace.specs.Command.{AsksForJudge, Answers, IsWritten};
@@ -15,9 +15,9 @@ use clap::error::ErrorKind;
 use std::alloc::Global;
 use std::io;
 
-const OUT_OF_MEMORY: &str = "out of memory\n";
+const OUT_OF_MEMORY: &[u8] = b"out of memory\n";
 
-const NOT_UTF8: &str = "error: the command line is not UTF-8\n";
+const NOT_UTF8: &[u8] = b"error: the command line is not UTF-8\n";
 
 // The status where input or output failed, or memory ran out.
 const NO_ANSWER: u8 = 4;
@@ -34,11 +34,15 @@ pub fn command<I: Source, O: Sink, F: Sink>(
     output: &mut O,
     faults: &mut F,
 ) -> u8
-    ensures judged { AsksForJudge (map string_bytes line.now)
+    ensures judged { (limit : ℕ) → AsksForJudge (map string_bytes line.now) limit
         → I.has_failed input.old ≡ false → I.has_failed input.new ≡ false
         → O.has_failed output.old ≡ false → O.has_failed output.new ≡ false
-        → Answers (I.left input.old) (O.written output.old) (O.written output.new) result }
-    ensures no_fault { AsksForJudge (map string_bytes line.now) → faults.new ≡ faults.old }
+        → Answers limit (I.left input.old) (O.written output.old) (O.written output.new) result }
+    ensures any_line { line_faults (map string_bytes line.now) ≡ []
+        → I.has_failed input.old ≡ false → I.has_failed input.new ≡ false
+        → O.has_failed output.old ≡ false → O.has_failed output.new ≡ false
+        → (limit : ℕ) × Answers limit (I.left input.old) (O.written output.old) (O.written output.new) result }
+    ensures no_fault { (limit : ℕ) → AsksForJudge (map string_bytes line.now) limit → faults.new ≡ faults.old }
     ensures unread { line_faults (map string_bytes line.now) ≢ [] → input.new ≡ input.old }
     ensures broken_input { I.has_failed input.old ≡ false → I.has_failed input.new ≡ true
         → (result ≡ 4) × (output.new ≡ output.old) }
@@ -47,7 +51,7 @@ pub fn command<I: Source, O: Sink, F: Sink>(
     ensures taken { TakesAtMost 1048577 (I.left input.old) (I.left input.new) }
 {
     match parsed(alloc, line) {
-        Ok(()) => judge(alloc, input, output),
+        Ok(limit) => judge(alloc, limit, input, output),
         Err(error) => explain(alloc, &error, output, faults),
     }
 }
@@ -64,10 +68,10 @@ pub fn unread_line<O: Sink, F: Sink>(error: &io::Error, output: &mut O, faults: 
     }
 }
 
-fn judge<I: Source, O: Sink>(alloc: Global, input: &mut I, output: &mut O) -> u8
+fn judge<I: Source, O: Sink>(alloc: Global, limit: u64, input: &mut I, output: &mut O) -> u8
     ensures judged { I.has_failed input.old ≡ false → I.has_failed input.new ≡ false
         → O.has_failed output.old ≡ false → O.has_failed output.new ≡ false
-        → Answers (I.left input.old) (O.written output.old) (O.written output.new) result }
+        → Answers limit (I.left input.old) (O.written output.old) (O.written output.new) result }
     ensures broken_input { I.has_failed input.old ≡ false → I.has_failed input.new ≡ true
         → (result ≡ 4) × (output.new ≡ output.old) }
     ensures broken_output { O.has_failed output.old ≡ false → O.has_failed output.new ≡ true → result ≡ 4 }
@@ -75,7 +79,7 @@ fn judge<I: Source, O: Sink>(alloc: Global, input: &mut I, output: &mut O) -> u8
 {
     match read_input(alloc, input, INPUT_LIMIT) {
         Ok(text) => {
-            let answer = judge_text(alloc, text.as_slice());
+            let answer = judge_text(alloc, text.as_slice(), limit);
             write_answer(alloc, &answer, output)
         }
         Err(InputFault::Broken) => NO_ANSWER,
@@ -90,7 +94,7 @@ fn write_answer<O: Sink>(alloc: Global, answer: &Answer, output: &mut O) -> u8
     ensures broken { O.has_failed output.old ≡ false → O.has_failed output.new ≡ true → result ≡ 4 }
 {
     match text_of(alloc, answer) {
-        Ok(text) => write_text(text.as_str(), status_of(answer), output),
+        Ok(text) => write_text(text.as_slice(), status_of(answer), output),
         Err(_) => write_text(OUT_OF_MEMORY, NO_ANSWER, output),
     }
 }
@@ -110,20 +114,20 @@ fn explain<O: Sink, F: Sink>(alloc: Global, error: &Error, output: &mut O, fault
         return write_text(OUT_OF_MEMORY, NO_ANSWER, output);
     }
     match error.to_string(alloc) {
-        Ok(text) if error.use_stderr() => write_text(text.as_str(), WRONG_LINE, faults),
-        Ok(text) => write_text(text.as_str(), 0, output),
+        Ok(text) if error.use_stderr() => write_text(text.as_bytes(), WRONG_LINE, faults),
+        Ok(text) => write_text(text.as_bytes(), 0, output),
         Err(_) => write_text(OUT_OF_MEMORY, NO_ANSWER, output),
     }
 }
 
 // Writes the text by one call, and answers the status, or that of a failure.
-fn write_text<S: Sink>(text: &str, status: u8, sink: &mut S) -> u8
+fn write_text<S: Sink>(text: &[u8], status: u8, sink: &mut S) -> u8
     ensures written { S.has_failed sink.old ≡ false → S.has_failed sink.new ≡ false
         → Grows (S.written sink.old) (S.written sink.new) text.now × (result ≡ status) }
     ensures broken { S.has_failed sink.old ≡ false → S.has_failed sink.new ≡ true → result ≡ 4 }
     ensures status { (result ≡ status) ⊎ (result ≡ 4) }
 {
-    match sink.write_all(text.as_bytes()) {
+    match sink.write_all(text) {
         Ok(()) => status,
         Err(_) => NO_ANSWER,
     }

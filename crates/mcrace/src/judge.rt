@@ -2,7 +2,9 @@
 ghost use Rattle.std.specs.Prelude.{◌≡◌, ◌++◌, codes, decimal, string_bytes, IfOk};
 ghost use Rattle.mcrace.specs.Answers as answers;
 
-use mc_explain::{Explanation, HistoryFault, confirms, parse_history};
+use mc_explain::{
+    Explanation, HistoryFault, Verdict, confirms, judge, parse_history, print_explanation,
+};
 use mc_model::{History, HistoryKind};
 use std::alloc::{AllocError, Global};
 
@@ -10,14 +12,14 @@ use std::alloc::{AllocError, Global};
 pub const INPUT_LIMIT: usize = 1_048_576;
 
 /// What is answered to a text.
-#[derive(Clone, Copy, Debug, Drop, PartialEq, Eq)]
+#[derive(Debug, Drop)]
 pub enum Answer {
-    /// The explanation explains the history.
+    /// The explanation in the text explains the history.
     Confirmed,
-    /// The explanation does not explain the history.
+    /// The explanation in the text does not explain the history.
     NotConfirmed,
-    /// The text has a history and no explanation.
-    Undecided,
+    /// The text has no explanation, and a search for one ended so, after so many turns.
+    Judged(Verdict, u64),
     /// The text is no history.
     Refused(HistoryFault),
     /// The input has more than 1,048,576 bytes.
@@ -25,9 +27,9 @@ pub enum Answer {
     OutOfMemory,
 }
 
-/// Reads the text, and confirms its explanation.
-pub fn judge_text(alloc: Global, text: &[u8]) -> Answer
-    ensures { answers.IsRight text.now result }
+/// Reads the text, and confirms its explanation, or searches for one in at most `limit` turns.
+pub fn judge_text(alloc: Global, text: &[u8], limit: u64) -> Answer
+    ensures { answers.IsRight limit text.now result }
 {
     if text.len() > INPUT_LIMIT {
         return Answer::TooLong;
@@ -37,7 +39,7 @@ pub fn judge_text(alloc: Global, text: &[u8]) -> Answer
             let (history, explanation) = parsed;
             match explanation {
                 Some(explanation) => confirmed(alloc, &history, &explanation),
-                None => Answer::Undecided,
+                None => judged(alloc, &history, limit),
             }
         }
         // Want of memory is no fault of the text.
@@ -58,18 +60,46 @@ fn confirmed(alloc: Global, history: &History, explanation: &Explanation) -> Ans
     }
 }
 
-/// The line that is written for an answer.
-pub fn text_of(alloc: Global, answer: &Answer) -> Result<String, AllocError>
-    ensures { IfOk result (λ text. string_bytes text ≡ answers.text_of answer.now) }
+fn judged(alloc: Global, history: &History, limit: u64) -> Answer
+    ensures { answers.JudgesRightly limit history.now result }
+{
+    match judge(alloc, history, limit) {
+        Ok((verdict, turns)) => Answer::Judged(verdict, turns),
+        Err(_) => Answer::OutOfMemory,
+    }
+}
+
+/// The text that is written for an answer.
+pub fn text_of(alloc: Global, answer: &Answer) -> Result<Vec<u8>, AllocError>
+    ensures { IfOk result (λ text. text.items ≡ answers.text_of answer.now) }
 {
     match answer {
-        Answer::Confirmed => String::from_str(alloc, "confirmed\n"),
-        Answer::NotConfirmed => String::from_str(alloc, "not confirmed\n"),
-        Answer::Undecided => String::from_str(alloc, "undecided\n"),
-        Answer::Refused(fault) => refusal_text(alloc, *fault),
-        Answer::TooLong => String::from_str(alloc, "refused input too long\n"),
-        Answer::OutOfMemory => String::from_str(alloc, "out of memory\n"),
+        Answer::Confirmed => Vec::from_slice(alloc, b"confirmed\n"),
+        Answer::NotConfirmed => Vec::from_slice(alloc, b"not confirmed\n"),
+        Answer::Judged(verdict, _) => verdict_text(alloc, verdict),
+        Answer::Refused(fault) => Ok(refusal_text(alloc, *fault)?.into_bytes()),
+        Answer::TooLong => Vec::from_slice(alloc, b"refused input too long\n"),
+        Answer::OutOfMemory => Vec::from_slice(alloc, b"out of memory\n"),
     }
+}
+
+fn verdict_text(alloc: Global, verdict: &Verdict) -> Result<Vec<u8>, AllocError>
+    ensures { IfOk result (λ text. text.items ≡ answers.verdict_text verdict.now) }
+{
+    match verdict {
+        Verdict::Explained(explanation) => explained_text(alloc, explanation),
+        Verdict::Unexplained => Vec::from_slice(alloc, b"unexplained\n"),
+        Verdict::Undecided => Vec::from_slice(alloc, b"undecided\n"),
+    }
+}
+
+fn explained_text(alloc: Global, explanation: &Explanation) -> Result<Vec<u8>, AllocError>
+    ensures { IfOk result (λ text. text.items ≡ answers.explained_text explanation.now) }
+{
+    let mut text = Vec::from_slice(alloc, b"explained\n")?;
+    print_explanation(explanation, &mut text)?;
+    text.extend_from_slice(b"end\n")?;
+    Ok(text)
 }
 
 fn refusal_text(alloc: Global, fault: HistoryFault) -> Result<String, AllocError>
@@ -120,9 +150,9 @@ pub fn status_of(answer: &Answer) -> u8
     ensures { result ≡ answers.status_of answer.now }
 {
     match answer {
-        Answer::Confirmed => 0,
-        Answer::NotConfirmed => 1,
+        Answer::Confirmed | Answer::Judged(Verdict::Explained(_), _) => 0,
+        Answer::NotConfirmed | Answer::Judged(Verdict::Unexplained, _) => 1,
         Answer::Refused(_) | Answer::TooLong => 3,
-        Answer::Undecided | Answer::OutOfMemory => 4,
+        Answer::Judged(Verdict::Undecided, _) | Answer::OutOfMemory => 4,
     }
 }

@@ -23,13 +23,13 @@ end
 
 // What a run wrote, and its status.
 #[derive(Debug, Drop)]
-struct Ran {
-    status: u8,
-    output: Vec<u8>,
-    faults: Vec<u8>,
+pub struct Ran {
+    pub status: u8,
+    pub output: Vec<u8>,
+    pub faults: Vec<u8>,
 }
 
-fn run<R: Read + Drop>(alloc: Global, words: &[&str], input: R) -> Result<Ran, AllocError> {
+pub fn run<R: Read + Drop>(alloc: Global, words: &[&str], input: R) -> Result<Ran, AllocError> {
     let mut line = Vec::new(alloc);
     line.push(String::from_str(alloc, "mcrace")?)?;
     for word in words {
@@ -86,12 +86,10 @@ impl Write for Narrow {
 fn judges(rt: HostRuntime) -> Result<(), Fail> {
     let not_confirmed =
         "history 1\nP delete a -> NOT_FOUND\nA get a -> HIT 0 =6\nexplain\nP 0\nA 0\nend\n";
-    let undecided = "history 1\nP delete a -> NOT_FOUND\nend\n";
     let refused = "history 1\nP delete a -> STORED\nend\n";
     let rows = [
         (CONFIRMED, "confirmed\n", 0),
         (not_confirmed, "not confirmed\n", 1),
-        (undecided, "undecided\n", 4),
         (refused, "refused history 5 WrongReply line 2\n", 3),
         ("", "refused history 1 Header line 1\n", 3),
     ];
@@ -150,6 +148,68 @@ fn fails_with_its_output(rt: HostRuntime) -> Result<(), Fail> {
 }
 
 #[test]
+fn takes_a_limit(rt: HostRuntime) -> Result<(), Fail> {
+    for words in [
+        ["judge", "--limit", "0"].as_slice(),
+        &["judge", "--limit", "1000000000"],
+        &["judge", "--limit", "0001"],
+        &["judge", "--limit=5"],
+    ] {
+        let ran = run(rt.alloc(), words, CONFIRMED.as_bytes())?;
+        assert!(rt; ran.output.as_slice() == b"confirmed\n".as_slice());
+        assert_eq!(rt; ran.status, 0);
+        assert!(rt; ran.faults.is_empty());
+    }
+    Ok(())
+}
+
+#[test]
+fn refuses_other_limits(rt: HostRuntime) -> Result<(), Fail> {
+    for words in [
+        ["judge", "--limit"].as_slice(),
+        &["judge", "--limit", ""],
+        &["judge", "--limit", "1000000001"],
+        &["judge", "--limit", "18446744073709551616"],
+        &["judge", "--limit", "-1"],
+        &["judge", "--limit", "x"],
+        &["judge", "--limit", "5x"],
+        &["judge", "--limit", "5", "6"],
+        &["judge", "--limit", "5", "--limit", "5"],
+        &["judge", "--limit=5", "--limit=5"],
+        &["judge", "--limit="],
+        &["judge", "--limit=1000000001"],
+        &["judge", "--limit=-1"],
+        &["--limit", "5", "judge"],
+    ] {
+        let ran = run(rt.alloc(), words, CONFIRMED.as_bytes())?;
+        assert_eq!(rt; ran.status, 2);
+        assert!(rt; ran.output.is_empty() && !ran.faults.is_empty());
+    }
+    Ok(())
+}
+
+#[test]
+fn tells_the_value_of_a_wrong_limit(rt: HostRuntime) -> Result<(), Fail> {
+    let rows = [
+        ("x", "'x' for '--limit <N>': invalid digit found in string"),
+        (
+            "1000000001",
+            "'1000000001' for '--limit <N>': 1000000001 is not in 0..=1000000000",
+        ),
+    ];
+    for (word, wanted) in rows {
+        let ran = run(
+            rt.alloc(),
+            &["judge", "--limit", word],
+            CONFIRMED.as_bytes(),
+        )?;
+        let text = format!(in rt.alloc(); "error: invalid value {wanted}\n")?;
+        assert!(rt; ran.faults.starts_with(text.as_bytes()), "{text}");
+    }
+    Ok(())
+}
+
+#[test]
 fn helps_and_tells_faults_of_the_line(rt: HostRuntime) -> Result<(), Fail> {
     let empty: &[u8] = &[];
     for words in [
@@ -171,6 +231,26 @@ fn helps_and_tells_faults_of_the_line(rt: HostRuntime) -> Result<(), Fail> {
         let ran = run(rt.alloc(), words, empty)?;
         assert_eq!(rt; ran.status, 2);
         assert!(rt; ran.output.is_empty() && !ran.faults.is_empty());
+    }
+    Ok(())
+}
+
+#[test]
+fn help_of_judge_tells_all(rt: HostRuntime) -> Result<(), Fail> {
+    let empty: &[u8] = &[];
+    let ran = run(rt.alloc(), &["judge", "--help"], empty)?;
+    let text = str::from_utf8(ran.output.as_slice()).expect(&rt, "text");
+    for wanted in [
+        "--limit <N>",
+        "[default: 1000000]",
+        "explained",
+        "unexplained",
+        "undecided",
+        "confirmed",
+        "not confirmed",
+        "refused",
+    ] {
+        assert!(rt; text.contains(wanted), "{wanted}");
     }
     Ok(())
 }

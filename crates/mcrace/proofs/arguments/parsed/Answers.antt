@@ -1,15 +1,24 @@
-use Rattle.std.proofs.Common.{sym, map, string_bytes, ◌∙◌}
+use Rattle.std.proofs.Common.{ap, sym, map, string_bytes, ◌∙◌}
 use Rattle.std.proofs.lemmas.Result.{err_from_is_err_and}
-use Rattle.mcrace.proofs.Line.{line_faults-is, program_is_simple}
+use Rattle.mcrace.proofs.Line.{limit_is_found, line_faults-is, program_is_simple, subcommand-is}
+use Rattle.mcrace.specs.CommandLine.{given_limit}
 use Rattle.mcrace.proofs.arguments.parsed.Goals as goal
 
-pub returns-in_err-try_get_matches_from : goal.returns-in_err-try_get_matches_from
-returns-in_err-try_get_matches_from c =
-    let p = err_from_is_err_and c.from_residual-in_err-try_get_matches_from.result c.from_residual-in_err-try_get_matches_from.ensures.1 in
+pub returns-in_err-matches-clause-fails : goal.returns-in_err-matches-clause-fails
+returns-in_err-matches-clause-fails c =
+    let p = err_from_is_err_and c.from_residual-in_err-matches.result c.from_residual-in_err-matches.ensures.1 in
     rw (p.1, p.2, ← line_faults-is _ (map string_bytes c.args.line.now) c.in_ok-program.ensures)
-    (c.in_err-try_get_matches_from.ensures.kinds (program_is_simple _ c.in_ok-program.ensures))
+    (c.in_err-matches.ensures.kinds (program_is_simple _ c.in_ok-program.ensures))
 
-pub returns : goal.returns
-returns c =
+pub returns-clause-fails : goal.returns-clause-fails
+returns-clause-fails c =
     sym (line_faults-is _ (map string_bytes c.args.line.now) c.in_ok-program.ensures)
-    ∙ c.in_ok-try_get_matches_from.ensures.kinds (program_is_simple _ c.in_ok-program.ensures)
+    ∙ c.in_ok-matches.ensures.kinds (program_is_simple _ c.in_ok-program.ensures)
+
+pub returns-clause-limit : goal.returns-clause-limit
+returns-clause-limit c limit asks =
+    let words = map string_bytes c.args.line.now in
+    let found = ap given_limit (subcommand-is _ words c.in_ok-matches.matches c.in_ok-program.ensures c.in_ok-matches.ensures.matches) in
+    limit_is_found words limit c.limit_of.result asks
+    (λ word n is. c.limit_of.ensures.given word n (found ∙ is))
+    (λ none. c.limit_of.ensures.none (found ∙ none))
