@@ -1,0 +1,206 @@
+-- A line of a section is read exactly where it spells an entry.
+use Rattle.std.proofs.Common.{◌≡◌, ℕ, ◌+◌, ◌-◌, ◌<◌, ◌≤◌, ◌==◌, true, false, cond, Option, Some, None, List, [], ◌∷◌, ◌++◌, length, take, drop, get_or, codes, refl, sym, ap, subst, ◌∙◌, arith, drop-cons, length-append, suc}
+use Rattle.std.specs.List.{list_any}
+use Rattle.std.specs.Str.{bytes_eq}
+use Rattle.std.proofs.lemmas.Bool.{eqb-true}
+use Rattle.std.proofs.lemmas.List.{take-append-drop, drop_all}
+use Rattle.std.proofs.lemmas.Slice.Eq.{bytes_eq-Decides}
+use Rattle.std.proofs.lemmas.Bool.Decides.{nat_tests}
+use Rattle.mc_protocol.specs.Fields.{fields_of}
+use Rattle.mc_protocol.specs.Words.{verb_word}
+use Rattle.mc_protocol.specs.declared.request.Verb.{Verb}
+use Rattle.mc_protocol.specs.declared.request.Verb.TheVariants.{Set, Add, Replace, Append, Prepend, Cas, Get, Gets, Incr, Decr, Delete, Touch}
+use Rattle.mc_script.specs.declared.entry.Entry.{Entry}
+use Rattle.mc_script.specs.declared.entry.Entry.TheVariants as entry
+use Rattle.mc_script.specs.declared.entry.Mark.{Mark}
+use Rattle.mc_script.specs.declared.fields.Parts.{Parts}
+use Rattle.mc_script.specs.declared.step.Template.{Template}
+use Rattle.mc_script.specs.Script.{Names}
+use Rattle.mc_script.specs.ScriptWords.{Word, Words, is_name, index_of, label_word}
+use Rattle.mc_script.specs.SectionText.{SpellsEntry, SpellsRequest}
+use Rattle.mc_script.specs.Steps.{◌>>=◌}
+use Rattle.mc_script.specs.Reading.{entry_in, label_or_halt, before_colon, bind_in, goto_in, behind_verb, request_in, verb_of, all_verbs, fields_in, field_count, marks_in, binds, template_of}
+use Rattle.mc_script.proofs.Outcomes.{then-some, cond-cases, some-same, only-then, only-else, find-passes}
+use Rattle.mc_script.proofs.FieldWords.{fields-spelled, fields-read}
+use Rattle.mc_script.proofs.MarkLists.{marks-spelled, marks-read}
+
+bytes-same : (xs ys : Word) → bytes_eq xs ys ≡ true → xs ≡ ys
+bytes-same xs ys = (bytes_eq-Decides xs ys).0
+
+-- ---- verbs
+
+verb_of-word : (v : Verb) → verb_of (verb_word v) ≡ Some v
+unfolding verb_of
+verb_of-word Set = refl
+verb_of-word Add = refl
+verb_of-word Replace = refl
+verb_of-word Append = refl
+verb_of-word Prepend = refl
+verb_of-word Cas = refl
+verb_of-word Get = refl
+verb_of-word Gets = refl
+verb_of-word Incr = refl
+verb_of-word Decr = refl
+verb_of-word Delete = refl
+verb_of-word Touch = refl
+
+word-of_verb : (word : Word) (v : Verb) → verb_of word ≡ Some v → verb_word v ≡ word
+unfolding verb_of
+word-of_verb word v h = bytes-same (verb_word v) word (find-passes (λ w. bytes_eq (verb_word w) word) all_verbs v h)
+
+verb-not-bind : (v : Verb) → bytes_eq (verb_word v) (codes "bind") ≡ false
+verb-not-bind Set = refl
+verb-not-bind Add = refl
+verb-not-bind Replace = refl
+verb-not-bind Append = refl
+verb-not-bind Prepend = refl
+verb-not-bind Cas = refl
+verb-not-bind Get = refl
+verb-not-bind Gets = refl
+verb-not-bind Incr = refl
+verb-not-bind Decr = refl
+verb-not-bind Delete = refl
+verb-not-bind Touch = refl
+
+verb-not-goto : (v : Verb) → bytes_eq (verb_word v) (codes "goto") ≡ false
+verb-not-goto Set = refl
+verb-not-goto Add = refl
+verb-not-goto Replace = refl
+verb-not-goto Append = refl
+verb-not-goto Prepend = refl
+verb-not-goto Cas = refl
+verb-not-goto Get = refl
+verb-not-goto Gets = refl
+verb-not-goto Incr = refl
+verb-not-goto Decr = refl
+verb-not-goto Delete = refl
+verb-not-goto Touch = refl
+
+-- ---- labels
+
+last-split : (word : Word) → 1 ≤ length word → word ≡ take (length word - 1) word ++ get_or word (length word - 1) 0 ∷ []
+last-split word some =
+    let i = length word - 1 in
+    let below : i < length word = omega arith in
+    let past : length word ≤ suc i = omega arith in
+    sym (take-append-drop i word) ∙ ap (λ bytes. take i word ++ bytes)
+    (drop-cons word i 0 below ∙ ap (λ bytes. get_or word i 0 ∷ bytes) (drop_all (suc i) word past))
+
+not-empty : (word : Word) → (length word == 0) ≡ false → 1 ≤ length word
+not-empty word h = grind (arith, nat_tests, h)
+
+colon-spelled : (word name : Word) → before_colon word ≡ Some name → word ≡ label_word name
+colon-spelled word name h =
+    let p = only-else (length word == 0) _ name h in
+    let q = only-then (get_or word (length word - 1) 0 == 58) (Some (take (length word - 1) word)) name p.1 in
+    last-split word (not-empty word p.0)
+    ∙ ap (λ byte. take (length word - 1) word ++ byte ∷ []) (eqb-true (get_or word (length word - 1) 0) 58 q.0)
+    ∙ ap (λ front. front ++ 58 ∷ []) (some-same (take (length word - 1) word) name q.1)
+
+take-front : (front rest : Word) → take (length front) (front ++ rest) ≡ front
+take-front [] rest = refl
+take-front (byte ∷ front) rest = ap (λ bytes. byte ∷ bytes) (take-front front rest)
+
+get-front : (front rest : Word) (byte : ℕ) → get_or (front ++ byte ∷ rest) (length front) 0 ≡ byte
+get-front [] rest byte = refl
+get-front (b ∷ front) rest byte = get-front front rest byte
+
+labelled : (word : Word) (n : ℕ) → length word ≡ n + 1 → (length word == 0) ≡ false
+labelled word n e = rw e (grind (arith, nat_tests))
+
+colon-read : (name : Word) → before_colon (label_word name) ≡ Some name
+colon-read name =
+    let word = label_word name in
+    let whole : length word ≡ length name + 1 = omega (arith, length-append name (58 ∷ [])) in
+    let last : length word - 1 ≡ length name = omega (arith, whole) in
+    rw (labelled word (length name) whole, last, get-front name [] 58, take-front name (58 ∷ [])) refl
+
+-- ---- lines of one word
+
+lone-spelled : (names : Names) (o : Option Word) (word : Word) (e : Entry) → before_colon word ≡ o → label_or_halt o word ≡ Some e → SpellsEntry names (word ∷ []) e
+lone-spelled names (Some name) word e at h =
+    let p = only-then (is_name name) (Some (entry.Label name)) e h in
+    subst (SpellsEntry names (word ∷ [])) (some-same (entry.Label name) e p.1) (ap (λ w. w ∷ []) (colon-spelled word name at), p.0)
+lone-spelled names None word e at h =
+    let p = only-then (bytes_eq word (codes "halt")) (Some entry.Halt) e h in
+    subst (SpellsEntry names (word ∷ [])) (some-same entry.Halt e p.1) (ap (λ w. w ∷ []) (bytes-same word (codes "halt") p.0))
+
+-- ---- lines of more words
+
+bind-spelled : (names : Names) (word name : Word) (others : Words) (e : Entry) → word ≡ codes "bind" → bind_in names name others ≡ Some e
+    → SpellsEntry names (word ∷ name ∷ others) e
+bind-spelled names word name [] e w h =
+    let p = then-some (index_of names.vars name) (λ v. Some (entry.Bind v)) e h in
+    subst (SpellsEntry names (word ∷ name ∷ [])) (some-same (entry.Bind p.0) e p.2) (name, ap (λ x. x ∷ name ∷ []) w, p.1)
+bind-spelled names word name (_ ∷ _) e w h = absurd (cc)
+
+goto-spelled : (names : Names) (word label : Word) (others : Words) (e : Entry) → word ≡ codes "goto" → goto_in label others ≡ Some e
+    → SpellsEntry names (word ∷ label ∷ others) e
+goto-spelled names word label [] e w h =
+    subst (SpellsEntry names (word ∷ label ∷ [])) (some-same (entry.Goto label) e h) (ap (λ x. x ∷ label ∷ []) w)
+goto-spelled names word label (_ ∷ _) e w h = absurd (cc)
+
+request-spelled : (names : Names) (v : Verb) (word key : Word) (words : Words) (e : Entry) → verb_word v ≡ word → request_in names v key words ≡ Some e
+    → SpellsEntry names (word ∷ key ∷ words) e
+request-spelled names v word key words e w h =
+    let rest = drop (field_count (fields_of v)) words in
+    let made : ℕ → Parts → List Mark → Entry = λ k parts marks. entry.Send (template_of v k parts) marks in
+    let read = marks_in names v (list_any binds rest) [] rest in
+    let p = then-some (index_of names.keys key) (λ k. fields_in names (fields_of v) words >>= λ parts. read >>= λ marks. Some (made k parts marks)) e h in
+    let q = then-some (fields_in names (fields_of v) words) (λ parts. read >>= λ marks. Some (made p.0 parts marks)) e p.2 in
+    let r = then-some read (λ marks. Some (made p.0 q.0 marks)) e q.2 in
+    let f = fields-spelled names (fields_of v) words v p.0 q.0 q.1 in
+    let m = marks-spelled names v rest r.0 r.1 in
+    subst (SpellsEntry names (word ∷ key ∷ words)) (some-same (made p.0 q.0 r.0) e r.2)
+    record {
+      key = key;
+      fields = f.front;
+      others = rest;
+      words = ap (λ x. x ∷ key ∷ words) (sym w) ∙ ap (λ ws. verb_word v ∷ key ∷ ws) f.words_are;
+      declared = p.1;
+      spelled = f.spelled;
+      bare = record { require_set = refl; require_clear = refl; sets = refl; clears = refl };
+      marked = m.0;
+      together = m.1;
+    }
+
+verb-spelled : (names : Names) (o : Option Verb) (word key : Word) (words : Words) (e : Entry) → verb_of word ≡ o → behind_verb names o key words ≡ Some e
+    → SpellsEntry names (word ∷ key ∷ words) e
+verb-spelled names None word key words e w h = absurd (cc)
+verb-spelled names (Some v) word key words e w h = request-spelled names v word key words e (word-of_verb word v w) h
+
+pub entry-spelled : (names : Names) (line : Words) (e : Entry) → entry_in names line ≡ Some e → SpellsEntry names line e
+unfolding entry_in
+entry-spelled names [] e h = absurd (cc)
+entry-spelled names (word ∷ []) e h = lone-spelled names (before_colon word) word e refl h
+entry-spelled names (word ∷ next ∷ others) e h =
+    let Whole = SpellsEntry names (word ∷ next ∷ others) e in
+    cond-cases (bytes_eq word (codes "bind")) (bind_in names next others)
+    (cond (bytes_eq word (codes "goto")) (goto_in next others) (behind_verb names (verb_of word) next others)) e Whole h
+    (λ b g. bind-spelled names word next others e (bytes-same word (codes "bind") b) g)
+    (λ _ g. cond-cases (bytes_eq word (codes "goto")) (goto_in next others) (behind_verb names (verb_of word) next others) e Whole g
+    (λ b k. goto-spelled names word next others e (bytes-same word (codes "goto") b) k)
+    (λ _ k. verb-spelled names (verb_of word) word next others e refl k))
+
+-- ---- what is spelled is read
+
+same-template : (t : Template) (a b c d : ℕ) → t.require_set ≡ a → t.require_clear ≡ b → t.sets ≡ c → t.clears ≡ d
+    → ◌≡◌ {A = Template}
+    (record { verb = t.verb; key = t.key; flags = t.flags; argument = t.argument; body = t.body; require_set = a; require_clear = b; sets = c; clears = d }) t
+same-template t a b c d e f g h = rw (← e, ← f, ← g, ← h) refl
+
+request-read : (names : Names) (line : Words) (t : Template) (marks : List Mark) → SpellsRequest names line t marks → entry_in names line ≡ Some (entry.Send t marks)
+unfolding entry_in
+request-read names line t marks s =
+    let f = fields-read names (fields_of t.verb) s.fields s.others t s.spelled in
+    let m = marks-read names t.verb s.others marks s.marked s.together in
+    let same = same-template t 0 0 0 0 s.bare.require_set s.bare.require_clear s.bare.sets s.bare.clears in
+    rw (s.words, verb-not-bind t.verb, verb-not-goto t.verb, verb_of-word t.verb, s.declared, f.0, f.1, m) (ap (λ x. Some (entry.Send x marks)) same)
+
+pub entry-read : (names : Names) (line : Words) (e : Entry) → SpellsEntry names line e → entry_in names line ≡ Some e
+unfolding entry_in
+entry-read names line (entry.Label name) (e, n) = rw (e, colon-read name, n) refl
+entry-read names line (entry.Send t marks) s = request-read names line t marks s
+entry-read names line (entry.Bind v) (name, e, i) = rw (e, i) refl
+entry-read names line (entry.Goto label) e = rw e refl
+entry-read names line entry.Halt e = rw e refl

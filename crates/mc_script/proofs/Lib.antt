@@ -1,0 +1,16 @@
+pub mod Lists
+pub mod Numbers
+pub mod LabelSets
+pub mod Outcomes
+pub mod Labelled
+pub mod FieldWords
+pub mod MarkWords
+pub mod MarkLists
+pub mod EntryWords
+pub mod SectionLines
+pub mod Sections
+pub mod Resolving
+pub mod Declared
+pub mod WholeScript
+pub mod ScriptRead
+pub mod Readings

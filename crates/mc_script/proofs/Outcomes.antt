@@ -1,0 +1,37 @@
+-- What a reading that gave a value went through.
+use Rattle.std.proofs.Common.{◌≡◌, Bool, true, false, cond, Option, Some, None, List, [], ◌∷◌, refl}
+use Rattle.std.specs.List.{find}
+use Rattle.mc_script.specs.Steps.{◌>>=◌}
+
+-- both steps gave one
+pub then-some : {A B : Type 0} (x : Option A) (f : A → Option B) (y : B) → (x >>= f) ≡ Some y → (a : A) × (x ≡ Some a) × (f a ≡ Some y)
+then-some (Some a) f y e = (a, refl, e)
+then-some None f y e = absurd (cc)
+
+pub cond-some : {A : Type 0} (b : Bool) (x y : Option A) (a : A) (P : Type 0) → cond b x y ≡ Some a → (x ≡ Some a → P) → (y ≡ Some a → P) → P
+cond-some true x y a P e f g = f e
+cond-some false x y a P e f g = g e
+
+pub cond-cases : {A : Type 0} (b : Bool) (x y : Option A) (a : A) (P : Type 0) → cond b x y ≡ Some a → (b ≡ true → x ≡ Some a → P) → (b ≡ false → y ≡ Some a → P) → P
+cond-cases true x y a P e f g = f refl e
+cond-cases false x y a P e f g = g refl e
+
+pub some-same : {A : Type 0} (x y : A) → Some x ≡ Some y → x ≡ y
+some-same x y e = cc
+
+pub only-then : {A : Type 0} (b : Bool) (x : Option A) (a : A) → cond b x None ≡ Some a → (b ≡ true) × (x ≡ Some a)
+only-then true x a e = (refl, e)
+only-then false x a e = absurd (cc)
+
+pub only-else : {A : Type 0} (b : Bool) (x : Option A) (a : A) → cond b None x ≡ Some a → (b ≡ false) × (x ≡ Some a)
+only-else true x a e = absurd (cc)
+only-else false x a e = (refl, e)
+
+find-here : {X : Type 0} (passes : X → Bool) (b : Bool) (x y : X) (xs : List X) → passes x ≡ b → cond b (Some x) (find passes xs) ≡ Some y → (find passes xs ≡ Some y → passes y ≡ true) → passes y ≡ true
+find-here passes true x y xs p h rest = let e : x ≡ y = cc in rw (← e) p
+find-here passes false x y xs p h rest = rest h
+
+-- what is found passes
+pub find-passes : {X : Type 0} (passes : X → Bool) (xs : List X) (y : X) → find passes xs ≡ Some y → passes y ≡ true
+find-passes passes [] y h = absurd (cc)
+find-passes passes (x ∷ xs) y h = find-here passes (passes x) x y xs refl h (find-passes passes xs y)

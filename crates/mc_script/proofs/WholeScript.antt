@@ -1,0 +1,306 @@
+-- A text is read as a script exactly where it spells it.
+use Rattle.std.proofs.Common.{◌≡◌, ℕ, ◌==◌, true, not, Some, None, List, [], ◌∷◌, ◌++◌, length, codes, refl, sym, ap, subst, ◌∙◌}
+use Rattle.std.specs.Str.{bytes_eq}
+use Rattle.std.proofs.lemmas.Bool.{and_parts}
+use Rattle.mc_protocol.specs.declared.actor.Actor.{Actor}
+use Rattle.mc_protocol.specs.declared.actor.Actor.TheVariants as actor
+use Rattle.mc_protocol.specs.declared.lines.Separator.TheVariants.{SpaceOrTab}
+use Rattle.mc_protocol.specs.Lines.{words_of_text}
+use Rattle.mc_script.specs.declared.entry.Entry.{Entry}
+use Rattle.mc_script.specs.declared.limits.TheConstants.{KEYS_LIMIT, KEY_BYTES_LIMIT, NAME_BYTES_LIMIT, FLAGS_LIMIT, VARIABLES_LIMIT, REQUESTS_LIMIT, BYTES_LIMIT}
+use Rattle.mc_script.specs.declared.section.Budget.{Budget}
+use Rattle.mc_script.specs.declared.text.Budgets.{Budgets}
+use Rattle.mc_script.specs.Script.{Names, Section, Script, AreDeclared}
+use Rattle.mc_script.specs.ScriptWords.{Word, Words, SpellsNumber}
+use Rattle.mc_script.specs.ScriptText.{SpellsScript, SpellsBudget, actor_word, header, names_line, names_lines, section_line, end_line, body_lines}
+use Rattle.mc_script.specs.SectionText.{SpellsSection}
+use Rattle.mc_script.specs.Steps.{◌>>=◌}
+use Rattle.mc_script.specs.Reading.{entry_in, is_header, header_in, begins_with, others_of, names_in, keys_in, optional_in, then_line, number_in, numbers_in, amounts_in, budget_in, is_only}
+use Rattle.mc_script.specs.TextReading.{line_in, names_of, all_names_in, next_budget_in, budgets_of, budgets_in, section_line_in, entries_in, ended_in, bodies_in, section_in, script_of, resolved_in, script_in}
+use Rattle.mc_script.proofs.Outcomes.{then-some, cond-cases, some-same, only-then}
+use Rattle.mc_script.proofs.FieldWords.{number-spelled, number-read}
+use Rattle.mc_script.proofs.Declared.{names-declared, keys-declared, optional-declared}
+use Rattle.mc_script.proofs.SectionLines.{bytes-same, bytes-equal, only-line}
+use Rattle.mc_script.proofs.Sections.{section-spelled}
+
+-- ---- the header
+
+header-line : (line : Words) → is_header line ≡ true → line ≡ header
+header-line [] h = absurd (cc)
+header-line (word ∷ []) h = absurd (cc)
+header-line (word ∷ version ∷ []) h =
+    let p = and_parts (bytes_eq word (codes "script")) (bytes_eq version (codes "1")) h in
+    ap (λ w. w ∷ version ∷ []) (bytes-same word (codes "script") p.0) ∙ ap (λ v. codes "script" ∷ v ∷ []) (bytes-same version (codes "1") p.1)
+header-line (word ∷ version ∷ next ∷ others) h = absurd (cc)
+
+header-spelled : (lines rest : List Words) → header_in lines ≡ Some rest → lines ≡ header ∷ rest
+header-spelled [] rest h = absurd (cc)
+header-spelled (line ∷ lines) rest h =
+    let p = only-then (is_header line) (Some lines) rest h in
+    ap (λ l. l ∷ lines) (header-line line p.0) ∙ ap (λ ls. header ∷ ls) (some-same lines rest p.1)
+
+-- ---- names
+
+first-word : (word : Word) (line : Words) → begins_with word line ≡ true → line ≡ word ∷ others_of line
+first-word word [] h = absurd (cc)
+first-word word (first ∷ others) h = ap (λ w. w ∷ others) (bytes-same first word h)
+
+some-line : (word : Word) (names : List Word) → not (length names == 0) ≡ true → names_line word names ≡ (word ∷ names) ∷ []
+some-line word [] h = absurd (cc)
+some-line word (name ∷ names) h = refl
+
+keys-line : (lines : List Words) (keys : List Word) (rest : List Words) → keys_in lines ≡ Some (keys, rest) → lines ≡ names_line (codes "keys") keys ++ rest
+keys-line [] keys rest h = absurd (cc)
+keys-line (line ∷ lines) keys rest h =
+    let word = codes "keys" in
+    let p = only-then (begins_with word line) (names_in KEYS_LIMIT KEY_BYTES_LIMIT (others_of line) >>= λ names. Some (names, lines)) (keys, rest) h in
+    let q = then-some (names_in KEYS_LIMIT KEY_BYTES_LIMIT (others_of line)) (λ names. Some (names, lines)) (keys, rest) p.1 in
+    let d = names-declared KEYS_LIMIT KEY_BYTES_LIMIT (others_of line) q.0 q.1 in
+    let e = some-same (q.0, lines) (keys, rest) q.2 in
+    let here : line ≡ word ∷ q.0 = first-word word line p.0 ∙ ap (λ ns. word ∷ ns) d.2 in
+    ap (λ l. l ∷ lines) here ∙ ap (λ ls. ls ++ lines) (sym (some-line word q.0 d.0)) ∙ ap (λ t. names_line word t.0 ++ t.1) e
+
+then-same : {A : Type 0} (x y : A) (lines : List Words) (next : Words) (rest : List Words) → then_line x lines ≡ Some (y, next, rest)
+    → (x ≡ y) × (lines ≡ next ∷ rest)
+then-same x y [] next rest h = absurd (cc)
+then-same x y (line ∷ lines) next rest h =
+    let e = some-same (x, line, lines) (y, next, rest) h in
+    (ap (λ t. t.0) e, ap (λ t. t.1 ∷ t.2) e)
+
+optional-line : (word : Word) (limit : ℕ) (line : Words) (lines : List Words) (names : List Word) (next : Words) (rest : List Words)
+    → optional_in word limit line lines ≡ Some (names, next, rest) → line ∷ lines ≡ names_line word names ++ next ∷ rest
+optional-line word limit line lines names next rest h =
+    cond-cases (begins_with word line) (names_in limit NAME_BYTES_LIMIT (others_of line) >>= λ ns. then_line ns lines) (Some ([], line, lines))
+    (names, next, rest) (line ∷ lines ≡ names_line word names ++ next ∷ rest) h
+    (λ b g.
+    let q = then-some (names_in limit NAME_BYTES_LIMIT (others_of line)) (λ ns. then_line ns lines) (names, next, rest) g in
+    let d = names-declared limit NAME_BYTES_LIMIT (others_of line) q.0 q.1 in
+    let t = then-same q.0 names lines next rest q.2 in
+    let here : line ≡ word ∷ q.0 = first-word word line b ∙ ap (λ ns. word ∷ ns) d.2 in
+    ap (λ l. l ∷ lines) here ∙ ap (λ ls. ls ++ lines) (sym (some-line word q.0 d.0))
+    ∙ ap (λ ns. names_line word ns ++ lines) t.0 ∙ ap (λ ls. names_line word names ++ ls) t.1)
+    (λ _ g. let e = some-same ([], line, lines) (names, next, rest) g in ap (λ t. names_line word t.0 ++ t.1 ∷ t.2) e)
+
+line-same : (lines : List Words) (line : Words) (rest : List Words) → line_in lines ≡ Some (line, rest) → lines ≡ line ∷ rest
+line-same [] line rest h = absurd (cc)
+line-same (first ∷ lines) line rest h = ap (λ t. t.0 ∷ t.1) (some-same (first, lines) (line, rest) h)
+
+append-assoc : {X : Type 0} (xs ys zs : List X) → (xs ++ ys) ++ zs ≡ xs ++ (ys ++ zs)
+append-assoc [] ys zs = refl
+append-assoc (x ∷ xs) ys zs = ap (λ l. x ∷ l) (append-assoc xs ys zs)
+
+rejoin : (a b c d : List Words) → a ++ (b ++ (c ++ d)) ≡ ((a ++ b) ++ c) ++ d
+rejoin a b c d = sym (append-assoc (a ++ b) c d ∙ append-assoc a b (c ++ d))
+
+-- the parts of what declares the names
+names-joined : (lines : List Words) (keys flags vars : List Word) (more : List Words) (first second last : Words) (behind onward rest : List Words)
+    → keys_in lines ≡ Some (keys, more) → line_in more ≡ Some (first, behind)
+    → optional_in (codes "flags") FLAGS_LIMIT first behind ≡ Some (flags, second, onward)
+    → optional_in (codes "vars") VARIABLES_LIMIT second onward ≡ Some (vars, last, rest)
+    → (lines ≡ names_lines (names_of keys flags vars) ++ last ∷ rest) × AreDeclared (names_of keys flags vars)
+names-joined lines keys flags vars more first second last behind onward rest k l f v =
+    let declared = keys-declared lines keys more k in
+    let tail : more ≡ names_line (codes "flags") flags ++ (names_line (codes "vars") vars ++ last ∷ rest) =
+    line-same more first behind l ∙ optional-line (codes "flags") FLAGS_LIMIT first behind flags second onward f
+    ∙ ap (λ ls. names_line (codes "flags") flags ++ ls) (optional-line (codes "vars") VARIABLES_LIMIT second onward vars last rest v) in (
+      keys-line lines keys more k ∙ ap (λ ls. names_line (codes "keys") keys ++ ls) tail
+          ∙ rejoin (names_line (codes "keys") keys) (names_line (codes "flags") flags) (names_line (codes "vars") vars) (last ∷ rest),
+      record {
+        some = declared.0;
+        keys = declared.1;
+        flags = optional-declared (codes "flags") FLAGS_LIMIT first behind flags second onward refl f;
+        vars = optional-declared (codes "vars") VARIABLES_LIMIT second onward vars last rest refl v;
+      },
+    )
+
+names-spelled : (lines : List Words) (names : Names) (line : Words) (rest : List Words) → all_names_in lines ≡ Some (names, line, rest)
+    → (lines ≡ names_lines names ++ line ∷ rest) × AreDeclared names
+names-spelled lines names line rest h =
+    let k = then-some (keys_in lines) (λ k. line_in k.1 >>= λ l. optional_in (codes "flags") FLAGS_LIMIT l.0 l.1
+    >>= λ f. optional_in (codes "vars") VARIABLES_LIMIT f.1 f.2 >>= λ v. Some (names_of k.0 f.0 v.0, v.1, v.2)) (names, line, rest) h in
+    let l = then-some (line_in k.0.1) (λ l. optional_in (codes "flags") FLAGS_LIMIT l.0 l.1
+    >>= λ f. optional_in (codes "vars") VARIABLES_LIMIT f.1 f.2 >>= λ v. Some (names_of k.0.0 f.0 v.0, v.1, v.2)) (names, line, rest) k.2 in
+    let f = then-some (optional_in (codes "flags") FLAGS_LIMIT l.0.0 l.0.1)
+    (λ f. optional_in (codes "vars") VARIABLES_LIMIT f.1 f.2 >>= λ v. Some (names_of k.0.0 f.0 v.0, v.1, v.2)) (names, line, rest) l.2 in
+    let v = then-some (optional_in (codes "vars") VARIABLES_LIMIT f.0.1 f.0.2) (λ v. Some (names_of k.0.0 f.0.0 v.0, v.1, v.2)) (names, line, rest) f.2 in
+    let P : Names × Words × List Words → Type 0 = λ t. (lines ≡ names_lines t.0 ++ t.1 ∷ t.2) × AreDeclared t.0 in
+    subst P (some-same (names_of k.0.0 f.0.0 v.0.0, v.0.1, v.0.2) (names, line, rest) v.2)
+    (names-joined lines k.0.0 f.0.0 v.0.0 k.0.1 l.0.0 f.0.1 v.0.1 l.0.1 f.0.2 v.0.2 k.1 l.1 f.1 v.1)
+
+-- ---- budgets
+
+numbers-spelled : (words : Words) (b : Budget) → numbers_in words ≡ Some b
+    → (r : Word) × (y : Word) × (words ≡ r ∷ y ∷ []) × SpellsNumber REQUESTS_LIMIT r b.requests × SpellsNumber BYTES_LIMIT y b.bytes
+numbers-spelled [] b h = absurd (cc)
+numbers-spelled (r ∷ []) b h = absurd (cc)
+numbers-spelled (r ∷ y ∷ []) b h =
+    let made : ℕ → ℕ → Budget = λ n m. record { requests = n; bytes = m } in
+    let p = then-some (number_in REQUESTS_LIMIT r) (λ n. number_in BYTES_LIMIT y >>= λ m. Some (made n m)) b h in
+    let q = then-some (number_in BYTES_LIMIT y) (λ m. Some (made p.0 m)) b p.2 in
+    let P : Budget → Type 0 = λ x. (r' : Word) × (y' : Word) × (r ∷ y ∷ [] ≡ r' ∷ y' ∷ []) × SpellsNumber REQUESTS_LIMIT r' x.requests × SpellsNumber BYTES_LIMIT y' x.bytes in
+    subst P (some-same (made p.0 q.0) b q.2) (r, y, refl, number-spelled REQUESTS_LIMIT r p.0 p.1, number-spelled BYTES_LIMIT y q.0 q.1)
+numbers-spelled (r ∷ y ∷ x ∷ words) b h = absurd (cc)
+
+budget-spelled : (a : Actor) (line : Words) (b : Budget) → budget_in a line ≡ Some b → SpellsBudget a line b
+unfolding budget_in
+budget-spelled a [] b h = absurd (cc)
+budget-spelled a (word ∷ []) b h = let p = only-then (bytes_eq word (codes "budget")) None b h in absurd (cc)
+budget-spelled a (word ∷ section ∷ numbers) b h =
+    let p = only-then (bytes_eq word (codes "budget")) (amounts_in a (section ∷ numbers)) b h in
+    let q = only-then (bytes_eq section (actor_word a)) (numbers_in numbers) b p.1 in
+    let (r, y, e, n, m) = numbers-spelled numbers b q.1 in (
+      r,
+      y,
+      ap (λ w. w ∷ section ∷ numbers) (bytes-same word (codes "budget") p.0)
+          ∙ ap (λ w. codes "budget" ∷ w ∷ numbers) (bytes-same section (actor_word a) q.0) ∙ ap (λ ws. codes "budget" ∷ actor_word a ∷ ws) e,
+      n,
+      m,
+    )
+
+pub budget-read : (a : Actor) (line : Words) (b : Budget) → SpellsBudget a line b → budget_in a line ≡ Some b
+unfolding budget_in
+budget-read a line b (r, y, e, n, m) =
+    rw (e, bytes-equal (actor_word a), number-read REQUESTS_LIMIT r b.requests n, number-read BYTES_LIMIT y b.bytes m) refl
+
+next-budget : (a : Actor) (lines : List Words) (b : Budget) (rest : List Words) → next_budget_in a lines ≡ Some (b, rest)
+    → (line : Words) × (lines ≡ line ∷ rest) × SpellsBudget a line b
+next-budget a [] b rest h = absurd (cc)
+next-budget a (line ∷ lines) b rest h =
+    let p = then-some (budget_in a line) (λ b. Some (b, lines)) (b, rest) h in
+    let e = some-same (p.0, lines) (b, rest) p.2 in
+    let P : Budget → Type 0 = SpellsBudget a line in
+    (line, ap (λ t. line ∷ t.1) e, subst P (ap (λ t. t.0) e) (budget-spelled a line p.0 p.1))
+
+-- ---- sections
+
+pub no-entry-a : (names : Names) → entry_in names (codes "A" ∷ []) ≡ None
+unfolding entry_in
+no-entry-a names = refl
+
+pub no-entry-b : (names : Names) → entry_in names (codes "B" ∷ []) ≡ None
+unfolding entry_in
+no-entry-b names = refl
+
+pub no-entry-end : (names : Names) → entry_in names (codes "end" ∷ []) ≡ None
+unfolding entry_in
+no-entry-end names = refl
+
+section-line : (lines rest : List Words) → section_line_in lines ≡ Some rest → lines ≡ section_line actor.P ∷ rest
+section-line [] rest h = absurd (cc)
+section-line (line ∷ lines) rest h =
+    let p = only-then (is_only (codes "P") line) (Some lines) rest h in
+    ap (λ l. l ∷ lines) (only-line (codes "P") line p.0) ∙ ap (λ ls. section_line actor.P ∷ ls) (some-same lines rest p.1)
+
+ended : {A : Type 0} (x y : A) (lines : List Words) → ended_in x lines ≡ Some y → (x ≡ y) × (lines ≡ [])
+ended x y [] h = (some-same x y h, refl)
+ended x y (line ∷ lines) h = absurd (cc)
+
+-- the three sections, and the end
+record SpelledBodies (names : Names) (budgets : Budgets) (lines : List Words) (s : Script) : Type 0 where
+  p : List Words
+  a : List Words
+  b : List Words
+  lines_are : lines ≡ body_lines p a b
+  p_spelled : SpellsSection names p s.p
+  a_spelled : SpellsSection names a s.a
+  b_spelled : SpellsSection names b s.b
+  p_budget : s.p.budget ≡ budgets.p
+  a_budget : s.a.budget ≡ budgets.a
+  b_budget : s.b.budget ≡ budgets.b
+  names_are : s.names ≡ names
+
+bodies-joined : (names : Names) (budgets : Budgets) (lines l lp la lb : List Words) (p a b : List Entry) (x y z : Section)
+    → section_line_in lines ≡ Some l → entries_in names (codes "A") [] 0 [] l ≡ Some (p, lp)
+    → entries_in names (codes "B") [] 0 [] lp ≡ Some (a, la) → entries_in names (codes "end") [] 0 [] la ≡ Some (b, lb) → lb ≡ []
+    → section_in budgets.p p ≡ Some x → section_in budgets.a a ≡ Some y → section_in budgets.b b ≡ Some z
+    → SpelledBodies names budgets lines (script_of names x y z)
+bodies-joined names budgets lines l lp la lb p a b x y z h i j k e f g m =
+    let P = section-spelled names (codes "A") budgets.p l p lp x i f in
+    let A = section-spelled names (codes "B") budgets.a lp a la y j g in
+    let B = section-spelled names (codes "end") budgets.b la b lb z k m in
+    record {
+      p = P.body;
+      a = A.body;
+      b = B.body;
+      lines_are = section-line lines l h ∙ ap (λ ls. section_line actor.P ∷ ls) (P.lines_are
+          ∙ ap (λ ls. P.body ++ section_line actor.A ∷ ls) (A.lines_are ∙ ap (λ ls. A.body ++ section_line actor.B ∷ ls) (B.lines_are ∙ ap (λ ls. B.body ++ end_line ∷ ls) e)));
+      p_spelled = P.spelled;
+      a_spelled = A.spelled;
+      b_spelled = B.spelled;
+      p_budget = P.budget_is;
+      a_budget = A.budget_is;
+      b_budget = B.budget_is;
+      names_are = refl;
+    }
+
+bodies-spelled : (names : Names) (budgets : Budgets) (lines : List Words) (p a b : List Entry) (s : Script)
+    → bodies_in names lines ≡ Some (p, a, b) → resolved_in names budgets p a b ≡ Some s → SpelledBodies names budgets lines s
+bodies-spelled names budgets lines p a b s h made =
+    let l = then-some (section_line_in lines) (λ l. entries_in names (codes "A") [] 0 [] l >>= λ p. entries_in names (codes "B") [] 0 [] p.1
+    >>= λ a. entries_in names (codes "end") [] 0 [] a.1 >>= λ b. ended_in (p.0, a.0, b.0) b.1) (p, a, b) h in
+    let P = then-some (entries_in names (codes "A") [] 0 [] l.0) (λ p. entries_in names (codes "B") [] 0 [] p.1
+    >>= λ a. entries_in names (codes "end") [] 0 [] a.1 >>= λ b. ended_in (p.0, a.0, b.0) b.1) (p, a, b) l.2 in
+    let A = then-some (entries_in names (codes "B") [] 0 [] P.0.1) (λ a. entries_in names (codes "end") [] 0 [] a.1 >>= λ b. ended_in (P.0.0, a.0, b.0) b.1) (p, a, b) P.2 in
+    let B = then-some (entries_in names (codes "end") [] 0 [] A.0.1) (λ b. ended_in (P.0.0, A.0.0, b.0) b.1) (p, a, b) A.2 in
+    let E = ended (P.0.0, A.0.0, B.0.0) (p, a, b) B.0.1 B.2 in
+    let x = then-some (section_in budgets.p p) (λ x. section_in budgets.a a >>= λ y. section_in budgets.b b >>= λ z. Some (script_of names x y z)) s made in
+    let y = then-some (section_in budgets.a a) (λ y. section_in budgets.b b >>= λ z. Some (script_of names x.0 y z)) s x.2 in
+    let z = then-some (section_in budgets.b b) (λ z. Some (script_of names x.0 y.0 z)) s y.2 in
+    let same-p : P.0.0 ≡ p = ap (λ t. t.0) E.0 in
+    let same-a : A.0.0 ≡ a = ap (λ t. t.1) E.0 in
+    let same-b : B.0.0 ≡ b = ap (λ t. t.2) E.0 in
+    subst (SpelledBodies names budgets lines) (some-same (script_of names x.0 y.0 z.0) s z.2)
+    (bodies-joined names budgets lines l.0 P.0.1 A.0.1 B.0.1 P.0.0 A.0.0 B.0.0 x.0 y.0 z.0 l.1 P.1 A.1 B.1 E.1
+    (ap (section_in budgets.p) same-p ∙ x.1) (ap (section_in budgets.a) same-a ∙ y.1) (ap (section_in budgets.b) same-b ∙ z.1))
+
+-- ---- the whole
+
+budgets-spelled : (line : Words) (lines : List Words) (budgets : Budgets) (rest : List Words) → budgets_in line lines ≡ Some (budgets, rest)
+    → (second : Words) × (third : Words) × (lines ≡ second ∷ third ∷ rest)
+    × SpellsBudget actor.P line budgets.p × SpellsBudget actor.A second budgets.a × SpellsBudget actor.B third budgets.b
+budgets-spelled line lines budgets rest h =
+    let p = then-some (budget_in actor.P line) (λ p. next_budget_in actor.A lines >>= λ a. next_budget_in actor.B a.1 >>= λ b. Some (budgets_of p a.0 b.0, b.1)) (budgets, rest) h in
+    let a = then-some (next_budget_in actor.A lines) (λ a. next_budget_in actor.B a.1 >>= λ b. Some (budgets_of p.0 a.0 b.0, b.1)) (budgets, rest) p.2 in
+    let b = then-some (next_budget_in actor.B a.0.1) (λ b. Some (budgets_of p.0 a.0.0 b.0, b.1)) (budgets, rest) a.2 in
+    let (second, e, s) = next-budget actor.A lines a.0.0 a.0.1 a.1 in
+    let (third, f, t) = next-budget actor.B a.0.1 b.0.0 b.0.1 b.1 in
+    let same = some-same (budgets_of p.0 a.0.0 b.0.0, b.0.1) (budgets, rest) b.2 in
+    let P : Budgets × List Words → Type 0 = λ x. (second : Words) × (third : Words) × (lines ≡ second ∷ third ∷ x.1)
+    × SpellsBudget actor.P line x.0.p × SpellsBudget actor.A second x.0.a × SpellsBudget actor.B third x.0.b in
+    subst P same (second, third, e ∙ ap (λ ls. second ∷ ls) f, budget-spelled actor.P line p.0 p.1, s, t)
+
+script-joined : (text : List ℕ) (l : List Words) (names : Names) (line : Words) (behind : List Words) (budgets : Budgets) (onward : List Words) (s : Script)
+    → words_of_text SpaceOrTab text ≡ header ∷ l → (l ≡ names_lines names ++ line ∷ behind) × AreDeclared names
+    → (second : Words) × (third : Words) × (behind ≡ second ∷ third ∷ onward)
+    × SpellsBudget actor.P line budgets.p × SpellsBudget actor.A second budgets.a × SpellsBudget actor.B third budgets.b
+    → SpelledBodies names budgets onward s → SpellsScript text s
+script-joined text l names line behind budgets onward s h (n, declared) (second, third, e, p, a, b) bodies =
+    let N : Names → Type 0 = AreDeclared in
+    let S : List Words → Section → Names → Type 0 = λ ls x ns. SpellsSection ns ls x in
+    record {
+      p_budget = line;
+      a_budget = second;
+      b_budget = third;
+      p = bodies.p;
+      a = bodies.a;
+      b = bodies.b;
+      lines = h ∙ ap (λ ls. header ∷ ls) (n ∙ ap (λ ls. names_lines names ++ line ∷ ls) (e ∙ ap (λ ls. second ∷ third ∷ ls) bodies.lines_are)
+          ∙ ap (λ ns. names_lines ns ++ line ∷ second ∷ third ∷ body_lines bodies.p bodies.a bodies.b) (sym bodies.names_are));
+      declared = subst N (sym bodies.names_are) declared;
+      p_allowed = subst (SpellsBudget actor.P line) (sym bodies.p_budget) p;
+      a_allowed = subst (SpellsBudget actor.A second) (sym bodies.a_budget) a;
+      b_allowed = subst (SpellsBudget actor.B third) (sym bodies.b_budget) b;
+      p_spelled = subst (S bodies.p s.p) (sym bodies.names_are) bodies.p_spelled;
+      a_spelled = subst (S bodies.a s.a) (sym bodies.names_are) bodies.a_spelled;
+      b_spelled = subst (S bodies.b s.b) (sym bodies.names_are) bodies.b_spelled;
+    }
+
+pub script-spelled : (text : List ℕ) (s : Script) → script_in (words_of_text SpaceOrTab text) ≡ Some s → SpellsScript text s
+script-spelled text s h =
+    let lines = words_of_text SpaceOrTab text in
+    let l = then-some (header_in lines) (λ l. all_names_in l >>= λ n. budgets_in n.1 n.2 >>= λ d. bodies_in n.0 d.1 >>= λ e. resolved_in n.0 d.0 e.0 e.1 e.2) s h in
+    let n = then-some (all_names_in l.0) (λ n. budgets_in n.1 n.2 >>= λ d. bodies_in n.0 d.1 >>= λ e. resolved_in n.0 d.0 e.0 e.1 e.2) s l.2 in
+    let d = then-some (budgets_in n.0.1 n.0.2) (λ d. bodies_in n.0.0 d.1 >>= λ e. resolved_in n.0.0 d.0 e.0 e.1 e.2) s n.2 in
+    let e = then-some (bodies_in n.0.0 d.0.1) (λ e. resolved_in n.0.0 d.0.0 e.0 e.1 e.2) s d.2 in
+    script-joined text l.0 n.0.0 n.0.1 n.0.2 d.0.0 d.0.1 s (header-spelled lines l.0 l.1) (names-spelled l.0 n.0.0 n.0.1 n.0.2 n.1)
+    (budgets-spelled n.0.1 n.0.2 d.0.0 d.0.1 d.1) (bodies-spelled n.0.0 d.0.0 d.0.1 e.0.0 e.0.1 e.0.2 s e.1 e.2)

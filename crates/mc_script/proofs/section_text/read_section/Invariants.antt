@@ -1,0 +1,13 @@
+use Rattle.std.proofs.Common.{◌≡◌, ◌≤◌, [], length}
+use Rattle.mc_script.specs.declared.limits.TheConstants.{STEPS_LIMIT}
+use Rattle.mc_script.specs.TextReading.{entries_in}
+use Rattle.mc_script.proofs.section_text.read_section.Given as goal
+
+abbrev pub invariant-lines : goal.invariant-lines
+invariant-lines l = record {
+  reads : entries_in l.names l.stop l.entries.items l.count l.labels l.lines ≡ entries_in l.names l.stop [] 0 [] l.initial.lines;
+  few : l.count ≤ STEPS_LIMIT;
+}
+
+abbrev pub decreases-lines : goal.decreases-lines
+decreases-lines l = length l.lines

@@ -1,0 +1,16 @@
+use Rattle.std.proofs.Common.{codes, refl}
+use Rattle.mc_script.specs.declared.limits.TheConstants.{FLAGS_LIMIT, VARIABLES_LIMIT}
+use Rattle.mc_script.proofs.Declared.{keys-declared, optional-declared}
+use Rattle.mc_script.proofs.text.take_names.Goals as goal
+
+pub new-names-requires : goal.new-names-requires
+new-names-requires c =
+    let keys = keys-declared c.args.lines.now c.in_ok-keys.keys.items c.take_keys.new.lines c.in_ok-keys.ensures in
+    record {
+      some = keys.0;
+      keys = keys.1;
+      flags = optional-declared (codes "flags") FLAGS_LIMIT c.in_ok-line.line c.next_due.new.self c.in_ok-flags.flags.items c.in_ok-flags.line
+          c.read_optional.new.lines refl c.in_ok-flags.ensures;
+      vars = optional-declared (codes "vars") VARIABLES_LIMIT c.in_ok-flags.line c.read_optional.new.lines c.in_ok-vars.vars.items c.in_ok-vars.line
+          c.read_optional-2.new.lines refl c.in_ok-vars.ensures;
+    }

@@ -1,0 +1,14 @@
+-- What the public contracts cite.
+pub use Rattle.mc_protocol.specs.Fields
+pub use Rattle.mc_protocol.specs.Legal
+pub use Rattle.mc_protocol.specs.Lines
+pub use Rattle.mc_protocol.specs.Words as VerbWords
+pub mod Script
+pub mod ScriptWords
+pub mod Marks
+pub mod Steps
+pub mod SectionText
+pub mod ScriptText
+-- What private contracts cite.
+pub mod Reading
+pub mod TextReading

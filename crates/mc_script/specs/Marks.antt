@@ -1,0 +1,149 @@
+-- The marks behind a request: which words they are, which may stand together, and what they say.
+use Rattle.std.specs.Prelude.{◌≡◌, ℕ, ◌==◌, Bool, true, false, not, ◌&&◌, Option, Some, None, List, [], ◌∷◌, ◌++◌, codes, if◌then◌else◌, ◌^◌}
+use Rattle.std.specs.Int.Bits.{bit_or}
+use Rattle.std.specs.List.{list_all, list_any, fold}
+use Rattle.mc_protocol.specs.Legal.{is_legal}
+use Rattle.mc_protocol.specs.declared.request.Verb.{Verb}
+use Rattle.mc_protocol.specs.declared.request.Verb.TheVariants as verb
+use Rattle.mc_protocol.specs.declared.reply.Class.{Class}
+use Rattle.mc_protocol.specs.declared.reply.Class.TheVariants as class
+use Rattle.mc_script.specs.declared.entry.Mark.{Mark}
+use Rattle.mc_script.specs.declared.entry.Mark.TheVariants as mark
+use Rattle.mc_script.specs.declared.entry.Sign.{Sign}
+use Rattle.mc_script.specs.declared.entry.Sign.TheVariants as sign
+use Rattle.mc_script.specs.Script.{Names}
+use Rattle.mc_script.specs.ScriptWords.{Word, index_of}
+
+-- ---- words
+
+-- the byte in front of a flag: `?`, `!`, `+` or `-`
+abbrev pub sign_byte : Sign → ℕ
+sign_byte sign.RequireSet = 63
+sign_byte sign.RequireClear = 33
+sign_byte sign.Sets = 43
+sign_byte sign.Clears = 45
+
+abbrev pub class_word : Class → Word
+class_word class.Stored = codes "stored"
+class_word class.NotStored = codes "notstored"
+class_word class.Exists = codes "exists"
+class_word class.NotFound = codes "notfound"
+class_word class.Hit = codes "hit"
+class_word class.Miss = codes "miss"
+class_word class.Deleted = codes "deleted"
+class_word class.Touched = codes "touched"
+class_word class.Number = codes "number"
+class_word class.NotNumber = codes "notnumber"
+
+-- `class:L`
+abbrev pub jump_word : Class → Word → Word
+jump_word class label = class_word class ++ 58 ∷ label
+
+-- `>VAR`
+abbrev pub bind_word : Word → Word
+bind_word name = 62 ∷ name
+
+-- `?f`, `!f`, `+f` or `-f`; `class:L`; or `>VAR`
+abbrev pub SpellsMark : Names → Word → Mark → Type 0
+SpellsMark names word (mark.Flag sign flag) =
+    (name : Word) × (word ≡ sign_byte sign ∷ name) × (index_of names.flags name ≡ Some flag)
+SpellsMark names word (mark.Jump class label) = word ≡ jump_word class label
+SpellsMark names word (mark.Bind variable) =
+    (name : Word) × (word ≡ bind_word name) × (index_of names.vars name ≡ Some variable)
+
+-- ---- which may stand together
+
+-- the verb's replies may show a number
+abbrev pub shows_numbers : Verb → Bool
+shows_numbers verb.Gets = true
+shows_numbers verb.Incr = true
+shows_numbers verb.Decr = true
+shows_numbers _ = false
+
+-- the mark may stand behind the verb
+abbrev pub may_stand : Verb → Mark → Bool
+may_stand verb (mark.Flag sign flag) = true
+may_stand verb (mark.Jump class label) = is_legal verb class
+may_stand verb (mark.Bind variable) = shows_numbers verb
+
+-- the flag must be set or clear, in place of being changed
+abbrev pub is_need : Sign → Bool
+is_need sign.RequireSet = true
+is_need sign.RequireClear = true
+is_need sign.Sets = false
+is_need sign.Clears = false
+
+abbrev pub same : Bool → Bool → Bool
+same true b = b
+same false b = not b
+
+-- the position of a class in the order of the classes
+abbrev pub class_index : Class → ℕ
+class_index class.Stored = 0
+class_index class.NotStored = 1
+class_index class.Exists = 2
+class_index class.NotFound = 3
+class_index class.Hit = 4
+class_index class.Miss = 5
+class_index class.Deleted = 6
+class_index class.Touched = 7
+class_index class.Number = 8
+class_index class.NotNumber = 9
+
+-- both say what is needed of one flag, or what becomes of it; where one class goes; or which variable is bound
+abbrev pub are_twins : Mark → Mark → Bool
+are_twins (mark.Flag s f) (mark.Flag t g) = (f == g) && same (is_need s) (is_need t)
+are_twins (mark.Jump c l) (mark.Jump d m) = class_index c == class_index d
+are_twins (mark.Bind v) (mark.Bind w) = true
+are_twins _ _ = false
+
+-- no two of the marks are twins
+abbrev pub have_no_twins : List Mark → Bool
+have_no_twins [] = true
+have_no_twins (m ∷ marks) = not (list_any (are_twins m) marks) && have_no_twins marks
+
+abbrev pub is_bind : Mark → Bool
+is_bind (mark.Bind variable) = true
+is_bind _ = false
+
+-- a jump on a hit or a number
+abbrev pub is_number_jump : Mark → Bool
+is_number_jump (mark.Jump class.Hit label) = true
+is_number_jump (mark.Jump class.Number label) = true
+is_number_jump _ = false
+
+-- the marks may stand behind the verb together: what binds the number goes on to the next step
+abbrev pub may_stand_together : Verb → List Mark → Bool
+may_stand_together verb marks =
+    list_all (may_stand verb) marks && have_no_twins marks && not (list_any is_bind marks && list_any is_number_jump marks)
+
+-- ---- what they say
+
+-- the mask of one flag
+abbrev pub flag_mask : ℕ → ℕ
+flag_mask flag = 2 ^ flag
+
+-- the mark says this of a flag
+abbrev pub says : Sign → Mark → Option ℕ
+says s (mark.Flag t flag) = if sign_byte s == sign_byte t then Some flag else None
+says s _ = None
+
+abbrev pub with_flag : ℕ → Option ℕ → ℕ
+with_flag mask (Some flag) = bit_or mask (flag_mask flag)
+with_flag mask None = mask
+
+-- the flags of which the marks say this
+abbrev pub mask_of : Sign → List Mark → ℕ
+mask_of s marks = fold (λ mask m. with_flag mask (says s m)) 0 marks
+
+-- the label to which the marks go after a reply of the class
+abbrev pub target_of : Class → List Mark → Option Word
+target_of c [] = None
+target_of c (mark.Jump d label ∷ marks) = if class_index c == class_index d then Some label else target_of c marks
+target_of c (_ ∷ marks) = target_of c marks
+
+-- the variable that the marks bind
+abbrev pub bound_by : List Mark → Option ℕ
+bound_by [] = None
+bound_by (mark.Bind variable ∷ marks) = Some variable
+bound_by (_ ∷ marks) = bound_by marks

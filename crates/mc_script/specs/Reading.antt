@@ -1,0 +1,279 @@
+-- What the readers of words and lines answer. No public contract cites these: the other definitions say what a text
+-- spells, and the proofs join the two.
+use Rattle.std.specs.Prelude.{◌≡◌, ◌≢◌, ℕ, ◌+◌, ◌-◌, ◌==◌, nat_le, nat_lt, Bool, false, not, ◌&&◌, ◌||◌, Option, Some, None, Result, Ok, Err, List, [], ◌∷◌, ◌++◌, length, take, drop, get_or, codes, if◌then◌else◌}
+use Rattle.std.specs.List.{find, list_any, position}
+use Rattle.std.specs.Str.{bytes_eq}
+use Rattle.std.specs.Str.Parse.{digits_value}
+use Rattle.mc_protocol.specs.Fields.{fields_of}
+use Rattle.mc_protocol.specs.Words.{verb_word}
+use Rattle.mc_protocol.specs.declared.actor.Actor.{Actor}
+use Rattle.mc_protocol.specs.declared.request.Fields.{Fields}
+use Rattle.mc_protocol.specs.declared.request.Fields.TheVariants as fields
+use Rattle.mc_protocol.specs.declared.request.Verb.{Verb}
+use Rattle.mc_protocol.specs.declared.request.Verb.TheVariants as verb
+use Rattle.mc_protocol.specs.declared.reply.Class.{Class}
+use Rattle.mc_script.specs.declared.entry.Entry.{Entry}
+use Rattle.mc_script.specs.declared.entry.Entry.TheVariants as entry
+use Rattle.mc_script.specs.declared.entry.Mark.{Mark}
+use Rattle.mc_script.specs.declared.entry.Mark.TheVariants as mark
+use Rattle.mc_script.specs.declared.entry.Sign.{Sign}
+use Rattle.mc_script.specs.declared.entry.Sign.TheVariants as sign
+use Rattle.mc_script.specs.declared.fault.ScriptKind.{ScriptKind}
+use Rattle.mc_script.specs.declared.fault.ScriptKind.TheVariants as kind
+use Rattle.mc_script.specs.declared.fault.ScriptFault.{ScriptFault}
+use Rattle.mc_script.specs.declared.fields.Parts.{Parts}
+use Rattle.mc_script.specs.declared.limits.TheConstants.{DIGITS_LIMIT, KEYS_LIMIT, KEY_BYTES_LIMIT, NAME_BYTES_LIMIT, REQUESTS_LIMIT, BYTES_LIMIT}
+use Rattle.mc_script.specs.declared.section.Budget.{Budget}
+use Rattle.mc_script.specs.declared.step.Argument.{Argument}
+use Rattle.mc_script.specs.declared.step.Argument.TheVariants as argument
+use Rattle.mc_script.specs.declared.step.Template.{Template}
+use Rattle.mc_script.specs.Script.{Names, may_be_declared}
+use Rattle.mc_script.specs.ScriptWords.{Word, Words, are_digits, is_body, is_name, index_of, MAX_32, MAX_64}
+use Rattle.mc_script.specs.Marks.{class_word, may_stand, are_twins, is_number_jump}
+use Rattle.mc_script.specs.Steps.{◌>>=◌, all_classes}
+use Rattle.mc_script.specs.ScriptText.{actor_word}
+
+-- what was returned is what reading gives, unless memory ran out
+abbrev pub Gives : {V : Type 0} → Result V ScriptKind → Option V → Type 0
+Gives (Ok v) read = read ≡ Some v
+Gives (Err k) read = k ≢ kind.OutOfMemory → read ≡ None
+
+-- the same of what is seen of it
+abbrev pub Shows : {X Y : Type 0} → (X → Y) → Result X ScriptKind → Option Y → Type 0
+Shows view (Ok x) read = read ≡ Some (view x)
+Shows view (Err k) read = k ≢ kind.OutOfMemory → read ≡ None
+
+-- the same, where the fault tells its line
+abbrev pub Says : {X Y : Type 0} → (X → Y) → Result X ScriptFault → Option Y → Type 0
+Says view (Ok x) read = read ≡ Some (view x)
+Says view (Err fault) read = fault.kind ≢ kind.OutOfMemory → read ≡ None
+
+-- ---- words
+
+unfoldable pub number_in : ℕ → Word → Option ℕ
+number_in greatest word =
+    if (length word == 0) || not (are_digits word) then None
+    else (if nat_lt DIGITS_LIMIT (length word) then None
+    else (if nat_le (digits_value 10 word) greatest then Some (digits_value 10 word) else None))
+
+abbrev pub body_in : Word → Option (List ℕ)
+body_in [] = None
+body_in (first ∷ body) = if first == 61 then (if is_body body then Some body else None) else None
+
+-- ---- lines
+
+abbrev pub others_of : Words → Words
+others_of [] = []
+others_of (word ∷ words) = words
+
+abbrev pub begins_with : Word → Words → Bool
+begins_with text [] = false
+begins_with text (word ∷ words) = bytes_eq word text
+
+abbrev pub is_only : Word → Words → Bool
+is_only text [] = false
+is_only text (word ∷ []) = bytes_eq word text
+is_only text (word ∷ _ ∷ _) = false
+
+-- ---- declarations
+
+abbrev pub is_header : Words → Bool
+is_header [] = false
+is_header (word ∷ []) = false
+is_header (word ∷ version ∷ []) = bytes_eq word (codes "script") && bytes_eq version (codes "1")
+is_header (word ∷ version ∷ _ ∷ _) = false
+
+abbrev pub header_in : List Words → Option (List Words)
+header_in [] = None
+header_in (line ∷ lines) = if is_header line then Some lines else None
+
+-- the names behind the first word of a line
+unfoldable pub names_in : ℕ → ℕ → Words → Option (List Word)
+names_in limit bytes [] = None
+names_in limit bytes (name ∷ names) = if may_be_declared limit bytes (name ∷ names) then Some (name ∷ names) else None
+
+abbrev pub keys_in : List Words → Option (List Word × List Words)
+keys_in [] = None
+keys_in (line ∷ lines) =
+    if begins_with (codes "keys") line then (names_in KEYS_LIMIT KEY_BYTES_LIMIT (others_of line) >>= λ names. Some (names, lines)) else None
+
+-- a value, with the line that must follow and those behind it
+abbrev pub then_line : {A : Type 0} → A → List Words → Option (A × Words × List Words)
+then_line x [] = None
+then_line x (line ∷ lines) = Some (x, line, lines)
+
+-- the names that this line declares, where it begins with the word; otherwise none, and it is still to be read
+abbrev pub optional_in : Word → ℕ → Words → List Words → Option (List Word × Words × List Words)
+optional_in word limit line lines =
+    if begins_with word line then (names_in limit NAME_BYTES_LIMIT (others_of line) >>= λ names. then_line names lines)
+    else Some ([], line, lines)
+
+abbrev pub numbers_in : Words → Option Budget
+numbers_in (requests ∷ bytes ∷ []) =
+    number_in REQUESTS_LIMIT requests >>= λ r. number_in BYTES_LIMIT bytes >>= λ b. Some (record { requests = r; bytes = b })
+numbers_in _ = None
+
+abbrev pub amounts_in : Actor → Words → Option Budget
+amounts_in actor [] = None
+amounts_in actor (section ∷ numbers) = if bytes_eq section (actor_word actor) then numbers_in numbers else None
+
+unfoldable pub budget_in : Actor → Words → Option Budget
+budget_in actor [] = None
+budget_in actor (word ∷ others) = if bytes_eq word (codes "budget") then amounts_in actor others else None
+
+-- ---- requests
+
+abbrev pub all_verbs : List Verb
+all_verbs =
+    verb.Set ∷ verb.Add ∷ verb.Replace ∷ verb.Append ∷ verb.Prepend ∷ verb.Cas ∷ verb.Get ∷ verb.Gets ∷ verb.Incr ∷ verb.Decr ∷ verb.Delete ∷ verb.Touch ∷ []
+
+unfoldable pub verb_of : Word → Option Verb
+verb_of word = find (λ v. bytes_eq (verb_word v) word) all_verbs
+
+abbrev pub variable_behind : Names → Word → Option Argument
+variable_behind names name = index_of names.vars name >>= λ v. Some (argument.Variable v)
+
+abbrev pub unique_in : Names → Word → Option Argument
+unique_in names [] = None
+unique_in names (first ∷ name) = if first == 36 then variable_behind names name else None
+
+abbrev pub plain_amount_in : Word → Option Argument
+plain_amount_in word = number_in MAX_64 word >>= λ n. Some (argument.Number n)
+
+abbrev pub amount_in : Names → Word → Option Argument
+amount_in names [] = None
+amount_in names (first ∷ name) = if first == 36 then variable_behind names name else plain_amount_in (first ∷ name)
+
+abbrev pub item_in : Words → Option Parts
+item_in (flags ∷ body ∷ _) =
+    number_in MAX_32 flags >>= λ f. body_in body >>= λ b. Some (record { flags = f; argument = argument.Nothing; body = b })
+item_in _ = None
+
+abbrev pub swap_in : Names → Words → Option Parts
+swap_in names (flags ∷ body ∷ unique ∷ _) =
+    number_in MAX_32 flags >>= λ f. body_in body >>= λ b. unique_in names unique >>= λ u. Some (record { flags = f; argument = u; body = b })
+swap_in names _ = None
+
+abbrev pub counted_in : Names → Words → Option Parts
+counted_in names [] = None
+counted_in names (amount ∷ _) = amount_in names amount >>= λ a. Some (record { flags = 0; argument = a; body = [] })
+
+abbrev pub nothing : Parts
+nothing = record { flags = 0; argument = argument.Nothing; body = [] }
+
+-- what stands between the key and the marks
+unfoldable pub fields_in : Names → Fields → Words → Option Parts
+fields_in names fields.KeyAlone words = Some nothing
+fields_in names fields.Expiry words = Some nothing
+fields_in names fields.Item words = item_in words
+fields_in names fields.Swap words = swap_in names words
+fields_in names fields.Amount words = counted_in names words
+
+-- how many words that is
+abbrev pub field_count : Fields → ℕ
+field_count fields.KeyAlone = 0
+field_count fields.Expiry = 0
+field_count fields.Item = 2
+field_count fields.Swap = 3
+field_count fields.Amount = 1
+
+-- ---- marks
+
+unfoldable pub class_of_word : Word → Option Class
+class_of_word word = find (λ c. bytes_eq (class_word c) word) all_classes
+
+abbrev pub flag_in : Names → Sign → Word → Option Mark
+flag_in names s name = index_of names.flags name >>= λ f. Some (mark.Flag s f)
+
+abbrev pub jump_at : Word → Option ℕ → Option Mark
+jump_at word None = None
+jump_at word (Some colon) = class_of_word (take colon word) >>= λ c. Some (mark.Jump c (drop (colon + 1) word))
+
+abbrev pub jump_in : Word → Option Mark
+jump_in word = jump_at word (position (λ byte. byte == 58) word)
+
+abbrev pub sign_of : ℕ → Option Sign
+sign_of byte =
+    if byte == 63 then Some sign.RequireSet
+    else (if byte == 33 then Some sign.RequireClear
+    else (if byte == 43 then Some sign.Sets else (if byte == 45 then Some sign.Clears else None)))
+
+abbrev pub flag_or_jump : Names → Option Sign → Word → Word → Option Mark
+flag_or_jump names (Some s) name word = flag_in names s name
+flag_or_jump names None name word = jump_in word
+
+abbrev pub bind_mark_in : Names → Word → Option Mark
+bind_mark_in names name = index_of names.vars name >>= λ v. Some (mark.Bind v)
+
+abbrev pub mark_in : Names → Word → Option Mark
+mark_in names [] = None
+mark_in names (first ∷ name) =
+    if first == 62 then bind_mark_in names name else flag_or_jump names (sign_of first) name (first ∷ name)
+
+-- the word begins with `>`
+abbrev pub binds : Word → Bool
+binds [] = false
+binds (first ∷ name) = first == 62
+
+-- the mark may stand behind these, on a line that binds a variable or not
+abbrev pub may_join : Verb → Bool → List Mark → Mark → Bool
+may_join v bound marks m = may_stand v m && not (bound && is_number_jump m) && not (list_any (λ other. are_twins other m) marks)
+
+-- the marks of these words, behind those that were read
+abbrev pub marks_in : Names → Verb → Bool → List Mark → Words → Option (List Mark)
+marks_in names v bound marks [] = Some marks
+marks_in names v bound marks (word ∷ words) =
+    mark_in names word >>= λ m. if may_join v bound marks m then marks_in names v bound (marks ++ m ∷ []) words else None
+
+-- ---- the lines of a section
+
+abbrev pub template_of : Verb → ℕ → Parts → Template
+template_of v key parts = record {
+  verb = v;
+  key = key;
+  flags = parts.flags;
+  argument = parts.argument;
+  body = parts.body;
+  require_set = 0;
+  require_clear = 0;
+  sets = 0;
+  clears = 0;
+}
+
+abbrev pub request_in : Names → Verb → Word → Words → Option Entry
+request_in names v key words =
+    index_of names.keys key >>= λ k. fields_in names (fields_of v) words
+    >>= λ parts. marks_in names v (list_any binds (drop (field_count (fields_of v)) words)) [] (drop (field_count (fields_of v)) words)
+    >>= λ marks. Some (entry.Send (template_of v k parts) marks)
+
+abbrev pub behind_verb : Names → Option Verb → Word → Words → Option Entry
+behind_verb names None key words = None
+behind_verb names (Some v) key words = request_in names v key words
+
+abbrev pub bind_in : Names → Word → Words → Option Entry
+bind_in names name [] = index_of names.vars name >>= λ v. Some (entry.Bind v)
+bind_in names name (_ ∷ _) = None
+
+abbrev pub goto_in : Word → Words → Option Entry
+goto_in label [] = Some (entry.Goto label)
+goto_in label (_ ∷ _) = None
+
+-- what stands in front of the `:` at the end of a word
+abbrev pub before_colon : Word → Option Word
+before_colon word =
+    if length word == 0 then None
+    else (if get_or word (length word - 1) 0 == 58 then Some (take (length word - 1) word) else None)
+
+abbrev pub label_named : Word → Option Entry
+label_named name = if is_name name then Some (entry.Label name) else None
+
+abbrev pub label_or_halt : Option Word → Word → Option Entry
+label_or_halt (Some name) word = label_named name
+label_or_halt None word = if bytes_eq word (codes "halt") then Some entry.Halt else None
+
+unfoldable pub entry_in : Names → Words → Option Entry
+entry_in names [] = None
+entry_in names (word ∷ []) = label_or_halt (before_colon word) word
+entry_in names (word ∷ next ∷ others) =
+    if bytes_eq word (codes "bind") then bind_in names next others
+    else (if bytes_eq word (codes "goto") then goto_in next others else behind_verb names (verb_of word) next others)

@@ -1,0 +1,44 @@
+-- What a script is: the names that it declares, and three sections.
+use Rattle.std.specs.Prelude.{◌≡◌, ℕ, ◌==◌, nat_le, Bool, true, not, ◌&&◌, List, length}
+use Rattle.std.specs.List.{list_all}
+use Rattle.mc_protocol.specs.declared.actor.Actor.{Actor}
+use Rattle.mc_protocol.specs.declared.actor.Actor.TheVariants as actor
+use Rattle.mc_script.specs.declared.limits.TheConstants.{KEYS_LIMIT, KEY_BYTES_LIMIT, FLAGS_LIMIT, VARIABLES_LIMIT, NAME_BYTES_LIMIT}
+use Rattle.mc_script.specs.declared.section.Budget.{Budget}
+use Rattle.mc_script.specs.declared.section.Label.{Label}
+use Rattle.mc_script.specs.declared.step.Step.{Step}
+use Rattle.mc_script.specs.ScriptWords.{Word, is_named, are_distinct}
+
+-- the keys, the flags and the variables, each by its name
+pub record Names : Type 0 where
+  pub keys : List Word
+  pub flags : List Word
+  pub vars : List Word
+
+-- what a section may send at most, its steps, and its labels in the order of the text
+pub record Section : Type 0 where
+  pub budget : Budget
+  pub steps : List Step
+  pub labels : List Label
+
+-- these may be declared together: at most so many, each a name of at most so many bytes, and no two equal
+abbrev pub may_be_declared : ℕ → ℕ → List Word → Bool
+may_be_declared limit bytes names = nat_le (length names) limit && list_all (is_named bytes) names && are_distinct names
+
+-- a script has a key, and any number of flags and variables within the limits
+pub record AreDeclared (names : Names) : Type 0 where
+  pub some : not (length names.keys == 0) ≡ true
+  pub keys : may_be_declared KEYS_LIMIT KEY_BYTES_LIMIT names.keys ≡ true
+  pub flags : may_be_declared FLAGS_LIMIT NAME_BYTES_LIMIT names.flags ≡ true
+  pub vars : may_be_declared VARIABLES_LIMIT NAME_BYTES_LIMIT names.vars ≡ true
+
+pub record Script : Type 0 where
+  pub names : Names
+  pub p : Section
+  pub a : Section
+  pub b : Section
+
+abbrev pub section_of : Script → Actor → Section
+section_of s actor.P = s.p
+section_of s actor.A = s.a
+section_of s actor.B = s.b

@@ -1,0 +1,73 @@
+-- The text of a script.
+use Rattle.std.specs.Prelude.{◌≡◌, ℕ, List, [], ◌∷◌, ◌++◌, codes}
+use Rattle.mc_protocol.specs.declared.actor.Actor.{Actor}
+use Rattle.mc_protocol.specs.declared.actor.Actor.TheVariants as actor
+use Rattle.mc_protocol.specs.declared.lines.Separator.TheVariants.{SpaceOrTab}
+use Rattle.mc_protocol.specs.Lines.{words_of_text}
+use Rattle.mc_script.specs.declared.limits.TheConstants.{REQUESTS_LIMIT, BYTES_LIMIT}
+use Rattle.mc_script.specs.declared.section.Budget.{Budget}
+use Rattle.mc_script.specs.Script.{Names, Script, AreDeclared}
+use Rattle.mc_script.specs.ScriptWords.{Word, Words, SpellsNumber}
+use Rattle.mc_script.specs.SectionText.{SpellsSection}
+
+abbrev pub actor_word : Actor → Word
+actor_word actor.P = codes "P"
+actor_word actor.A = codes "A"
+actor_word actor.B = codes "B"
+
+-- ---- declarations
+
+-- a line for these names, where there are any
+abbrev pub names_line : Word → List Word → List Words
+names_line word [] = []
+names_line word (name ∷ names) = (word ∷ name ∷ names) ∷ []
+
+-- `keys`, then `flags` and `vars` where there are any
+abbrev pub names_lines : Names → List Words
+names_lines names =
+    names_line (codes "keys") names.keys ++ names_line (codes "flags") names.flags ++ names_line (codes "vars") names.vars
+
+-- `budget`, the section, the most requests, and their most bytes
+abbrev pub SpellsBudget : Actor → Words → Budget → Type 0
+SpellsBudget actor line budget =
+    (requests : Word) × (bytes : Word) × (line ≡ codes "budget" ∷ actor_word actor ∷ requests ∷ bytes ∷ [])
+    × SpellsNumber REQUESTS_LIMIT requests budget.requests × SpellsNumber BYTES_LIMIT bytes budget.bytes
+
+-- ---- the whole text
+
+abbrev pub header : Words
+header = codes "script" ∷ codes "1" ∷ []
+
+-- the line before the lines of a section
+abbrev pub section_line : Actor → Words
+section_line actor = actor_word actor ∷ []
+
+abbrev pub end_line : Words
+end_line = codes "end" ∷ []
+
+-- the lines of the three sections, each behind a line that names it, and `end`
+abbrev pub body_lines : List Words → List Words → List Words → List Words
+body_lines p a b =
+    section_line actor.P ∷ (p ++ section_line actor.A ∷ (a ++ section_line actor.B ∷ (b ++ end_line ∷ [])))
+
+-- the text is the header, the declarations, the three budgets, and the sections
+pub record SpellsScript (text : List ℕ) (s : Script) : Type 0 where
+  pub p_budget : Words
+  pub a_budget : Words
+  pub b_budget : Words
+  pub p : List Words
+  pub a : List Words
+  pub b : List Words
+  pub lines : words_of_text SpaceOrTab text
+      ≡ header ∷ (names_lines s.names ++ p_budget ∷ a_budget ∷ b_budget ∷ body_lines p a b)
+  pub declared : AreDeclared s.names
+  pub p_allowed : SpellsBudget actor.P p_budget s.p.budget
+  pub a_allowed : SpellsBudget actor.A a_budget s.a.budget
+  pub b_allowed : SpellsBudget actor.B b_budget s.b.budget
+  pub p_spelled : SpellsSection s.names p s.p
+  pub a_spelled : SpellsSection s.names a s.a
+  pub b_spelled : SpellsSection s.names b s.b
+
+-- a text spells at most one script
+abbrev pub SpellsOneScript : Type 0
+SpellsOneScript = (text : List ℕ) (s t : Script) → SpellsScript text s → SpellsScript text t → s ≡ t

@@ -1,0 +1,116 @@
+-- The lines of a section.
+use Rattle.std.specs.Prelude.{◌≡◌, ℕ, ◌≤◌, true, Some, List, [], ◌∷◌, ◌++◌, map, length, codes}
+use Rattle.mc_protocol.specs.Fields.{fields_of}
+use Rattle.mc_protocol.specs.Words.{verb_word}
+use Rattle.mc_protocol.specs.declared.request.Fields.{Fields}
+use Rattle.mc_protocol.specs.declared.request.Fields.TheVariants as fields
+use Rattle.mc_script.specs.declared.entry.Entry.{Entry}
+use Rattle.mc_script.specs.declared.entry.Entry.TheVariants as entry
+use Rattle.mc_script.specs.declared.entry.Mark.{Mark}
+use Rattle.mc_script.specs.declared.limits.TheConstants.{STEPS_LIMIT}
+use Rattle.mc_script.specs.declared.section.Label.{Label}
+use Rattle.mc_script.specs.declared.step.Argument.{Argument}
+use Rattle.mc_script.specs.declared.step.Argument.TheVariants as argument
+use Rattle.mc_script.specs.declared.step.Template.{Template}
+use Rattle.mc_script.specs.Script.{Names, Section}
+use Rattle.mc_script.specs.ScriptWords.{Word, Words, is_name, is_body, are_distinct, index_of, SpellsNumber, MAX_32, MAX_64, body_word, variable_word, label_word}
+use Rattle.mc_script.specs.Marks.{SpellsMark, may_stand_together}
+use Rattle.mc_script.specs.Steps.{labels_from, steps_from}
+
+-- each item spells its value, one for one
+abbrev pub SpellEach : {X V : Type 0} → (X → V → Type 0) → List X → List V → Type 0
+SpellEach Spells [] [] = Unit {0}
+SpellEach Spells [] (value ∷ values) = ⊥
+SpellEach Spells (x ∷ xs) [] = ⊥
+SpellEach Spells (x ∷ xs) (value ∷ values) = Spells x value × SpellEach Spells xs values
+
+-- ---- `L:`
+
+abbrev pub SpellsLabel : Words → Word → Type 0
+SpellsLabel line name = (line ≡ label_word name ∷ []) × (is_name name ≡ true)
+
+-- ---- a request: its verb, its key, what else the verb has, and the marks
+
+-- `$VAR`
+abbrev pub SpellsVariable : Names → Word → ℕ → Type 0
+SpellsVariable names word variable =
+    (name : Word) × (word ≡ variable_word name) × (index_of names.vars name ≡ Some variable)
+
+-- the amount of an `incr` or `decr`: `NUMBER`, or `$VAR`
+abbrev pub SpellsAmount : Names → Word → Argument → Type 0
+SpellsAmount names word argument.Nothing = ⊥
+SpellsAmount names word (argument.Number n) = SpellsNumber MAX_64 word n
+SpellsAmount names word (argument.Variable variable) = SpellsVariable names word variable
+
+-- the cas unique of a `cas`: `$VAR`
+abbrev pub SpellsUnique : Names → Word → Argument → Type 0
+SpellsUnique names word argument.Nothing = ⊥
+SpellsUnique names word (argument.Number n) = ⊥
+SpellsUnique names word (argument.Variable variable) = SpellsVariable names word variable
+
+-- the words between the key and the marks: none, `FLAGS =BODY`, `FLAGS =BODY $VAR`, or the amount; what the verb lacks
+-- is 0, empty or nothing
+abbrev pub SpellsFields : Names → Fields → Words → Template → Type 0
+SpellsFields names fields.KeyAlone words t = (words ≡ []) × (t.flags ≡ 0) × (t.argument ≡ argument.Nothing) × (t.body ≡ [])
+SpellsFields names fields.Expiry words t = (words ≡ []) × (t.flags ≡ 0) × (t.argument ≡ argument.Nothing) × (t.body ≡ [])
+SpellsFields names fields.Item words t =
+    (flags : Word) × (words ≡ flags ∷ body_word t.body ∷ [])
+    × SpellsNumber MAX_32 flags t.flags × (t.argument ≡ argument.Nothing) × (is_body t.body ≡ true)
+SpellsFields names fields.Swap words t =
+    (flags : Word) × (unique : Word) × (words ≡ flags ∷ body_word t.body ∷ unique ∷ [])
+    × SpellsNumber MAX_32 flags t.flags × SpellsUnique names unique t.argument × (is_body t.body ≡ true)
+SpellsFields names fields.Amount words t =
+    (amount : Word) × (words ≡ amount ∷ []) × (t.flags ≡ 0) × SpellsAmount names amount t.argument × (t.body ≡ [])
+
+-- no flag is needed or changed
+pub record HasNoFlags (t : Template) : Type 0 where
+  pub require_set : t.require_set ≡ 0
+  pub require_clear : t.require_clear ≡ 0
+  pub sets : t.sets ≡ 0
+  pub clears : t.clears ≡ 0
+
+pub record SpellsRequest (names : Names) (line : Words) (t : Template) (marks : List Mark) : Type 0 where
+  pub key : Word
+  pub fields : Words
+  pub others : Words
+  pub words : line ≡ verb_word t.verb ∷ key ∷ fields ++ others
+  pub declared : index_of names.keys key ≡ Some t.key
+  pub spelled : SpellsFields names (fields_of t.verb) fields t
+  pub bare : HasNoFlags t
+  pub marked : SpellEach (SpellsMark names) others marks
+  pub together : may_stand_together t.verb marks ≡ true
+
+-- ---- `bind VAR`
+
+abbrev pub SpellsBind : Names → Words → ℕ → Type 0
+SpellsBind names line variable =
+    (name : Word) × (line ≡ codes "bind" ∷ name ∷ []) × (index_of names.vars name ≡ Some variable)
+
+-- ---- `goto L`, and `halt`
+
+abbrev pub SpellsGoto : Words → Word → Type 0
+SpellsGoto line label = line ≡ codes "goto" ∷ label ∷ []
+
+abbrev pub halt_line : Words
+halt_line = codes "halt" ∷ []
+
+-- ---- the lines of a section
+
+abbrev pub SpellsEntry : Names → Words → Entry → Type 0
+SpellsEntry names line (entry.Label name) = SpellsLabel line name
+SpellsEntry names line (entry.Send t marks) = SpellsRequest names line t marks
+SpellsEntry names line (entry.Bind variable) = SpellsBind names line variable
+SpellsEntry names line (entry.Goto label) = SpellsGoto line label
+SpellsEntry names line entry.Halt = line ≡ halt_line
+
+abbrev pub label_names : List Label → List Word
+label_names labels = map (λ label. label.name) labels
+
+-- each line is a label or a step; the labels differ, and each that is used stands on a later line of the section
+pub record SpellsSection (names : Names) (lines : List Words) (s : Section) : Type 0 where
+  pub entries : List Entry
+  pub spelled : SpellEach (SpellsEntry names) lines entries
+  pub labels : s.labels ≡ labels_from 0 entries
+  pub distinct : are_distinct (label_names s.labels) ≡ true
+  pub steps : steps_from s.labels 0 entries ≡ Some s.steps
+  pub few : length s.steps ≤ STEPS_LIMIT

@@ -1,0 +1,141 @@
+-- What the readers of sections and of whole texts answer. No public contract cites these.
+use Rattle.std.specs.Prelude.{ℕ, ◌+◌, nat_lt, Bool, true, false, Option, Some, None, List, [], ◌∷◌, ◌++◌, codes, if◌then◌else◌}
+use Rattle.mc_protocol.specs.declared.actor.Actor.{Actor}
+use Rattle.mc_protocol.specs.declared.actor.Actor.TheVariants as actor
+use Rattle.mc_script.specs.declared.entry.Entry.{Entry}
+use Rattle.mc_script.specs.declared.entry.Entry.TheVariants as entry
+use Rattle.mc_script.specs.declared.limits.TheConstants.{FLAGS_LIMIT, VARIABLES_LIMIT, STEPS_LIMIT}
+use Rattle.mc_script.specs.declared.section.Budget.{Budget}
+use Rattle.mc_script.specs.declared.section.Label.{Label}
+use Rattle.mc_script.specs.declared.text.Budgets.{Budgets}
+use Rattle.mc_script.specs.Script.{Names, Section, Script}
+use Rattle.mc_script.specs.ScriptWords.{Word, Words, is_new}
+use Rattle.mc_script.specs.declared.step.Step.{Step}
+use Rattle.mc_script.specs.declared.step.Step.TheVariants as step
+use Rattle.mc_script.specs.Steps.{◌>>=◌, all_classes, labels_from, steps_from, jumps_on, sends, goes, label_behind}
+use Rattle.mc_script.specs.Reading.{is_only, header_in, keys_in, optional_in, budget_in, before_colon, entry_in}
+
+-- ---- sections
+
+abbrev pub may_follow : ℕ → List Word → Entry → Bool
+may_follow count labels (entry.Label name) = is_new labels name
+may_follow count labels _ = nat_lt count STEPS_LIMIT
+
+abbrev pub step_count : Entry → ℕ
+step_count (entry.Label name) = 0
+step_count _ = 1
+
+abbrev pub with_label : List Word → Entry → List Word
+with_label labels (entry.Label name) = labels ++ name ∷ []
+with_label labels _ = labels
+
+-- the lines up to the one that is this word alone, behind those that were read: so many steps, and these labels; and
+-- the lines behind them
+abbrev pub entries_in : Names → Word → List Entry → ℕ → List Word → List Words → Option (List Entry × List Words)
+entries_in names stop entries count labels [] = None
+entries_in names stop entries count labels (line ∷ lines) =
+    if is_only stop line then Some (entries, lines)
+    else (entry_in names line >>= λ e.
+    if may_follow count labels e then entries_in names stop (entries ++ e ∷ []) (count + step_count e) (with_label labels e) lines else None)
+
+abbrev pub is_label : Entry → Bool
+is_label (entry.Label name) = true
+is_label _ = false
+
+-- the step at this place that a line is which is no label
+abbrev pub step_in : List Label → ℕ → Entry → Option Step
+step_in labels place (entry.Label name) = None
+step_in labels place (entry.Send t marks) = sends t marks (jumps_on labels place marks all_classes)
+step_in labels place (entry.Bind variable) = Some (step.Bind variable)
+step_in labels place (entry.Goto name) = goes (label_behind labels place name)
+step_in labels place entry.Halt = Some step.Halt
+
+-- values in front of others, where none of them is missing
+abbrev pub onto : {A : Type 0} → List A → Option (List A) → Option (List A)
+onto xs (Some ys) = Some (xs ++ ys)
+onto xs None = None
+
+-- the section of its entries
+abbrev pub section_in : Budget → List Entry → Option Section
+section_in budget entries =
+    steps_from (labels_from 0 entries) 0 entries >>= λ steps. Some (record { budget = budget; steps = steps; labels = labels_from 0 entries })
+
+-- the name of the label that the line is, if it is one
+abbrev pub label_of : Words → Option Word
+label_of [] = None
+label_of (word ∷ []) = before_colon word
+label_of (word ∷ _ ∷ _) = None
+
+-- the same of an entry
+abbrev pub label_named_by : Entry → Option Word
+label_named_by (entry.Label name) = Some name
+label_named_by _ = None
+
+abbrev pub may_follow_as : ℕ → List Word → Option Word → Bool
+may_follow_as count labels (Some name) = is_new labels name
+may_follow_as count labels None = nat_lt count STEPS_LIMIT
+
+-- how many steps there are, and which labels, with a line more
+abbrev pub count_with : ℕ → Option Word → ℕ
+count_with count (Some name) = count
+count_with count None = count + 1
+
+abbrev pub names_with : List Word → Option Word → List Word
+names_with labels (Some name) = labels ++ name ∷ []
+names_with labels None = labels
+
+-- ---- the whole text
+
+-- the line that must follow, and those behind it
+abbrev pub line_in : List Words → Option (Words × List Words)
+line_in [] = None
+line_in (line ∷ lines) = Some (line, lines)
+
+abbrev pub names_of : List Word → List Word → List Word → Names
+names_of keys flags vars = record { keys = keys; flags = flags; vars = vars }
+
+-- the names that are declared, the line behind them, and the lines behind it
+abbrev pub all_names_in : List Words → Option (Names × Words × List Words)
+all_names_in lines =
+    keys_in lines >>= λ k. line_in k.1 >>= λ l. optional_in (codes "flags") FLAGS_LIMIT l.0 l.1
+    >>= λ f. optional_in (codes "vars") VARIABLES_LIMIT f.1 f.2 >>= λ v. Some (names_of k.0 f.0 v.0, v.1, v.2)
+
+abbrev pub next_budget_in : Actor → List Words → Option (Budget × List Words)
+next_budget_in actor [] = None
+next_budget_in actor (line ∷ lines) = budget_in actor line >>= λ b. Some (b, lines)
+
+abbrev pub budgets_of : Budget → Budget → Budget → Budgets
+budgets_of p a b = record { p = p; a = a; b = b }
+
+-- the three budgets, the first on this line
+abbrev pub budgets_in : Words → List Words → Option (Budgets × List Words)
+budgets_in line lines =
+    budget_in actor.P line >>= λ p. next_budget_in actor.A lines >>= λ a. next_budget_in actor.B a.1
+    >>= λ b. Some (budgets_of p a.0 b.0, b.1)
+
+abbrev pub section_line_in : List Words → Option (List Words)
+section_line_in [] = None
+section_line_in (line ∷ lines) = if is_only (codes "P") line then Some lines else None
+
+abbrev pub ended_in : {A : Type 0} → A → List Words → Option A
+ended_in x [] = Some x
+ended_in x (_ ∷ _) = None
+
+-- the lines of the three sections, which `end` and no other line follows
+abbrev pub bodies_in : Names → List Words → Option (List Entry × List Entry × List Entry)
+bodies_in names lines =
+    section_line_in lines >>= λ l. entries_in names (codes "A") [] 0 [] l >>= λ p. entries_in names (codes "B") [] 0 [] p.1
+    >>= λ a. entries_in names (codes "end") [] 0 [] a.1 >>= λ b. ended_in (p.0, a.0, b.0) b.1
+
+abbrev pub script_of : Names → Section → Section → Section → Script
+script_of names p a b = record { names = names; p = p; a = a; b = b }
+
+-- the script of its lines
+abbrev pub resolved_in : Names → Budgets → List Entry → List Entry → List Entry → Option Script
+resolved_in names budgets p a b =
+    section_in budgets.p p >>= λ x. section_in budgets.a a >>= λ y. section_in budgets.b b >>= λ z. Some (script_of names x y z)
+
+abbrev pub script_in : List Words → Option Script
+script_in lines =
+    header_in lines >>= λ l. all_names_in l >>= λ n. budgets_in n.1 n.2 >>= λ d. bodies_in n.0 d.1
+    >>= λ e. resolved_in n.0 d.0 e.0 e.1 e.2

@@ -1,0 +1,255 @@
+ghost use Rattle.std.specs.Prelude.{◌≡◌, ◌≤◌, map, List, IfOk, IfErr, OnOk, Option};
+ghost use Rattle.std.specs.List.{list_all, list_any};
+ghost use Rattle.std.specs.Result.{result_ok};
+ghost use Rattle.std.specs.Str.{bytes_eq};
+ghost use Rattle.mc_script.specs.Script as spec;
+ghost use Rattle.mc_script.specs.ScriptWords as words;
+ghost use Rattle.mc_script.specs.ScriptText as text;
+ghost use Rattle.mc_script.specs.Reading as reading;
+
+use crate::lines::{ScriptLine, ScriptLines};
+use crate::words::{is_named, is_word, read_number};
+use crate::{
+    BYTES_LIMIT, Budget, FLAGS_LIMIT, KEY_BYTES_LIMIT, KEYS_LIMIT, NAME_BYTES_LIMIT,
+    REQUESTS_LIMIT, ScriptFault, ScriptKind, VARIABLES_LIMIT,
+};
+use mc_protocol::{Actor, Bytes, OutOfMemory};
+use std::alloc::Global;
+
+/// The word of a section.
+pub(crate) fn actor_word(actor: Actor) -> &'static [u8]
+    ensures { result.now ≡ text.actor_word actor }
+{
+    match actor {
+        Actor::P => b"P",
+        Actor::A => b"A",
+        Actor::B => b"B",
+    }
+}
+
+// Whether these may be declared together.
+fn may_be_declared(limit: usize, bytes: usize, names: &[&[u8]]) -> bool
+    ensures { result ≡ spec.may_be_declared limit bytes (map (λ w. w.now) names.now) }
+{
+    names.len() <= limit && are_named(bytes, names) && are_distinct(names)
+}
+
+fn are_named(bytes: usize, names: &[&[u8]]) -> bool
+    ensures { result ≡ list_all (words.is_named bytes) (map (λ w. w.now) names.now) }
+{
+    is_each_named(bytes, names)
+}
+
+fn is_each_named(bytes: usize, names: &[&[u8]]) -> bool
+    ensures { result ≡ list_all (λ w. words.is_named bytes w.now) names.now }
+{
+    names.iter().all(|name| is_named(bytes, name))
+}
+
+fn are_distinct(names: &[&[u8]]) -> bool
+    ensures { result ≡ words.are_distinct (map (λ w. w.now) names.now) }
+{
+    let mut rest = names;
+    'names: while let [name, others @ ..] = rest {
+        if !is_new(others, name) {
+            return false;
+        }
+        rest = others;
+    }
+    true
+}
+
+// Whether the word is none of these.
+fn is_new(names: &[&[u8]], word: &[u8]) -> bool
+    ensures { result ≡ words.is_new (map (λ w. w.now) names.now) word.now }
+{
+    !has(names, word)
+}
+
+fn has(names: &[&[u8]], word: &[u8]) -> bool
+    ensures { result ≡ list_any (bytes_eq word.now) (map (λ w. w.now) names.now) }
+{
+    is_any(names, word)
+}
+
+fn is_any(names: &[&[u8]], word: &[u8]) -> bool
+    ensures { result ≡ list_any (λ w. bytes_eq word.now w.now) names.now }
+{
+    names.iter().any(|name| is_word(word, name))
+}
+
+// The fault of the first of these names that can't be declared behind the others.
+fn names_fault(limit: usize, bytes: usize, names: &[&[u8]]) -> ScriptKind {
+    for index in 0..names.len() {
+        let name = names[index];
+        if !is_named(bytes, name) {
+            return ScriptKind::Name;
+        }
+        if has(&names[..index], name) {
+            return ScriptKind::Duplicate;
+        }
+        if index >= limit {
+            return ScriptKind::TooMany;
+        }
+    }
+    ScriptKind::Line
+}
+
+// Reads the names behind the first word of a line.
+#[tactic(auto, unfolding(crate::specs::Reading::names_in))]
+fn read_names(
+    alloc: Global,
+    limit: usize,
+    bytes: usize,
+    words: &[&[u8]],
+) -> Result<Vec<Bytes>, ScriptKind>
+    ensures { reading.Shows (λ names. names.items) result (reading.names_in limit bytes (map (λ w. w.now) words.now)) }
+{
+    if words.is_empty() {
+        return Err(ScriptKind::Line);
+    }
+    if !may_be_declared(limit, bytes, words) {
+        return Err(names_fault(limit, bytes, words));
+    }
+    let names = copied(alloc, words)?;
+    Ok(names)
+}
+
+fn copied(alloc: Global, words: &[&[u8]]) -> Result<Vec<Bytes>, OutOfMemory>
+    ensures { IfOk result (λ names. names.items ≡ map (λ w. w.now) words.now) }
+{
+    let mut names = Vec::with_capacity(alloc, words.len())?;
+    'words: for word in words {
+        names.push(Bytes::new(Vec::from_slice(alloc, word)?))?;
+    }
+    Ok(names)
+}
+
+/// Takes the header, `script 1`.
+pub(crate) fn take_header(alloc: Global, lines: &mut ScriptLines) -> Result<(), ScriptFault>
+    ensures { reading.Says (λ _. lines.new) result (reading.header_in lines.old) }
+{
+    match lines.next(alloc)? {
+        Some(line) => {
+            if is_header(line.words()) {
+                Ok(())
+            } else {
+                Err(line.fault(ScriptKind::Header))
+            }
+        }
+        None => Err(ScriptFault::at(ScriptKind::Header, 1)),
+    }
+}
+
+fn is_header(words: &[&[u8]]) -> bool
+    ensures { result ≡ reading.is_header (map (λ w. w.now) words.now) }
+{
+    match words {
+        [word, version] => is_word(word, b"script") && is_word(version, b"1"),
+        _ => false,
+    }
+}
+
+/// Takes the line that declares the keys.
+pub(crate) fn take_keys(alloc: Global, lines: &mut ScriptLines) -> Result<Vec<Bytes>, ScriptFault>
+    ensures { reading.Says (λ keys. (keys.items, lines.new)) result (reading.keys_in lines.old) }
+{
+    let line = lines.next_due(alloc, ScriptKind::Header)?;
+    if !line.begins_with(b"keys") {
+        return Err(line.fault(ScriptKind::Header));
+    }
+    match read_names(alloc, KEYS_LIMIT, KEY_BYTES_LIMIT, line.others()) {
+        Ok(keys) => Ok(keys),
+        Err(kind) => Err(line.fault(kind)),
+    }
+}
+
+/// Reads the names that this line declares, if it begins with the word, and then takes the line behind it.
+pub(crate) fn read_optional<'a>(
+    alloc: Global,
+    lines: &mut ScriptLines<'a>,
+    word: &[u8],
+    limit: usize,
+    line: ScriptLine<'a>,
+) -> Result<(Vec<Bytes>, ScriptLine<'a>), ScriptFault>
+    ensures { reading.Says (λ r. (r.0.items, r.1, lines.new)) result
+        (reading.optional_in word.now limit line.entry lines.old) }
+{
+    if !line.begins_with(word) {
+        return Ok((Vec::new(alloc), line));
+    }
+    match read_names(alloc, limit, NAME_BYTES_LIMIT, line.others()) {
+        Ok(names) => {
+            let next = lines.next_due(alloc, ScriptKind::Header)?;
+            Ok((names, next))
+        }
+        Err(kind) => Err(line.fault(kind)),
+    }
+}
+
+/// Reads the budget of a section.
+pub(crate) fn read_budget(actor: Actor, line: &ScriptLine) -> Result<Budget, ScriptFault>
+    ensures { reading.Says (λ budget. budget) result (reading.budget_in actor line.now) }
+{
+    match budget_of(actor, line.words()) {
+        Ok(budget) => Ok(budget),
+        Err(kind) => Err(line.fault(kind)),
+    }
+}
+
+#[tactic(auto, unfolding(crate::specs::Reading::budget_in))]
+fn budget_of(actor: Actor, words: &[&[u8]]) -> Result<Budget, ScriptKind>
+    ensures { result_ok result ≡ reading.budget_in actor (map (λ w. w.now) words.now) }
+{
+    let [word, others @ ..] = words else {
+        return Err(ScriptKind::Header);
+    };
+    if !is_word(word, b"budget") {
+        return Err(ScriptKind::Header);
+    }
+    let [section, numbers @ ..] = others else {
+        return Err(ScriptKind::Line);
+    };
+    if !is_word(section, actor_word(actor)) {
+        return Err(other_section(section));
+    }
+    read_numbers(numbers)
+}
+
+// The fault of a budget that is not the one that is due: it is out of its place, or of no section.
+fn other_section(word: &[u8]) -> ScriptKind {
+    match word {
+        [b'P' | b'A' | b'B'] => ScriptKind::Header,
+        _ => ScriptKind::Line,
+    }
+}
+
+fn read_numbers(words: &[&[u8]]) -> Result<Budget, ScriptKind>
+    ensures { result_ok result ≡ reading.numbers_in (map (λ w. w.now) words.now) }
+{
+    let [requests, rest @ ..] = words else {
+        return Err(ScriptKind::Line);
+    };
+    let requests = read_allowed(REQUESTS_LIMIT, requests)?;
+    let [bytes, rest @ ..] = rest else {
+        return Err(ScriptKind::Line);
+    };
+    let bytes = read_allowed(BYTES_LIMIT, bytes)?;
+    if !rest.is_empty() {
+        return Err(ScriptKind::Line);
+    }
+    Ok(Budget { requests, bytes })
+}
+
+// Reads a number of a budget.
+#[tactic(auto, unfolding(crate::specs::Reading::number_in))]
+fn read_allowed(limit: u64, word: &[u8]) -> Result<u32, ScriptKind>
+    requires { limit ≤ 8192 }
+    ensures { result_ok result ≡ reading.number_in limit word.now }
+{
+    let number = read_number(u64::MAX, word)?;
+    if number > limit {
+        return Err(ScriptKind::Budget);
+    }
+    Ok(number as u32)
+}

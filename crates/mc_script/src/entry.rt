@@ -1,0 +1,102 @@
+ghost use Rattle.std.specs.Prelude.{◌≡◌, ◌<◌};
+
+use crate::Template;
+use mc_protocol::{Bytes, Class};
+use std::marker::Model;
+
+/// A line of a section, as it is written: a label is still a name, and the marks of a request stand beside it.
+#[derive(Debug, Drop)]
+pub(crate) enum Entry {
+    /// The place of the next step, or of the section's end.
+    Label(Bytes),
+    /// A request, whose template has no flags yet, and its marks in their order.
+    Send(Template, Marks),
+    Bind(u8),
+    Goto(Bytes),
+    Halt,
+}
+
+/// What stands behind a request.
+#[derive(Debug, Drop)]
+pub(crate) enum Mark {
+    /// How the request needs or changes a flag, which has this index.
+    Flag(Sign, Flag),
+    /// Where to go after a reply of the class.
+    Jump(Class, Bytes),
+    /// The variable that takes the number that the reply shows.
+    Bind(u8),
+}
+
+/// A flag by its index. Contracts see the number, for which a mask has a bit.
+#[derive(Debug, Drop)]
+pub(crate) struct Flag {
+    index: u8,
+}
+
+impl Model for Flag {
+    ghost use Rattle.std.specs.Prelude.{ℕ, ◌<◌};
+
+    ghost Value = { ℕ };
+
+    ghost view = { λ f. f.index };
+
+    ghost invariant = { λ f. f.index < 32 };
+}
+
+impl Flag {
+    pub(crate) fn new(index: u8) -> Self
+        requires { index < 32 }
+        ensures { result ≡ index }
+    {
+        Flag { index }
+    }
+
+    pub(crate) fn index(&self) -> u8
+        ensures index { result ≡ self.now }
+        ensures below { result < 32 }
+    {
+        self.index
+    }
+}
+
+/// How a request needs or changes a flag.
+#[derive(Clone, Copy, Debug, PartialEq, Eq)]
+pub(crate) enum Sign {
+    /// `?`: it must be set.
+    RequireSet,
+    /// `!`: it must be clear.
+    RequireClear,
+    /// `+`: it is set.
+    Sets,
+    /// `-`: it is cleared.
+    Clears,
+}
+
+/// The marks of a request, in their order. Contracts see the list of them.
+#[derive(Debug, Drop)]
+pub(crate) struct Marks {
+    marks: Vec<Mark>,
+}
+
+impl Model for Marks {
+    ghost use Rattle.std.specs.Prelude.{List};
+    ghost use Rattle.mc_script.specs.declared.entry.Mark.{Mark};
+
+    ghost Value = { List Mark };
+
+    ghost view = { λ m. m.marks.items };
+}
+
+impl Marks {
+    pub(crate) fn new(marks: Vec<Mark>) -> Self
+        ensures { result ≡ marks.items }
+    {
+        Marks { marks }
+    }
+
+    pub(crate) fn as_slice(&self) -> &[Mark]
+        ensures { result.now ≡ self.now }
+    {
+        self.marks.as_slice()
+    }
+}

@@ -1,0 +1,110 @@
+ghost use Rattle.std.specs.Prelude.{◌≡◌};
+
+use std::alloc::{AllocError, AllocFailed};
+use thiserror::Error;
+
+/// Why a text is no script.
+#[derive(Clone, Copy, Debug, Drop, PartialEq, Eq, Error)]
+pub enum ScriptKind {
+    #[error("expected `script 1`, `keys`, `flags`, `vars` and the budgets of P, A and B, in this order")]
+    Header,
+    #[error("expected a label, a request with its marks, `bind`, `goto`, `halt`, or the next section")]
+    Line,
+    #[error("expected a name of `a` to `z`, `0` to `9` and `-`: 1 to 40 bytes for a key, else 1 to 20")]
+    Name,
+    #[error("expected a name, a mark or a label that doesn't stand there already")]
+    Duplicate,
+    #[error("expected a key that `keys` declares")]
+    UnknownKey,
+    #[error("expected a flag that `flags` declares")]
+    UnknownFlag,
+    #[error("expected a variable that `vars` declares")]
+    UnknownVar,
+    #[error("expected a label of this section")]
+    UnknownLabel,
+    #[error("expected a label that stands further down: a script has no loops")]
+    BackwardLabel,
+    #[error("expected a decimal of 1 to 20 digits: flags below 2^32, other numbers below 2^64")]
+    Number,
+    #[error("expected a body of at most 64 letters and digits")]
+    Data,
+    #[error("expected at most 8 keys, 32 flags, 16 variables, and 64 steps in a section")]
+    TooMany,
+    #[error("expected a budget of at most 24 requests and 8192 bytes")]
+    Budget,
+    #[error("expected the sections P, A and B, and behind them the line `end`")]
+    Unended,
+    #[error("out of memory")]
+    OutOfMemory,
+}
+
+impl From<AllocError> for ScriptKind {
+    ghost use Rattle.mc_script.specs.declared.fault.ScriptKind.TheVariants.{OutOfMemory};
+
+    ghost from_gives = { λ _ e. e ≡ OutOfMemory };
+
+    fn from(_e: AllocError) -> ScriptKind {
+        ScriptKind::OutOfMemory
+    }
+}
+
+impl<T: Drop> From<AllocFailed<T>> for ScriptKind {
+    ghost use Rattle.mc_script.specs.declared.fault.ScriptKind.TheVariants.{OutOfMemory};
+
+    ghost from_gives = { λ _ e. e ≡ OutOfMemory };
+
+    fn from(_e: AllocFailed<T>) -> ScriptKind {
+        ScriptKind::OutOfMemory
+    }
+}
+
+/// Why a text is no script, and the number of its first faulty line; 0 where memory ran out.
+#[derive(Clone, Copy, Debug, Drop, PartialEq, Eq, Error)]
+#[error("line {line}: {kind}")]
+pub struct ScriptFault {
+    pub kind: ScriptKind,
+    pub line: u32,
+}
+
+impl ScriptFault {
+    pub(crate) fn out_of_memory() -> Self
+        ensures { result.kind ≡ ScriptKind.OutOfMemory }
+    {
+        ScriptFault {
+            kind: ScriptKind::OutOfMemory,
+            line: 0,
+        }
+    }
+
+    // A fault of a line; want of memory is no line's.
+    pub(crate) fn at(kind: ScriptKind, line: u32) -> Self
+        ensures { result.kind ≡ kind }
+    {
+        match kind {
+            ScriptKind::OutOfMemory => ScriptFault::out_of_memory(),
+            _ => ScriptFault { kind, line },
+        }
+    }
+}
+
+impl From<AllocError> for ScriptFault {
+    ghost use Rattle.std.specs.Prelude.{◌≡◌};
+    ghost use Rattle.mc_script.specs.declared.fault.ScriptKind.TheVariants.{OutOfMemory};
+
+    ghost from_gives = { λ _ e. e.kind ≡ OutOfMemory };
+
+    fn from(_e: AllocError) -> ScriptFault {
+        ScriptFault::out_of_memory()
+    }
+}
+
+impl<T: Drop> From<AllocFailed<T>> for ScriptFault {
+    ghost use Rattle.std.specs.Prelude.{◌≡◌};
+    ghost use Rattle.mc_script.specs.declared.fault.ScriptKind.TheVariants.{OutOfMemory};
+
+    ghost from_gives = { λ _ e. e.kind ≡ OutOfMemory };
+
+    fn from(_e: AllocFailed<T>) -> ScriptFault {
+        ScriptFault::out_of_memory()
+    }
+}

@@ -1,0 +1,40 @@
+//! Scripts: what the three sections of a run send, and the text that says it.
+//!
+//! Below it stands `mc_protocol`. The crates above use what a script is (`specs/Script.antt`),
+//! and what script a text spells (`specs/ScriptText.antt`).
+#![tactic(auto)]
+
+mod declarations;
+mod entry;
+mod fault;
+mod fields;
+mod labels;
+mod limits;
+mod lines;
+mod marks;
+mod names;
+mod read_entry;
+mod resolve;
+mod script;
+mod section;
+mod section_text;
+mod step;
+mod text;
+mod text_laws;
+mod words;
+
+pub use fault::{ScriptFault, ScriptKind};
+pub use limits::{
+    BODY_LIMIT, BYTES_LIMIT, DIGITS_LIMIT, FLAGS_LIMIT, KEY_BYTES_LIMIT, KEYS_LIMIT, Mask,
+    NAME_BYTES_LIMIT, REQUESTS_LIMIT, STEPS_LIMIT, VARIABLES_LIMIT,
+};
+pub use script::Script;
+pub use section::{Budget, Label};
+pub use step::{Argument, Jumps, Step, Template};
+pub use text::parse;
+pub use text_laws::texts_spell_one_script;
+
+#[cfg(test)]
+mod fault_tests;
+#[cfg(test)]
+mod tests;

@@ -1,0 +1,269 @@
+ghost use Rattle.std.specs.Prelude.{◌≡◌, ◌<◌, Some, None, IfOk, MatchOption};
+ghost use Rattle.mc_script.specs.Marks as said;
+ghost use Rattle.mc_script.specs.Steps as spec;
+ghost use Rattle.mc_script.specs.Reading as reading;
+ghost use Rattle.mc_script.specs.TextReading as whole;
+
+use crate::entry::{Entry, Mark, Sign};
+use crate::marks::{CLASSES, class_index, sign_byte};
+use crate::section::Section;
+use crate::section_text::Numbered;
+use crate::{Budget, Jumps, Label, Mask, ScriptFault, ScriptKind, Step, Template};
+use mc_protocol::{Class, OutOfMemory};
+use std::alloc::Global;
+
+/// Makes a section of its lines: each label has its place, and each that is used is named by its index.
+pub(crate) fn resolve(
+    alloc: Global,
+    budget: Budget,
+    entries: &[Numbered],
+) -> Result<Section, ScriptFault>
+    ensures { reading.Says (λ section. section) result (whole.section_in budget entries.now) }
+{
+    let labels = labels_of(alloc, entries)?;
+    let steps = steps_of(alloc, &labels, entries)?;
+    Ok(Section {
+        budget,
+        steps,
+        labels,
+    })
+}
+
+// The labels, each with its place.
+fn labels_of(alloc: Global, entries: &[Numbered]) -> Result<Vec<Label>, OutOfMemory>
+    ensures { IfOk result (λ labels. labels.items ≡ spec.labels_from 0 entries.now) }
+{
+    let mut labels = Vec::new(alloc);
+    let mut place = 0;
+    let mut rest = entries;
+    'entries: while let [numbered, others @ ..] = rest {
+        match &numbered.entry {
+            Entry::Label(name) => {
+                let name = name.copy(alloc)?;
+                labels.push(Label { name, place })?;
+            }
+            _ => place += 1,
+        }
+        rest = others;
+    }
+    Ok(labels)
+}
+
+// The steps. The fault is that of the first label that is used and isn't there.
+fn steps_of(alloc: Global, labels: &[Label], entries: &[Numbered]) -> Result<Vec<Step>, ScriptFault>
+    ensures { reading.Says (λ steps. steps.items) result (spec.steps_from labels.now 0 entries.now) }
+{
+    let mut steps = Vec::new(alloc);
+    let mut rest = entries;
+    'entries: while let [numbered, others @ ..] = rest {
+        if !is_label(&numbered.entry) {
+            match step_of(alloc, labels, steps.len(), &numbered.entry) {
+                Ok(step) => steps.push(step)?,
+                Err(kind) => return Err(ScriptFault::at(kind, numbered.line)),
+            }
+        }
+        rest = others;
+    }
+    Ok(steps)
+}
+
+fn is_label(entry: &Entry) -> bool
+    ensures { result ≡ whole.is_label entry.now }
+{
+    match entry {
+        Entry::Label(_) => true,
+        _ => false,
+    }
+}
+
+// The step at this place that a line is which is no label.
+fn step_of(alloc: Global, labels: &[Label], place: usize, entry: &Entry) -> Result<Step, ScriptKind>
+    ensures { reading.Gives result (whole.step_in labels.now place entry.now) }
+{
+    match entry {
+        Entry::Label(_) => Err(ScriptKind::Line),
+        Entry::Send(template, marks) => send_of(alloc, labels, place, template, marks.as_slice()),
+        Entry::Bind(variable) => Ok(Step::Bind(*variable)),
+        Entry::Goto(name) => goto_of(labels, place, name.as_slice()),
+        Entry::Halt => Ok(Step::Halt),
+    }
+}
+
+fn goto_of(labels: &[Label], place: usize, name: &[u8]) -> Result<Step, ScriptKind>
+    ensures { reading.Gives result (spec.goes (spec.label_behind labels.now place name.now)) }
+{
+    match label_behind(labels, place, name) {
+        Some(label) => Ok(Step::Goto(label)),
+        None => Err(label_fault(labels, name)),
+    }
+}
+
+// The request with its marks.
+fn send_of(
+    alloc: Global,
+    labels: &[Label],
+    place: usize,
+    template: &Template,
+    marks: &[Mark],
+) -> Result<Step, ScriptKind>
+    ensures { reading.Gives result
+        (spec.sends template.now marks.now (spec.jumps_on labels.now place marks.now spec.all_classes)) }
+{
+    let jumps = jumps_of(alloc, labels, place, marks)?;
+    let template = marked(alloc, template, marks)?;
+    let bind = bound_by(marks);
+    Ok(Step::Send {
+        template,
+        jumps,
+        bind,
+    })
+}
+
+// The request with the flags that its marks say.
+fn marked(alloc: Global, template: &Template, marks: &[Mark]) -> Result<Template, OutOfMemory>
+    ensures { IfOk result (λ marked. marked ≡ spec.marked template.now marks.now) }
+{
+    Ok(Template {
+        verb: template.verb,
+        key: template.key,
+        flags: template.flags,
+        argument: template.argument,
+        body: template.body.copy(alloc)?,
+        require_set: mask_of(Sign::RequireSet, marks),
+        require_clear: mask_of(Sign::RequireClear, marks),
+        sets: mask_of(Sign::Sets, marks),
+        clears: mask_of(Sign::Clears, marks),
+    })
+}
+
+// The flags of which the marks say this.
+fn mask_of(sign: Sign, marks: &[Mark]) -> Mask
+    ensures { result ≡ said.mask_of sign marks.now }
+{
+    let mut mask = 0;
+    let mut rest = marks;
+    'marks: while let [mark, others @ ..] = rest {
+        mask = with_flag(mask, says(sign, mark));
+        rest = others;
+    }
+    mask
+}
+
+fn with_flag(mask: Mask, flag: Option<u8>) -> Mask
+    requires { MatchOption flag (mask ≡ mask) (λ f. f < 32) }
+    ensures { result ≡ said.with_flag mask flag }
+{
+    match flag {
+        Some(flag) => mask | flag_mask(flag),
+        None => mask,
+    }
+}
+
+fn flag_mask(flag: u8) -> Mask
+    requires { flag < 32 }
+    ensures { result ≡ said.flag_mask flag }
+{
+    1 << flag
+}
+
+// The flag of which the mark says this.
+fn says(sign: Sign, mark: &Mark) -> Option<u8>
+    ensures flag { result ≡ said.says sign mark.now }
+    ensures below { MatchOption result (sign ≡ sign) (λ f. f < 32) }
+{
+    match mark {
+        Mark::Flag(other, flag) => {
+            if sign_byte(sign) == sign_byte(*other) {
+                Some(flag.index())
+            } else {
+                None
+            }
+        }
+        _ => None,
+    }
+}
+
+// The variable that the marks bind.
+fn bound_by(marks: &[Mark]) -> Option<u8>
+    ensures { result ≡ said.bound_by marks.now }
+{
+    let mut rest = marks;
+    'marks: while let [mark, others @ ..] = rest {
+        if let Mark::Bind(variable) = mark {
+            return Some(*variable);
+        }
+        rest = others;
+    }
+    None
+}
+
+// The jumps of the marks, in the order of their classes. The fault is that of the leftmost faulty one.
+fn jumps_of(
+    alloc: Global,
+    labels: &[Label],
+    place: usize,
+    marks: &[Mark],
+) -> Result<Jumps, ScriptKind>
+    ensures { reading.Gives result (spec.jumps_on labels.now place marks.now spec.all_classes) }
+{
+    let mut jumps = Vec::new(alloc);
+    let mut rest = CLASSES.as_slice();
+    'classes: while let [class, others @ ..] = rest {
+        if let Some(name) = target_of(*class, marks) {
+            let Some(label) = label_behind(labels, place, name) else {
+                return Err(jumps_fault(labels, place, marks));
+            };
+            jumps.push((*class, label))?;
+        }
+        rest = others;
+    }
+    Ok(Jumps::new(jumps))
+}
+
+// The label to which the marks go after a reply of the class.
+fn target_of<'a>(class: Class, marks: &'a [Mark]) -> Option<&'a [u8]>
+    ensures { MatchOption result (said.target_of class marks.now ≡ None) (λ name. said.target_of class marks.now ≡ Some name.now) }
+{
+    let mut rest = marks;
+    'marks: while let [mark, others @ ..] = rest {
+        if let Mark::Jump(other, label) = mark {
+            if class_index(class) == class_index(*other) {
+                return Some(label.as_slice());
+            }
+        }
+        rest = others;
+    }
+    None
+}
+
+// The index of the label with this name, which stands behind the step at this place.
+fn label_behind(labels: &[Label], place: usize, name: &[u8]) -> Option<usize>
+    ensures { result ≡ spec.label_behind labels.now place name.now }
+{
+    labels.iter().position(|label| label.name.as_slice() == name && place < label.place)
+}
+
+// The fault of the leftmost jump whose label isn't behind the step.
+fn jumps_fault(labels: &[Label], place: usize, marks: &[Mark]) -> ScriptKind {
+    for mark in marks {
+        if let Mark::Jump(_, label) = mark {
+            if label_behind(labels, place, label.as_slice()).is_none() {
+                return label_fault(labels, label.as_slice());
+            }
+        }
+    }
+    ScriptKind::UnknownLabel
+}
+
+// The fault of a label that isn't behind its use.
+fn label_fault(labels: &[Label], name: &[u8]) -> ScriptKind {
+    if has_label(labels, name) {
+        ScriptKind::BackwardLabel
+    } else {
+        ScriptKind::UnknownLabel
+    }
+}
+
+fn has_label(labels: &[Label], name: &[u8]) -> bool {
+    labels.iter().any(|label| label.name.as_slice() == name)
+}

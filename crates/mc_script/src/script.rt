@@ -1,0 +1,79 @@
+ghost use Rattle.std.specs.Prelude.{◌≡◌};
+ghost use Rattle.mc_script.specs.Script as spec;
+
+use crate::names::Names;
+use crate::section::Section;
+use crate::{Budget, Label, Step};
+use mc_protocol::{Actor, Bytes};
+use std::marker::Model;
+
+/// A script: the names that it declares, and its three sections. Contracts see its parts as lists.
+#[derive(Debug, Drop)]
+pub struct Script {
+    pub(crate) names: Names,
+    pub(crate) p: Section,
+    pub(crate) a: Section,
+    pub(crate) b: Section,
+}
+
+impl Model for Script {
+    ghost use Rattle.mc_script.specs.Script as spec;
+
+    ghost Value = { spec.Script };
+
+    ghost view = { λ s. record { names = s.names; p = s.p; a = s.a; b = s.b } };
+}
+
+impl Script {
+    /// The keys, in the order of their declaration.
+    pub fn keys(&self) -> &[Bytes]
+        ensures { result.now ≡ self.now.names.keys }
+    {
+        self.names.keys()
+    }
+
+    /// The names of the flags, in the order of their declaration.
+    pub fn flags(&self) -> &[Bytes]
+        ensures { result.now ≡ self.now.names.flags }
+    {
+        self.names.flags()
+    }
+
+    /// The names of the variables, in the order of their declaration.
+    pub fn vars(&self) -> &[Bytes]
+        ensures { result.now ≡ self.now.names.vars }
+    {
+        self.names.vars()
+    }
+
+    /// What a section may send at most.
+    pub fn budget(&self, actor: Actor) -> Budget
+        ensures { result ≡ (spec.section_of self.now actor).budget }
+    {
+        self.section(actor).budget
+    }
+
+    /// A section's steps, in order.
+    pub fn steps(&self, actor: Actor) -> &[Step]
+        ensures { result.now ≡ (spec.section_of self.now actor).steps }
+    {
+        self.section(actor).steps.as_slice()
+    }
+
+    /// A section's labels, in the order of the text.
+    pub fn labels(&self, actor: Actor) -> &[Label]
+        ensures { result.now ≡ (spec.section_of self.now actor).labels }
+    {
+        self.section(actor).labels.as_slice()
+    }
+
+    fn section(&self, actor: Actor) -> &Section
+        ensures { result.now ≡ spec.section_of self.now actor }
+    {
+        match actor {
+            Actor::P => &self.p,
+            Actor::A => &self.a,
+            Actor::B => &self.b,
+        }
+    }
+}

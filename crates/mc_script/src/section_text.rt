@@ -1,0 +1,96 @@
+ghost use Rattle.std.specs.Prelude.{◌≡◌, [], Some, None, MatchOption};
+ghost use Rattle.mc_script.specs.Reading as reading;
+ghost use Rattle.mc_script.specs.TextReading as whole;
+
+use crate::entry::Entry;
+use crate::labels::LabelNames;
+use crate::lines::{ScriptLine, ScriptLines};
+use crate::names::Names;
+use crate::read_entry::{before_colon, begins_step, read_entry};
+use crate::{STEPS_LIMIT, ScriptFault, ScriptKind};
+use std::alloc::Global;
+use std::marker::Model;
+
+/// A line of a section that was read, with its number. Contracts see what it says.
+#[derive(Debug, Drop)]
+pub(crate) struct Numbered {
+    pub(crate) line: u32,
+    pub(crate) entry: Entry,
+}
+
+impl Model for Numbered {
+    ghost use Rattle.mc_script.specs.declared.entry.Entry.{Entry};
+
+    ghost Value = { Entry };
+
+    ghost view = { λ n. n.entry };
+}
+
+/// Reads the lines of a section, and takes the line behind them, which is this word alone.
+pub(crate) fn read_section<'a>(
+    alloc: Global,
+    names: &Names,
+    lines: &mut ScriptLines<'a>,
+    stop: &[u8],
+) -> Result<Vec<Numbered>, ScriptFault>
+    ensures { reading.Says (λ entries. (entries.items, lines.new)) result
+        (whole.entries_in names.now stop.now [] 0 [] lines.old) }
+{
+    let mut entries = Vec::new(alloc);
+    let mut count = 0;
+    let mut labels = LabelNames::new(alloc);
+    'lines: loop {
+        let line = lines.next_due(alloc, ScriptKind::Unended)?;
+        if line.is_only(stop) {
+            return Ok(entries);
+        }
+        let entry = match read_entry(alloc, names, line.words()) {
+            Ok(entry) => entry,
+            Err(kind) => return Err(line.fault(entry_fault(kind, count, &line))),
+        };
+        match label_in(&line) {
+            Some(name) => {
+                if labels.has(name) {
+                    return Err(line.fault(ScriptKind::Duplicate));
+                }
+                labels.push(name)?;
+            }
+            None => {
+                if count >= STEPS_LIMIT {
+                    return Err(line.fault(ScriptKind::TooMany));
+                }
+                count += 1;
+            }
+        }
+        entries.push(Numbered {
+            line: line.number(),
+            entry,
+        })?;
+    }
+}
+
+// The name of the label that the line is, if it is one.
+fn label_in<'a>(line: &ScriptLine<'a>) -> Option<&'a [u8]>
+    ensures { MatchOption result (whole.label_of line.now ≡ None) (λ name. whole.label_of line.now ≡ Some name.now) }
+{
+    match line.words() {
+        [word] => before_colon(*word),
+        _ => None,
+    }
+}
+
+// The fault of a line behind so many steps: that it is one too many goes before its words.
+fn entry_fault(kind: ScriptKind, count: usize, line: &ScriptLine) -> ScriptKind
+    ensures { kind ≡ ScriptKind.OutOfMemory → result ≡ ScriptKind.OutOfMemory }
+{
+    match line.words() {
+        [word, ..] => {
+            if count >= STEPS_LIMIT && begins_step(word) && kind != ScriptKind::OutOfMemory {
+                ScriptKind::TooMany
+            } else {
+                kind
+            }
+        }
+        [] => kind,
+    }
+}

@@ -1,0 +1,130 @@
+ghost use Rattle.std.specs.Prelude.{◌≡◌, ◌≢◌, IfOk, IfErr};
+ghost use Rattle.mc_protocol.specs.declared.lines.Separator.TheVariants.{SpaceOrTab};
+ghost use Rattle.mc_protocol.specs.Lines.{words_of_text};
+ghost use Rattle.mc_script.specs.Script as spec;
+ghost use Rattle.mc_script.specs.ScriptText.{SpellsScript};
+ghost use Rattle.mc_script.specs.Reading as reading;
+ghost use Rattle.mc_script.specs.TextReading as whole;
+
+use crate::declarations::{actor_word, read_budget, read_optional, take_header, take_keys};
+use crate::lines::{ScriptLine, ScriptLines};
+use crate::names::Names;
+use crate::resolve::resolve;
+use crate::section_text::{Numbered, read_section};
+use crate::{Budget, FLAGS_LIMIT, Script, ScriptFault, ScriptKind, VARIABLES_LIMIT};
+use mc_protocol::Actor;
+use std::alloc::Global;
+
+/// Reads a script. The fault is that of the first faulty line, on it of the leftmost faulty word, and of that the kind
+/// that comes first; that a label is unknown or stands in front of its use is told only where nothing else is wrong.
+pub fn parse(alloc: Global, text: &[u8]) -> Result<Script, ScriptFault>
+    ensures found { IfOk result (SpellsScript text.now) }
+    ensures none { IfErr result (λ fault. fault.kind ≢ ScriptKind.OutOfMemory
+        → (script : spec.Script) → SpellsScript text.now script → ⊥) }
+{
+    read_script(alloc, text)
+}
+
+fn read_script(alloc: Global, text: &[u8]) -> Result<Script, ScriptFault>
+    ensures { reading.Says (λ script. script) result (whole.script_in (words_of_text SpaceOrTab text.now)) }
+{
+    let mut lines = ScriptLines::new(text);
+    take_header(alloc, &mut lines)?;
+    let (names, line) = take_names(alloc, &mut lines)?;
+    let budgets = take_budgets(alloc, &mut lines, &line)?;
+    let bodies = take_bodies(alloc, &names, &mut lines)?;
+    resolve_all(alloc, names, budgets, &bodies)
+}
+
+// Takes the names that are declared, and the line behind them.
+fn take_names<'a>(
+    alloc: Global,
+    lines: &mut ScriptLines<'a>,
+) -> Result<(Names, ScriptLine<'a>), ScriptFault>
+    ensures { reading.Says (λ r. (r.0, r.1, lines.new)) result (whole.all_names_in lines.old) }
+{
+    let keys = take_keys(alloc, lines)?;
+    let line = lines.next_due(alloc, ScriptKind::Header)?;
+    let (flags, line) = read_optional(alloc, lines, b"flags", FLAGS_LIMIT, line)?;
+    let (vars, line) = read_optional(alloc, lines, b"vars", VARIABLES_LIMIT, line)?;
+    let names = Names::new(keys, flags, vars);
+    Ok((names, line))
+}
+
+/// The budgets of the sections.
+#[derive(Clone, Copy)]
+struct Budgets {
+    p: Budget,
+    a: Budget,
+    b: Budget,
+}
+
+// Takes the three budgets, of which the first line is taken already.
+fn take_budgets(
+    alloc: Global,
+    lines: &mut ScriptLines,
+    first: &ScriptLine,
+) -> Result<Budgets, ScriptFault>
+    ensures { reading.Says (λ budgets. (budgets, lines.new)) result (whole.budgets_in first.now lines.old) }
+{
+    let p = read_budget(Actor::P, first)?;
+    let a = take_budget(alloc, Actor::A, lines)?;
+    let b = take_budget(alloc, Actor::B, lines)?;
+    Ok(Budgets { p, a, b })
+}
+
+fn take_budget(alloc: Global, actor: Actor, lines: &mut ScriptLines) -> Result<Budget, ScriptFault>
+    ensures { reading.Says (λ budget. (budget, lines.new)) result (whole.next_budget_in actor lines.old) }
+{
+    let line = lines.next_due(alloc, ScriptKind::Header)?;
+    read_budget(actor, &line)
+}
+
+/// The lines of the sections. Contracts see the three lists.
+#[derive(Drop)]
+struct Bodies {
+    p: Vec<Numbered>,
+    a: Vec<Numbered>,
+    b: Vec<Numbered>,
+}
+
+// Takes the lines of the three sections, and sees that `end` ends the text.
+fn take_bodies(alloc: Global, names: &Names, lines: &mut ScriptLines) -> Result<Bodies, ScriptFault>
+    ensures { reading.Says (λ bodies. (bodies.p.items, bodies.a.items, bodies.b.items)) result
+        (whole.bodies_in names.now lines.old) }
+{
+    take_section_line(alloc, lines)?;
+    let p = read_section(alloc, names, lines, b"A")?;
+    let a = read_section(alloc, names, lines, b"B")?;
+    let b = read_section(alloc, names, lines, b"end")?;
+    lines.finish(alloc)?;
+    Ok(Bodies { p, a, b })
+}
+
+// Takes the line before P's lines.
+fn take_section_line(alloc: Global, lines: &mut ScriptLines) -> Result<(), ScriptFault>
+    ensures { reading.Says (λ _. lines.new) result (whole.section_line_in lines.old) }
+{
+    let line = lines.next_due(alloc, ScriptKind::Unended)?;
+    if line.is_only(actor_word(Actor::P)) {
+        Ok(())
+    } else {
+        Err(line.fault(ScriptKind::Line))
+    }
+}
+
+// The script of its lines.
+fn resolve_all(
+    alloc: Global,
+    names: Names,
+    budgets: Budgets,
+    bodies: &Bodies,
+) -> Result<Script, ScriptFault>
+    ensures { reading.Says (λ script. script) result
+        (whole.resolved_in names budgets bodies.now.p.items bodies.now.a.items bodies.now.b.items) }
+{
+    let p = resolve(alloc, budgets.p, &bodies.p)?;
+    let a = resolve(alloc, budgets.a, &bodies.a)?;
+    let b = resolve(alloc, budgets.b, &bodies.b)?;
+    Ok(Script { names, p, a, b })
+}
