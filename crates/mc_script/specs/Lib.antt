@@ -9,6 +9,8 @@ pub mod Marks
 pub mod Steps
 pub mod SectionText
 pub mod ScriptText
+pub mod Templates
+pub mod WellFormed
 -- What private contracts cite.
 pub mod Reading
 pub mod TextReading

@@ -1,0 +1,53 @@
+-- Templates: which may stand where so many keys, flags and variables are declared.
+use Rattle.std.specs.Prelude.{◌≡◌, ℕ, ◌<◌, ◌==◌, nat_le, nat_lt, Bool, true, false, ◌&&◌, List, length, ◌^◌}
+use Rattle.std.specs.Int.Bits.{bit_and}
+use Rattle.mc_protocol.specs.Fields.{fields_of}
+use Rattle.mc_protocol.specs.declared.request.Fields.{Fields}
+use Rattle.mc_protocol.specs.declared.request.Fields.TheVariants as fields
+use Rattle.mc_script.specs.declared.step.Argument.{Argument}
+use Rattle.mc_script.specs.declared.step.Argument.TheVariants as argument
+use Rattle.mc_script.specs.declared.step.Template.{Template}
+use Rattle.mc_script.specs.ScriptWords.{MAX_32, MAX_64, is_body}
+
+-- ---- what stands behind the key
+
+abbrev pub is_nothing : Argument → Bool
+is_nothing argument.Nothing = true
+is_nothing (argument.Number n) = false
+is_nothing (argument.Variable v) = false
+
+-- one of so many variables
+abbrev pub is_variable : ℕ → Argument → Bool
+is_variable vars argument.Nothing = false
+is_variable vars (argument.Number n) = false
+is_variable vars (argument.Variable v) = nat_lt v vars
+
+-- a number of 64 bits, or one of so many variables
+abbrev pub is_amount : ℕ → Argument → Bool
+is_amount vars argument.Nothing = false
+is_amount vars (argument.Number n) = nat_le n MAX_64
+is_amount vars (argument.Variable v) = nat_lt v vars
+
+abbrev pub is_empty : List ℕ → Bool
+is_empty body = length body == 0
+
+-- flags of 32 bits, the argument and the body are what the verb has, and 0, nothing and empty where it has none
+abbrev pub has_fields : ℕ → Fields → ℕ → Argument → List ℕ → Bool
+has_fields vars fields.KeyAlone flags a body = flags == 0 && is_nothing a && is_empty body
+has_fields vars fields.Expiry flags a body = flags == 0 && is_nothing a && is_empty body
+has_fields vars fields.Item flags a body = nat_le flags MAX_32 && is_nothing a && is_body body
+has_fields vars fields.Swap flags a body = nat_le flags MAX_32 && is_variable vars a && is_body body
+has_fields vars fields.Amount flags a body = flags == 0 && is_amount vars a && is_empty body
+
+-- ---- the whole template
+
+-- its key, its variable and its flags are declared; no flag is needed both set and clear, or both set and cleared
+pub record IsTemplate (keys flags vars : ℕ) (t : Template) : Type 0 where
+  pub key : t.key < keys
+  pub fields : has_fields vars (fields_of t.verb) t.flags t.argument t.body ≡ true
+  pub require_set : t.require_set < 2 ^ flags
+  pub require_clear : t.require_clear < 2 ^ flags
+  pub sets : t.sets < 2 ^ flags
+  pub clears : t.clears < 2 ^ flags
+  pub needs_apart : bit_and t.require_set t.require_clear ≡ 0
+  pub changes_apart : bit_and t.sets t.clears ≡ 0
