@@ -1,0 +1,63 @@
+-- What code is: keys, how many flags and variables there are, templates, and three sections of instructions.
+use Rattle.std.specs.Prelude.{◌≡◌, ℕ, ◌<◌, ◌≤◌, ◌==◌, true, not, List, length}
+use Rattle.std.specs.List.{All}
+use Rattle.mc_protocol.specs.declared.actor.Actor.{Actor}
+use Rattle.mc_protocol.specs.declared.actor.Actor.TheVariants as actor
+use Rattle.mc_script.specs.declared.limits.TheConstants.{KEYS_LIMIT, KEY_BYTES_LIMIT, FLAGS_LIMIT, VARIABLES_LIMIT, REQUESTS_LIMIT, BYTES_LIMIT}
+use Rattle.mc_script.specs.declared.section.Budget.{Budget}
+use Rattle.mc_script.specs.declared.step.Template.{Template}
+use Rattle.mc_script.specs.Script.{may_be_declared}
+use Rattle.mc_script.specs.ScriptWords.{Word}
+use Rattle.mc_script.specs.Templates.{IsTemplate}
+use Rattle.mc_code.specs.declared.instr.Instr.{Instr}
+use Rattle.mc_code.specs.declared.instr.Instr.TheVariants as instr
+use Rattle.mc_code.specs.declared.limits.TheConstants.{TEMPLATES_LIMIT, INSTRUCTIONS_LIMIT, CLASS_COUNT}
+
+-- what a section may send at most, and its instructions
+pub record Section : Type 0 where
+  pub budget : Budget
+  pub instructions : List Instr
+
+pub record Code : Type 0 where
+  pub keys : List Word
+  pub flags : ℕ
+  pub vars : ℕ
+  pub templates : List Template
+  pub p : Section
+  pub a : Section
+  pub b : Section
+
+abbrev pub section_of : Code → Actor → Section
+section_of c actor.P = c.p
+section_of c actor.A = c.a
+section_of c actor.B = c.b
+
+-- ---- what code keeps
+
+abbrev pub is_byte : ℕ → Type 0
+is_byte n = n < 256
+
+-- what the instruction names is a byte, and a send has an entry for each class
+abbrev pub IsInstr : Instr → Type 0
+IsInstr (instr.Send template next) = is_byte template × (length next ≡ CLASS_COUNT) × All is_byte next
+IsInstr (instr.Bind variable) = is_byte variable
+IsInstr (instr.Goto place) = is_byte place
+IsInstr instr.Halt = Unit {0}
+
+pub record IsSection (s : Section) : Type 0 where
+  pub requests : s.budget.requests ≤ REQUESTS_LIMIT
+  pub bytes : s.budget.bytes ≤ BYTES_LIMIT
+  pub few : length s.instructions ≤ INSTRUCTIONS_LIMIT
+  pub instructions : All IsInstr s.instructions
+
+-- at least one key, and no more of anything than the limits say; each template names what is there
+pub record IsCode (c : Code) : Type 0 where
+  pub some_key : not (length c.keys == 0) ≡ true
+  pub keys : may_be_declared KEYS_LIMIT KEY_BYTES_LIMIT c.keys ≡ true
+  pub flags : c.flags ≤ FLAGS_LIMIT
+  pub vars : c.vars ≤ VARIABLES_LIMIT
+  pub few : length c.templates ≤ TEMPLATES_LIMIT
+  pub templates : All (IsTemplate (length c.keys) c.flags c.vars) c.templates
+  pub p : IsSection c.p
+  pub a : IsSection c.a
+  pub b : IsSection c.b

@@ -1,0 +1,110 @@
+-- Runs of a script: a section's steps by lines and labels, behind the requests that clear its keys.
+use Rattle.std.specs.Prelude.{◌≡◌, ℕ, ◌+◌, ◌==◌, true, Option, Some, None, List, [], ◌∷◌, ◌++◌, map, length, slice_get, if◌then◌else◌}
+use Rattle.mc_protocol.specs.Legal.{class_of}
+use Rattle.mc_protocol.specs.declared.actor.Actor.{Actor}
+use Rattle.mc_protocol.specs.declared.actor.Actor.TheVariants as actor
+use Rattle.mc_protocol.specs.declared.request.Verb.TheVariants as verb
+use Rattle.mc_protocol.specs.declared.reply.Class.{Class}
+use Rattle.mc_protocol.specs.declared.reply.Reply.{Reply}
+use Rattle.mc_script.specs.declared.section.Label.{Label}
+use Rattle.mc_script.specs.declared.step.Argument.TheVariants as argument
+use Rattle.mc_script.specs.declared.step.Step.{Step}
+use Rattle.mc_script.specs.declared.step.Step.TheVariants as step
+use Rattle.mc_script.specs.declared.step.Template.{Template}
+use Rattle.mc_script.specs.Marks.{class_index}
+use Rattle.mc_script.specs.Script.{Script, section_of}
+use Rattle.mc_script.specs.ScriptWords.{Word}
+use Rattle.mc_script.specs.WellFormed.{is_number_class}
+use Rattle.mc_code.specs.Runs.{Answer, is_fit_for}
+use Rattle.mc_code.specs.States.{Tagged, State, begun, answered, bound, Meeting, ended, sending, binding}
+
+-- ---- the requests that clear the keys
+
+-- a delete of the key, without marks
+abbrev pub clearing : ℕ → Template
+clearing key = record {
+  verb = verb.Delete;
+  key = key;
+  flags = 0;
+  argument = argument.Nothing;
+  body = [];
+  require_set = 0;
+  require_clear = 0;
+  sets = 0;
+  clears = 0;
+}
+
+-- a step for each key, from this one on
+abbrev pub clearing_steps : ℕ → List Word → List Step
+clearing_steps key [] = []
+clearing_steps key (_ ∷ keys) = step.Send (clearing key) [] None ∷ clearing_steps (key + 1) keys
+
+-- the steps that stand before those of the text: P clears every key
+abbrev pub front_of : Script → Actor → List Step
+front_of s actor.P = clearing_steps 0 s.names.keys
+front_of s actor.A = []
+front_of s actor.B = []
+
+abbrev pub all_steps : Script → Actor → List Step
+all_steps s actor = front_of s actor ++ (section_of s actor).steps
+
+-- the label, with so many steps more before it
+abbrev pub moved : ℕ → Label → Label
+moved count label = record { name = label.name; place = count + label.place }
+
+abbrev pub all_labels : Script → Actor → List Label
+all_labels s actor = map (moved (length (front_of s actor))) (section_of s actor).labels
+
+-- ---- where a step leads
+
+-- the label to which a reply of the class goes, if it goes to one
+abbrev pub jump_on : Class → List (Class × ℕ) → Option ℕ
+jump_on class [] = None
+jump_on class (jump ∷ jumps) = if class_index class == class_index jump.0 then Some jump.1 else jump_on class jumps
+
+abbrev pub place_of_label : Option Label → Option ℕ
+place_of_label None = None
+place_of_label (Some label) = Some label.place
+
+-- the place of the label with this index
+abbrev pub place_of : List Label → ℕ → Option ℕ
+place_of labels index = place_of_label (slice_get labels index)
+
+-- the place behind the step, or the label's
+abbrev pub next_of : List Label → ℕ → Option ℕ → Option ℕ
+next_of labels p None = Some (p + 1)
+next_of labels p (Some label) = place_of labels label
+
+-- the variable behind the request, if there is one, takes the number of a hit or of a count
+abbrev pub taken : Option ℕ → Class → State → State
+taken None class st = st
+taken (Some variable) class st = if is_number_class class then bound variable st else st
+
+-- ---- runs
+
+-- these answers lead from one place and state to another
+pub data IsScriptRun (labels : List Label) (steps : List Step) : ℕ → State → List Answer → ℕ → State → Type 0 where
+  rests : {p : ℕ} {st : State} → IsScriptRun labels steps p st [] p st
+  binds : {p r variable : ℕ} {st st' : State} {answers : List Answer} → slice_get steps p ≡ Some (step.Bind variable)
+      → IsScriptRun labels steps (p + 1) (bound variable st) answers r st' → IsScriptRun labels steps p st answers r st'
+  goes : {p q r label : ℕ} {st st' : State} {answers : List Answer} → slice_get steps p ≡ Some (step.Goto label)
+      → place_of labels label ≡ Some q → IsScriptRun labels steps q st answers r st' → IsScriptRun labels steps p st answers r st'
+  sends : {p q r : ℕ} {st st' : State} {answers : List Answer} {t : Template} {jumps : List (Class × ℕ)} {bind : Option ℕ} {reply : Reply}
+      → slice_get steps p ≡ Some (step.Send t jumps bind) → is_fit_for t.verb reply ≡ true
+      → next_of labels p (jump_on (class_of reply) jumps) ≡ Some q
+      → IsScriptRun labels steps q (taken bind (class_of reply) (answered t reply st)) answers r st'
+      → IsScriptRun labels steps p st ((t, reply) ∷ answers) r st'
+
+-- what the section meets at a step, if anything; it is done behind its last step
+abbrev pub met_at_step : Option Step → State → Option Meeting
+met_at_step None st = Some ended
+met_at_step (Some (step.Send t jumps bind)) st = Some (sending t st)
+met_at_step (Some (step.Bind variable)) st = binding variable st
+met_at_step (Some (step.Goto label)) st = None
+met_at_step (Some step.Halt) st = Some ended
+
+-- with these variables at its start, and after these answers, the section of the script meets this in this state
+abbrev pub ScriptDoes : Script → Actor → List Tagged → List Answer → State → Meeting → Type 0
+ScriptDoes s actor variables answers st meeting =
+    (p : ℕ) × IsScriptRun (all_labels s actor) (all_steps s actor) 0 (begun variables) answers p st
+    × (met_at_step (slice_get (all_steps s actor) p) st ≡ Some meeting)

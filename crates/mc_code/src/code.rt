@@ -1,0 +1,111 @@
+ghost use Rattle.std.specs.Prelude.{◌≡◌, ◌<◌, length, IfOk};
+ghost use Rattle.mc_code.specs.Code as spec;
+ghost use Rattle.mc_code.specs.Requests as requests;
+
+use crate::{Call, Instr};
+use mc_protocol::{Actor, Bytes, OutOfMemory, Request};
+use mc_script::{Budget, Template};
+use std::alloc::{AllocError, Global};
+use std::marker::Model;
+
+/// One section: what it may send at most, and its instructions. Contracts see the vector as a list.
+#[derive(Debug, Drop)]
+pub(crate) struct Section {
+    pub(crate) budget: Budget,
+    pub(crate) instructions: Vec<Instr>,
+}
+
+impl Model for Section {
+    ghost use Rattle.mc_code.specs.Code as spec;
+
+    ghost Value = { spec.Section };
+
+    ghost view = { λ s. record { budget = s.budget; instructions = s.instructions.items } };
+}
+
+/// Code: keys, how many flags and variables there are, templates, and three sections of instructions. Contracts see its
+/// parts as lists. Where the instructions lead, and which templates and variables they name, isn't looked at.
+#[derive(Debug, Drop)]
+pub struct Code {
+    pub(crate) keys: Vec<Bytes>,
+    pub(crate) flags: u8,
+    pub(crate) vars: u8,
+    pub(crate) templates: Vec<Template>,
+    pub(crate) p: Section,
+    pub(crate) a: Section,
+    pub(crate) b: Section,
+}
+
+impl Model for Code {
+    ghost use Rattle.mc_code.specs.Code as spec;
+
+    ghost Value = { spec.Code };
+
+    ghost view = { λ c. record { keys = c.keys.items; flags = c.flags; vars = c.vars; templates = c.templates.items; p = c.p; a = c.a; b = c.b } };
+
+    ghost invariant = { λ c. spec.IsCode (record { keys = c.keys.items; flags = c.flags; vars = c.vars; templates = c.templates.items; p = c.p; a = c.a; b = c.b }) };
+}
+
+impl Code {
+    /// The keys, in the order of their declaration.
+    pub fn keys(&self) -> &[Bytes]
+        ensures keys { result.now ≡ self.now.keys }
+        ensures kept { spec.IsCode self.now }
+    {
+        self.keys.as_slice()
+    }
+
+    /// How many flags there are.
+    pub fn flags(&self) -> usize
+        ensures { result ≡ self.now.flags }
+    {
+        self.flags as usize
+    }
+
+    /// How many variables there are.
+    pub fn vars(&self) -> usize
+        ensures { result ≡ self.now.vars }
+    {
+        self.vars as usize
+    }
+
+    /// What a section may send at most.
+    pub fn budget(&self, actor: Actor) -> Budget
+        ensures { result ≡ (spec.section_of self.now actor).budget }
+    {
+        self.part(actor).budget
+    }
+
+    /// The templates of the requests.
+    pub fn templates(&self) -> &[Template]
+        ensures templates { result.now ≡ self.now.templates }
+        ensures kept { spec.IsCode self.now }
+    {
+        self.templates.as_slice()
+    }
+
+    /// A section's instructions.
+    pub fn section(&self, actor: Actor) -> &[Instr]
+        ensures { result.now ≡ (spec.section_of self.now actor).instructions }
+    {
+        self.part(actor).instructions.as_slice()
+    }
+
+    /// The request of a call: the template's, with the call's number.
+    pub fn request(&self, alloc: Global, call: Call) -> Result<Request, OutOfMemory>
+        requires { call.template < length self.now.templates }
+        ensures { IfOk result (requests.IsRequest self.now call) }
+    {
+        Err(AllocError)
+    }
+
+    fn part(&self, actor: Actor) -> &Section
+        ensures { result.now ≡ spec.section_of self.now actor }
+    {
+        match actor {
+            Actor::P => &self.p,
+            Actor::A => &self.a,
+            Actor::B => &self.b,
+        }
+    }
+}

@@ -1,0 +1,97 @@
+//! Why a script has no code, and why bytes are no image.
+ghost use Rattle.std.specs.Prelude.{◌≡◌};
+
+use mc_protocol::Actor;
+use std::alloc::{AllocError, AllocFailed};
+use thiserror::Error;
+
+/// Why a script isn't assembled.
+#[derive(Clone, Copy, Debug, Drop, PartialEq, Eq, Error)]
+pub enum AsmFault {
+    /// The keys and the requests of all sections need more than 64 templates.
+    #[error("expected at most 64 templates: one for each key, and one for each request")]
+    TooManyTemplates,
+    /// This section, the first such, needs more than 64 instructions. Where there are too many templates, that is told.
+    #[error("expected at most 64 instructions in a section")]
+    TooManyInstructions(Actor),
+    #[error("out of memory")]
+    OutOfMemory,
+}
+
+impl From<AllocError> for AsmFault {
+    ghost use Rattle.mc_code.specs.declared.fault.AsmFault.TheVariants.{OutOfMemory};
+
+    ghost from_gives = { λ _ e. e ≡ OutOfMemory };
+
+    fn from(_e: AllocError) -> AsmFault {
+        AsmFault::OutOfMemory
+    }
+}
+
+impl<T: Drop> From<AllocFailed<T>> for AsmFault {
+    ghost use Rattle.mc_code.specs.declared.fault.AsmFault.TheVariants.{OutOfMemory};
+
+    ghost from_gives = { λ _ e. e ≡ OutOfMemory };
+
+    fn from(_e: AllocFailed<T>) -> AsmFault {
+        AsmFault::OutOfMemory
+    }
+}
+
+/// Why bytes are no image.
+#[derive(Clone, Copy, Debug, Drop, PartialEq, Eq, Error)]
+pub enum ImageKind {
+    #[error("expected the bytes `MCR1`")]
+    Magic,
+    #[error("expected more bytes")]
+    Short,
+    #[error("expected a number within its limits, or a key that is new and has 1 to 40 bytes `a` to `z`, `0` to `9`, `-`")]
+    Range,
+    #[error("expected a template whose verb has these fields, and whose key, variable and flags are there")]
+    Template,
+    #[error("expected no more bytes")]
+    Extra,
+    #[error("out of memory")]
+    OutOfMemory,
+}
+
+/// Why bytes are no image, and the offset of the first byte of the first faulty field; 0 where memory ran out.
+#[derive(Clone, Copy, Debug, Drop, PartialEq, Eq, Error)]
+#[error("byte {offset}: {kind}")]
+pub struct ImageFault {
+    pub kind: ImageKind,
+    pub offset: usize,
+}
+
+impl ImageFault {
+    pub(crate) fn out_of_memory() -> Self
+        ensures { result.kind ≡ ImageKind.OutOfMemory }
+    {
+        ImageFault {
+            kind: ImageKind::OutOfMemory,
+            offset: 0,
+        }
+    }
+}
+
+impl From<AllocError> for ImageFault {
+    ghost use Rattle.std.specs.Prelude.{◌≡◌};
+    ghost use Rattle.mc_code.specs.declared.fault.ImageKind.TheVariants.{OutOfMemory};
+
+    ghost from_gives = { λ _ e. e.kind ≡ OutOfMemory };
+
+    fn from(_e: AllocError) -> ImageFault {
+        ImageFault::out_of_memory()
+    }
+}
+
+impl<T: Drop> From<AllocFailed<T>> for ImageFault {
+    ghost use Rattle.std.specs.Prelude.{◌≡◌};
+    ghost use Rattle.mc_code.specs.declared.fault.ImageKind.TheVariants.{OutOfMemory};
+
+    ghost from_gives = { λ _ e. e.kind ≡ OutOfMemory };
+
+    fn from(_e: AllocFailed<T>) -> ImageFault {
+        ImageFault::out_of_memory()
+    }
+}

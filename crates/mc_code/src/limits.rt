@@ -1,0 +1,11 @@
+/// The most templates of a code.
+pub const TEMPLATES_LIMIT: usize = 64;
+
+/// The most instructions of a section.
+pub const INSTRUCTIONS_LIMIT: usize = 64;
+
+/// How many classes of replies there are: a send has an entry for each.
+pub const CLASS_COUNT: usize = 10;
+
+/// The entry of a send for a class that its verb is never answered with.
+pub const NO_ENTRY: u8 = 255;
