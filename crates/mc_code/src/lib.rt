@@ -12,6 +12,7 @@ mod image_writer;
 mod instr;
 mod kind;
 mod limits;
+mod run_laws;
 
 pub use assembler::assemble;
 pub use code::Code;
@@ -21,3 +22,4 @@ pub use image_writer::encode;
 pub use instr::{Call, Instr};
 pub use kind::Kind;
 pub use limits::{CLASS_COUNT, INSTRUCTIONS_LIMIT, NO_ENTRY, TEMPLATES_LIMIT};
+pub use run_laws::{codes_agree, runs_are_paths};
