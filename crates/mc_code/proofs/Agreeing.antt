@@ -3,7 +3,7 @@ use Rattle.mc_script.specs.Script.{Script}
 use Rattle.mc_script.specs.WellFormed.{IsScript}
 use Rattle.mc_code.specs.Agreement.{Agrees}
 use Rattle.mc_code.specs.Layout.{code_of}
-use Rattle.mc_code.proofs.LookUps.{behind_steps}
+use Rattle.mc_code.proofs.Forwards.{forwards}
 
 -- the layout of a script does what the script does
 pub code_agrees : (s : Script) → IsScript s → Agrees s (code_of s)

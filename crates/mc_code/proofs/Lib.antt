@@ -1,3 +1,5 @@
 pub mod RunLemmas
 pub mod LookUps
+pub mod StepFacts
+pub mod Forwards
 pub mod Agreeing
