@@ -2,4 +2,5 @@ pub mod RunLemmas
 pub mod LookUps
 pub mod StepFacts
 pub mod Forwards
+pub mod Backwards
 pub mod Agreeing
