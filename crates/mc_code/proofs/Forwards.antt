@@ -1,5 +1,5 @@
 -- A run of a script is one of its code.
-use Rattle.std.proofs.Common.{◌≡◌, ℕ, ◌+◌, Bool, true, false, Option, Some, None, List, [], ◌∷◌, slice_get, refl, ap, sym, subst, ◌∙◌, if◌then◌else◌, arith}
+use Rattle.std.proofs.Common.{◌≡◌, ℕ, ◌+◌, Bool, true, false, Option, Some, None, List, ◌∷◌, slice_get, refl, sym, subst, if◌then◌else◌, arith}
 use Rattle.mc_protocol.specs.Legal.{class_of}
 use Rattle.mc_protocol.specs.declared.reply.Class.{Class}
 use Rattle.mc_protocol.specs.declared.reply.Reply.{Reply}
@@ -8,7 +8,6 @@ use Rattle.mc_script.specs.declared.step.Step.{Step}
 use Rattle.mc_script.specs.declared.step.Step.TheVariants as step
 use Rattle.mc_script.specs.declared.step.Template.{Template}
 use Rattle.mc_script.specs.WellFormed.{is_number_class}
-use Rattle.mc_code.specs.declared.instr.Instr.{Instr}
 use Rattle.mc_code.specs.declared.instr.Instr.TheVariants as instr
 use Rattle.mc_code.specs.Layout.{code_place, label_place, entry_for, entries}
 use Rattle.mc_code.specs.Runs.{Answer, is_fit_for, IsRun}

@@ -1,6 +1,5 @@
 -- Runs of code.
-use Rattle.std.proofs.Common.{◌≡◌, ℕ, Bool, true, false, ◌&&◌, List, [], ◌∷◌, ◌++◌, refl, ap, sym, subst}
-use Rattle.mc_protocol.specs.Legal.{class_of, is_legal, suits}
+use Rattle.std.proofs.Common.{ℕ, List}
 use Rattle.mc_script.specs.declared.step.Template.{Template}
 use Rattle.mc_code.specs.declared.instr.Instr.{Instr}
 use Rattle.mc_code.specs.Paths.{IsPath}
