@@ -1,4 +1,7 @@
+pub mod PathLemmas
 pub mod RunLemmas
+pub mod Merges
+pub mod MergedPaths
 pub mod LookUps
 pub mod StepFacts
 pub mod Forwards

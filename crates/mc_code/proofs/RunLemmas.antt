@@ -1,4 +1,6 @@
 -- Runs of code.
+use Rattle.mc_code.proofs.MergedPaths.{kept_by_merge}
+use Rattle.mc_code.proofs.Merges.{merge_map}
 use Rattle.std.proofs.Common.{ℕ, List}
 use Rattle.mc_script.specs.declared.step.Template.{Template}
 use Rattle.mc_code.specs.declared.instr.Instr.{Instr}
