@@ -1,5 +1,5 @@
 -- Merges: of longer lists, of the results of a function, and the other way round.
-use Rattle.std.proofs.Common.{◌≡◌, List, [], ◌∷◌, ◌++◌, map, refl}
+use Rattle.std.proofs.Common.{List, [], ◌∷◌, ◌++◌, map}
 use Rattle.mc_protocol.specs.Merge.{IsMerge, none, left, right}
 
 -- an item behind the left list
