@@ -2,6 +2,7 @@ pub mod PathLemmas
 pub mod RunLemmas
 pub mod Merges
 pub mod MergedPaths
+pub mod Stopping
 pub mod LookUps
 pub mod StepFacts
 pub mod Forwards

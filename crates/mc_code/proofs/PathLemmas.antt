@@ -82,6 +82,15 @@ path_first templates section turn turns (sends {p = p} {q = q} {r = r} {turns = 
       more = subst (λ l. IsPath templates section q l r) rest path;
     }
 
+-- a path of two parts goes by a place in between
+pub path_split : (templates : List Template) (section : List Instr) (xs ys : List Turn) → {p r : ℕ} → IsPath templates section p (xs ++ ys) r
+    → (q : ℕ) × IsPath templates section p xs q × IsPath templates section q ys r
+path_split templates section [] ys {p = p} is_path = (p, stays, is_path)
+path_split templates section (x ∷ xs) ys is_path =
+    let begins = path_first templates section x (xs ++ ys) is_path refl in
+    let rest = path_split templates section xs ys begins.more in
+    (rest.0, path_append begins.slides_there (sends begins.i begins.at begins.leads rest.1), rest.2)
+
 -- ---- the last move of a path
 
 -- a path to this place ends with a move from another, if it isn't empty

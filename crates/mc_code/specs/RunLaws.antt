@@ -1,5 +1,5 @@
 -- Laws of paths, runs and agreement, whatever the script and the code are.
-use Rattle.std.specs.Prelude.{◌≡◌, ℕ, List, map}
+use Rattle.std.specs.Prelude.{◌≡◌, ℕ, Bool, true, false, List, map}
 use Rattle.mc_protocol.specs.Legal.{class_of}
 use Rattle.mc_protocol.specs.declared.actor.Actor.{Actor}
 use Rattle.mc_script.specs.declared.step.Template.{Template}
@@ -11,7 +11,7 @@ use Rattle.mc_code.specs.Code.{Code, section_of}
 use Rattle.mc_code.specs.Layout.{code_of}
 use Rattle.mc_code.specs.Paths.{Turn, IsPath, IsComplete}
 use Rattle.mc_code.specs.Runs.{Answer, IsRun, Does}
-use Rattle.mc_code.specs.States.{Tagged, State, ended}
+use Rattle.mc_code.specs.States.{Tagged, State, Meeting, nothing_to_bind, ended}
 
 -- what was sent, and the class of its reply
 abbrev pub turn_of : Answer → Turn
@@ -35,6 +35,17 @@ PathsAreRuns = (templates : List Template) (section : List Instr) (p q : ℕ) (t
 abbrev pub EndsAreComplete : Type 0
 EndsAreComplete = (c : Code) (actor : Actor) (variables : List Tagged) (answers : List Answer) (st : State)
     → Does c actor variables answers st ended → IsComplete c.templates (section_of c actor).instructions (turns_of answers)
+
+-- the section goes no further without a reply: it goes on past a bind that was shown no number
+abbrev pub stops : Meeting → Bool
+stops (nothing_to_bind variable) = false
+stops _ = true
+
+-- after the same answers a section stops at one meeting, in one state
+abbrev pub StopsOnce : Type 0
+StopsOnce = (c : Code) (actor : Actor) (variables : List Tagged) (answers : List Answer) (st st' : State) (meeting meeting' : Meeting)
+    → Does c actor variables answers st meeting → Does c actor variables answers st' meeting' → stops meeting ≡ true → stops meeting' ≡ true
+    → (st ≡ st') × (meeting ≡ meeting')
 
 -- every script agrees with its layout
 abbrev pub CodesAgree : Type 0

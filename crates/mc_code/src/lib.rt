@@ -22,4 +22,4 @@ pub use image_writer::encode;
 pub use instr::{Call, Instr};
 pub use kind::Kind;
 pub use limits::{CLASS_COUNT, INSTRUCTIONS_LIMIT, NO_ENTRY, TEMPLATES_LIMIT};
-pub use run_laws::{codes_agree, ends_are_complete, paths_are_runs, runs_are_paths};
+pub use run_laws::{codes_agree, ends_are_complete, paths_are_runs, runs_are_paths, sections_stop_once};

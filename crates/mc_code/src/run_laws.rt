@@ -1,5 +1,5 @@
 //! What follows from the definitions of paths, runs and agreement, whatever the code is.
-ghost use Rattle.mc_code.specs.RunLaws.{CodesAgree, EndsAreComplete, PathsAreRuns, RunsArePaths};
+ghost use Rattle.mc_code.specs.RunLaws.{CodesAgree, EndsAreComplete, PathsAreRuns, RunsArePaths, StopsOnce};
 
 /// What a run of code sends, and the classes of its replies, are a path of the code.
 pub fn runs_are_paths()
@@ -14,6 +14,11 @@ pub fn paths_are_runs()
 /// What a section sent that is done, and the classes of its replies, are a complete path.
 pub fn ends_are_complete()
     ensures { EndsAreComplete }
+{}
+
+/// After the same answers a section of code stops at the same meeting: where it is about to send, is done, or is wrong.
+pub fn sections_stop_once()
+    ensures { StopsOnce }
 {}
 
 /// Every script does the same as the code that it is laid out as.
