@@ -6,6 +6,7 @@
 
 mod assembler;
 mod code;
+mod example_laws;
 mod fault;
 mod image_reader;
 mod image_writer;
@@ -16,6 +17,7 @@ mod run_laws;
 
 pub use assembler::assemble;
 pub use code::Code;
+pub use example_laws::{counter_is_image, counter_is_laid_out, counter_meets, swap_is_laid_out, swap_meets};
 pub use fault::{AsmFault, ImageFault, ImageKind};
 pub use image_reader::decode;
 pub use image_writer::encode;
