@@ -1,5 +1,5 @@
 -- What the definitions say of two small scripts.
-use Rattle.std.proofs.Common.{refl}
+use Rattle.std.proofs.Common.{ℕ, List, [], ◌∷◌, refl}
 use Rattle.mc_code.specs.declared.instr.Instr.TheVariants as instr
 use Rattle.mc_code.specs.Examples.{CounterIsImage, CounterIsLaidOut, CounterMeets, SwapIsLaidOut, SwapMeets, after_count, after_delete, after_set}
 use Rattle.mc_code.specs.Runs as run
@@ -35,4 +35,22 @@ counter_meetings = record {
     (1, walk.sends refl refl refl walk.rests, refl),
     (1, run.sends (instr.Send 3 (after_count 1)) refl (refl, refl, refl) refl run.rests, refl),
   );
+}
+
+-- where a hit leads, and a miss
+abbrev after_read : List ℕ
+after_read = 255 ∷ 255 ∷ 255 ∷ 255 ∷ 1 ∷ 3 ∷ 255 ∷ 255 ∷ 255 ∷ 255 ∷ []
+
+pub swap_meetings : SwapMeets
+swap_meetings = record {
+  swapped = λ number. (
+    (1, walk.sends refl refl refl walk.rests, refl),
+    (2, run.sends (instr.Send 2 after_read) refl (refl, refl, refl) refl (run.slides (instr.Bind 0) refl refl run.rests), refl),
+  );
+  missed = (
+    (2, walk.sends refl refl refl walk.rests, refl),
+    (3, run.sends (instr.Send 2 after_read) refl (refl, refl, refl) refl run.rests, refl),
+  );
+  nothing_shown = ((0, walk.rests, refl), (0, run.rests, refl));
+  goes_on = ((1, walk.binds refl walk.rests, refl), (1, run.slides (instr.Bind 0) refl refl run.rests, refl));
 }
