@@ -1,3 +1,4 @@
+pub mod Fronts
 pub mod PathLemmas
 pub mod RunLemmas
 pub mod Merges

@@ -1,6 +1,9 @@
 -- Merges: of longer lists, of the results of a function, and the other way round.
-use Rattle.std.proofs.Common.{List, [], ◌∷◌, ◌++◌, map}
+use Rattle.std.proofs.Common.{◌≡◌, ◌+◌, ◌∙◌, List, [], ◌∷◌, ◌++◌, length, map, refl, ap, arith}
 use Rattle.mc_protocol.specs.Merge.{IsMerge, none, left, right}
+use Rattle.mc_code.proofs.Fronts.{head_is, rest_is}
+
+-- ---- longer lists
 
 -- an item behind the left list
 pub merge_left_end : {A : Type 0} {xs ys zs : List A} (x : A) → IsMerge xs ys zs → IsMerge (xs ++ x ∷ []) ys (zs ++ x ∷ [])
@@ -36,3 +39,23 @@ pub merge_map : {A B : Type 0} (f : A → B) {xs ys zs : List A} → IsMerge xs 
 merge_map f none = none
 merge_map f (left m) = left (merge_map f m)
 merge_map f (right m) = right (merge_map f m)
+
+pub merge_length : {A : Type 0} {xs ys zs : List A} → IsMerge xs ys zs → length zs ≡ length xs + length ys
+merge_length none = refl
+merge_length (left m) = let e = merge_length m in omega (arith, e)
+merge_length (right m) = let e = merge_length m in omega (arith, e)
+
+-- a merge of what the function makes of two lists is what it makes of a merge of them
+pub merge_unmap : {A B : Type 0} (f : A → B) (xs ys : List A) → {us vs ws : List B} → IsMerge us vs ws → map f xs ≡ us → map f ys ≡ vs
+    → (zs : List A) × IsMerge xs ys zs × (map f zs ≡ ws)
+merge_unmap f [] [] none e g = ([], none, refl)
+merge_unmap f [] (y ∷ ys) none e g = absurd (cc)
+merge_unmap f (x ∷ xs) ys none e g = absurd (cc)
+merge_unmap f [] ys (left m) e g = absurd (cc)
+merge_unmap f (x ∷ xs) ys (left {x = u} {xs = us} m) e g =
+    let rest = merge_unmap f xs ys m (rest_is (f x) u (map f xs) us e) g in
+    (x ∷ rest.0, left rest.1, ap (λ z. z ∷ map f rest.0) (head_is (f x) u (map f xs) us e) ∙ ap (λ l. u ∷ l) rest.2)
+merge_unmap f xs [] (right m) e g = absurd (cc)
+merge_unmap f xs (y ∷ ys) (right {y = v} {ys = vs} m) e g =
+    let rest = merge_unmap f xs ys m e (rest_is (f y) v (map f ys) vs g) in
+    (y ∷ rest.0, right rest.1, ap (λ z. z ∷ map f rest.0) (head_is (f y) v (map f ys) vs g) ∙ ap (λ l. v ∷ l) rest.2)

@@ -4,6 +4,7 @@ use Rattle.mc_protocol.specs.declared.reply.Class.{Class}
 use Rattle.mc_script.specs.declared.step.Template.{Template}
 use Rattle.mc_code.specs.declared.instr.Instr.{Instr}
 use Rattle.mc_code.specs.Paths.{Turn, Slides, Sends, IsPath, stays, slides, sends}
+use Rattle.mc_code.specs.RunLaws.{PathsSplit}
 
 -- ---- longer paths
 
@@ -90,6 +91,9 @@ path_split templates section (x ∷ xs) ys is_path =
     let begins = path_first templates section x (xs ++ ys) is_path refl in
     let rest = path_split templates section xs ys begins.more in
     (rest.0, path_append begins.slides_there (sends begins.i begins.at begins.leads rest.1), rest.2)
+
+pub paths_split : PathsSplit
+paths_split templates section xs ys p r = (path_split templates section xs ys, λ parts. path_append parts.1 parts.2)
 
 -- ---- the last move of a path
 

@@ -17,8 +17,9 @@ use Rattle.mc_code.specs.Code.{section_of}
 use Rattle.mc_code.specs.Paths.{Turn, Slides, Sends, IsPath, IsComplete}
 use Rattle.mc_code.specs.Paths as path
 use Rattle.mc_code.specs.Runs.{Answer, is_fit_for, slid, IsRun, rests, slides, sends, met_by_send, met_at}
-use Rattle.mc_code.specs.RunLaws.{turns_of, EndsAreComplete, PathsAreRuns}
-use Rattle.mc_code.specs.States.{Tagged, nothing, is_number, State, answered, call, wrong_kind, nothing_to_bind, ended, given, with_argument, sending, wanted_by, is_same}
+use Rattle.mc_code.specs.RunLaws.{turns_of, CompletePathsEnd, EndsAreComplete, PathsAreRuns}
+use Rattle.mc_code.specs.States.{Tagged, nothing, is_number, State, begun, answered, call, wrong_kind, nothing_to_bind, ended, given, with_argument, sending, wanted_by, is_same}
+use Rattle.mc_code.proofs.Fronts.{head_is, rest_is}
 
 -- ---- longer runs
 
@@ -42,6 +43,21 @@ pub run_sends : {templates : List Template} {section : List Instr} {p q r : ℕ}
 run_sends rests i t given at leads fit = sends i at leads fit rests
 run_sends (slides j here on run) i t given at leads fit = slides j here on (run_sends run i t given at leads fit)
 run_sends (sends j here on is_fit run) i t given at leads fit = sends j here on is_fit (run_sends run i t given at leads fit)
+
+-- a run by two lists of answers goes by a place and a state in between
+pub run_split : (templates : List Template) (section : List Instr) (xs ys : List Answer) → {p r : ℕ} {st end : State} {all : List Answer}
+    → IsRun templates section p st all r end → all ≡ xs ++ ys
+    → (q : ℕ) × (mid : State) × IsRun templates section p st xs q mid × IsRun templates section q mid ys r end
+run_split templates section [] ys {p = p} {r = r} {st = st} {end = end} run is =
+    (p, st, rests, subst (λ l. IsRun templates section p st l r end) is run)
+run_split templates section (x ∷ xs) ys rests is = absurd (cc)
+run_split templates section (x ∷ xs) ys (slides i at leads run) is =
+    let parts = run_split templates section (x ∷ xs) ys run is in
+    (parts.0, parts.1, slides i at leads parts.2, parts.3)
+run_split templates section (x ∷ xs) ys (sends {p = p} {st = st} {answers = answers} {t = t} {reply = r} i at leads fit run) is =
+    let parts = run_split templates section xs ys run (rest_is (t, r) x answers (xs ++ ys) is) in
+    let here = sends i at leads fit parts.2 in
+    (parts.0, parts.1, subst (λ x. IsRun templates section p st (x ∷ xs) parts.0 parts.1) (head_is (t, r) x answers (xs ++ ys) is) here, parts.3)
 
 -- ---- what holds along a run
 
@@ -200,3 +216,9 @@ ended_at_halt templates (Some instr.Halt) st met = refl
 pub ends_complete : EndsAreComplete
 ends_complete c actor variables answers st (p, run, met) =
     (p, run_path run, ended_at_halt c.templates (slice_get (section_of c actor).instructions p) st met)
+
+pub complete_ends : CompletePathsEnd
+complete_ends c actor variables turns (p, is_path, halt) =
+    let section = (section_of c actor).instructions in
+    let run : AreOfRun c.templates section 0 (begun variables) turns p = path_run c.templates section 0 is_path (begun variables) in
+    (run.0, run.1, (p, run.2, ap (λ o. met_at c.templates o run.1) halt), run.3)

@@ -11,6 +11,7 @@ use Rattle.mc_code.specs.Paths.{Slides, Sends}
 use Rattle.mc_code.specs.Runs.{Answer, is_fit_for, slid, IsRun, rests, slides, sends, met_at}
 use Rattle.mc_code.specs.RunLaws.{stops, StopsOnce}
 use Rattle.mc_code.specs.States.{State, answered, begun, Meeting, nothing_to_bind, is_number}
+use Rattle.mc_code.proofs.Fronts.{head_is, rest_is}
 use Rattle.mc_code.proofs.LookUps.{some_is}
 
 -- no instruction leads on from the place without a reply
@@ -68,12 +69,6 @@ run_begins (slides {q = q} i at leads run) = slid_first i q at leads run
 run_begins (sends {q = q} {answers = answers} {t = t} {reply = given} i at leads fit run) = sent_first i q t given answers at leads fit run refl
 
 -- ---- two runs
-
-head_is : (x y : Answer) (xs ys : List Answer) → x ∷ xs ≡ y ∷ ys → x ≡ y
-head_is x y xs ys e = cc
-
-rest_is : (x y : Answer) (xs ys : List Answer) → x ∷ xs ≡ y ∷ ys → xs ≡ ys
-rest_is x y xs ys e = cc
 
 -- the same place and state
 abbrev IsSame : ℕ → ℕ → State → State → Type 0

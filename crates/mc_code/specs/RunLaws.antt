@@ -1,5 +1,5 @@
 -- Laws of paths, runs and agreement, whatever the script and the code are.
-use Rattle.std.specs.Prelude.{◌≡◌, ℕ, Bool, true, false, List, map}
+use Rattle.std.specs.Prelude.{◌≡◌, ◌↔◌, ℕ, Bool, true, false, List, ◌++◌, map}
 use Rattle.mc_protocol.specs.Legal.{class_of}
 use Rattle.mc_protocol.specs.declared.actor.Actor.{Actor}
 use Rattle.mc_script.specs.declared.step.Template.{Template}
@@ -20,6 +20,11 @@ turn_of (template, reply) = (template, class_of reply)
 abbrev pub turns_of : List Answer → List Turn
 turns_of answers = map turn_of answers
 
+-- a path of two parts goes by a place in between
+abbrev pub PathsSplit : Type 0
+PathsSplit = (templates : List Template) (section : List Instr) (xs ys : List Turn) (p r : ℕ)
+    → IsPath templates section p (xs ++ ys) r ↔ ((q : ℕ) × IsPath templates section p xs q × IsPath templates section q ys r)
+
 -- the turns of a run are a path
 abbrev pub RunsArePaths : Type 0
 RunsArePaths = (templates : List Template) (section : List Instr) (p q : ℕ) (st st' : State) (answers : List Answer)
@@ -35,6 +40,12 @@ PathsAreRuns = (templates : List Template) (section : List Instr) (p q : ℕ) (t
 abbrev pub EndsAreComplete : Type 0
 EndsAreComplete = (c : Code) (actor : Actor) (variables : List Tagged) (answers : List Answer) (st : State)
     → Does c actor variables answers st ended → IsComplete c.templates (section_of c actor).instructions (turns_of answers)
+
+-- behind each complete path some section is done, whatever its variables were at its start
+abbrev pub CompletePathsEnd : Type 0
+CompletePathsEnd = (c : Code) (actor : Actor) (variables : List Tagged) (turns : List Turn)
+    → IsComplete c.templates (section_of c actor).instructions turns
+    → (answers : List Answer) × (st : State) × Does c actor variables answers st ended × (turns_of answers ≡ turns)
 
 -- the section goes no further without a reply: it goes on past a bind that was shown no number
 abbrev pub stops : Meeting → Bool

@@ -24,4 +24,6 @@ pub use image_writer::encode;
 pub use instr::{Call, Instr};
 pub use kind::Kind;
 pub use limits::{CLASS_COUNT, INSTRUCTIONS_LIMIT, NO_ENTRY, TEMPLATES_LIMIT};
-pub use run_laws::{codes_agree, ends_are_complete, paths_are_runs, runs_are_paths, sections_stop_once};
+pub use run_laws::{
+    codes_agree, complete_paths_end, ends_are_complete, paths_are_runs, paths_split, runs_are_paths, sections_stop_once,
+};
