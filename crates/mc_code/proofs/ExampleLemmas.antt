@@ -26,7 +26,7 @@ counter_meetings = record {
     (
       2,
       run.sends (instr.Send 0 (after_delete 1)) refl (refl, refl, refl) refl
-      (run.sends (instr.Send 1 (after_set 2)) refl (refl, refl, refl) refl run.rests),
+          (run.sends (instr.Send 1 (after_set 2)) refl (refl, refl, refl) refl run.rests),
       refl,
     ),
   );

@@ -1,5 +1,5 @@
 -- Two runs by the same answers that stop are at one place, in one state.
-use Rattle.std.proofs.Common.{◌≡◌, ℕ, Bool, true, false, Option, Some, None, List, [], ◌∷◌, slice_get, refl, ap, sym, subst, ◌∙◌, if◌then◌else◌}
+use Rattle.std.proofs.Common.{◌≡◌, ℕ, Bool, true, false, Some, None, List, [], ◌∷◌, slice_get, refl, ap, sym, subst, ◌∙◌, if◌then◌else◌}
 use Rattle.mc_protocol.specs.Legal.{class_of}
 use Rattle.mc_protocol.specs.declared.reply.Class.{Class}
 use Rattle.mc_protocol.specs.declared.reply.Reply.{Reply}
@@ -10,7 +10,7 @@ use Rattle.mc_code.specs.Code.{section_of}
 use Rattle.mc_code.specs.Paths.{Slides, Sends}
 use Rattle.mc_code.specs.Runs.{Answer, is_fit_for, slid, IsRun, rests, slides, sends, met_at}
 use Rattle.mc_code.specs.RunLaws.{stops, StopsOnce}
-use Rattle.mc_code.specs.States.{State, answered, begun, Meeting, nothing_to_bind, is_number}
+use Rattle.mc_code.specs.States.{State, answered, Meeting, nothing_to_bind, is_number}
 use Rattle.mc_code.proofs.Fronts.{head_is, rest_is}
 use Rattle.mc_code.proofs.LookUps.{some_is}
 

@@ -1,5 +1,5 @@
 -- Two small scripts: how their code is laid out, and what it meets.
-use Rattle.std.specs.Prelude.{◌≡◌, ℕ, Option, Some, None, List, [], ◌∷◌, ◌++◌, length, take, drop, replicate, codes}
+use Rattle.std.specs.Prelude.{◌≡◌, ℕ, Some, None, List, [], ◌∷◌, ◌++◌, length, take, drop, codes}
 use Rattle.mc_protocol.specs.declared.actor.Actor.{Actor}
 use Rattle.mc_protocol.specs.declared.actor.Actor.TheVariants as actor
 use Rattle.mc_protocol.specs.declared.request.Verb.{Verb}
@@ -7,21 +7,19 @@ use Rattle.mc_protocol.specs.declared.request.Verb.TheVariants as verb
 use Rattle.mc_protocol.specs.declared.reply.Class.TheVariants as class
 use Rattle.mc_protocol.specs.declared.reply.Reply.{Reply}
 use Rattle.mc_protocol.specs.declared.reply.Reply.TheVariants as reply
-use Rattle.mc_script.specs.declared.section.Budget.{Budget}
 use Rattle.mc_script.specs.declared.step.Argument.{Argument}
 use Rattle.mc_script.specs.declared.step.Argument.TheVariants as argument
 use Rattle.mc_script.specs.declared.step.Step.{Step}
 use Rattle.mc_script.specs.declared.step.Step.TheVariants as step
 use Rattle.mc_script.specs.declared.step.Template.{Template}
 use Rattle.mc_script.specs.Script.{Section, Script}
-use Rattle.mc_code.specs.declared.instr.Instr.{Instr}
 use Rattle.mc_code.specs.declared.instr.Instr.TheVariants as instr
 use Rattle.mc_code.specs.declared.kind.Kind.TheVariants as kind
 use Rattle.mc_code.specs.Image.{image_of}
 use Rattle.mc_code.specs.Layout.{templates_of, instructions_of, code_of}
 use Rattle.mc_code.specs.Runs.{Answer, Does}
 use Rattle.mc_code.specs.ScriptRuns.{clearing, ScriptDoes}
-use Rattle.mc_code.specs.States.{Tagged, nothing, State, begun, Meeting, call, unbound, nothing_to_bind, ended}
+use Rattle.mc_code.specs.States.{Tagged, nothing, State, begun, Meeting, call, nothing_to_bind, ended}
 
 -- a request on the first key, with no flags
 abbrev pub request : Verb → Argument → List ℕ → Template

@@ -17,7 +17,9 @@ mod run_laws;
 
 pub use assembler::assemble;
 pub use code::Code;
-pub use example_laws::{counter_is_image, counter_is_laid_out, counter_meets, swap_is_laid_out, swap_meets};
+pub use example_laws::{
+    counter_is_image, counter_is_laid_out, counter_meets, swap_is_laid_out, swap_meets,
+};
 pub use fault::{AsmFault, ImageFault, ImageKind};
 pub use image_reader::decode;
 pub use image_writer::encode;
@@ -25,5 +27,6 @@ pub use instr::{Call, Instr};
 pub use kind::Kind;
 pub use limits::{CLASS_COUNT, INSTRUCTIONS_LIMIT, NO_ENTRY, TEMPLATES_LIMIT};
 pub use run_laws::{
-    codes_agree, complete_paths_end, ends_are_complete, paths_are_runs, paths_split, runs_are_paths, sections_stop_once,
+    codes_agree, complete_paths_end, ends_are_complete, paths_are_runs, paths_split,
+    runs_are_paths, sections_stop_once,
 };

@@ -1,4 +1,3 @@
-use Rattle.mc_code.proofs.Merges.{merge_unmap}
 use Rattle.mc_code.proofs.PathLemmas.{paths_split}
 use Rattle.mc_code.proofs.run_laws.paths_split.Goals as goal
 

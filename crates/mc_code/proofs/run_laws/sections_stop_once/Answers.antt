@@ -1,4 +1,3 @@
-use Rattle.mc_code.proofs.MergedPaths.{kept_by_merge}
 use Rattle.mc_code.proofs.Stopping.{stop_once}
 use Rattle.mc_code.proofs.run_laws.sections_stop_once.Goals as goal
 
