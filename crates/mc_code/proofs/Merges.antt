@@ -1,7 +1,7 @@
 -- Merges: of longer lists, of the results of a function, and the other way round.
 use Rattle.std.proofs.Common.{◌≡◌, ◌+◌, ◌∙◌, List, [], ◌∷◌, ◌++◌, length, map, refl, ap, arith}
 use Rattle.mc_protocol.specs.Merge.{IsMerge, none, left, right}
-use Rattle.mc_code.proofs.Fronts.{head_is, rest_is}
+use Rattle.mc_code.proofs.FirstItems.{head_is, rest_is}
 
 -- ---- longer lists
 

@@ -19,7 +19,7 @@ use Rattle.mc_code.specs.Paths as path
 use Rattle.mc_code.specs.Runs.{Answer, is_fit_for, slid, IsRun, rests, slides, sends, met_by_send, met_at}
 use Rattle.mc_code.specs.RunLaws.{turns_of, CompletePathsEnd, EndsAreComplete, PathsAreRuns}
 use Rattle.mc_code.specs.States.{Tagged, nothing, is_number, State, begun, answered, call, wrong_kind, nothing_to_bind, ended, given, with_argument, sending, wanted_by, is_same}
-use Rattle.mc_code.proofs.Fronts.{head_is, rest_is}
+use Rattle.mc_code.proofs.FirstItems.{head_is, rest_is}
 
 -- ---- longer runs
 

@@ -11,7 +11,7 @@ use Rattle.mc_code.specs.Paths.{Slides, Sends}
 use Rattle.mc_code.specs.Runs.{Answer, is_fit_for, slid, IsRun, rests, slides, sends, met_at}
 use Rattle.mc_code.specs.RunLaws.{stops, StopsOnce}
 use Rattle.mc_code.specs.States.{State, answered, Meeting, nothing_to_bind, is_number}
-use Rattle.mc_code.proofs.Fronts.{head_is, rest_is}
+use Rattle.mc_code.proofs.FirstItems.{head_is, rest_is}
 use Rattle.mc_code.proofs.LookUps.{some_is}
 
 -- no instruction leads on from the place without a reply

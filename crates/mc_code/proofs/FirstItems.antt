@@ -1,4 +1,4 @@
--- Lists with the same front.
+-- The first items of equal lists.
 use Rattle.std.proofs.Common.{◌≡◌, List, ◌∷◌}
 
 pub head_is : {A : Type 0} (x y : A) (xs ys : List A) → x ∷ xs ≡ y ∷ ys → x ≡ y
