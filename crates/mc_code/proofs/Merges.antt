@@ -1,5 +1,5 @@
 -- Merges: of longer lists, of the results of a function, and the other way round.
-use Rattle.std.proofs.Common.{◌≡◌, ◌+◌, ◌∙◌, List, [], ◌∷◌, ◌++◌, length, map, refl, ap, arith}
+use Rattle.std.proofs.Common.{◌≡◌, ◌+◌, ◌∙◌, List, [], ◌∷◌, ◌++◌, length, map, refl, ap, sym, subst, arith}
 use Rattle.mc_protocol.specs.Merge.{IsMerge, none, left, right}
 use Rattle.mc_code.proofs.FirstItems.{head_is, rest_is}
 
@@ -59,3 +59,76 @@ merge_unmap f xs [] (right m) e g = absurd (cc)
 merge_unmap f xs (y ∷ ys) (right {y = v} {ys = vs} m) e g =
     let rest = merge_unmap f xs ys m e (rest_is (f y) v (map f ys) vs g) in
     (y ∷ rest.0, right rest.1, ap (λ z. z ∷ map f rest.0) (head_is (f y) v (map f ys) vs g) ∙ ap (λ l. v ∷ l) rest.2)
+
+-- ---- parts of a merge
+
+-- a merge is empty, or ends with the last item of one of the lists
+pub data MergeEndsBy {A : Type 0} (xs ys zs : List A) : Type 0 where
+  empty : xs ≡ [] → ys ≡ [] → zs ≡ [] → MergeEndsBy xs ys zs
+  left_last : (us ws : List A) (x : A) → IsMerge us ys ws → us ++ x ∷ [] ≡ xs → ws ++ x ∷ [] ≡ zs → MergeEndsBy xs ys zs
+  right_last : (vs ws : List A) (y : A) → IsMerge xs vs ws → vs ++ y ∷ [] ≡ ys → ws ++ y ∷ [] ≡ zs → MergeEndsBy xs ys zs
+
+last_behind_left : {A : Type 0} (x : A) (xs ys zs : List A) → MergeEndsBy xs ys zs → MergeEndsBy (x ∷ xs) ys (x ∷ zs)
+last_behind_left x xs ys zs (empty e f g) =
+    left_last [] [] x (subst (λ ys. IsMerge [] ys []) (sym f) none) (ap (λ l. x ∷ l) (sym e)) (ap (λ l. x ∷ l) (sym g))
+last_behind_left x xs ys zs (left_last us ws u m e f) = left_last (x ∷ us) (x ∷ ws) u (left m) (ap (λ l. x ∷ l) e) (ap (λ l. x ∷ l) f)
+last_behind_left x xs ys zs (right_last vs ws v m e f) = right_last vs (x ∷ ws) v (left m) e (ap (λ l. x ∷ l) f)
+
+last_behind_right : {A : Type 0} (y : A) (xs ys zs : List A) → MergeEndsBy xs ys zs → MergeEndsBy xs (y ∷ ys) (y ∷ zs)
+last_behind_right y xs ys zs (empty e f g) =
+    right_last [] [] y (subst (λ xs. IsMerge xs [] []) (sym e) none) (ap (λ l. y ∷ l) (sym f)) (ap (λ l. y ∷ l) (sym g))
+last_behind_right y xs ys zs (left_last us ws u m e f) = left_last us (y ∷ ws) u (right m) e (ap (λ l. y ∷ l) f)
+last_behind_right y xs ys zs (right_last vs ws v m e f) = right_last (y ∷ vs) (y ∷ ws) v (right m) (ap (λ l. y ∷ l) e) (ap (λ l. y ∷ l) f)
+
+pub merge_last : {A : Type 0} {xs ys zs : List A} → IsMerge xs ys zs → MergeEndsBy xs ys zs
+merge_last none = empty refl refl refl
+merge_last (left {x = x} {xs = xs} {ys = ys} {zs = zs} m) = last_behind_left x xs ys zs (merge_last m)
+merge_last (right {y = y} {xs = xs} {ys = ys} {zs = zs} m) = last_behind_right y xs ys zs (merge_last m)
+
+-- a merge of two parts: each list has two parts, and the parts of the merge are merges of theirs
+pub record IsMergeOfParts {A : Type 0} (xs ys zs ws : List A) : Type 0 where
+  pub xs_front : List A
+  pub xs_back : List A
+  pub ys_front : List A
+  pub ys_back : List A
+  pub xs_is : xs_front ++ xs_back ≡ xs
+  pub ys_is : ys_front ++ ys_back ≡ ys
+  pub front : IsMerge xs_front ys_front zs
+  pub back : IsMerge xs_back ys_back ws
+
+pub merge_split : {A : Type 0} (zs ws : List A) → {xs ys all : List A} → IsMerge xs ys all → all ≡ zs ++ ws → IsMergeOfParts xs ys zs ws
+merge_split [] ws {xs = xs} {ys = ys} m is = record {
+  xs_front = [];
+  xs_back = xs;
+  ys_front = [];
+  ys_back = ys;
+  xs_is = refl;
+  ys_is = refl;
+  front = none;
+  back = subst (IsMerge xs ys) is m;
+}
+merge_split (z ∷ zs) ws none is = absurd (cc)
+merge_split (z ∷ zs) ws (left {x = x} {zs = all} m) is =
+    let parts = merge_split zs ws m (rest_is x z all (zs ++ ws) is) in
+    record {
+      xs_front = x ∷ parts.xs_front;
+      xs_back = parts.xs_back;
+      ys_front = parts.ys_front;
+      ys_back = parts.ys_back;
+      xs_is = ap (λ l. x ∷ l) parts.xs_is;
+      ys_is = parts.ys_is;
+      front = subst (λ z. IsMerge (x ∷ parts.xs_front) parts.ys_front (z ∷ zs)) (head_is x z all (zs ++ ws) is) (left parts.front);
+      back = parts.back;
+    }
+merge_split (z ∷ zs) ws (right {y = y} {zs = all} m) is =
+    let parts = merge_split zs ws m (rest_is y z all (zs ++ ws) is) in
+    record {
+      xs_front = parts.xs_front;
+      xs_back = parts.xs_back;
+      ys_front = y ∷ parts.ys_front;
+      ys_back = parts.ys_back;
+      xs_is = parts.xs_is;
+      ys_is = ap (λ l. y ∷ l) parts.ys_is;
+      front = subst (λ z. IsMerge parts.xs_front (y ∷ parts.ys_front) (z ∷ zs)) (head_is y z all (zs ++ ws) is) (right parts.front);
+      back = parts.back;
+    }
