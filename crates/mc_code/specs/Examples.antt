@@ -67,16 +67,19 @@ counter = record {
   b = section 1 10 (send counts_up ∷ []);
 }
 
--- where a deletion's classes lead, a set's, and those of an increment
+-- where the classes of a deletion lead
 abbrev pub after_delete : ℕ → List ℕ
 after_delete place = 255 ∷ 255 ∷ 255 ∷ place ∷ 255 ∷ 255 ∷ place ∷ 255 ∷ 255 ∷ 255 ∷ []
 
+-- those of a set, and of a cas
 abbrev pub after_set : ℕ → List ℕ
 after_set place = place ∷ place ∷ place ∷ place ∷ 255 ∷ 255 ∷ 255 ∷ 255 ∷ 255 ∷ 255 ∷ []
 
+-- those of an increment
 abbrev pub after_count : ℕ → List ℕ
 after_count place = 255 ∷ 255 ∷ 255 ∷ place ∷ 255 ∷ 255 ∷ 255 ∷ 255 ∷ place ∷ place ∷ []
 
+-- one template for the key and one for each request; each request goes on to the next, and the last to the end
 pub record CounterIsLaidOut : Type 0 where
   pub templates : templates_of counter ≡ clearing 0 ∷ stores_five ∷ counts_up ∷ counts_up ∷ []
   pub p : instructions_of counter actor.P ≡ instr.Send 0 (after_delete 1) ∷ instr.Send 1 (after_set 2) ∷ instr.Halt ∷ []
@@ -93,11 +96,13 @@ counter_sections =
     (3 ∷ 0 ∷ 0 ∷ after_delete 1) ++ (0 ∷ 1 ∷ after_set 2) ++ (3 ∷ [])
     ++ (2 ∷ 0 ∷ 2 ∷ after_count 1) ++ (3 ∷ 2 ∷ 0 ∷ 3 ∷ after_count 1) ++ (3 ∷ [])
 
+-- how long the image is, and what stands before and behind the templates
 pub record CounterIsImage : Type 0 where
   pub size : length (image_of (code_of counter)) ≡ 202
   pub head : take 19 (image_of (code_of counter)) ≡ counter_head
   pub sections : drop 148 (image_of (code_of counter)) ≡ counter_sections
 
+-- what each section sends, and when it is done
 pub record CounterMeets : Type 0 where
   -- P deletes the key first
   pub clears : Meets counter actor.P [] [] (begun []) (call (clearing 0) 0)
@@ -144,10 +149,11 @@ pub record SwapIsLaidOut : Type 0 where
       ≡ instr.Send 2 (255 ∷ 255 ∷ 255 ∷ 255 ∷ 1 ∷ 3 ∷ 255 ∷ 255 ∷ 255 ∷ 255 ∷ []) ∷ instr.Bind 0 ∷ instr.Send 3 (after_set 3)
       ∷ instr.Halt ∷ []
 
--- the item's body, and its cas unique
+-- the item that P stored, with this cas unique
 abbrev pub hit : ℕ → Reply
 hit number = reply.Hit 0 (codes "5") (Some number)
 
+-- what A swaps with, where a miss leads, and what B meets that was shown nothing
 pub record SwapMeets : Type 0 where
   -- the cas has the number that the hit showed
   pub swapped : (number : ℕ) → Meets swap actor.A (nothing ∷ []) ((reads, hit number) ∷ [])

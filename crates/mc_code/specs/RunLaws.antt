@@ -17,6 +17,7 @@ use Rattle.mc_code.specs.States.{Tagged, State, Meeting, nothing_to_bind, ended}
 abbrev pub turn_of : Answer → Turn
 turn_of (template, reply) = (template, class_of reply)
 
+-- those of each answer
 abbrev pub turns_of : List Answer → List Turn
 turns_of answers = map turn_of answers
 

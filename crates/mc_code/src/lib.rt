@@ -1,7 +1,8 @@
 //! Code: the templates of a script's requests, and for each section the instructions that send them.
 //!
 //! Below it stand `mc_protocol` and `mc_script`. The crates above use what code is (`specs/Code.antt`), how a section of
-//! it runs (`specs/Paths.antt`, `specs/Runs.antt`), and that code agrees with its script (`specs/Agreement.antt`).
+//! it runs (`specs/Paths.antt`, `specs/Runs.antt`), and that code agrees with its script (`specs/Agreement.antt`). What
+//! follows from these stands in `specs/RunLaws.antt`, and what they say of two small scripts in `specs/Examples.antt`.
 #![tactic(auto)]
 
 mod assembler;
