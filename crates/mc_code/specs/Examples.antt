@@ -13,6 +13,7 @@ use Rattle.mc_script.specs.declared.step.Step.{Step}
 use Rattle.mc_script.specs.declared.step.Step.TheVariants as step
 use Rattle.mc_script.specs.declared.step.Template.{Template}
 use Rattle.mc_script.specs.Script.{Section, Script}
+use Rattle.mc_script.specs.WellFormed.{IsScript}
 use Rattle.mc_code.specs.declared.instr.Instr.TheVariants as instr
 use Rattle.mc_code.specs.declared.kind.Kind.TheVariants as kind
 use Rattle.mc_code.specs.Image.{image_of}
@@ -102,13 +103,14 @@ pub record CounterIsImage : Type 0 where
   pub head : take 19 (image_of (code_of counter)) ≡ counter_head
   pub sections : drop 148 (image_of (code_of counter)) ≡ counter_sections
 
--- what each section sends, and when it is done
+-- it is a script; what its sections send, and when they are done
 pub record CounterMeets : Type 0 where
+  pub script : IsScript counter
   -- P deletes the key first
   pub clears : Meets counter actor.P [] [] (begun []) (call (clearing 0) 0)
   -- then it stores 5
   pub stores : Meets counter actor.P [] ((clearing 0, reply.NotFound) ∷ []) (begun []) (call stores_five 0)
-  -- and is done, whatever it is answered
+  -- and is done, also where it stored nothing
   pub done : Meets counter actor.P [] ((clearing 0, reply.Deleted) ∷ (stores_five, reply.NotStored) ∷ []) (begun []) ended
   -- B counts up by 1
   pub counts : Meets counter actor.B [] [] (begun []) (call counts_up 1)
@@ -136,7 +138,7 @@ swap = record {
   names = record { keys = codes "a" ∷ []; flags = []; vars = codes "n" ∷ [] };
   p = section 2 26 (send stores_five ∷ []);
   a = record {
-    budget = record { requests = 2; bytes = 40 };
+    budget = record { requests = 2; bytes = 45 };
     steps = step.Send reads ((class.Miss, 0) ∷ []) (Some 0) ∷ send swaps ∷ [];
     labels = record { name = codes "out"; place = 2 } ∷ [];
   };
@@ -153,8 +155,9 @@ pub record SwapIsLaidOut : Type 0 where
 abbrev pub hit : ℕ → Reply
 hit number = reply.Hit 0 (codes "5") (Some number)
 
--- what A swaps with, where a miss leads, and what B meets that was shown nothing
+-- it is a script; what A swaps with, where a miss leads, and what B meets that was shown nothing
 pub record SwapMeets : Type 0 where
+  pub script : IsScript swap
   -- the cas has the number that the hit showed
   pub swapped : (number : ℕ) → Meets swap actor.A (nothing ∷ []) ((reads, hit number) ∷ [])
       (record { variables = (kind.Cas 0, number) ∷ []; last = (kind.Cas 0, number) }) (call swaps number)
