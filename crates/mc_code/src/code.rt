@@ -5,7 +5,7 @@ ghost use Rattle.mc_code.specs.Requests as requests;
 use crate::{Call, Instr};
 use mc_protocol::{Actor, Bytes, OutOfMemory, Request};
 use mc_script::{Budget, Template};
-use std::alloc::{AllocError, Global};
+use std::alloc::Global;
 use std::marker::Model;
 
 /// One section: what it may send at most, and its instructions. Contracts see the vector as a list.
@@ -96,7 +96,14 @@ impl Code {
         requires { call.template < length self.now.templates }
         ensures { IfOk result (requests.IsRequest self.now call) }
     {
-        Err(AllocError)
+        let template = &self.templates[usize::from(call.template)];
+        Ok(Request {
+            verb: template.verb,
+            key: self.keys[usize::from(template.key)].copy(alloc)?,
+            flags: template.flags,
+            body: template.body.copy(alloc)?,
+            number: call.number,
+        })
     }
 
     fn part(&self, actor: Actor) -> &Section
