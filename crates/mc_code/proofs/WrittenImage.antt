@@ -15,8 +15,8 @@ masks-pieces t = simp (append-nil, append_assoc)
 -- the pieces of a template, whose argument stands in two of them
 pub template-pieces : (t : Template) (sort number : ℕ) → sort ∷ to_be_bytes w64 number ≡ argument_bytes t.argument
     → (verb_index t.verb ∷ t.key ∷ []) ++ (to_be_bytes w32 t.flags ++ ((sort ∷ []) ++ (to_be_bytes w64 number ++ ((length t.body ∷ []) ++ (t.body
-        ++ (mask_bytes t.require_set ++ (mask_bytes t.require_clear ++ (mask_bytes t.sets ++ (mask_bytes t.clears ++ [])))))))))
-      ≡ template_bytes t
+    ++ (mask_bytes t.require_set ++ (mask_bytes t.require_clear ++ (mask_bytes t.sets ++ (mask_bytes t.clears ++ [])))))))))
+    ≡ template_bytes t
 template-pieces t sort number e =
     ap (λ front. verb_index t.verb ∷ t.key ∷ front)
     (ap (λ masks. to_be_bytes w32 t.flags ++ ((sort ∷ to_be_bytes w64 number) ++ (sized t.body ++ masks))) (masks-pieces t)
@@ -29,14 +29,14 @@ template-pieces t sort number e =
 -- lists behind a front, one by one and together
 in_a_row : (front m k : List ℕ) (f v : ℕ) (p a b t x y z : List ℕ)
     → (((((((((front ++ m) ++ k) ++ (f ∷ v ∷ [])) ++ p) ++ a) ++ b) ++ t) ++ x) ++ y) ++ z
-      ≡ front ++ ((m ++ k) ++ (f ∷ v ∷ ((((((p ++ a) ++ b) ++ t) ++ x) ++ y) ++ z)))
+    ≡ front ++ ((m ++ k) ++ (f ∷ v ∷ ((((((p ++ a) ++ b) ++ t) ++ x) ++ y) ++ z)))
 in_a_row front m k f v p a b t x y z = simp append_assoc
 
 -- the pieces of an image
 image-pieces : (front : List ℕ) (c : Code)
     → (((((((((front ++ magic) ++ counted sized c.keys) ++ (c.flags ∷ c.vars ∷ [])) ++ budget_bytes c.p.budget) ++ budget_bytes c.a.budget)
-        ++ budget_bytes c.b.budget) ++ counted template_bytes c.templates) ++ section_bytes c.p) ++ section_bytes c.a) ++ section_bytes c.b
-      ≡ front ++ image_of c
+    ++ budget_bytes c.b.budget) ++ counted template_bytes c.templates) ++ section_bytes c.p) ++ section_bytes c.a) ++ section_bytes c.b
+    ≡ front ++ image_of c
 image-pieces front c =
     in_a_row front magic (counted sized c.keys) c.flags c.vars (budget_bytes c.p.budget) (budget_bytes c.a.budget) (budget_bytes c.b.budget)
     (counted template_bytes c.templates) (section_bytes c.p) (section_bytes c.a) (section_bytes c.b)

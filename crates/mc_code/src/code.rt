@@ -23,8 +23,9 @@ impl Model for Section {
     ghost view = { λ s. record { budget = s.budget; instructions = s.instructions.items } };
 }
 
-/// Code: keys, how many flags and variables there are, templates, and three sections of instructions. Contracts see its
-/// parts as lists. Where the instructions lead, and which templates and variables they name, isn't looked at.
+/// Code: 1 to 8 keys, how many flags and variables there are (at most 32 and 16), at most 64 templates, and three
+/// sections of at most 64 instructions each. A template's key, flags and variable are there. Where the instructions lead,
+/// and which templates and variables they name, isn't looked at. Contracts see its parts as lists.
 #[derive(Debug, Drop)]
 pub struct Code {
     pub(crate) keys: Vec<Bytes>,
@@ -76,7 +77,7 @@ impl Code {
         self.part(actor).budget
     }
 
-    /// The templates of the requests.
+    /// The templates of the requests. Instructions and calls name them by index.
     pub fn templates(&self) -> &[Template]
         ensures templates { result.now ≡ self.now.templates }
         ensures kept { spec.IsCode self.now }
@@ -84,14 +85,15 @@ impl Code {
         self.templates.as_slice()
     }
 
-    /// A section's instructions.
+    /// A section's instructions. The first is where it begins.
     pub fn section(&self, actor: Actor) -> &[Instr]
         ensures { result.now ≡ (spec.section_of self.now actor).instructions }
     {
         self.part(actor).instructions.as_slice()
     }
 
-    /// The request of a call: the template's, with the call's number.
+    /// The request of a call: its template's, with the call's number. The template must be there. Its key and its body are
+    /// copied, and `OutOfMemory` comes where there is no memory for them.
     pub fn request(&self, alloc: Global, call: Call) -> Result<Request, OutOfMemory>
         requires { call.template < length self.now.templates }
         ensures { IfOk result (requests.IsRequest self.now call) }

@@ -41,7 +41,13 @@ fn makes_requests(rt: HostRuntime) -> Result<(), Fail> {
     let code = everything_code(alloc)?;
 
     // no number
-    let add = code.request(alloc, Call { template: 0, number: 0 })?;
+    let add = code.request(
+        alloc,
+        Call {
+            template: 0,
+            number: 0,
+        },
+    )?;
     assert_eq!(rt; add.verb, Verb::Add);
     assert!(rt; add.key.as_slice() == b"b-1".as_slice());
     assert_eq!(rt; add.flags, 4_294_967_295);
@@ -50,7 +56,13 @@ fn makes_requests(rt: HostRuntime) -> Result<(), Fail> {
 
     // the template's own number
     let number = 18_446_744_073_709_551_615;
-    let incr = code.request(alloc, Call { template: 2, number })?;
+    let incr = code.request(
+        alloc,
+        Call {
+            template: 2,
+            number,
+        },
+    )?;
     assert_eq!(rt; incr.verb, Verb::Incr);
     assert!(rt; incr.key.as_slice() == b"a".as_slice());
     assert_eq!(rt; incr.flags, 0);
@@ -58,7 +70,13 @@ fn makes_requests(rt: HostRuntime) -> Result<(), Fail> {
     assert_eq!(rt; incr.number, 18_446_744_073_709_551_615);
 
     // the number of a variable
-    let cas = code.request(alloc, Call { template: 1, number: 17 })?;
+    let cas = code.request(
+        alloc,
+        Call {
+            template: 1,
+            number: 17,
+        },
+    )?;
     assert_eq!(rt; cas.verb, Verb::Cas);
     assert!(rt; cas.key.as_slice() == b"a".as_slice());
     assert!(rt; cas.body.as_slice() == b"x".as_slice());
@@ -74,7 +92,12 @@ fn gives_its_parts(rt: HostRuntime) -> Result<(), Fail> {
     assert_eq!(rt; code.vars(), 16);
     assert_eq!(rt; code.budget(Actor::A).requests, 5);
     assert_eq!(rt; code.templates().len(), 5);
-    assert!(rt; matches!(code.section(Actor::P), [_, Instr::Bind(15), Instr::Goto(3), Instr::Halt]));
+    assert!(rt;
+        matches!(
+            code.section(Actor::P),
+            [_, Instr::Bind(15), Instr::Goto(3), Instr::Halt]
+        )
+    );
     assert!(rt; matches!(code.section(Actor::A), [Instr::Halt]));
     assert!(rt; code.section(Actor::B).is_empty());
     Ok(())

@@ -1,5 +1,5 @@
 // Codes for tests, and their images, written by hand.
-ghost use Rattle.std.specs.Prelude.{◌≡◌, IfOk};
+ghost use Rattle.std.specs.Prelude.{◌≡◌, length, IfOk};
 
 use crate::code::Section;
 use crate::{Code, Instr};
@@ -14,9 +14,23 @@ pub(crate) fn bytes(alloc: Global, text: &[u8]) -> Result<Bytes, OutOfMemory>
 }
 
 // A template of the key `a` with no flags and no marks.
-fn plain(alloc: Global, verb: Verb, argument: Argument, body: &[u8]) -> Result<Template, OutOfMemory>
-    ensures { IfOk result (λ t. t ≡ record { verb = verb; key = 0; flags = 0; argument = argument; body = body.now;
-        require_set = 0; require_clear = 0; sets = 0; clears = 0 }) }
+fn plain(
+    alloc: Global,
+    verb: Verb,
+    argument: Argument,
+    body: &[u8],
+) -> Result<Template, OutOfMemory>
+    ensures { IfOk result (λ t. t ≡ record {
+      verb = verb;
+      key = 0;
+      flags = 0;
+      argument = argument;
+      body = body.now;
+      require_set = 0;
+      require_clear = 0;
+      sets = 0;
+      clears = 0;
+    }) }
 {
     Ok(Template {
         verb,
@@ -93,16 +107,28 @@ pub(crate) fn counter_code(alloc: Global) -> Result<Code, OutOfMemory> {
         plain(alloc, Verb::Incr, Argument::Number(1), b"")?,
     ]?;
     let p = vec![in alloc;
-        Instr::Send { template: 0, next: [255, 255, 255, 1, 255, 255, 1, 255, 255, 255] },
-        Instr::Send { template: 1, next: [2, 2, 2, 2, 255, 255, 255, 255, 255, 255] },
+        Instr::Send {
+            template: 0,
+            next: [255, 255, 255, 1, 255, 255, 1, 255, 255, 255]
+        },
+        Instr::Send {
+            template: 1,
+            next: [2, 2, 2, 2, 255, 255, 255, 255, 255, 255]
+        },
         Instr::Halt,
     ]?;
     let a = vec![in alloc;
-        Instr::Send { template: 2, next: [255, 255, 255, 1, 255, 255, 255, 255, 1, 1] },
+        Instr::Send {
+            template: 2,
+            next: [255, 255, 255, 1, 255, 255, 255, 255, 1, 1]
+        },
         Instr::Halt,
     ]?;
     let b = vec![in alloc;
-        Instr::Send { template: 3, next: [255, 255, 255, 1, 255, 255, 255, 255, 1, 1] },
+        Instr::Send {
+            template: 3,
+            next: [255, 255, 255, 1, 255, 255, 255, 255, 1, 1]
+        },
         Instr::Halt,
     ]?;
     Ok(Code {
@@ -110,14 +136,34 @@ pub(crate) fn counter_code(alloc: Global) -> Result<Code, OutOfMemory> {
         flags: 0,
         vars: 0,
         templates,
-        p: Section { budget: Budget { requests: 2, bytes: 26 }, instructions: p },
-        a: Section { budget: Budget { requests: 1, bytes: 10 }, instructions: a },
-        b: Section { budget: Budget { requests: 1, bytes: 10 }, instructions: b },
+        p: Section {
+            budget: Budget {
+                requests: 2,
+                bytes: 26,
+            },
+            instructions: p,
+        },
+        a: Section {
+            budget: Budget {
+                requests: 1,
+                bytes: 10,
+            },
+            instructions: a,
+        },
+        b: Section {
+            budget: Budget {
+                requests: 1,
+                bytes: 10,
+            },
+            instructions: b,
+        },
     })
 }
 
 // Each kind of instruction and of argument, and the largest of what there may be.
-pub(crate) fn everything_code(alloc: Global) -> Result<Code, OutOfMemory> {
+pub(crate) fn everything_code(alloc: Global) -> Result<Code, OutOfMemory>
+    ensures { IfOk result (λ code. length code.templates ≡ 5) }
+{
     let keys = vec![in alloc; bytes(alloc, b"a")?, bytes(alloc, b"b-1")?]?;
     let marked = Template {
         verb: Verb::Add,
@@ -133,12 +179,20 @@ pub(crate) fn everything_code(alloc: Global) -> Result<Code, OutOfMemory> {
     let templates = vec![in alloc;
         marked,
         plain(alloc, Verb::Cas, Argument::Variable(15), b"x")?,
-        plain(alloc, Verb::Incr, Argument::Number(18_446_744_073_709_551_615), b"")?,
+        plain(
+            alloc,
+            Verb::Incr,
+            Argument::Number(18_446_744_073_709_551_615),
+            b""
+        )?,
         plain(alloc, Verb::Decr, Argument::Variable(0), b"")?,
         plain(alloc, Verb::Gets, Argument::Nothing, b"")?,
     ]?;
     let p = vec![in alloc;
-        Instr::Send { template: 4, next: [255, 255, 255, 255, 1, 2, 255, 255, 255, 255] },
+        Instr::Send {
+            template: 4,
+            next: [255, 255, 255, 255, 1, 2, 255, 255, 255, 255]
+        },
         Instr::Bind(15),
         Instr::Goto(3),
         Instr::Halt,
@@ -149,8 +203,26 @@ pub(crate) fn everything_code(alloc: Global) -> Result<Code, OutOfMemory> {
         flags: 32,
         vars: 16,
         templates,
-        p: Section { budget: Budget { requests: 24, bytes: 8_192 }, instructions: p },
-        a: Section { budget: Budget { requests: 5, bytes: 200 }, instructions: a },
-        b: Section { budget: Budget { requests: 0, bytes: 0 }, instructions: Vec::new(alloc) },
+        p: Section {
+            budget: Budget {
+                requests: 24,
+                bytes: 8_192,
+            },
+            instructions: p,
+        },
+        a: Section {
+            budget: Budget {
+                requests: 5,
+                bytes: 200,
+            },
+            instructions: a,
+        },
+        b: Section {
+            budget: Budget {
+                requests: 0,
+                bytes: 0,
+            },
+            instructions: Vec::new(alloc),
+        },
     })
 }
