@@ -63,7 +63,8 @@ pub enum ImageKind {
     OutOfMemory,
 }
 
-/// Why bytes are no image, and the offset of the first byte of the first faulty field; 0 where memory ran out.
+/// Why bytes are no image, and where: the offset of the first faulty field, of a whole template that may not stand, or of
+/// the first byte too many; 0 where memory ran out.
 #[derive(Clone, Copy, Debug, Drop, PartialEq, Eq, Error)]
 #[error("byte {offset}: {kind}")]
 pub struct ImageFault {

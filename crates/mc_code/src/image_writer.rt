@@ -1,10 +1,9 @@
 //! Code as bytes.
-ghost use Rattle.std.specs.Prelude.{◌≡◌, ◌≤◌, ◌∷◌, ◌++◌, length, take, OnOk, OnErr};
+ghost use Rattle.std.specs.Prelude.{◌≡◌, ◌≤◌, ◌∷◌, ◌++◌, length, OnOk, OnErr};
 ghost use Rattle.std.specs.List.{All};
 ghost use Rattle.std.specs.Int.{w64, to_be_bytes};
 ghost use Rattle.mc_script.specs.declared.limits.TheConstants.{REQUESTS_LIMIT, BYTES_LIMIT, BODY_LIMIT};
 ghost use Rattle.mc_code.specs.declared.limits.TheConstants.{INSTRUCTIONS_LIMIT, TEMPLATES_LIMIT};
-ghost use Rattle.mc_code.specs.Code.{IsSection};
 ghost use Rattle.mc_code.specs.Image as image;
 ghost use Rattle.mc_code.specs.Image.{image_of};
 
