@@ -11,3 +11,4 @@ pub mod Forwards
 pub mod Backwards
 pub mod WellLaid
 pub mod Agreeing
+mod WrittenImage

@@ -31,3 +31,8 @@ pub use run_laws::{
     codes_agree, complete_paths_end, ends_are_complete, paths_are_runs, paths_split,
     runs_are_paths, sections_stop_once,
 };
+
+#[cfg(test)]
+mod image_tests;
+#[cfg(test)]
+mod test_codes;
