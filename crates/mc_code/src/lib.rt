@@ -6,12 +6,16 @@
 
 mod assembler;
 mod code;
+mod emit;
 mod fault;
 mod image_reader;
 mod image_writer;
 mod instr;
 mod kind;
 mod limits;
+mod places;
+mod size;
+mod templates;
 
 pub use assembler::assemble;
 pub use code::Code;
