@@ -65,13 +65,17 @@ abbrev pub legal_entry : List ℕ → Verb → List (Class × ℕ) → Onward �
 legal_entry labels verb jumps onward class =
     if is_legal verb class then entry_by labels onward class (jump_on class jumps) else NO_ENTRY
 
-abbrev pub legal_entries : List ℕ → Verb → List (Class × ℕ) → Onward → List ℕ
+unfoldable pub legal_entries : List ℕ → Verb → List (Class × ℕ) → Onward → List ℕ
 legal_entries labels verb jumps onward = map (legal_entry labels verb jumps onward) all_classes
+
+abbrev pub send_for : Places → ℕ → ℕ → Verb → List (Class × ℕ) → Option ℕ → Instr
+send_for places template p verb jumps bind =
+    instr.Send template (legal_entries places.labels verb jumps (onward_from places.steps p bind))
 
 -- the instructions of the step at this place, whose request has this template
 abbrev pub instructions_for : Places → ℕ → ℕ → Step → List Instr
 instructions_for places template p (step.Send t jumps bind) =
-    instr.Send template (legal_entries places.labels t.verb jumps (onward_from places.steps p bind)) ∷ bind_code bind
+    send_for places template p t.verb jumps bind ∷ bind_code bind
 instructions_for places template p (step.Bind variable) = instr.Bind variable ∷ []
 instructions_for places template p (step.Goto label) = instr.Goto (place_in places.labels label) ∷ []
 instructions_for places template p step.Halt = instr.Halt ∷ []
@@ -82,8 +86,10 @@ instructions_from places template p [] = instr.Halt ∷ []
 instructions_from places template p (s ∷ steps) =
     instructions_for places template p s ++ instructions_from places (template + length (request_of s)) (p + 1) steps
 
--- a delete of each key, from this one on: each of its replies leads to the next instruction
+-- a delete of the key: each of its replies leads to the next instruction
+abbrev pub clearing_send : List ℕ → ℕ → Instr
+clearing_send labels key = instr.Send key (legal_entries labels verb.Delete [] (record { number = key + 1; other = key + 1 }))
+
 abbrev pub clearing_code : List ℕ → ℕ → List Word → List Instr
 clearing_code labels key [] = []
-clearing_code labels key (_ ∷ keys) =
-    instr.Send key (legal_entries labels verb.Delete [] (record { number = key + 1; other = key + 1 })) ∷ clearing_code labels (key + 1) keys
+clearing_code labels key (_ ∷ keys) = clearing_send labels key ∷ clearing_code labels (key + 1) keys

@@ -1,5 +1,5 @@
 //! The instructions of a section.
-ghost use Rattle.std.specs.Prelude.{◌≡◌, ◌+◌, ◌++◌, [], ◌∷◌, None, ◌≤◌, length, OnOk};
+ghost use Rattle.std.specs.Prelude.{◌≡◌, ◌+◌, ◌++◌, ◌<◌, [], ◌∷◌, None, ◌≤◌, length, OnOk};
 ghost use Rattle.mc_script.specs.Marks as marks;
 ghost use Rattle.mc_code.specs.Layout as layout;
 ghost use Rattle.mc_code.specs.ScriptRuns as runs;
@@ -10,7 +10,7 @@ use crate::places::Places;
 use crate::size::request_count_of;
 use crate::Instr;
 use mc_protocol::{Bytes, Class, OutOfMemory, Verb, is_legal};
-use mc_script::Step;
+use mc_script::{STEPS_LIMIT, Step};
 
 /// Where a reply leads that has no jump.
 #[derive(Clone, Copy)]
@@ -30,16 +30,26 @@ pub(crate) fn add_clearing(places: &Places, keys: &[Bytes], out: &mut Vec<Instr>
     let mut key = 0;
     let mut rest = keys;
     'keys: while let [_, others @ ..] = rest {
-        let onward = Onward {
-            number: key + 1,
-            other: key + 1,
-        };
-        let next = entries(places, Verb::Delete, &[], onward);
-        push(Instr::Send { template: key, next }, out)?;
+        push(clearing_send(places, key), out)?;
         key += 1;
         rest = others;
     }
     Ok(())
+}
+
+// A delete of the key, whose replies lead to the next instruction.
+fn clearing_send(places: &Places, key: u8) -> Instr
+    requires { key < TEMPLATES_LIMIT }
+    ensures { result ≡ spec.clearing_send places.now.labels key }
+{
+    let onward = Onward {
+        number: key + 1,
+        other: key + 1,
+    };
+    Instr::Send {
+        template: key,
+        next: entries(places, Verb::Delete, &[], onward),
+    }
 }
 
 /// Appends the instructions of a section's steps, whose templates stand from this one on, and the halt behind them.
@@ -49,7 +59,8 @@ pub(crate) fn add_steps(
     steps: &[Step],
     out: &mut Vec<Instr>,
 ) -> Result<(), OutOfMemory>
-    requires { first + length (layout.requests_of steps.now) ≤ TEMPLATES_LIMIT }
+    requires templates { first + length (layout.requests_of steps.now) ≤ TEMPLATES_LIMIT }
+    requires few { length steps.now ≤ STEPS_LIMIT }
     ensures { OnOk result (out.new.items ≡ out.old.items ++ spec.instructions_from places.now first 0 steps.now) }
 {
     let mut template = first;
@@ -72,6 +83,7 @@ fn add_step(
     step: &Step,
     out: &mut Vec<Instr>,
 ) -> Result<(), OutOfMemory>
+    requires { index < STEPS_LIMIT }
     ensures { OnOk result (out.new.items ≡ out.old.items ++ spec.instructions_for places.now template index step.now) }
 {
     match step {
@@ -109,6 +121,7 @@ fn add_bind(bind: Option<u8>, out: &mut Vec<Instr>) -> Result<(), OutOfMemory>
 
 // Where the replies to the request with this index lead that have no jump.
 fn onward_from(places: &Places, index: usize, bind: Option<u8>) -> Onward
+    requires { index < STEPS_LIMIT }
     ensures { result ≡ spec.onward_from places.now.steps index bind }
 {
     let other = places.of_step(index + 1);
@@ -119,6 +132,7 @@ fn onward_from(places: &Places, index: usize, bind: Option<u8>) -> Onward
     Onward { number, other }
 }
 
+#[tactic(auto, unfolding(crate::specs::Assembling::legal_entries))]
 fn entries(
     places: &Places,
     verb: Verb,

@@ -21,6 +21,7 @@ pub(crate) struct Places {
 impl Model for Places {
     ghost use Rattle.std.specs.Prelude.{◌<◌};
     ghost use Rattle.std.specs.List.{All};
+    ghost use Rattle.mc_code.specs.declared.limits.TheConstants.{INSTRUCTIONS_LIMIT};
     ghost use Rattle.mc_code.specs.Assembling as spec;
 
     ghost Value = { spec.Places };

@@ -1,13 +1,15 @@
 //! How many templates and instructions a script needs.
-ghost use Rattle.std.specs.Prelude.{◌≡◌, ◌≤◌, length, IfErr, OnOk};
-ghost use Rattle.mc_protocol.specs.declared.actor.Actor.{Actor};
+ghost use Rattle.std.specs.Prelude.{◌≡◌, ◌+◌, ◌*◌, ◌≤◌, length, IfErr, OnOk};
+ghost use Rattle.mc_protocol.specs.declared.actor.Actor as actor;
+ghost use Rattle.mc_script.specs.WellFormed.{IsScript};
 ghost use Rattle.mc_code.specs.Layout as layout;
+ghost use Rattle.mc_code.specs.ScriptRuns as runs;
 ghost use Rattle.mc_code.specs.Assembling as assembling;
 
 use crate::limits::{INSTRUCTIONS_LIMIT, TEMPLATES_LIMIT};
 use crate::AsmFault;
 use mc_protocol::{Actor, Bytes};
-use mc_script::{Script, Step};
+use mc_script::{KEYS_LIMIT, STEPS_LIMIT, Script, Step};
 
 /// How many instructions a step is: a request that binds a variable is two.
 pub(crate) fn size_of(step: &Step) -> u8
@@ -42,13 +44,17 @@ pub(crate) fn cleared_keys(script: &Script, actor: Actor) -> &[Bytes]
 }
 
 /// How many templates a section's requests have.
+#[tactic(auto, using(crate::proofs::Fronts::request_count_is, crate::proofs::Bounds::few_keys, crate::proofs::Bounds::few_steps))]
 pub(crate) fn request_count(script: &Script, actor: Actor) -> usize
-    ensures { result ≡ length (layout.requests_of (layout.all_steps script.now actor)) }
+    requires { IsScript script.now }
+    ensures few { result ≤ KEYS_LIMIT + STEPS_LIMIT }
+    ensures count { result ≡ length (layout.requests_of (runs.all_steps script.now actor)) }
 {
     cleared_keys(script, actor).len() + request_count_in(script.steps(actor))
 }
 
 /// How many instructions a section has, the last halt among them.
+#[tactic(auto, using(crate::proofs::Fronts::all_size))]
 pub(crate) fn instruction_count(script: &Script, actor: Actor) -> usize
     ensures { result ≡ layout.instruction_count script.now actor }
 {
@@ -69,7 +75,8 @@ fn request_count_in(steps: &[Step]) -> usize
 }
 
 fn size_of_all(steps: &[Step]) -> usize
-    ensures { result ≡ layout.size_of_all steps.now }
+    ensures size { result ≡ layout.size_of_all steps.now }
+    ensures few { result ≤ 2 * length steps.now }
 {
     let mut size = 0;
     let mut rest = steps;
@@ -82,8 +89,9 @@ fn size_of_all(steps: &[Step]) -> usize
 
 /// Whether the script's templates and instructions are few enough.
 pub(crate) fn check_limits(script: &Script) -> Result<(), AsmFault>
+    requires { IsScript script.now }
     ensures templates { OnOk result (layout.template_count script.now ≤ TEMPLATES_LIMIT) }
-    ensures instructions { OnOk result ((actor : Actor) → layout.instruction_count script.now actor ≤ INSTRUCTIONS_LIMIT) }
+    ensures instructions { OnOk result ((actor : actor.Actor) → layout.instruction_count script.now actor ≤ INSTRUCTIONS_LIMIT) }
     ensures exceeded { IfErr result (layout.IsExceeded script.now) }
 {
     let templates = request_count(script, Actor::P)

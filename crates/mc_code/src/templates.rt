@@ -29,7 +29,7 @@ fn add_section(
     out: &mut Vec<Template>,
 ) -> Result<(), OutOfMemory>
     requires { length script.now.names.keys ≤ TEMPLATES_LIMIT }
-    ensures { OnOk result (out.new.items ≡ out.old.items ++ layout.requests_of (layout.all_steps script.now actor)) }
+    ensures { OnOk result (out.new.items ≡ out.old.items ++ layout.requests_of (runs.all_steps script.now actor)) }
 {
     add_clearing(alloc, cleared_keys(script, actor), out)?;
     add_requests(alloc, script.steps(actor), out)
