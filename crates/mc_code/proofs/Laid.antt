@@ -142,3 +142,46 @@ front-same L S rest places key (word ∷ keys) h =
     let P : ℕ → Type 0 = λ n. code_from L S (key + 1) (key + 1) (clearing_steps (key + 1) keys ++ rest)
         ≡ clearing_code places (key + 1) keys ++ code_from L S n n rest in
     rw (clearing-same L S places key (h key (omega arith)), subst P e others) refl
+
+-- ---- a section
+
+stands : (keys : List Word) (steps : List Step) (labels : List Label) → AreLabels (length steps) 0 labels
+    → Stands (map (moved (length keys)) labels) (clearing_steps 0 keys ++ steps) (length keys) (length steps) (places_of (length keys) steps labels)
+stands keys steps labels h = record { step = same-place keys steps; label = same-label keys steps 0 labels h }
+
+laid : (keys : List Word) (steps : List Step) (labels : List Label) (first : ℕ) → AreLabels (length steps) 0 labels → first ≡ length keys
+    → code_from (map (moved (length keys)) labels) (clearing_steps 0 keys ++ steps) 0 0 (clearing_steps 0 keys ++ steps)
+    ≡ clearing_code (places_of (length keys) steps labels).labels 0 keys ++ instructions_from (places_of (length keys) steps labels) first 0 steps
+laid keys steps labels first h e =
+    let L = map (moved (length keys)) labels in
+    let S = clearing_steps 0 keys ++ steps in
+    let places = places_of (length keys) steps labels in
+    let front = front-same L S steps places.labels 0 keys (λ j below. place-in-front 0 keys steps (j + 1) (omega arith)) in
+    let zero-before : 0 + length keys ≡ length keys + 0 = omega arith in
+    let at : code_from L S (0 + length keys) (0 + length keys) steps ≡ instructions_from places first 0 steps =
+        rw (e) (subst (λ n. code_from L S n n steps ≡ instructions_from places (length keys) 0 steps) (sym zero-before)
+        (subst (λ n. code_from L S n (length keys + 0) steps ≡ instructions_from places (length keys) 0 steps) (omega arith)
+        (steps-same (stands keys steps labels h) (length keys) 0 steps (omega arith)))) in
+    front ∙ ap (λ code. clearing_code places.labels 0 keys ++ code) at
+
+-- a section that clears no key
+laid-bare : (steps : List Step) (labels : List Label) (first : ℕ) → AreLabels (length steps) 0 labels
+    → code_from (map (moved 0) labels) steps first 0 steps ≡ instructions_from (places_of 0 steps labels) first 0 steps
+laid-bare steps labels first h = steps-same (stands [] steps labels h) first 0 steps (omega arith)
+
+pub section-laid : (s : Script) (actor : Actor) → IsScript s → (first : ℕ) → first ≡ first_template s actor + length (cleared_keys s actor)
+    → clearing_code (places_of (length (cleared_keys s actor)) (section_of s actor).steps (section_of s actor).labels).labels 0 (cleared_keys s actor)
+    ++ instructions_from (places_of (length (cleared_keys s actor)) (section_of s actor).steps (section_of s actor).labels) first 0 (section_of s actor).steps
+    ≡ instructions_of s actor
+section-laid s actor.P h first e =
+    let n : length (clearing_steps 0 s.names.keys) ≡ length s.names.keys = clearing-length 0 s.names.keys in
+    let P : ℕ → Type 0 = λ k. clearing_code (places_of (length s.names.keys) s.p.steps s.p.labels).labels 0 s.names.keys
+        ++ instructions_from (places_of (length s.names.keys) s.p.steps s.p.labels) first 0 s.p.steps
+        ≡ code_from (map (moved k) s.p.labels) (clearing_steps 0 s.names.keys ++ s.p.steps) 0 0 (clearing_steps 0 s.names.keys ++ s.p.steps) in
+    subst P (sym n) (sym (laid s.names.keys s.p.steps s.p.labels first h.p.labels (omega (arith, e))))
+section-laid s actor.A h first e =
+    let same : first ≡ first_template s actor.A = omega (arith, e) in
+    rw same (sym (laid-bare s.a.steps s.a.labels (first_template s actor.A) h.a.labels))
+section-laid s actor.B h first e =
+    let same : first ≡ first_template s actor.B = omega (arith, e) in
+    rw same (sym (laid-bare s.b.steps s.b.labels (first_template s actor.B) h.b.labels))

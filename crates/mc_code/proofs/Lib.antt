@@ -1,3 +1,4 @@
 pub mod Fronts
 pub mod Bounds
 pub mod Laid
+pub mod Rooms
