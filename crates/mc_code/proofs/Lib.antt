@@ -2,3 +2,13 @@ pub mod Fronts
 pub mod Bounds
 pub mod Laid
 pub mod Rooms
+pub mod PathLemmas
+pub mod RunLemmas
+pub mod Merges
+pub mod MergedPaths
+pub mod LookUps
+pub mod StepFacts
+pub mod Forwards
+pub mod Backwards
+pub mod WellLaid
+pub mod Agreeing

@@ -16,3 +16,4 @@ pub mod ScriptRuns
 pub mod Agreement
 pub mod Layout
 pub mod Assembling
+pub mod RunLaws
