@@ -12,3 +12,4 @@ pub mod Forwards
 pub mod Backwards
 pub mod WellLaid
 pub mod Agreeing
+pub mod Kept

@@ -28,7 +28,7 @@ template-sum s =
     length-append (requests_of (all_steps s actor.P) ++ requests_of (all_steps s actor.A)) (requests_of (all_steps s actor.B))
     ∙ ap (λ n. n + length (requests_of (all_steps s actor.B))) (length-append (requests_of (all_steps s actor.P)) (requests_of (all_steps s actor.A)))
 
-section-within : (s : Script) (actor : Actor) → first_template s actor + length (requests_of (all_steps s actor)) ≤ template_count s
+pub section-within : (s : Script) (actor : Actor) → first_template s actor + length (requests_of (all_steps s actor)) ≤ template_count s
 section-within s actor.P = omega (arith, template-sum s)
 section-within s actor.A = omega (arith, template-sum s)
 section-within s actor.B = omega (arith, template-sum s)

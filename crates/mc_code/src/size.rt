@@ -1,7 +1,6 @@
 //! How many templates and instructions a script needs.
 ghost use Rattle.std.specs.Prelude.{◌≡◌, ◌+◌, ◌*◌, ◌≤◌, length, IfErr, OnOk};
 ghost use Rattle.mc_protocol.specs.declared.actor.Actor as actor;
-ghost use Rattle.mc_script.specs.WellFormed.{IsScript};
 ghost use Rattle.mc_code.specs.Layout as layout;
 ghost use Rattle.mc_code.specs.ScriptRuns as runs;
 ghost use Rattle.mc_code.specs.Assembling as assembling;
@@ -46,7 +45,6 @@ pub(crate) fn cleared_keys(script: &Script, actor: Actor) -> &[Bytes]
 /// How many templates a section's requests have.
 #[tactic(auto, using(crate::proofs::Fronts::request_count_is, crate::proofs::Bounds::few_keys, crate::proofs::Bounds::few_steps))]
 pub(crate) fn request_count(script: &Script, actor: Actor) -> usize
-    requires { IsScript script.now }
     ensures few { result ≤ KEYS_LIMIT + STEPS_LIMIT }
     ensures count { result ≡ length (layout.requests_of (runs.all_steps script.now actor)) }
 {
@@ -89,7 +87,6 @@ fn size_of_all(steps: &[Step]) -> usize
 
 /// Whether the script's templates and instructions are few enough.
 pub(crate) fn check_limits(script: &Script) -> Result<(), AsmFault>
-    requires { IsScript script.now }
     ensures templates { OnOk result (layout.template_count script.now ≤ TEMPLATES_LIMIT) }
     ensures instructions { OnOk result ((actor : actor.Actor) → layout.instruction_count script.now actor ≤ INSTRUCTIONS_LIMIT) }
     ensures exceeded { IfErr result (layout.IsExceeded script.now) }
