@@ -41,12 +41,7 @@ pub fn assemble(alloc: Global, script: &Script) -> Result<Code, AsmFault>
 }
 
 // A section's code, whose templates stand from this one on.
-fn section(
-    alloc: Global,
-    script: &Script,
-    actor: Actor,
-    first: u8,
-) -> Result<Section, OutOfMemory>
+fn section(alloc: Global, script: &Script, actor: Actor, first: u8) -> Result<Section, OutOfMemory>
     requires first { first ≡ layout.first_template script.now actor }
     requires templates { layout.template_count script.now ≤ TEMPLATES_LIMIT }
     requires instructions { layout.instruction_count script.now actor ≤ INSTRUCTIONS_LIMIT }

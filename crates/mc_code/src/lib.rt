@@ -14,9 +14,9 @@ mod instr;
 mod kind;
 mod limits;
 mod places;
+mod run_laws;
 mod size;
 mod templates;
-mod run_laws;
 
 pub use assembler::assemble;
 pub use code::Code;

@@ -5,8 +5,8 @@ ghost use Rattle.mc_code.specs.Layout as layout;
 ghost use Rattle.mc_code.specs.ScriptRuns as runs;
 ghost use Rattle.mc_code.specs.Assembling as assembling;
 
-use crate::limits::{INSTRUCTIONS_LIMIT, TEMPLATES_LIMIT};
 use crate::AsmFault;
+use crate::limits::{INSTRUCTIONS_LIMIT, TEMPLATES_LIMIT};
 use mc_protocol::{Actor, Bytes};
 use mc_script::{KEYS_LIMIT, STEPS_LIMIT, Script, Step};
 
