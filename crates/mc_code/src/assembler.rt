@@ -15,7 +15,8 @@ use mc_script::Script;
 use std::alloc::Global;
 
 /// The code of a script, which does the same as the script, whatever is answered: behind a delete of each key P does what
-/// its steps say, and A and B do so.
+/// its steps say, and A and B do so. It is refused where it needs too many templates, and then where a section needs too
+/// many instructions, the first such section.
 pub fn assemble(alloc: Global, script: &Script) -> Result<Code, AsmFault>
     ensures layout { IfOk result (λ code. code ≡ layout.code_of script.now) }
     ensures agrees { IfOk result (Agrees script.now) }

@@ -21,8 +21,7 @@ pub(crate) struct Onward {
     pub(crate) other: u8,
 }
 
-/// Appends the deletes of these keys, whose templates stand from this one on. Each stands at the place with its template's
-/// index.
+/// Appends a delete of each of these keys. Its place and its template's index are the key's index.
 pub(crate) fn add_clearing(
     places: &Places,
     keys: &[Bytes],
@@ -76,7 +75,8 @@ pub(crate) fn add_steps(
         index += 1;
         rest = others;
     }
-    push(Instr::Halt, out)
+    out.push(Instr::Halt)?;
+    Ok(())
 }
 
 // Appends the instructions of the step with this index, whose request has this template.
