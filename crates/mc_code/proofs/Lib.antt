@@ -1,3 +1,7 @@
+pub mod Fronts
+pub mod Bounds
+pub mod Laid
+pub mod Rooms
 pub mod PathLemmas
 pub mod RunLemmas
 pub mod Merges
@@ -12,3 +16,4 @@ pub mod Backwards
 pub mod WellLaid
 pub mod Agreeing
 mod WrittenImage
+pub mod Kept

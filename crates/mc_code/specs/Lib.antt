@@ -15,5 +15,6 @@ pub mod Runs
 pub mod ScriptRuns
 pub mod Agreement
 pub mod Layout
+pub mod Assembling
 pub mod RunLaws
 pub mod Examples

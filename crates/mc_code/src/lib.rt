@@ -8,13 +8,17 @@
 mod assembler;
 mod code;
 mod example_laws;
+mod emit;
 mod fault;
 mod image_reader;
 mod image_writer;
 mod instr;
 mod kind;
 mod limits;
+mod places;
 mod run_laws;
+mod size;
+mod templates;
 
 pub use assembler::assemble;
 pub use code::Code;
@@ -36,3 +40,5 @@ pub use run_laws::{
 mod image_tests;
 #[cfg(test)]
 mod test_codes;
+pub use run_laws::{codes_agree, ends_are_complete, paths_are_runs, runs_are_paths};
+mod assembler_tests;
