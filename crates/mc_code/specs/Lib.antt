@@ -15,3 +15,4 @@ pub mod Runs
 pub mod ScriptRuns
 pub mod Agreement
 pub mod Layout
+pub mod ImageReading

@@ -7,6 +7,7 @@
 mod assembler;
 mod code;
 mod fault;
+mod fields;
 mod image_reader;
 mod image_writer;
 mod instr;
