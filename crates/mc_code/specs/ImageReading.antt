@@ -20,6 +20,7 @@ use Rattle.mc_code.specs.declared.fault.ImageFault.{ImageFault}
 use Rattle.mc_code.specs.declared.fault.ImageKind.TheVariants as kind
 use Rattle.mc_code.specs.declared.instr.Instr.{Instr}
 use Rattle.mc_code.specs.declared.instr.Instr.TheVariants as instr
+use Rattle.mc_code.specs.declared.read_template.Masks.{Masks}
 use Rattle.mc_code.specs.declared.limits.TheConstants.{TEMPLATES_LIMIT, INSTRUCTIONS_LIMIT, CLASS_COUNT}
 use Rattle.mc_code.specs.Code.{Section, Code}
 use Rattle.mc_code.specs.Image.{magic, verb_index}
@@ -102,12 +103,6 @@ argument_of vars sort number =
 
 unfoldable pub argument_in : ℕ → List ℕ → Field (Option Argument)
 argument_in vars bytes = small_in 0 2 bytes >>= λ sort. number_in w64 sort.1 >>= λ n. Some (argument_of vars sort.0 n.0, n.1)
-
-pub record Masks : Type 0 where
-  pub require_set : ℕ
-  pub require_clear : ℕ
-  pub sets : ℕ
-  pub clears : ℕ
 
 unfoldable pub masks_in : List ℕ → Field Masks
 masks_in bytes =

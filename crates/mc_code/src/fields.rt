@@ -1,4 +1,4 @@
-ghost use Rattle.std.specs.Prelude.{◌≡◌, ◌≢◌, [], length, IfOk, IfErr, OnOk};
+ghost use Rattle.std.specs.Prelude.{◌≡◌, ◌≢◌, ◌≤◌, [], length, IfOk, IfErr, OnOk};
 ghost use Rattle.std.specs.Int.{w16, w32, w64};
 ghost use Rattle.mc_code.specs.ImageReading as reading;
 
@@ -97,7 +97,8 @@ impl<'a> Fields<'a> {
     /// Takes a byte that is a number from `least` to `greatest`.
     #[tactic(auto, unfolding(crate::specs::ImageReading::small_in))]
     pub(crate) fn small(&mut self, least: usize, greatest: usize) -> Result<u8, ImageFault>
-        ensures { reading.Says (λ number. (number, self.new)) result (reading.small_in least greatest self.old) }
+        ensures read { reading.Says (λ number. (number, self.new)) result (reading.small_in least greatest self.old) }
+        ensures within { IfOk result (λ number. number ≤ greatest) }
     {
         let offset = self.offset();
         let number = self.byte()?;

@@ -13,6 +13,10 @@ mod image_writer;
 mod instr;
 mod kind;
 mod limits;
+mod names;
+mod read_section;
+mod read_template;
+mod well_formed;
 
 pub use assembler::assemble;
 pub use code::Code;
