@@ -70,7 +70,8 @@ counted_in least greatest item_in bytes = small_in least greatest bytes >>= λ n
 -- a key behind these
 unfoldable pub key_in : List Word → List ℕ → Field Word
 key_in keys bytes =
-    sized_in 1 KEY_BYTES_LIMIT bytes >>= λ k. if is_named KEY_BYTES_LIMIT k.0 && is_new keys k.0 then Some k else None
+    small_in 1 KEY_BYTES_LIMIT bytes >>= λ n. bytes_in n.0 n.1
+    >>= λ k. if is_named KEY_BYTES_LIMIT k.0 && is_new keys k.0 then Some k else None
 
 unfoldable pub keys_in : List ℕ → Field (List Word)
 keys_in bytes = counted_in 1 KEYS_LIMIT key_in bytes
