@@ -1,4 +1,4 @@
-use Rattle.mc_code.proofs.KeyLaws.{keys_take}
+use Rattle.mc_code.proofs.SectionLaws.{instructions_take}
 use Rattle.mc_code.proofs.image_laws.images_are_of_one_code.Goals as goal
 
 pub returns : goal.returns
