@@ -29,3 +29,8 @@ pub use image_writer::encode;
 pub use instr::{Call, Instr};
 pub use kind::Kind;
 pub use limits::{CLASS_COUNT, INSTRUCTIONS_LIMIT, NO_ENTRY, TEMPLATES_LIMIT};
+
+#[cfg(test)]
+mod image_tests;
+#[cfg(test)]
+mod test_codes;
