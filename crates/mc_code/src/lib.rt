@@ -31,6 +31,8 @@ pub use kind::Kind;
 pub use limits::{CLASS_COUNT, INSTRUCTIONS_LIMIT, NO_ENTRY, TEMPLATES_LIMIT};
 
 #[cfg(test)]
+mod image_fault_tests;
+#[cfg(test)]
 mod image_tests;
 #[cfg(test)]
 mod test_codes;
