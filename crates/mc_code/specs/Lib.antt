@@ -18,3 +18,4 @@ pub mod Layout
 pub mod Assembling
 pub mod RunLaws
 pub mod Examples
+pub mod ImageReading

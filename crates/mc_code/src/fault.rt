@@ -73,6 +73,12 @@ pub struct ImageFault {
 }
 
 impl ImageFault {
+    pub(crate) fn at(kind: ImageKind, offset: usize) -> Self
+        ensures { result.kind ≡ kind }
+    {
+        ImageFault { kind, offset }
+    }
+
     pub(crate) fn out_of_memory() -> Self
         ensures { result.kind ≡ ImageKind.OutOfMemory }
     {

@@ -2,9 +2,19 @@
 ghost use Rattle.std.specs.Prelude.{◌≡◌, ◌≢◌, IfOk, IfErr};
 ghost use Rattle.mc_code.specs.Code as spec;
 ghost use Rattle.mc_code.specs.Image.{image_of};
+ghost use Rattle.mc_code.specs.ImageReading as reading;
 
-use crate::{Code, ImageFault, ImageKind};
+use crate::code::Section;
+use crate::fields::Fields;
+use crate::read_declared::read_declared;
+use crate::read_section::{read_budget, read_instructions};
+use crate::read_template::read_templates;
+use crate::well_formed::Counts;
+use crate::{Code, ImageFault, ImageKind, Instr};
+use mc_protocol::Bytes;
+use mc_script::{Budget, Template};
 use std::alloc::Global;
+use std::marker::Model;
 
 /// Reads an image. The fault is that of the first faulty field; that a template's fields don't suit each other is told
 /// behind its last field, of the template's first byte.
@@ -13,5 +23,121 @@ pub fn decode(alloc: Global, bytes: &[u8]) -> Result<Code, ImageFault>
     ensures none { IfErr result (λ fault. fault.kind ≢ ImageKind.OutOfMemory
         → (code : spec.Code) → spec.IsCode code → image_of code ≡ bytes.now → ⊥) }
 {
-    Err(ImageFault::out_of_memory())
+    let parts = read_parts(alloc, bytes)?;
+    Ok(Code {
+        keys: parts.keys,
+        flags: parts.flags,
+        vars: parts.vars,
+        templates: parts.templates,
+        p: parts.p,
+        a: parts.a,
+        b: parts.b,
+    })
+}
+
+/// The parts of a code. Contracts see the code.
+#[derive(Drop)]
+struct Parts {
+    keys: Vec<Bytes>,
+    flags: u8,
+    vars: u8,
+    templates: Vec<Template>,
+    p: Section,
+    a: Section,
+    b: Section,
+}
+
+impl Model for Parts {
+    ghost use Rattle.mc_code.specs.Code as spec;
+
+    ghost Value = { spec.Code };
+
+    ghost view = { λ c. record { keys = c.keys.items; flags = c.flags; vars = c.vars; templates = c.templates.items; p = c.p; a = c.a; b = c.b } };
+}
+
+#[tactic(auto, unfolding(crate::specs::ImageReading::code_in))]
+fn read_parts(alloc: Global, bytes: &[u8]) -> Result<Parts, ImageFault>
+    ensures { reading.Says (λ parts. parts) result (reading.code_in bytes.now) }
+{
+    let mut fields = Fields::new(bytes);
+    read_magic(&mut fields)?;
+    let declared = read_declared(alloc, &mut fields)?;
+    let budgets = read_budgets(&mut fields)?;
+    let counts = Counts {
+        keys: declared.keys.len(),
+        flags: declared.flags,
+        vars: declared.vars,
+    };
+    let templates = read_templates(alloc, &mut fields, counts)?;
+    let instructions = read_all_instructions(alloc, &mut fields)?;
+    fields.finish()?;
+    Ok(Parts {
+        keys: declared.keys,
+        flags: declared.flags,
+        vars: declared.vars,
+        templates,
+        p: section_of(budgets.p, instructions.p),
+        a: section_of(budgets.a, instructions.a),
+        b: section_of(budgets.b, instructions.b),
+    })
+}
+
+fn section_of(budget: Budget, instructions: Vec<Instr>) -> Section
+    ensures { result ≡ reading.section_of budget instructions.items }
+{
+    Section {
+        budget,
+        instructions,
+    }
+}
+
+// Takes the first bytes of each image.
+#[tactic(auto, unfolding(crate::specs::ImageReading::magic_in))]
+fn read_magic(fields: &mut Fields) -> Result<(), ImageFault>
+    ensures { reading.Says (λ _. fields.new) result (reading.magic_in fields.old) }
+{
+    let offset = fields.offset();
+    let magic = fields.bytes(4)?;
+    if magic != b"MCR1".as_slice() {
+        return Err(ImageFault::at(ImageKind::Magic, offset));
+    }
+    Ok(())
+}
+
+/// The budgets of the sections.
+#[derive(Clone, Copy)]
+struct Budgets {
+    p: Budget,
+    a: Budget,
+    b: Budget,
+}
+
+#[tactic(auto, unfolding(crate::specs::ImageReading::each_in))]
+fn read_budgets(fields: &mut Fields) -> Result<Budgets, ImageFault>
+    ensures { reading.Says (λ budgets. ((budgets.p, budgets.a, budgets.b), fields.new)) result
+        (reading.each_in reading.budget_in fields.old) }
+{
+    let p = read_budget(fields)?;
+    let a = read_budget(fields)?;
+    let b = read_budget(fields)?;
+    Ok(Budgets { p, a, b })
+}
+
+/// The instructions of the sections.
+#[derive(Drop)]
+struct Instructions {
+    p: Vec<Instr>,
+    a: Vec<Instr>,
+    b: Vec<Instr>,
+}
+
+#[tactic(auto, unfolding(crate::specs::ImageReading::each_in))]
+fn read_all_instructions(alloc: Global, fields: &mut Fields) -> Result<Instructions, ImageFault>
+    ensures { reading.Says (λ all. ((all.p.items, all.a.items, all.b.items), fields.new)) result
+        (reading.each_in reading.instructions_in fields.old) }
+{
+    let p = read_instructions(alloc, fields)?;
+    let a = read_instructions(alloc, fields)?;
+    let b = read_instructions(alloc, fields)?;
+    Ok(Instructions { p, a, b })
 }

@@ -10,6 +10,8 @@ mod code;
 mod example_laws;
 mod emit;
 mod fault;
+mod fields;
+mod image_laws;
 mod image_reader;
 mod image_writer;
 mod instr;
@@ -19,6 +21,11 @@ mod places;
 mod run_laws;
 mod size;
 mod templates;
+mod names;
+mod read_declared;
+mod read_section;
+mod read_template;
+mod well_formed;
 
 pub use assembler::assemble;
 pub use code::Code;
@@ -26,6 +33,7 @@ pub use example_laws::{
     counter_is_image, counter_is_laid_out, counter_meets, swap_is_laid_out, swap_meets,
 };
 pub use fault::{AsmFault, ImageFault, ImageKind};
+pub use image_laws::images_are_of_one_code;
 pub use image_reader::decode;
 pub use image_writer::encode;
 pub use instr::{Call, Instr};
@@ -36,6 +44,8 @@ pub use run_laws::{
     runs_are_paths, sections_stop_once,
 };
 
+#[cfg(test)]
+mod image_fault_tests;
 #[cfg(test)]
 mod image_tests;
 #[cfg(test)]

@@ -1,0 +1,219 @@
+-- What the reader of images answers. No public contract cites these: `Image` says what an image is, and the proofs join
+-- the two.
+use Rattle.std.specs.Prelude.{◌≡◌, ◌≢◌, ℕ, zero, suc, ◌<◌, ◌^◌, ◌==◌, nat_le, nat_lt, Bool, true, false, ◌&&◌, Option, Some, None, Result, Ok, Err, List, [], ◌∷◌, ◌++◌, length, take, drop, if◌then◌else◌}
+use Rattle.std.specs.Int.{Width, w16, w32, w64, byte_len, from_be_bytes}
+use Rattle.std.specs.Int.Bits.{bit_and}
+use Rattle.std.specs.List.{find}
+use Rattle.std.specs.Str.{bytes_eq}
+use Rattle.mc_protocol.specs.Fields.{fields_of}
+use Rattle.mc_protocol.specs.declared.request.Verb.{Verb}
+use Rattle.mc_protocol.specs.declared.request.Verb.TheVariants as verb
+use Rattle.mc_script.specs.declared.limits.TheConstants.{KEYS_LIMIT, KEY_BYTES_LIMIT, FLAGS_LIMIT, VARIABLES_LIMIT, REQUESTS_LIMIT, BYTES_LIMIT, BODY_LIMIT}
+use Rattle.mc_script.specs.declared.section.Budget.{Budget}
+use Rattle.mc_script.specs.declared.step.Argument.{Argument}
+use Rattle.mc_script.specs.declared.step.Argument.TheVariants as argument
+use Rattle.mc_script.specs.declared.step.Template.{Template}
+use Rattle.mc_script.specs.ScriptWords.{Word, is_new, is_named}
+use Rattle.mc_script.specs.Steps.{◌>>=◌}
+use Rattle.mc_script.specs.Templates.{has_fields}
+use Rattle.mc_code.specs.declared.fault.ImageFault.{ImageFault}
+use Rattle.mc_code.specs.declared.fault.ImageKind.TheVariants as kind
+use Rattle.mc_code.specs.declared.instr.Instr.{Instr}
+use Rattle.mc_code.specs.declared.instr.Instr.TheVariants as instr
+use Rattle.mc_code.specs.declared.read_template.Masks.{Masks}
+use Rattle.mc_code.specs.declared.limits.TheConstants.{TEMPLATES_LIMIT, INSTRUCTIONS_LIMIT, CLASS_COUNT}
+use Rattle.mc_code.specs.Code.{Section, Code}
+use Rattle.mc_code.specs.Image.{magic, verb_index}
+
+-- what was returned, so seen, is what reading gives, unless memory ran out
+abbrev pub Says : {X Y : Type 0} → (X → Y) → Result X ImageFault → Option Y → Type 0
+Says view (Ok x) read = read ≡ Some (view x)
+Says view (Err fault) read = fault.kind ≢ kind.OutOfMemory → read ≡ None
+
+-- a value, and the bytes behind it
+abbrev pub Field : Type 0 → Type 0
+Field A = Option (A × List ℕ)
+
+-- ---- bytes and numbers
+
+unfoldable pub bytes_in : ℕ → List ℕ → Field (List ℕ)
+bytes_in n bytes = if nat_lt (length bytes) n then None else Some (take n bytes, drop n bytes)
+
+unfoldable pub byte_in : List ℕ → Field ℕ
+byte_in [] = None
+byte_in (byte ∷ rest) = Some (byte, rest)
+
+unfoldable pub number_in : Width → List ℕ → Field ℕ
+number_in width bytes = bytes_in (byte_len width) bytes >>= λ b. Some (from_be_bytes width b.0, b.1)
+
+-- a byte from the least to the greatest number
+unfoldable pub small_in : ℕ → ℕ → List ℕ → Field ℕ
+small_in least greatest bytes = byte_in bytes >>= λ n. if nat_le least n.0 && nat_le n.0 greatest then Some n else None
+
+-- how many bytes there are, from the least to the greatest number, and the bytes
+unfoldable pub sized_in : ℕ → ℕ → List ℕ → Field (List ℕ)
+sized_in least greatest bytes = small_in least greatest bytes >>= λ n. bytes_in n.0 n.1
+
+-- ---- lists
+
+-- so many items, behind those that were read
+unfoldable pub items_in : {A : Type 0} → (List A → List ℕ → Field A) → ℕ → List A → List ℕ → Field (List A)
+items_in item_in zero items bytes = Some (items, bytes)
+items_in item_in (suc n) items bytes = item_in items bytes >>= λ x. items_in item_in n (items ++ x.0 ∷ []) x.1
+
+-- how many there are, from the least to the greatest number, and each of them
+abbrev pub counted_in : {A : Type 0} → ℕ → ℕ → (List A → List ℕ → Field A) → List ℕ → Field (List A)
+counted_in least greatest item_in bytes = small_in least greatest bytes >>= λ n. items_in item_in n.0 [] n.1
+
+-- ---- keys
+
+-- a key behind these
+unfoldable pub key_in : List Word → List ℕ → Field Word
+key_in keys bytes =
+    small_in 1 KEY_BYTES_LIMIT bytes >>= λ n. bytes_in n.0 n.1
+    >>= λ k. if is_named KEY_BYTES_LIMIT k.0 && is_new keys k.0 then Some k else None
+
+unfoldable pub keys_in : List ℕ → Field (List Word)
+keys_in bytes = counted_in 1 KEYS_LIMIT key_in bytes
+
+-- ---- budgets
+
+unfoldable pub budget_in : List ℕ → Field Budget
+budget_in bytes =
+    small_in 0 REQUESTS_LIMIT bytes >>= λ r. number_in w16 r.1
+    >>= λ b. if nat_le b.0 BYTES_LIMIT then Some (record { requests = r.0; bytes = b.0 }, b.1) else None
+
+-- ---- templates
+
+abbrev pub all_verbs : List Verb
+all_verbs =
+    verb.Set ∷ verb.Add ∷ verb.Replace ∷ verb.Append ∷ verb.Prepend ∷ verb.Cas ∷ verb.Get ∷ verb.Gets ∷ verb.Incr ∷ verb.Decr ∷ verb.Delete ∷ verb.Touch ∷ []
+
+unfoldable pub verb_at : ℕ → Option Verb
+verb_at index = find (λ v. verb_index v == index) all_verbs
+
+unfoldable pub verb_in : List ℕ → Field Verb
+verb_in bytes = byte_in bytes >>= λ n. verb_at n.0 >>= λ v. Some (v, n.1)
+
+-- what a template has behind its key, by its sort and number, where there are so many variables
+unfoldable pub argument_of : ℕ → ℕ → ℕ → Option Argument
+argument_of vars sort number =
+    if sort == 0 then (if number == 0 then Some argument.Nothing else None)
+    else (if sort == 1 then Some (argument.Number number)
+    else (if nat_lt number vars then Some (argument.Variable number) else None))
+
+unfoldable pub argument_in : ℕ → List ℕ → Field (Option Argument)
+argument_in vars bytes = small_in 0 2 bytes >>= λ sort. number_in w64 sort.1 >>= λ n. Some (argument_of vars sort.0 n.0, n.1)
+
+unfoldable pub masks_in : List ℕ → Field Masks
+masks_in bytes =
+    number_in w32 bytes >>= λ x. number_in w32 x.1 >>= λ y. number_in w32 y.1 >>= λ z. number_in w32 z.1
+    >>= λ w. Some (record { require_set = x.0; require_clear = y.0; sets = z.0; clears = w.0 }, w.1)
+
+abbrev pub template_of : Verb → ℕ → ℕ → Argument → List ℕ → Masks → Template
+template_of v key flags a body masks = record {
+  verb = v;
+  key = key;
+  flags = flags;
+  argument = a;
+  body = body;
+  require_set = masks.require_set;
+  require_clear = masks.require_clear;
+  sets = masks.sets;
+  clears = masks.clears;
+}
+
+abbrev pub are_masks : ℕ → Template → Bool
+are_masks flags t =
+    nat_lt t.require_set (2 ^ flags) && nat_lt t.require_clear (2 ^ flags) && nat_lt t.sets (2 ^ flags) && nat_lt t.clears (2 ^ flags)
+    && bit_and t.require_set t.require_clear == 0 && bit_and t.sets t.clears == 0
+
+-- the template may stand where there are so many keys, flags and variables
+unfoldable pub is_template : ℕ → ℕ → ℕ → Template → Bool
+is_template keys flags vars t =
+    nat_lt t.key keys && has_fields vars (fields_of t.verb) t.flags t.argument t.body && are_masks flags t
+
+-- the template, where it has an argument and may stand
+unfoldable pub allowed : ℕ → ℕ → ℕ → Verb → ℕ → ℕ → Option Argument → List ℕ → Masks → Option Template
+allowed keys flags vars v key item_flags None body masks = None
+allowed keys flags vars v key item_flags (Some a) body masks =
+    if is_template keys flags vars (template_of v key item_flags a body masks) then Some (template_of v key item_flags a body masks) else None
+
+unfoldable pub template_in : ℕ → ℕ → ℕ → List ℕ → Field Template
+template_in keys flags vars bytes =
+    verb_in bytes >>= λ v. byte_in v.1 >>= λ key. number_in w32 key.1 >>= λ item_flags. argument_in vars item_flags.1
+    >>= λ a. sized_in 0 BODY_LIMIT a.1 >>= λ body. masks_in body.1
+    >>= λ masks. allowed keys flags vars v.0 key.0 item_flags.0 a.0 body.0 masks.0 >>= λ t. Some (t, masks.1)
+
+unfoldable pub templates_in : ℕ → ℕ → ℕ → List ℕ → Field (List Template)
+templates_in keys flags vars bytes = counted_in 0 TEMPLATES_LIMIT (λ _. template_in keys flags vars) bytes
+
+-- ---- sections
+
+unfoldable pub send_in : List ℕ → Field Instr
+send_in bytes = byte_in bytes >>= λ t. bytes_in CLASS_COUNT t.1 >>= λ next. Some (instr.Send t.0 next.0, next.1)
+
+unfoldable pub bind_in : List ℕ → Field Instr
+bind_in bytes = byte_in bytes >>= λ v. Some (instr.Bind v.0, v.1)
+
+unfoldable pub goto_in : List ℕ → Field Instr
+goto_in bytes = byte_in bytes >>= λ p. Some (instr.Goto p.0, p.1)
+
+unfoldable pub behind_sort : ℕ → List ℕ → Field Instr
+behind_sort sort bytes =
+    if sort == 0 then send_in bytes
+    else (if sort == 1 then bind_in bytes else (if sort == 2 then goto_in bytes else Some (instr.Halt, bytes)))
+
+unfoldable pub instr_in : List ℕ → Field Instr
+instr_in bytes = small_in 0 3 bytes >>= λ sort. behind_sort sort.0 sort.1
+
+unfoldable pub instructions_in : List ℕ → Field (List Instr)
+instructions_in bytes = counted_in 0 INSTRUCTIONS_LIMIT (λ _. instr_in) bytes
+
+-- ---- the whole image
+
+unfoldable pub magic_in : List ℕ → Option (List ℕ)
+magic_in bytes = bytes_in 4 bytes >>= λ m. if bytes_eq m.0 magic then Some m.1 else None
+
+-- the keys, and how many flags and variables there are
+pub record Declared : Type 0 where
+  pub keys : List Word
+  pub flags : ℕ
+  pub vars : ℕ
+
+unfoldable pub declared_in : List ℕ → Field Declared
+declared_in bytes =
+    keys_in bytes >>= λ k. small_in 0 FLAGS_LIMIT k.1 >>= λ f. small_in 0 VARIABLES_LIMIT f.1
+    >>= λ v. Some (record { keys = k.0; flags = f.0; vars = v.0 }, v.1)
+
+abbrev pub Three : Type 0 → Type 0
+Three A = A × A × A
+
+-- one for each section
+unfoldable pub each_in : {A : Type 0} → (List ℕ → Field A) → List ℕ → Field (Three A)
+each_in one_in bytes = one_in bytes >>= λ p. one_in p.1 >>= λ a. one_in a.1 >>= λ b. Some ((p.0, a.0, b.0), b.1)
+
+abbrev pub section_of : Budget → List Instr → Section
+section_of budget instructions = record { budget = budget; instructions = instructions }
+
+abbrev pub code_of : Declared → Three Budget → List Template → Three (List Instr) → Code
+code_of d budgets templates instructions = record {
+  keys = d.keys;
+  flags = d.flags;
+  vars = d.vars;
+  templates = templates;
+  p = section_of budgets.0 instructions.0;
+  a = section_of budgets.1 instructions.1;
+  b = section_of budgets.2 instructions.2;
+}
+
+abbrev pub ended_in : {A : Type 0} → A → List ℕ → Option A
+ended_in x [] = Some x
+ended_in x (_ ∷ _) = None
+
+-- the code of the bytes, which nothing follows
+unfoldable pub code_in : List ℕ → Option Code
+code_in bytes =
+    magic_in bytes >>= λ m. declared_in m >>= λ d. each_in budget_in d.1
+    >>= λ budgets. templates_in (length d.0.keys) d.0.flags d.0.vars budgets.1 >>= λ t. each_in instructions_in t.1
+    >>= λ s. ended_in (code_of d.0 budgets.0 t.0 s.0) s.1

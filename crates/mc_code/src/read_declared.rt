@@ -1,0 +1,73 @@
+ghost use Rattle.std.specs.Prelude.{◌≡◌, ◌≤◌, [], IfOk};
+ghost use Rattle.mc_script.specs.declared.limits.TheConstants.{FLAGS_LIMIT};
+ghost use Rattle.mc_code.specs.ImageReading as reading;
+
+use crate::fields::Fields;
+use crate::names::{is_named, is_new};
+use crate::{ImageFault, ImageKind};
+use mc_protocol::Bytes;
+use mc_script::{FLAGS_LIMIT, KEY_BYTES_LIMIT, KEYS_LIMIT, VARIABLES_LIMIT};
+use std::alloc::Global;
+use std::marker::Model;
+
+/// The keys, and how many flags and variables there are. Contracts see the keys as a list.
+#[derive(Drop)]
+pub(crate) struct Declared {
+    pub(crate) keys: Vec<Bytes>,
+    pub(crate) flags: u8,
+    pub(crate) vars: u8,
+}
+
+impl Model for Declared {
+    ghost use Rattle.mc_code.specs.ImageReading as reading;
+
+    ghost Value = { reading.Declared };
+
+    ghost view = { λ d. record { keys = d.keys.items; flags = d.flags; vars = d.vars } };
+}
+
+/// Takes what stands before the budgets.
+#[tactic(auto, unfolding(crate::specs::ImageReading::declared_in))]
+pub(crate) fn read_declared(alloc: Global, fields: &mut Fields) -> Result<Declared, ImageFault>
+    ensures read { reading.Says (λ declared. (declared, fields.new)) result (reading.declared_in fields.old) }
+    ensures within { IfOk result (λ declared. declared.flags ≤ FLAGS_LIMIT) }
+{
+    let keys = read_keys(alloc, fields)?;
+    let flags = fields.small(0, FLAGS_LIMIT)?;
+    let vars = fields.small(0, VARIABLES_LIMIT)?;
+    Ok(Declared { keys, flags, vars })
+}
+
+#[tactic(auto, unfolding(crate::specs::ImageReading::keys_in))]
+fn read_keys(alloc: Global, fields: &mut Fields) -> Result<Vec<Bytes>, ImageFault>
+    ensures { reading.Says (λ keys. (keys.items, fields.new)) result (reading.keys_in fields.old) }
+{
+    let count = fields.small(1, KEYS_LIMIT)?;
+    take_keys(alloc, fields, count)
+}
+
+fn take_keys(alloc: Global, fields: &mut Fields, count: u8) -> Result<Vec<Bytes>, ImageFault>
+    ensures { reading.Says (λ keys. (keys.items, fields.new)) result
+        (reading.items_in reading.key_in count [] fields.old) }
+{
+    let mut keys = Vec::new(alloc);
+    for _ in 0..count {
+        let key = read_key(fields, keys.as_slice())?;
+        keys.push(Bytes::new(Vec::from_slice(alloc, key)?))?;
+    }
+    Ok(keys)
+}
+
+// Takes a key behind these.
+#[tactic(auto, unfolding(crate::specs::ImageReading::key_in))]
+fn read_key<'a>(fields: &mut Fields<'a>, keys: &[Bytes]) -> Result<&'a [u8], ImageFault>
+    ensures { reading.Says (λ key. (key.now, fields.new)) result (reading.key_in keys.now fields.old) }
+{
+    let count = fields.small(1, KEY_BYTES_LIMIT)?;
+    let offset = fields.offset();
+    let key = fields.bytes(count as usize)?;
+    if !is_named(KEY_BYTES_LIMIT, key) || !is_new(keys, key) {
+        return Err(ImageFault::at(ImageKind::Range, offset));
+    }
+    Ok(key)
+}

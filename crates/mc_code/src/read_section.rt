@@ -1,0 +1,93 @@
+ghost use Rattle.std.specs.Prelude.{◌≡◌, []};
+ghost use Rattle.mc_code.specs.ImageReading as reading;
+
+use crate::fields::Fields;
+use crate::{CLASS_COUNT, INSTRUCTIONS_LIMIT, ImageFault, ImageKind, Instr};
+use mc_script::{BYTES_LIMIT, Budget, REQUESTS_LIMIT};
+use std::alloc::Global;
+
+/// Takes what a section may send at most.
+#[tactic(auto, unfolding(crate::specs::ImageReading::budget_in))]
+pub(crate) fn read_budget(fields: &mut Fields) -> Result<Budget, ImageFault>
+    ensures { reading.Says (λ budget. (budget, fields.new)) result (reading.budget_in fields.old) }
+{
+    let requests = fields.small(0, REQUESTS_LIMIT as usize)?;
+    let offset = fields.offset();
+    let bytes = fields.number_16()?;
+    if bytes as u64 > BYTES_LIMIT {
+        return Err(ImageFault::at(ImageKind::Range, offset));
+    }
+    Ok(Budget {
+        requests: requests as u32,
+        bytes: bytes as u32,
+    })
+}
+
+/// Takes the instructions of a section.
+#[tactic(auto, unfolding(crate::specs::ImageReading::instructions_in))]
+pub(crate) fn read_instructions(
+    alloc: Global,
+    fields: &mut Fields,
+) -> Result<Vec<Instr>, ImageFault>
+    ensures { reading.Says (λ instructions. (instructions.items, fields.new)) result
+        (reading.instructions_in fields.old) }
+{
+    let count = fields.small(0, INSTRUCTIONS_LIMIT)?;
+    take_instructions(alloc, fields, count)
+}
+
+fn take_instructions(
+    alloc: Global,
+    fields: &mut Fields,
+    count: u8,
+) -> Result<Vec<Instr>, ImageFault>
+    ensures { reading.Says (λ instructions. (instructions.items, fields.new)) result
+        (reading.items_in (λ _. reading.instr_in) count [] fields.old) }
+{
+    let mut instructions = Vec::new(alloc);
+    for _ in 0..count {
+        let instr = read_instr(fields)?;
+        instructions.push(instr)?;
+    }
+    Ok(instructions)
+}
+
+// Takes an instruction.
+#[tactic(auto, unfolding(crate::specs::ImageReading::instr_in, crate::specs::ImageReading::behind_sort))]
+fn read_instr(fields: &mut Fields) -> Result<Instr, ImageFault>
+    ensures { reading.Says (λ instr. (instr, fields.new)) result (reading.instr_in fields.old) }
+{
+    match fields.small(0, 3)? {
+        0 => read_send(fields),
+        1 => read_bind(fields),
+        2 => read_goto(fields),
+        _ => Ok(Instr::Halt),
+    }
+}
+
+#[tactic(auto, unfolding(crate::specs::ImageReading::send_in))]
+fn read_send(fields: &mut Fields) -> Result<Instr, ImageFault>
+    ensures { reading.Says (λ instr. (instr, fields.new)) result (reading.send_in fields.old) }
+{
+    let template = fields.byte()?;
+    let entries = fields.bytes(CLASS_COUNT)?;
+    let mut next = [0; CLASS_COUNT];
+    next.copy_from_slice(entries);
+    Ok(Instr::Send { template, next })
+}
+
+#[tactic(auto, unfolding(crate::specs::ImageReading::bind_in))]
+fn read_bind(fields: &mut Fields) -> Result<Instr, ImageFault>
+    ensures { reading.Says (λ instr. (instr, fields.new)) result (reading.bind_in fields.old) }
+{
+    let variable = fields.byte()?;
+    Ok(Instr::Bind(variable))
+}
+
+#[tactic(auto, unfolding(crate::specs::ImageReading::goto_in))]
+fn read_goto(fields: &mut Fields) -> Result<Instr, ImageFault>
+    ensures { reading.Says (λ instr. (instr, fields.new)) result (reading.goto_in fields.old) }
+{
+    let place = fields.byte()?;
+    Ok(Instr::Goto(place))
+}

@@ -1,0 +1,163 @@
+ghost use Rattle.std.specs.Prelude.{◌≡◌, ◌≤◌, []};
+ghost use Rattle.mc_script.specs.declared.limits.TheConstants.{FLAGS_LIMIT};
+ghost use Rattle.mc_code.specs.ImageReading as reading;
+
+use crate::fields::Fields;
+use crate::well_formed::{Counts, is_template};
+use crate::{ImageFault, ImageKind, TEMPLATES_LIMIT};
+use mc_protocol::{Bytes, Verb};
+use mc_script::{Argument, BODY_LIMIT, Mask, Template};
+use std::alloc::Global;
+
+/// Takes the templates, where so many keys, flags and variables are declared.
+#[tactic(auto, unfolding(crate::specs::ImageReading::templates_in))]
+pub(crate) fn read_templates(
+    alloc: Global,
+    fields: &mut Fields,
+    counts: Counts,
+) -> Result<Vec<Template>, ImageFault>
+    requires { counts.flags ≤ FLAGS_LIMIT }
+    ensures { reading.Says (λ templates. (templates.items, fields.new)) result
+        (reading.templates_in counts.keys counts.flags counts.vars fields.old) }
+{
+    let count = fields.small(0, TEMPLATES_LIMIT)?;
+    take_templates(alloc, fields, counts, count)
+}
+
+fn take_templates(
+    alloc: Global,
+    fields: &mut Fields,
+    counts: Counts,
+    count: u8,
+) -> Result<Vec<Template>, ImageFault>
+    requires { counts.flags ≤ FLAGS_LIMIT }
+    ensures { reading.Says (λ templates. (templates.items, fields.new)) result
+        (reading.items_in (λ _. reading.template_in counts.keys counts.flags counts.vars) count [] fields.old) }
+{
+    let mut templates = Vec::new(alloc);
+    for _ in 0..count {
+        let template = read_template(alloc, fields, counts)?;
+        templates.push(template)?;
+    }
+    Ok(templates)
+}
+
+// Takes a template.
+#[tactic(auto, unfolding(crate::specs::ImageReading::template_in, crate::specs::ImageReading::allowed))]
+fn read_template(
+    alloc: Global,
+    fields: &mut Fields,
+    counts: Counts,
+) -> Result<Template, ImageFault>
+    requires { counts.flags ≤ FLAGS_LIMIT }
+    ensures { reading.Says (λ template. (template, fields.new)) result
+        (reading.template_in counts.keys counts.flags counts.vars fields.old) }
+{
+    let offset = fields.offset();
+    let verb = read_verb(fields)?;
+    let key = fields.byte()?;
+    let flags = fields.number_32()?;
+    let argument = read_argument(fields, counts.vars)?;
+    let body = fields.sized(0, BODY_LIMIT)?;
+    let masks = read_masks(fields)?;
+    let Some(argument) = argument else {
+        return Err(ImageFault::at(ImageKind::Template, offset));
+    };
+    let template = Template {
+        verb,
+        key,
+        flags,
+        argument,
+        body: Bytes::new(Vec::from_slice(alloc, body)?),
+        require_set: masks.require_set,
+        require_clear: masks.require_clear,
+        sets: masks.sets,
+        clears: masks.clears,
+    };
+    if !is_template(counts, &template) {
+        return Err(ImageFault::at(ImageKind::Template, offset));
+    }
+    Ok(template)
+}
+
+#[tactic(auto, unfolding(crate::specs::ImageReading::verb_in))]
+fn read_verb(fields: &mut Fields) -> Result<Verb, ImageFault>
+    ensures { reading.Says (λ verb. (verb, fields.new)) result (reading.verb_in fields.old) }
+{
+    let offset = fields.offset();
+    let index = fields.byte()?;
+    match verb_at(index) {
+        Some(verb) => Ok(verb),
+        None => Err(ImageFault::at(ImageKind::Range, offset)),
+    }
+}
+
+// The verb with this index, in the order of the verbs.
+#[tactic(auto, unfolding(crate::specs::ImageReading::verb_at))]
+fn verb_at(index: u8) -> Option<Verb>
+    ensures { result ≡ reading.verb_at index }
+{
+    match index {
+        0 => Some(Verb::Set),
+        1 => Some(Verb::Add),
+        2 => Some(Verb::Replace),
+        3 => Some(Verb::Append),
+        4 => Some(Verb::Prepend),
+        5 => Some(Verb::Cas),
+        6 => Some(Verb::Get),
+        7 => Some(Verb::Gets),
+        8 => Some(Verb::Incr),
+        9 => Some(Verb::Decr),
+        10 => Some(Verb::Delete),
+        11 => Some(Verb::Touch),
+        _ => None,
+    }
+}
+
+// Takes what stands behind the key. There is `None` where its number doesn't suit its sort.
+#[tactic(auto, unfolding(crate::specs::ImageReading::argument_in))]
+fn read_argument(fields: &mut Fields, vars: u8) -> Result<Option<Argument>, ImageFault>
+    ensures { reading.Says (λ argument. (argument, fields.new)) result (reading.argument_in vars fields.old) }
+{
+    let sort = fields.small(0, 2)?;
+    let number = fields.number_64()?;
+    Ok(argument_of(vars, sort, number))
+}
+
+#[tactic(auto, unfolding(crate::specs::ImageReading::argument_of))]
+fn argument_of(vars: u8, sort: u8, number: u64) -> Option<Argument>
+    ensures { result ≡ reading.argument_of vars sort number }
+{
+    match sort {
+        0 if number == 0 => Some(Argument::Nothing),
+        0 => None,
+        1 => Some(Argument::Number(number)),
+        _ if number < vars as u64 => Some(Argument::Variable(number as u8)),
+        _ => None,
+    }
+}
+
+/// The flags that a request needs and changes.
+#[derive(Clone, Copy)]
+struct Masks {
+    require_set: Mask,
+    require_clear: Mask,
+    sets: Mask,
+    clears: Mask,
+}
+
+#[tactic(auto, unfolding(crate::specs::ImageReading::masks_in))]
+fn read_masks(fields: &mut Fields) -> Result<Masks, ImageFault>
+    ensures { reading.Says (λ masks. (masks, fields.new)) result (reading.masks_in fields.old) }
+{
+    let require_set = fields.number_32()?;
+    let require_clear = fields.number_32()?;
+    let sets = fields.number_32()?;
+    let clears = fields.number_32()?;
+    Ok(Masks {
+        require_set,
+        require_clear,
+        sets,
+        clears,
+    })
+}

@@ -1,0 +1,96 @@
+ghost use Rattle.std.specs.Prelude.{◌≡◌, ◌≤◌, ◌^◌, nat_lt};
+ghost use Rattle.mc_script.specs.declared.limits.TheConstants.{FLAGS_LIMIT};
+ghost use Rattle.mc_script.specs.Templates as spec;
+ghost use Rattle.mc_code.specs.ImageReading as reading;
+
+use crate::names::is_body;
+use mc_protocol::Fields;
+use mc_script::{Argument, Mask, Template};
+
+/// How many keys, flags and variables are declared.
+#[derive(Clone, Copy)]
+pub(crate) struct Counts {
+    pub(crate) keys: usize,
+    pub(crate) flags: u8,
+    pub(crate) vars: u8,
+}
+
+/// Whether the template may stand where so many are declared.
+#[tactic(auto, unfolding(crate::specs::ImageReading::is_template))]
+pub(crate) fn is_template(counts: Counts, template: &Template) -> bool
+    requires { counts.flags ≤ FLAGS_LIMIT }
+    ensures { result ≡ reading.is_template counts.keys counts.flags counts.vars template.now }
+{
+    (template.key as usize) < counts.keys
+        && has_fields(
+            counts.vars,
+            template.verb.fields(),
+            template.flags,
+            template.argument,
+            template.body.as_slice(),
+        )
+        && are_masks(counts.flags, template)
+}
+
+// Whether the flags, the argument and the body are what the verb has.
+fn has_fields(vars: u8, fields: Fields, flags: u32, argument: Argument, body: &[u8]) -> bool
+    ensures { result ≡ spec.has_fields vars fields flags argument body.now }
+{
+    match fields {
+        Fields::KeyAlone | Fields::Expiry => {
+            flags == 0 && is_nothing(argument) && body.is_empty()
+        }
+        Fields::Item => is_nothing(argument) && is_body(body),
+        Fields::Swap => is_variable(vars, argument) && is_body(body),
+        Fields::Amount => flags == 0 && is_amount(vars, argument) && body.is_empty(),
+    }
+}
+
+fn is_nothing(argument: Argument) -> bool
+    ensures { result ≡ spec.is_nothing argument }
+{
+    match argument {
+        Argument::Nothing => true,
+        Argument::Number(_) | Argument::Variable(_) => false,
+    }
+}
+
+fn is_variable(vars: u8, argument: Argument) -> bool
+    ensures { result ≡ spec.is_variable vars argument }
+{
+    match argument {
+        Argument::Nothing | Argument::Number(_) => false,
+        Argument::Variable(variable) => variable < vars,
+    }
+}
+
+fn is_amount(vars: u8, argument: Argument) -> bool
+    ensures { result ≡ spec.is_amount vars argument }
+{
+    match argument {
+        Argument::Nothing => false,
+        Argument::Number(_) => true,
+        Argument::Variable(variable) => variable < vars,
+    }
+}
+
+// Whether the masks have declared flags alone, and none needed or changed both ways.
+fn are_masks(flags: u8, template: &Template) -> bool
+    requires { flags ≤ FLAGS_LIMIT }
+    ensures { result ≡ reading.are_masks flags template.now }
+{
+    is_mask(flags, template.require_set)
+        && is_mask(flags, template.require_clear)
+        && is_mask(flags, template.sets)
+        && is_mask(flags, template.clears)
+        && template.require_set & template.require_clear == 0
+        && template.sets & template.clears == 0
+}
+
+// Whether each bit of the mask is one of so many flags.
+fn is_mask(flags: u8, mask: Mask) -> bool
+    requires { flags ≤ FLAGS_LIMIT }
+    ensures { result ≡ nat_lt mask (2 ^ flags) }
+{
+    u64::from(mask) < 1 << flags
+}
