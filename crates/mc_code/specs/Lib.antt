@@ -15,7 +15,8 @@ pub mod Runs
 pub mod ScriptRuns
 pub mod Agreement
 pub mod Layout
-pub mod Assembling
 pub mod RunLaws
 pub mod Examples
+-- What private contracts cite.
+pub mod Assembling
 pub mod ImageReading

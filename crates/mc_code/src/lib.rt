@@ -7,8 +7,8 @@
 
 mod assembler;
 mod code;
-mod example_laws;
 mod emit;
+mod example_laws;
 mod fault;
 mod fields;
 mod image_laws;
@@ -17,14 +17,14 @@ mod image_writer;
 mod instr;
 mod kind;
 mod limits;
-mod places;
-mod run_laws;
-mod size;
-mod templates;
 mod names;
+mod places;
 mod read_declared;
 mod read_section;
 mod read_template;
+mod run_laws;
+mod size;
+mod templates;
 mod well_formed;
 
 pub use assembler::assemble;
@@ -45,10 +45,10 @@ pub use run_laws::{
 };
 
 #[cfg(test)]
+mod assembler_tests;
+#[cfg(test)]
 mod image_fault_tests;
 #[cfg(test)]
 mod image_tests;
 #[cfg(test)]
 mod test_codes;
-pub use run_laws::{codes_agree, ends_are_complete, paths_are_runs, runs_are_paths};
-mod assembler_tests;
