@@ -17,3 +17,4 @@ pub mod Readings
 pub mod Masks
 pub mod JumpLists
 pub mod Formed
+pub mod PrintedTexts
