@@ -6,7 +6,8 @@ use Rattle.std.proofs.lemmas.Grind.{flat_map-append}
 use Rattle.std.proofs.lemmas.Nat.Bits.{bit_at-suc}
 use Rattle.mc_protocol.specs.declared.actor.Actor.TheVariants as actor
 use Rattle.mc_script.specs.declared.entry.Sign.{Sign}
-use Rattle.mc_script.specs.Script.{Script}
+use Rattle.mc_script.specs.declared.section.Budget.{Budget}
+use Rattle.mc_script.specs.Script.{Names, Section, Script}
 use Rattle.mc_script.specs.ScriptWords.{Word, Words}
 use Rattle.mc_script.specs.Marks.{sign_byte}
 use Rattle.mc_script.specs.ScriptText.{header, names_lines, section_line, end_line}
@@ -68,7 +69,7 @@ groups-joined names p a b first x y z sp sa sb last =
     (simp append_assoc)
 
 -- the header and the names, the budgets, the sections, and `end`, one behind the other
-pub script_text-parts : (s : Script)
+script_text-parts : (s : Script)
     → ((((((lines_text (header ∷ names_lines s.names) ++ line_text (budget_line actor.P s.p.budget)) ++ line_text (budget_line actor.A s.a.budget))
     ++ line_text (budget_line actor.B s.b.budget)) ++ lines_text (section_line actor.P ∷ section_lines s.names s.p))
     ++ lines_text (section_line actor.A ∷ section_lines s.names s.a)) ++ lines_text (section_line actor.B ∷ section_lines s.names s.b)) ++ codes "end\n"
@@ -79,7 +80,7 @@ script_text-parts s =
     (section_line actor.P) (section_line actor.A) (section_line actor.B) end_line
 
 -- the same, text by text
-pub script_text-from : (s : Script) (t0 t1 t2 t3 t4 t5 t6 t7 t8 : List ℕ) → t0 ≡ [] → t1 ≡ t0 ++ lines_text (header ∷ names_lines s.names)
+script_text-from : (s : Script) (t0 t1 t2 t3 t4 t5 t6 t7 t8 : List ℕ) → t0 ≡ [] → t1 ≡ t0 ++ lines_text (header ∷ names_lines s.names)
     → t2 ≡ t1 ++ line_text (budget_line actor.P s.p.budget) → t3 ≡ t2 ++ line_text (budget_line actor.A s.a.budget)
     → t4 ≡ t3 ++ line_text (budget_line actor.B s.b.budget) → t5 ≡ t4 ++ lines_text (section_line actor.P ∷ section_lines s.names s.p)
     → t6 ≡ t5 ++ lines_text (section_line actor.A ∷ section_lines s.names s.a)
@@ -91,3 +92,22 @@ script_text-from s t0 t1 t2 t3 t4 t5 t6 t7 t8 e0 e1 e2 e3 e4 e5 e6 e7 e8 =
     (e4 ∙ ap (λ t. t ++ line_text (budget_line actor.B s.b.budget)) (e3 ∙ ap (λ t. t ++ line_text (budget_line actor.A s.a.budget))
     (e2 ∙ ap (λ t. t ++ line_text (budget_line actor.P s.p.budget)) (e1 ∙ ap (λ t. t ++ lines_text (header ∷ names_lines s.names)) e0)))))))
     ∙ script_text-parts s
+
+-- the same, of the script's parts
+pub script_text-made : (s : Script) (names : Names) (x y z : Budget) (p a b : Section) (t0 t1 t2 t3 t4 t5 t6 t7 t8 : List ℕ)
+    → names ≡ s.names → x ≡ s.p.budget → y ≡ s.a.budget → z ≡ s.b.budget → p ≡ s.p → a ≡ s.a → b ≡ s.b
+    → t0 ≡ [] → t1 ≡ t0 ++ lines_text (header ∷ names_lines names) → t2 ≡ t1 ++ line_text (budget_line actor.P x)
+    → t3 ≡ t2 ++ line_text (budget_line actor.A y) → t4 ≡ t3 ++ line_text (budget_line actor.B z)
+    → t5 ≡ t4 ++ lines_text (section_line actor.P ∷ section_lines names p) → t6 ≡ t5 ++ lines_text (section_line actor.A ∷ section_lines names a)
+    → t7 ≡ t6 ++ lines_text (section_line actor.B ∷ section_lines names b) → t8 ≡ t7 ++ codes "end\n" → t8 ≡ script_text s
+script_text-made s names x y z p a b t0 t1 t2 t3 t4 t5 t6 t7 t8 n ex ey ez ep ea eb e0 e1 e2 e3 e4 e5 e6 e7 e8 =
+    script_text-from s t0 t1 t2 t3 t4 t5 t6 t7 t8 e0 (e1 ∙ ap (λ ns. t0 ++ lines_text (header ∷ names_lines ns)) n)
+    (e2 ∙ ap (λ v. t1 ++ line_text (budget_line actor.P v)) ex) (e3 ∙ ap (λ v. t2 ++ line_text (budget_line actor.A v)) ey)
+    (e4 ∙ ap (λ v. t3 ++ line_text (budget_line actor.B v)) ez)
+    (e5 ∙ ap (λ ns. t4 ++ lines_text (section_line actor.P ∷ section_lines ns p)) n
+    ∙ ap (λ v. t4 ++ lines_text (section_line actor.P ∷ section_lines s.names v)) ep)
+    (e6 ∙ ap (λ ns. t5 ++ lines_text (section_line actor.A ∷ section_lines ns a)) n
+    ∙ ap (λ v. t5 ++ lines_text (section_line actor.A ∷ section_lines s.names v)) ea)
+    (e7 ∙ ap (λ ns. t6 ++ lines_text (section_line actor.B ∷ section_lines ns b)) n
+    ∙ ap (λ v. t6 ++ lines_text (section_line actor.B ∷ section_lines s.names v)) eb)
+    e8
