@@ -13,6 +13,7 @@ mod limits;
 mod lines;
 mod marks;
 mod names;
+mod print_laws;
 mod print_marks;
 mod print_script;
 mod print_section;
@@ -31,6 +32,7 @@ pub use limits::{
     BODY_LIMIT, BYTES_LIMIT, DIGITS_LIMIT, FLAGS_LIMIT, KEY_BYTES_LIMIT, KEYS_LIMIT, Mask,
     NAME_BYTES_LIMIT, REQUESTS_LIMIT, STEPS_LIMIT, VARIABLES_LIMIT,
 };
+pub use print_laws::{printed_scripts_are_read_again, printed_scripts_are_spelled};
 pub use print_script::print;
 pub use script::Script;
 pub use section::{Budget, Label};
