@@ -23,3 +23,4 @@ pub mod PrintedNames
 pub mod PrintedFlags
 pub mod PrintedMarks
 pub mod PrintedSteps
+pub mod PrintedSections
