@@ -1,14 +1,12 @@
 -- The flags of a template as marks: they say its masks, and none are twins.
-use Rattle.std.proofs.Common.{◌≡◌, ℕ, ◌+◌, ◌*◌, ◌/◌, ◌%◌, ◌<◌, ◌≤◌, ◌==◌, ◌^◌, Bool, true, false, not, ◌&&◌, ◌||◌, cond, Option, Some, None, List, [], ◌∷◌, ◌++◌, length, get_or, bit_and, bit_or, min, refl, sym, ap, subst, ◌∙◌, arith, suc}
+use Rattle.std.proofs.Common.{◌≡◌, ℕ, ◌+◌, ◌*◌, ◌%◌, ◌<◌, ◌==◌, ◌^◌, Bool, true, false, not, cond, Some, None, List, [], ◌∷◌, ◌++◌, length, get_or, bit_and, bit_or, min, refl, sym, ap, ◌∙◌, arith, suc}
 use Rattle.std.specs.Int.{bit_at}
-use Rattle.std.specs.List.{list_all, list_any, fold}
-use Rattle.std.proofs.lemmas.Bool.{and_parts, and_from, and_left, and_right, or_from, or_parts, not-true, not_from_false, eqb-true, eq-eqb, ne_eqb, false_from_ne_true, both_ways, cond_both}
+use Rattle.std.specs.List.{list_all, list_any}
+use Rattle.std.proofs.lemmas.Bool.{and_parts, and_from, and_left, and_right, or_from, or_parts, not-true, not_from_false, eqb-true, eq-eqb, ne_eqb, both_ways, cond_both}
 use Rattle.std.proofs.lemmas.List.Folds.{list_all-append}
 use Rattle.std.proofs.lemmas.Nat.{mod-pow-add, or_shifted, or_comm, pow_pos, mod_below}
 use Rattle.std.proofs.Math.Nat.{mod-eq_of_lt}
 use Rattle.std.proofs.lemmas.Nat.Bits.{bit_at_and, bit_at-lt, bit_at-zero}
-use Rattle.mc_protocol.specs.declared.request.Verb.{Verb}
-use Rattle.mc_protocol.specs.declared.reply.Class.{Class}
 use Rattle.mc_script.specs.declared.entry.Mark.{Mark}
 use Rattle.mc_script.specs.declared.entry.Mark.TheVariants as mark
 use Rattle.mc_script.specs.declared.entry.Sign.{Sign}
@@ -16,7 +14,7 @@ use Rattle.mc_script.specs.declared.entry.Sign.TheVariants as sign
 use Rattle.mc_script.specs.declared.step.Template.{Template}
 use Rattle.mc_script.specs.Script.{Names}
 use Rattle.mc_script.specs.ScriptWords.{Word, Words, index_of}
-use Rattle.mc_script.specs.Marks.{SpellsMark, sign_byte, is_need, same, are_twins, have_no_twins, may_stand, is_bind, is_number_jump, says, with_flag, target_of, bound_by}
+use Rattle.mc_script.specs.Marks.{SpellsMark, sign_byte, is_need, same, are_twins, have_no_twins, says, with_flag}
 use Rattle.mc_script.specs.SectionText.{SpellEach}
 use Rattle.mc_script.specs.PrintedScript.{flag_words, all_flag_words}
 use Rattle.mc_script.proofs.Masks.{gathered}

@@ -1,7 +1,7 @@
 -- The marks of a step as they are printed: words spell them, they may stand together, and they say the step again.
-use Rattle.std.proofs.Common.{◌≡◌, ℕ, ◌+◌, ◌<◌, ◌≤◌, ◌==◌, ◌^◌, Bool, true, false, not, ◌&&◌, ◌||◌, cond, ◌⊎◌, inl, inr, ⊎_elim, Option, Some, None, List, [], ◌∷◌, ◌++◌, length, map, get_or, slice_get, refl, sym, ap, subst, ◌∙◌, arith}
+use Rattle.std.proofs.Common.{◌≡◌, ℕ, ◌+◌, ◌<◌, ◌≤◌, ◌==◌, ◌^◌, Bool, true, false, not, ◌&&◌, ◌||◌, cond, ◌⊎◌, inl, inr, ⊎_elim, Option, Some, None, List, [], ◌∷◌, ◌++◌, length, map, refl, sym, ap, subst, ◌∙◌, arith}
 use Rattle.std.specs.List.{list_all, list_any}
-use Rattle.std.proofs.lemmas.Bool.{and_parts, and_from, or_from, not_from_false, not-true, eqb-true, eq-eqb, ne_eqb, cond-true, cond-false, cases_order}
+use Rattle.std.proofs.lemmas.Bool.{and_from, or_from, not_from_false, not-true, eq-eqb, ne_eqb, cond-true, cond-false, cases_order}
 use Rattle.mc_protocol.specs.Legal.{is_legal}
 use Rattle.mc_protocol.specs.declared.request.Verb.{Verb}
 use Rattle.mc_protocol.specs.declared.reply.Class.{Class}
@@ -13,10 +13,10 @@ use Rattle.mc_script.specs.declared.entry.Sign.TheVariants as sign
 use Rattle.mc_script.specs.declared.section.Label.{Label}
 use Rattle.mc_script.specs.declared.step.Template.{Template}
 use Rattle.mc_script.specs.Script.{Names}
-use Rattle.mc_script.specs.ScriptWords.{Word, Words, index_of, are_distinct}
-use Rattle.mc_script.specs.Marks.{SpellsMark, sign_byte, class_index, jump_word, are_twins, have_no_twins, may_stand, may_stand_together, shows_numbers, is_bind, is_number_jump, says, mask_of, target_of, bound_by}
+use Rattle.mc_script.specs.ScriptWords.{Word, are_distinct}
+use Rattle.mc_script.specs.Marks.{SpellsMark, sign_byte, class_index, are_twins, have_no_twins, may_stand, may_stand_together, shows_numbers, is_bind, is_number_jump, says, mask_of, target_of, bound_by}
 use Rattle.mc_script.specs.SectionText.{SpellEach, label_names}
-use Rattle.mc_script.specs.Steps.{all_classes, label_behind, with_jump, jump_before, jumps_on}
+use Rattle.mc_script.specs.Steps.{all_classes, with_jump, jump_before, jumps_on}
 use Rattle.mc_script.specs.WellFormed.{IsBehind, AreJumps, MayBind, is_number_class, jumps_on_number}
 use Rattle.mc_script.specs.Templates.{IsTemplate}
 use Rattle.mc_script.specs.PrintedScript.{name_at, label_at, jump_words, bind_words, all_flag_words, mark_words}

@@ -1,13 +1,13 @@
 -- Names, numbers and bodies that are printed: they are whole words, and spell what they were printed of.
-use Rattle.std.proofs.Common.{◌≡◌, ℕ, ◌+◌, ◌<◌, ◌≤◌, ◌==◌, ◌^◌, nat_le, nat_lt, Bool, true, false, not, ◌&&◌, ◌||◌, cond, Some, List, [], ◌∷◌, ◌++◌, length, get_or, slice_get, map, decimal, refl, sym, ap, subst, ◌∙◌, arith, suc, zero}
-use Rattle.std.specs.List.{list_all, list_any, position, position_or_len}
+use Rattle.std.proofs.Common.{◌≡◌, ℕ, ◌+◌, ◌<◌, ◌≤◌, ◌==◌, ◌^◌, nat_le, nat_lt, Bool, true, false, not, ◌&&◌, Some, List, [], ◌∷◌, ◌++◌, length, slice_get, decimal, refl, ap, ◌∙◌, arith, suc, zero}
+use Rattle.std.specs.List.{list_all, list_any, position_or_len}
 use Rattle.std.specs.Str.{bytes_eq}
-use Rattle.std.proofs.lemmas.Bool.{and_parts, and_from, or_parts, not-true, leb-true, lt-ltb, cond-true}
+use Rattle.std.proofs.lemmas.Bool.{and_parts, and_from, or_parts, not-true, lt-ltb}
 use Rattle.std.proofs.lemmas.Bool.Decides.{nat_tests}
 use Rattle.std.proofs.lemmas.Fmt.{decimal_nonempty, digits_decimal, digits_value-decimal, length-decimal-le}
 use Rattle.std.proofs.lemmas.List.Folds.{list_all-append}
 use Rattle.mc_script.specs.declared.section.Label.{Label}
-use Rattle.mc_script.specs.ScriptWords.{Word, Words, SpellsNumber, is_named, is_name, is_name_byte, is_body, is_body_byte, is_digit, is_new, are_distinct, index_of, MAX_64, body_word, variable_word, label_word}
+use Rattle.mc_script.specs.ScriptWords.{Word, SpellsNumber, is_named, is_name, is_name_byte, is_body, is_body_byte, is_digit, is_new, are_distinct, index_of, MAX_64, body_word, label_word}
 use Rattle.mc_script.specs.SectionText.{label_names}
 use Rattle.mc_script.specs.Steps.{label_behind}
 use Rattle.mc_script.specs.PrintedScript.{name_at, label_at}

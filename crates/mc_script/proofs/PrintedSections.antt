@@ -1,5 +1,5 @@
 -- The lines of sections as they are printed, and the whole text: they spell the section, and the script.
-use Rattle.std.proofs.Common.{◌≡◌, ℕ, ◌+◌, ◌<◌, ◌≤◌, ◌==◌, nat_le, Bool, true, false, not, ◌&&◌, cond, ⊎_elim, Option, Some, None, List, [], ◌∷◌, ◌++◌, length, map, codes, decimal, refl, sym, ap, subst, ◌∙◌, arith}
+use Rattle.std.proofs.Common.{◌≡◌, ℕ, ◌+◌, ◌<◌, ◌==◌, nat_le, Bool, true, false, cond, ⊎_elim, Some, List, [], ◌∷◌, ◌++◌, length, codes, decimal, refl, sym, ap, subst, ◌∙◌, arith}
 use Rattle.std.specs.List.{list_all}
 use Rattle.std.proofs.lemmas.Bool.{and_parts, and_from, eqb-true, eq-eqb, ne_eqb, le-leb, lt-leb, cond_both, cases_order}
 use Rattle.mc_protocol.specs.declared.actor.Actor.{Actor}
@@ -7,13 +7,12 @@ use Rattle.mc_protocol.specs.declared.actor.Actor.TheVariants as actor
 use Rattle.mc_script.specs.declared.entry.Entry.{Entry}
 use Rattle.mc_script.specs.declared.entry.Entry.TheVariants as entry
 use Rattle.mc_script.specs.declared.limits.TheConstants.{NAME_BYTES_LIMIT, KEY_BYTES_LIMIT, REQUESTS_LIMIT, BYTES_LIMIT}
-use Rattle.mc_script.specs.declared.section.Budget.{Budget}
 use Rattle.mc_script.specs.declared.section.Label.{Label}
 use Rattle.mc_script.specs.declared.step.Step.{Step}
 use Rattle.mc_script.specs.declared.step.Step.TheVariants as step
 use Rattle.mc_script.specs.Script.{Names, Section, Script}
-use Rattle.mc_script.specs.ScriptWords.{Word, Words, is_named, is_name, are_distinct, label_word, MAX_64}
-use Rattle.mc_script.specs.ScriptText.{SpellsBudget, SpellsScript, actor_word, header, names_line, names_lines, section_line, end_line, body_lines}
+use Rattle.mc_script.specs.ScriptWords.{Word, Words, is_named, is_name, are_distinct, label_word}
+use Rattle.mc_script.specs.ScriptText.{SpellsBudget, actor_word, header, names_line, names_lines, section_line, end_line, body_lines}
 use Rattle.mc_script.specs.SectionText.{SpellEach, SpellsEntry, SpellsSection, label_names}
 use Rattle.mc_script.specs.Steps.{in_front, labels_from, steps_from}
 use Rattle.mc_script.specs.WellFormed.{AreSteps, AreLabels, IsSection, IsScript}

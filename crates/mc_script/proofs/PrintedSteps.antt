@@ -1,10 +1,9 @@
 -- The lines of steps as they are printed: they spell entries, of which the steps are made again.
-use Rattle.std.proofs.Common.{◌≡◌, ℕ, ◌+◌, ◌<◌, ◌≤◌, ◌==◌, nat_le, Bool, true, false, not, ◌&&◌, cond, Option, Some, None, List, [], ◌∷◌, ◌++◌, length, map, codes, decimal, refl, sym, ap, subst, ◌∙◌, arith}
+use Rattle.std.proofs.Common.{◌≡◌, ℕ, ◌+◌, ◌<◌, ◌≤◌, ◌==◌, nat_le, Bool, true, false, not, cond, Option, Some, None, List, [], ◌∷◌, ◌++◌, length, codes, decimal, refl, sym, ap, ◌∙◌, arith}
 use Rattle.std.specs.Int.{bit_at}
 use Rattle.std.specs.List.{list_all}
 use Rattle.std.proofs.lemmas.Bool.{and_parts, and_from, eqb-true, leb-true, ltb-true}
 use Rattle.std.proofs.lemmas.Bool.Decides.{nat_tests}
-use Rattle.std.proofs.lemmas.List.Folds.{list_all-append}
 use Rattle.std.proofs.lemmas.Option.{slice_get_within}
 use Rattle.mc_protocol.specs.Fields.{fields_of}
 use Rattle.mc_protocol.specs.Words.{verb_word}
@@ -28,11 +27,11 @@ use Rattle.mc_script.specs.declared.step.Template.{Template}
 use Rattle.mc_script.specs.Script.{Names, AreDeclared}
 use Rattle.mc_script.specs.ScriptWords.{Word, Words, is_named, is_name, is_body, are_distinct, body_word, variable_word, MAX_32, MAX_64}
 use Rattle.mc_script.specs.Marks.{sign_byte, class_word, class_index, jump_word, bind_word, bound_by}
-use Rattle.mc_script.specs.SectionText.{SpellsEntry, SpellsRequest, SpellsFields, SpellsUnique, SpellsAmount, label_names}
-use Rattle.mc_script.specs.Steps.{in_front, sends, goes, marked, all_classes, jumps_on, steps_from}
+use Rattle.mc_script.specs.SectionText.{SpellsEntry, SpellsFields, SpellsUnique, SpellsAmount, label_names}
+use Rattle.mc_script.specs.Steps.{in_front, sends, goes, marked, steps_from}
 use Rattle.mc_script.specs.Templates.{IsTemplate, has_fields, is_nothing, is_variable, is_amount, is_empty}
 use Rattle.mc_script.specs.WellFormed.{IsBehind, AreJumps, MayBind, IsStep}
-use Rattle.mc_script.specs.PrintedScript.{name_at, label_at, item_words, argument_words, flag_words, all_flag_words, jump_words, bind_words, mark_words, field_words, request_words, step_words}
+use Rattle.mc_script.specs.PrintedScript.{name_at, label_at, item_words, argument_words, flag_words, all_flag_words, jump_words, bind_words, mark_words, field_words, step_words}
 use Rattle.mc_script.proofs.MarkLists.{three}
 use Rattle.mc_script.proofs.EntryWords.{same-template}
 use Rattle.mc_script.proofs.PrintedLines.{is_plain, are_plain, is_whole, are_whole, is_line}

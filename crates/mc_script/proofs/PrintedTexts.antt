@@ -1,7 +1,6 @@
 -- The texts of lines and of marks, in parts.
 use Rattle.std.proofs.Common.{◌≡◌, ℕ, ◌+◌, ◌-◌, ◌/◌, ◌≤◌, ◌==◌, Bool, true, false, cond, List, [], ◌∷◌, ◌++◌, codes, length, take, drop, get_or, refl, sym, ap, subst, ◌∙◌, arith, append_assoc, suc}
 use Rattle.std.specs.Int.{bit_at}
-use Rattle.std.specs.List.{flat_map}
 use Rattle.std.proofs.lemmas.Grind.{flat_map-append}
 use Rattle.std.proofs.lemmas.Nat.Bits.{bit_at-suc}
 use Rattle.mc_protocol.specs.declared.actor.Actor.TheVariants as actor

@@ -1,4 +1,4 @@
-use Rattle.std.proofs.Common.{◌≡◌, ◌++◌, ◌+◌, length}
+use Rattle.std.proofs.Common.{◌≡◌, ◌++◌, length}
 use Rattle.mc_script.specs.PrintedScript.{behind_text, jump_words}
 use Rattle.mc_script.proofs.print_marks.print_jumps.Given as goal
 

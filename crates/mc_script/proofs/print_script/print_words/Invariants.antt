@@ -1,4 +1,4 @@
-use Rattle.std.proofs.Common.{◌≡◌, ◌++◌, ◌+◌, length}
+use Rattle.std.proofs.Common.{◌≡◌, ◌++◌, length}
 use Rattle.mc_script.specs.PrintedScript.{behind_text}
 use Rattle.mc_script.proofs.print_script.print_words.Given as goal
 

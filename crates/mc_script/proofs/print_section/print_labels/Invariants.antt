@@ -1,4 +1,4 @@
-use Rattle.std.proofs.Common.{◌≡◌, ◌++◌, ◌+◌, length}
+use Rattle.std.proofs.Common.{◌≡◌, ◌++◌, length}
 use Rattle.mc_script.specs.PrintedScript.{lines_text, label_lines}
 use Rattle.mc_script.proofs.print_section.print_labels.Given as goal
 
