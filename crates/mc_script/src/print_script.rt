@@ -1,5 +1,5 @@
 ghost use Rattle.std.specs.Prelude.{◌≡◌, ◌++◌, ◌∷◌, IfOk, OnOk, OnErr};
-ghost use Rattle.mc_script.specs.ScriptText.{header, names_line, names_lines};
+ghost use Rattle.mc_script.specs.ScriptText.{SpellsScript, header, names_line, names_lines};
 ghost use Rattle.mc_script.specs.PrintedScript as printed;
 
 use crate::declarations::actor_word;
@@ -14,6 +14,7 @@ use std::alloc::Global;
 /// `-`, jumps, `>`. Want of memory leaves `out` as it was.
 pub fn print(alloc: Global, script: &Script, out: &mut Vec<u8>) -> Result<(), OutOfMemory>
     ensures ok { OnOk result (out.new.items ≡ out.old.items ++ printed.script_text script.now) }
+    ensures spelled { OnOk result (SpellsScript (printed.script_text script.now) script.now) }
     ensures err { OnErr result (out.new.items ≡ out.old.items) }
 {
     let text = text_of(alloc, script)?;
@@ -22,7 +23,8 @@ pub fn print(alloc: Global, script: &Script, out: &mut Vec<u8>) -> Result<(), Ou
 
 // The text of a script.
 fn text_of(alloc: Global, script: &Script) -> Result<Vec<u8>, OutOfMemory>
-    ensures { IfOk result (λ text. text.items ≡ printed.script_text script.now) }
+    ensures text { IfOk result (λ text. text.items ≡ printed.script_text script.now) }
+    ensures spelled { OnOk result (SpellsScript (printed.script_text script.now) script.now) }
 {
     let mut text = Vec::new(alloc);
     let names = script.names();

@@ -75,7 +75,8 @@ impl Script {
     }
 
     pub(crate) fn names(&self) -> &Names
-        ensures { result.now ≡ self.now.names }
+        ensures names { result.now ≡ self.now.names }
+        ensures kept { IsScript self.now }
     {
         &self.names
     }
