@@ -184,7 +184,7 @@ entry-spelled names (word ∷ next ∷ others) e h =
 
 -- ---- what is spelled is read
 
-same-template : (t : Template) (a b c d : ℕ) → t.require_set ≡ a → t.require_clear ≡ b → t.sets ≡ c → t.clears ≡ d
+pub same-template : (t : Template) (a b c d : ℕ) → t.require_set ≡ a → t.require_clear ≡ b → t.sets ≡ c → t.clears ≡ d
     → ◌≡◌ {A = Template}
     (record { verb = t.verb; key = t.key; flags = t.flags; argument = t.argument; body = t.body; require_set = a; require_clear = b; sets = c; clears = d }) t
 same-template t a b c d e f g h = rw (← e, ← f, ← g, ← h) refl

@@ -61,7 +61,7 @@ target-legal v (mark.Jump d l ∷ marks) c name h g =
     (λ b _. rw (class-same c d b) p.0)
     (λ _ k. target-legal v marks c name p.1 k)
 
-number-jump : (c : Class) (l : Word) → is_number_jump (mark.Jump c l) ≡ is_number_class c
+pub number-jump : (c : Class) (l : Word) → is_number_jump (mark.Jump c l) ≡ is_number_class c
 number-jump class.Stored l = refl
 number-jump class.NotStored l = refl
 number-jump class.Exists l = refl

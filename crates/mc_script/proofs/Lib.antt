@@ -17,3 +17,10 @@ pub mod Readings
 pub mod Masks
 pub mod JumpLists
 pub mod Formed
+pub mod PrintedTexts
+pub mod PrintedLines
+pub mod PrintedNames
+pub mod PrintedFlags
+pub mod PrintedMarks
+pub mod PrintedSteps
+pub mod PrintedSections

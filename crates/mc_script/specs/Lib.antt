@@ -11,6 +11,7 @@ pub mod SectionText
 pub mod ScriptText
 pub mod Templates
 pub mod WellFormed
+pub mod PrintedScript
 -- What private contracts cite.
 pub mod Reading
 pub mod TextReading

@@ -13,6 +13,10 @@ mod limits;
 mod lines;
 mod marks;
 mod names;
+mod print_laws;
+mod print_marks;
+mod print_script;
+mod print_section;
 mod read_entry;
 mod resolve;
 mod script;
@@ -28,6 +32,8 @@ pub use limits::{
     BODY_LIMIT, BYTES_LIMIT, DIGITS_LIMIT, FLAGS_LIMIT, KEY_BYTES_LIMIT, KEYS_LIMIT, Mask,
     NAME_BYTES_LIMIT, REQUESTS_LIMIT, STEPS_LIMIT, VARIABLES_LIMIT,
 };
+pub use print_laws::{printed_scripts_are_read_again, printed_scripts_are_spelled};
+pub use print_script::print;
 pub use script::Script;
 pub use section::{Budget, Label};
 pub use step::{Argument, Jumps, Step, Template};
@@ -36,5 +42,7 @@ pub use text_laws::texts_spell_one_script;
 
 #[cfg(test)]
 mod fault_tests;
+#[cfg(test)]
+mod print_tests;
 #[cfg(test)]
 mod tests;

@@ -74,7 +74,14 @@ impl Script {
         self.section(actor).labels.as_slice()
     }
 
-    fn section(&self, actor: Actor) -> &Section
+    pub(crate) fn names(&self) -> &Names
+        ensures names { result.now ≡ self.now.names }
+        ensures kept { IsScript self.now }
+    {
+        &self.names
+    }
+
+    pub(crate) fn section(&self, actor: Actor) -> &Section
         ensures section { result.now ≡ spec.section_of self.now actor }
         ensures kept { IsScript self.now }
     {

@@ -1,0 +1,139 @@
+-- The text that is printed of a script.
+use Rattle.std.specs.Prelude.{◌≡◌, ℕ, ◌+◌, ◌==◌, Option, Some, None, List, [], ◌∷◌, ◌++◌, map, get_or, codes, decimal, if◌then◌else◌}
+use Rattle.std.specs.Int.{bit_at}
+use Rattle.std.specs.List.{flat_map}
+use Rattle.mc_protocol.specs.Fields.{fields_of}
+use Rattle.mc_protocol.specs.Words.{verb_word}
+use Rattle.mc_protocol.specs.declared.actor.Actor.{Actor}
+use Rattle.mc_protocol.specs.declared.actor.Actor.TheVariants as actor
+use Rattle.mc_protocol.specs.declared.request.Fields.{Fields}
+use Rattle.mc_protocol.specs.declared.request.Fields.TheVariants as fields
+use Rattle.mc_protocol.specs.declared.reply.Class.{Class}
+use Rattle.mc_script.specs.declared.entry.Sign.{Sign}
+use Rattle.mc_script.specs.declared.entry.Sign.TheVariants as sign
+use Rattle.mc_script.specs.declared.section.Budget.{Budget}
+use Rattle.mc_script.specs.declared.section.Label.{Label}
+use Rattle.mc_script.specs.declared.step.Argument.{Argument}
+use Rattle.mc_script.specs.declared.step.Argument.TheVariants as argument
+use Rattle.mc_script.specs.declared.step.Step.{Step}
+use Rattle.mc_script.specs.declared.step.Step.TheVariants as step
+use Rattle.mc_script.specs.declared.step.Template.{Template}
+use Rattle.mc_script.specs.Script.{Names, Section, Script}
+use Rattle.mc_script.specs.ScriptWords.{Word, Words, body_word, variable_word, label_word}
+use Rattle.mc_script.specs.ScriptText.{SpellsScript, actor_word, header, names_lines, body_lines}
+use Rattle.mc_script.specs.Marks.{sign_byte, jump_word, bind_word}
+use Rattle.mc_script.specs.SectionText.{halt_line, label_names}
+use Rattle.mc_script.specs.WellFormed.{IsScript}
+
+-- ---- lines
+
+-- words, each behind a space
+abbrev pub behind_text : Words → List ℕ
+behind_text words = flat_map (λ word. 32 ∷ word) words
+
+-- a line: its words with one space between them, and LF
+abbrev pub line_text : Words → List ℕ
+line_text [] = 10 ∷ []
+line_text (word ∷ words) = word ++ behind_text words ++ 10 ∷ []
+
+abbrev pub lines_text : List Words → List ℕ
+lines_text lines = flat_map line_text lines
+
+-- ---- a request
+
+-- the name with this index
+abbrev pub name_at : List Word → ℕ → Word
+name_at names index = get_or names index []
+
+abbrev pub label_at : List Label → ℕ → Word
+label_at labels index = name_at (label_names labels) index
+
+-- flags and body, where the verb has them
+abbrev pub item_words : Fields → ℕ → List ℕ → Words
+item_words fields.KeyAlone flags body = []
+item_words fields.Expiry flags body = []
+item_words fields.Item flags body = decimal flags ∷ body_word body ∷ []
+item_words fields.Swap flags body = decimal flags ∷ body_word body ∷ []
+item_words fields.Amount flags body = []
+
+-- the number, or `$` and the variable's name, where the verb has one
+abbrev pub argument_words : Names → Argument → Words
+argument_words names argument.Nothing = []
+argument_words names (argument.Number n) = decimal n ∷ []
+argument_words names (argument.Variable v) = variable_word (name_at names.vars v) ∷ []
+
+-- the flags of the mask, each behind this sign, in the order of their names, of which the first has this index
+abbrev pub flag_words : Sign → ℕ → ℕ → List Word → Words
+flag_words s mask index [] = []
+flag_words s mask index (name ∷ names) =
+    if bit_at mask index == 1 then (sign_byte s ∷ name) ∷ flag_words s mask (index + 1) names else flag_words s mask (index + 1) names
+
+abbrev pub all_flag_words : List Word → Template → Words
+all_flag_words names t =
+    flag_words sign.RequireSet t.require_set 0 names ++ flag_words sign.RequireClear t.require_clear 0 names
+    ++ flag_words sign.Sets t.sets 0 names ++ flag_words sign.Clears t.clears 0 names
+
+abbrev pub jump_words : List Label → List (Class × ℕ) → Words
+jump_words labels jumps = map (λ jump. jump_word jump.0 (label_at labels jump.1)) jumps
+
+abbrev pub bind_words : Names → Option ℕ → Words
+bind_words names None = []
+bind_words names (Some variable) = bind_word (name_at names.vars variable) ∷ []
+
+-- the marks: `?`, `!`, `+`, `-`, the jumps, and `>`
+abbrev pub mark_words : Names → List Label → Template → List (Class × ℕ) → Option ℕ → Words
+mark_words names labels t jumps bind = all_flag_words names.flags t ++ jump_words labels jumps ++ bind_words names bind
+
+-- what stands between the key and the marks
+abbrev pub field_words : Names → Template → Words
+field_words names t = item_words (fields_of t.verb) t.flags t.body ++ argument_words names t.argument
+
+abbrev pub request_words : Names → List Label → Template → List (Class × ℕ) → Option ℕ → Words
+request_words names labels t jumps bind =
+    verb_word t.verb ∷ name_at names.keys t.key ∷ field_words names t ++ mark_words names labels t jumps bind
+
+-- ---- a section
+
+abbrev pub step_words : Names → List Label → Step → Words
+step_words names labels (step.Send t jumps bind) = request_words names labels t jumps bind
+step_words names labels (step.Bind variable) = codes "bind" ∷ name_at names.vars variable ∷ []
+step_words names labels (step.Goto label) = codes "goto" ∷ label_at labels label ∷ []
+step_words names labels step.Halt = halt_line
+
+-- the labels of this place, each on a line of its own
+abbrev pub label_lines : ℕ → List Label → List Words
+label_lines place [] = []
+label_lines place (label ∷ labels) =
+    if label.place == place then (label_word label.name ∷ []) ∷ label_lines place labels else label_lines place labels
+
+-- the steps from this place on, each behind the labels of its place, and the labels of the end
+abbrev pub step_lines : Names → List Label → ℕ → List Step → List Words
+step_lines names labels place [] = label_lines place labels
+step_lines names labels place (s ∷ steps) =
+    label_lines place labels ++ step_words names labels s ∷ step_lines names labels (place + 1) steps
+
+abbrev pub section_lines : Names → Section → List Words
+section_lines names s = step_lines names s.labels 0 s.steps
+
+-- ---- the whole text
+
+abbrev pub budget_line : Actor → Budget → Words
+budget_line a budget = codes "budget" ∷ actor_word a ∷ decimal budget.requests ∷ decimal budget.bytes ∷ []
+
+abbrev pub script_lines : Script → List Words
+script_lines s =
+    header ∷ (names_lines s.names ++ budget_line actor.P s.p.budget ∷ budget_line actor.A s.a.budget ∷ budget_line actor.B s.b.budget
+    ∷ body_lines (section_lines s.names s.p) (section_lines s.names s.a) (section_lines s.names s.b))
+
+abbrev pub script_text : Script → List ℕ
+script_text s = lines_text (script_lines s)
+
+-- ---- what is printed spells the script
+
+-- a script is spelled by the text that is printed of it
+abbrev pub PrintedScriptsAreSpelled : Type 0
+PrintedScriptsAreSpelled = (s : Script) → IsScript s → SpellsScript (script_text s) s
+
+-- a script that is read from the text that was printed of one is the same
+abbrev pub PrintedScriptsAreReadAgain : Type 0
+PrintedScriptsAreReadAgain = (s t : Script) → IsScript s → SpellsScript (script_text s) t → t ≡ s

@@ -1,0 +1,88 @@
+ghost use Rattle.std.specs.Prelude.{◌≡◌, ◌++◌, ◌∷◌, IfOk, OnOk, OnErr};
+ghost use Rattle.mc_script.specs.ScriptText.{SpellsScript, header, names_line, names_lines};
+ghost use Rattle.mc_script.specs.PrintedScript as printed;
+
+use crate::declarations::actor_word;
+use crate::names::Names;
+use crate::print_section::print_section;
+use crate::{Budget, Script};
+use itoa::Buffer;
+use mc_protocol::{Actor, Bytes, OutOfMemory, append_all};
+use std::alloc::Global;
+
+/// Appends the text of a script: one space between words, no line that doesn't count, marks in the order `?`, `!`, `+`,
+/// `-`, jumps, `>`. Want of memory leaves `out` as it was.
+pub fn print(alloc: Global, script: &Script, out: &mut Vec<u8>) -> Result<(), OutOfMemory>
+    ensures ok { OnOk result (out.new.items ≡ out.old.items ++ printed.script_text script.now) }
+    ensures spelled { OnOk result (SpellsScript (printed.script_text script.now) script.now) }
+    ensures err { OnErr result (out.new.items ≡ out.old.items) }
+{
+    let text = text_of(alloc, script)?;
+    out.extend_from_slice(text.as_slice())
+}
+
+// The text of a script.
+fn text_of(alloc: Global, script: &Script) -> Result<Vec<u8>, OutOfMemory>
+    ensures text { IfOk result (λ text. text.items ≡ printed.script_text script.now) }
+    ensures spelled { OnOk result (SpellsScript (printed.script_text script.now) script.now) }
+{
+    let mut text = Vec::new(alloc);
+    let names = script.names();
+    print_declarations(names, &mut text)?;
+    print_budget(Actor::P, script.budget(Actor::P), &mut text)?;
+    print_budget(Actor::A, script.budget(Actor::A), &mut text)?;
+    print_budget(Actor::B, script.budget(Actor::B), &mut text)?;
+    print_section(names, Actor::P, script.section(Actor::P), &mut text)?;
+    print_section(names, Actor::A, script.section(Actor::A), &mut text)?;
+    print_section(names, Actor::B, script.section(Actor::B), &mut text)?;
+    text.extend_from_slice(b"end\n")?;
+    Ok(text)
+}
+
+// Appends the header, and the lines that declare names.
+fn print_declarations(names: &Names, out: &mut Vec<u8>) -> Result<(), OutOfMemory>
+    ensures { OnOk result (out.new.items ≡ out.old.items ++ printed.lines_text (header ∷ names_lines names.now)) }
+{
+    out.extend_from_slice(b"script 1\n")?;
+    print_names(b"keys", names.keys(), out)?;
+    print_names(b"flags", names.flags(), out)?;
+    print_names(b"vars", names.vars(), out)
+}
+
+// Appends the line that declares these names, if there are any.
+fn print_names(word: &[u8], names: &[Bytes], out: &mut Vec<u8>) -> Result<(), OutOfMemory>
+    ensures { OnOk result (out.new.items ≡ out.old.items ++ printed.lines_text (names_line word.now names.now)) }
+{
+    if names.is_empty() {
+        return Ok(());
+    }
+    out.extend_from_slice(word)?;
+    print_words(names, out)?;
+    out.extend_from_slice(b"\n")
+}
+
+// Appends words, each behind a space.
+fn print_words(words: &[Bytes], out: &mut Vec<u8>) -> Result<(), OutOfMemory>
+    ensures { OnOk result (out.new.items ≡ out.old.items ++ printed.behind_text words.now) }
+{
+    let mut rest = words;
+    'words: while let [word, others @ ..] = rest {
+        append_all(out, &[b" ", word.as_slice()])?;
+        rest = others;
+    }
+    Ok(())
+}
+
+// Appends the line of a budget.
+fn print_budget(actor: Actor, budget: Budget, out: &mut Vec<u8>) -> Result<(), OutOfMemory>
+    ensures { OnOk result (out.new.items ≡ out.old.items ++ printed.line_text (printed.budget_line actor budget)) }
+{
+    let mut requests_text = Buffer::new();
+    let requests = requests_text.format(budget.requests).as_bytes();
+    let mut bytes_text = Buffer::new();
+    let bytes = bytes_text.format(budget.bytes).as_bytes();
+    append_all(
+        out,
+        &[b"budget ", actor_word(actor), b" ", requests, b" ", bytes, b"\n"],
+    )
+}
