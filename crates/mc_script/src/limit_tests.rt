@@ -1,6 +1,6 @@
 use crate::ScriptKind::*;
 use crate::test_texts::{HEAD, fault_in, fault_of, parsed, sent_at};
-use crate::{Argument, ScriptKind, Step, parse};
+use crate::{Argument, Script, ScriptKind, Step, parse};
 use mc_protocol::{Actor, Bytes};
 use std::alloc::{AllocError, Global};
 use std::test::Fail;
@@ -87,33 +87,39 @@ fn takes_16_variables(rt: HostRuntime) -> Result<(), Fail> {
 fn takes_32_flags(rt: HostRuntime) -> Result<(), Fail> {
     let alloc = rt.alloc();
     let flags = numbered(alloc, "f", 32)?;
-    let text = declaring(
-        alloc,
-        format!(in alloc; "keys a\nflags{flags}\n")?.as_str(),
-        "get a ?f31 +f31\nget a !f31 -f31\nget a ?f0 !f31\n",
-    )?;
+    let declarations = format!(in alloc; "keys a\nflags{flags}\n")?;
+    let lines = "get a ?f31 +f31\nget a !f31 -f31\nget a ?f0 !f31\n";
+    let text = declaring(alloc, declarations.as_str(), lines)?;
     let script = parse(alloc, text.as_bytes())?;
     assert_eq!(rt; script.flags().len(), 32);
     assert!(rt; script.flags()[31].as_slice() == b"f31".as_slice());
-    let masks: [[u32; 4]; 3] = [
-        [2_147_483_648, 0, 2_147_483_648, 0],
-        [0, 2_147_483_648, 0, 2_147_483_648],
-        [1, 2_147_483_648, 0, 0],
-    ];
-    for (place, [require_set, require_clear, sets, clears]) in masks.iter().enumerate() {
-        let template = sent_at(&script, Actor::A, place)?.template;
-        assert_eq!(rt; template.require_set, *require_set);
-        assert_eq!(rt; template.require_clear, *require_clear);
-        assert_eq!(rt; template.sets, *sets);
-        assert_eq!(rt; template.clears, *clears);
-    }
-    let more = declaring(
-        alloc,
-        format!(in alloc; "keys a\nflags{flags} f32\n")?.as_str(),
-        "",
-    )?;
-    assert_eq!(rt; fault_of(alloc, more.as_bytes()), Some((TooMany, 3)));
+    let last = 2_147_483_648;
+    assert_eq!(rt; masks_at(&script, 0)?, [last, 0, last, 0]);
+    assert_eq!(rt; masks_at(&script, 1)?, [0, last, 0, last]);
+    assert_eq!(rt; masks_at(&script, 2)?, [1, last, 0, 0]);
     Ok(())
+}
+
+#[test]
+fn takes_no_33_flags(rt: HostRuntime) -> Result<(), Fail> {
+    let alloc = rt.alloc();
+    let flags = numbered(alloc, "f", 33)?;
+    let declarations = format!(in alloc; "keys a\nflags{flags}\n")?;
+    let text = declaring(alloc, declarations.as_str(), "")?;
+    assert_eq!(rt; fault_of(alloc, text.as_bytes()), Some((TooMany, 3)));
+    Ok(())
+}
+
+// What the request at a place of A needs of the flags, and makes of them: what must be set, must be clear, is set and is
+// cleared.
+fn masks_at(script: &Script, place: usize) -> Result<[u32; 4], &'static str> {
+    let template = sent_at(script, Actor::A, place)?.template;
+    Ok([
+        template.require_set,
+        template.require_clear,
+        template.sets,
+        template.clears,
+    ])
 }
 
 // All 32 flags behind one request, each in two masks.
@@ -129,11 +135,8 @@ fn takes_64_marks_on_flags(rt: HostRuntime) -> Result<(), Fail> {
         format!(in alloc; "get a{changed}{needed}\n")?.as_str(),
     )?;
     let script = parse(alloc, text.as_bytes())?;
-    let template = sent_at(&script, Actor::A, 0)?.template;
-    assert_eq!(rt; template.require_set, 0);
-    assert_eq!(rt; template.require_clear, 4_294_967_295);
-    assert_eq!(rt; template.sets, 4_294_967_295);
-    assert_eq!(rt; template.clears, 0);
+    let all = 4_294_967_295;
+    assert_eq!(rt; masks_at(&script, 0)?, [0, all, all, 0]);
     Ok(())
 }
 
