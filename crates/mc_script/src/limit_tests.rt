@@ -1,6 +1,6 @@
 use crate::ScriptKind::*;
 use crate::test_texts::{HEAD, fault_in, fault_of, parsed, sent_at};
-use crate::{Argument, Script, ScriptKind, Step, parse};
+use crate::{Argument, Script, ScriptFault, ScriptKind, Step, parse};
 use mc_protocol::{Actor, Bytes};
 use std::alloc::{AllocError, Global};
 use std::test::Fail;
@@ -29,6 +29,12 @@ fn declaring(alloc: Global, declarations: &str, lines: &str) -> Result<String, A
     format!(in alloc;
         "script 1\n{declarations}budget P 24 8192\nbudget A 24 8192\nbudget B 24 8192\nP\nA\n{lines}B\nend\n"
     )
+}
+
+// The same, parsed.
+fn declared(alloc: Global, declarations: &str, lines: &str) -> Result<Script, ScriptFault> {
+    let text = declaring(alloc, declarations, lines)?;
+    parse(alloc, text.as_bytes())
 }
 
 #[test]
@@ -89,8 +95,7 @@ fn takes_32_flags(rt: HostRuntime) -> Result<(), Fail> {
     let flags = numbered(alloc, "f", 32)?;
     let declarations = format!(in alloc; "keys a\nflags{flags}\n")?;
     let lines = "get a ?f31 +f31\nget a !f31 -f31\nget a ?f0 !f31\n";
-    let text = declaring(alloc, declarations.as_str(), lines)?;
-    let script = parse(alloc, text.as_bytes())?;
+    let script = declared(alloc, declarations.as_str(), lines)?;
     assert_eq!(rt; script.flags().len(), 32);
     assert!(rt; script.flags()[31].as_slice() == b"f31".as_slice());
     let last = 2_147_483_648;
