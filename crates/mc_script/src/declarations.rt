@@ -244,7 +244,7 @@ fn read_numbers(words: &[&[u8]]) -> Result<Budget, ScriptKind>
 // Reads a number of a budget.
 #[tactic(auto, unfolding(crate::specs::Reading::number_in))]
 fn read_allowed(limit: u64, word: &[u8]) -> Result<u32, ScriptKind>
-    requires { limit ≤ 8192 }
+    requires { limit ≤ words.MAX_32 }
     ensures { result_ok result ≡ reading.number_in limit word.now }
 {
     let number = read_number(u64::MAX, word)?;

@@ -1,4 +1,5 @@
 ghost use Rattle.std.specs.Prelude.{◌≡◌, ◌<◌};
+ghost use Rattle.mc_script.specs.declared.limits.TheConstants.{FLAGS_LIMIT};
 
 use crate::Template;
 use mc_protocol::{Bytes, Class};
@@ -35,17 +36,18 @@ pub(crate) struct Flag {
 
 impl Model for Flag {
     ghost use Rattle.std.specs.Prelude.{ℕ, ◌<◌};
+    ghost use Rattle.mc_script.specs.declared.limits.TheConstants.{FLAGS_LIMIT};
 
     ghost Value = { ℕ };
 
     ghost view = { λ f. f.index };
 
-    ghost invariant = { λ f. f.index < 32 };
+    ghost invariant = { λ f. f.index < FLAGS_LIMIT };
 }
 
 impl Flag {
     pub(crate) fn new(index: u8) -> Self
-        requires { index < 32 }
+        requires { index < FLAGS_LIMIT }
         ensures { result ≡ index }
     {
         Flag { index }
@@ -53,7 +55,7 @@ impl Flag {
 
     pub(crate) fn index(&self) -> u8
         ensures index { result ≡ self.now }
-        ensures below { result < 32 }
+        ensures below { result < FLAGS_LIMIT }
     {
         self.index
     }

@@ -1,13 +1,9 @@
 use crate::ScriptKind::*;
+use crate::test_texts::{fault_of, with_lines};
 use crate::tests::COUNTER;
-use crate::{ScriptKind, parse};
-use mc_protocol::Actor;
+use crate::{ScriptFault, ScriptKind, parse};
 use std::alloc::Global;
 use std::test::Fail;
-
-// The first lines of the scripts below, and the first lines of a section A behind an empty P.
-static HEAD: &str =
-    "script 1\nkeys a b\nflags f g\nvars v w\nbudget P 1 1\nbudget A 1 1\nbudget B 1 1\n";
 
 // Each text with the kind of its first fault, and its line.
 static FAULTY: [(&str, ScriptKind, u32); 57] = [
@@ -232,13 +228,6 @@ static SECTIONS: [(&str, ScriptKind, u32); 78] = [
     ("incr a 1 ?x number:l >v\nl:\n", UnknownFlag, 1),
 ];
 
-fn fault_of(alloc: Global, text: &[u8]) -> Option<(ScriptKind, u32)> {
-    match parse(alloc, text) {
-        Ok(_) => None,
-        Err(fault) => Some((fault.kind, fault.line)),
-    }
-}
-
 #[test]
 fn finds_the_first_fault(rt: HostRuntime) -> Result<(), Fail> {
     for (text, kind, line) in &FAULTY {
@@ -257,7 +246,7 @@ fn finds_the_first_fault(rt: HostRuntime) -> Result<(), Fail> {
 fn finds_the_first_fault_of_a_section(rt: HostRuntime) -> Result<(), Fail> {
     let alloc = rt.alloc();
     for (lines, kind, line) in &SECTIONS {
-        let text = format!(in alloc; "{HEAD}P\nA\n{lines}B\nend\n")?;
+        let text = with_lines(alloc, lines)?;
         match fault_of(alloc, text.as_bytes()) {
             None => assert!(rt; false, "{lines} is read"),
             Some((found, at)) => {
@@ -305,57 +294,43 @@ fn with_line(alloc: Global, place: usize, line: &[u8]) -> Result<Vec<u8>, Fail> 
     Ok(text)
 }
 
+// Whether the text is a script; want of memory is given on.
+fn is_read(alloc: Global, text: &[u8]) -> Result<bool, ScriptFault> {
+    match parse(alloc, text) {
+        Ok(_) => Ok(true),
+        Err(fault) if fault.kind == OutOfMemory => Err(fault),
+        Err(_) => Ok(false),
+    }
+}
+
 // Each line removed, doubled, or cut behind each of its bytes is answered: read, or refused at some line.
 #[test]
 fn answers_each_cut(rt: HostRuntime) -> Result<(), Fail> {
     let alloc = rt.alloc();
-    let mut read: u32 = 0;
+    let mut changed: u32 = 0;
+    let mut cut: u32 = 0;
     for (index, line) in COUNTER.lines().enumerate() {
-        let removed = with_line(alloc, index + 1, b"")?;
-        assert!(rt; fault_of(alloc, &removed) != Some((OutOfMemory, 0)));
         let twice = format!(in alloc; "{line}\n{line}\n")?;
-        let doubled = with_line(alloc, index + 1, twice.as_bytes())?;
-        assert!(rt; fault_of(alloc, &doubled) != Some((OutOfMemory, 0)));
+        for other in &["", twice.as_str()] {
+            let text = with_line(alloc, index + 1, other.as_bytes())?;
+            if is_read(alloc, &text)? {
+                changed = changed.saturating_add(1);
+            }
+        }
         let bytes = line.as_bytes();
         for end in 0..bytes.len() {
-            let mut cut = Vec::from_slice(alloc, &bytes[..end])?;
-            cut.push(b'\n')?;
-            let text = with_line(alloc, index + 1, &cut)?;
-            if fault_of(alloc, &text).is_none() {
-                read = read.saturating_add(1);
+            let mut part = Vec::from_slice(alloc, &bytes[..end])?;
+            part.push(b'\n')?;
+            let text = with_line(alloc, index + 1, &part)?;
+            if is_read(alloc, &text)? {
+                cut = cut.saturating_add(1);
             }
         }
     }
+    // Each of the three requests may be missing, or stand twice.
+    assert_eq!(rt; changed, 6);
     // What is cut and still a script: `budget P 2 2`, `budget A 1 1`, `budget B 1 1`, `set a 0 =`, and the lines of the
     // three requests cut to nothing.
-    assert_eq!(rt; read, 7);
-    Ok(())
-}
-
-// How many lines `halt` a section of A may have, with labels between them.
-#[test]
-fn takes_64_steps_and_any_number_of_labels(rt: HostRuntime) -> Result<(), Fail> {
-    let alloc = rt.alloc();
-    let mut lines = String::new(alloc);
-    for i in 0..64 {
-        let line = format!(in alloc; "halt\nl{i}:\nm{i}:\n")?;
-        lines.push_str(line.as_str())?;
-    }
-    let whole = format!(in alloc; "{HEAD}P\nA\n{lines}B\nend\n")?;
-    let script = parse(alloc, whole.as_bytes())?;
-    assert_eq!(rt; script.steps(Actor::A).len(), 64);
-    assert_eq!(rt; script.labels(Actor::A).len(), 128);
-    assert_eq!(rt; script.labels(Actor::A)[127].place, 64);
-    // The line of the 65th step goes before its words.
-    for line in &["halt\n", "set\n", "goto\n", "bind x\n"] {
-        let more = format!(in alloc; "{HEAD}P\nA\n{lines}{line}B\nend\n")?;
-        assert_eq!(rt;
-            fault_of(alloc, more.as_bytes()),
-            Some((TooMany, 202)),
-            "in {line}"
-        );
-    }
-    let other = format!(in alloc; "{HEAD}P\nA\n{lines}what\nB\nend\n")?;
-    assert_eq!(rt; fault_of(alloc, other.as_bytes()), Some((Line, 202)));
+    assert_eq!(rt; cut, 7);
     Ok(())
 }

@@ -1,4 +1,5 @@
 ghost use Rattle.std.specs.Prelude.{◌≡◌, ◌<◌, Some, None, IfOk, MatchOption};
+ghost use Rattle.mc_script.specs.declared.limits.TheConstants.{FLAGS_LIMIT};
 ghost use Rattle.mc_script.specs.Marks as said;
 ghost use Rattle.mc_script.specs.Steps as spec;
 ghost use Rattle.mc_script.specs.Reading as reading;
@@ -150,7 +151,7 @@ fn mask_of(sign: Sign, marks: &[Mark]) -> Mask
 }
 
 fn with_flag(mask: Mask, flag: Option<u8>) -> Mask
-    requires { MatchOption flag (mask ≡ mask) (λ f. f < 32) }
+    requires { MatchOption flag (mask ≡ mask) (λ f. f < FLAGS_LIMIT) }
     ensures { result ≡ said.with_flag mask flag }
 {
     match flag {
@@ -160,7 +161,7 @@ fn with_flag(mask: Mask, flag: Option<u8>) -> Mask
 }
 
 fn flag_mask(flag: u8) -> Mask
-    requires { flag < 32 }
+    requires { flag < FLAGS_LIMIT }
     ensures { result ≡ said.flag_mask flag }
 {
     1 << flag
@@ -169,7 +170,7 @@ fn flag_mask(flag: u8) -> Mask
 // The flag of which the mark says this.
 fn says(sign: Sign, mark: &Mark) -> Option<u8>
     ensures flag { result ≡ said.says sign mark.now }
-    ensures below { MatchOption result (sign ≡ sign) (λ f. f < 32) }
+    ensures below { MatchOption result (sign ≡ sign) (λ f. f < FLAGS_LIMIT) }
 {
     match mark {
         Mark::Flag(other, flag) => {

@@ -1,4 +1,5 @@
-ghost use Rattle.std.specs.Prelude.{◌≡◌, [], Some, None, MatchOption};
+ghost use Rattle.std.specs.Prelude.{◌≡◌, [], Some, None, MatchOption, nat_lt};
+ghost use Rattle.mc_script.specs.declared.limits.TheConstants.{STEPS_LIMIT};
 ghost use Rattle.mc_script.specs.Reading as reading;
 ghost use Rattle.mc_script.specs.TextReading as whole;
 
@@ -56,7 +57,7 @@ pub(crate) fn read_section<'a>(
                 labels.push(name)?;
             }
             None => {
-                if count >= STEPS_LIMIT {
+                if !has_room(count) {
                     return Err(line.fault(ScriptKind::TooMany));
                 }
                 count += 1;
@@ -67,6 +68,13 @@ pub(crate) fn read_section<'a>(
             entry,
         })?;
     }
+}
+
+// Whether a step may stand behind so many.
+fn has_room(count: usize) -> bool
+    ensures { result ≡ nat_lt count STEPS_LIMIT }
+{
+    count < STEPS_LIMIT
 }
 
 // The name of the label that the line is, if it is one.
@@ -85,7 +93,7 @@ fn entry_fault(kind: ScriptKind, count: usize, line: &ScriptLine) -> ScriptKind
 {
     match line.words() {
         [word, ..] => {
-            if count >= STEPS_LIMIT && begins_step(word) && kind != ScriptKind::OutOfMemory {
+            if !has_room(count) && begins_step(word) && kind != ScriptKind::OutOfMemory {
                 ScriptKind::TooMany
             } else {
                 kind

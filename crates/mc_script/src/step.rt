@@ -90,7 +90,7 @@ impl Jumps {
     pub fn into_vec(self) -> Vec<(Class, usize)>
         ensures { result.items ≡ self }
     {
-        let Jumps { jumps } = self;
+        let Self { jumps } = self;
         jumps
     }
 }

@@ -1,8 +1,8 @@
 use Rattle.std.proofs.Common.{Some, None, not, sym, ap, ◌∙◌, arith}
-use Rattle.std.proofs.lemmas.Bool.{le-ltb, lt-ltb}
+use Rattle.std.proofs.lemmas.Bool.{ltb-true}
 use Rattle.mc_script.specs.declared.limits.TheConstants.{STEPS_LIMIT}
 use Rattle.mc_script.proofs.Labelled.{reading-refused, reading-step}
-use Rattle.mc_script.proofs.section_text.read_section.Goals.{in-Some+else-has+in_ok-push-in-Some, in-None+else-count-ge-STEPS_LIMIT}
+use Rattle.mc_script.proofs.section_text.read_section.Goals.{in-Some+else-has+in_ok-push-in-Some, in-None+else-not-has_room}
 use Rattle.mc_script.proofs.section_text.read_section.Goals as goal
 
 pub returns-then-has : goal.returns-then-has
@@ -11,11 +11,11 @@ returns-then-has c = λ real.
     c.in-Ok.entry (Some c.in-Some.name.now) _ c.lines.invariant.reads c.in_ok-line.ensures.line (sym c.is_only.ensures ∙ c.if-is_only.false)
     c.words.ensures c.in-Ok.ensures c.in-Some.ensures (ap not (sym c.has.ensures ∙ c.if-has.true))
 
-pub returns-then-count-ge-STEPS_LIMIT : goal.returns-then-count-ge-STEPS_LIMIT
-returns-then-count-ge-STEPS_LIMIT c = λ real.
+pub returns-then-not-has_room : goal.returns-then-not-has_room
+returns-then-not-has_room c = λ real.
     reading-refused c.args.names.now c.args.stop.now c.lines.entries.items c.lines.count c.lines.labels c.in_ok-line.line _ c.lines.lines c.next_due.new.self
     c.in-Ok.entry None _ c.lines.invariant.reads c.in_ok-line.ensures.line (sym c.is_only.ensures ∙ c.if-is_only.false)
-    c.words.ensures c.in-Ok.ensures c.in-None.ensures (le-ltb c.lines.count STEPS_LIMIT c.if-count-ge-STEPS_LIMIT.true)
+    c.words.ensures c.in-Ok.ensures c.in-None.ensures (sym c.has_room.ensures ∙ c.if-not-has_room.true)
 
 pub lines-preserved : goal.lines-preserved
 lines-preserved c =
@@ -28,10 +28,10 @@ lines-preserved c =
             c.in_ok-push.ensures.items w.count-is (w.labels-is ∙ w.in_ok-push-in-Some.ensures);
         few = omega (arith, w.count-is, c.lines.invariant.few);
       }
-      | in-None+else-count-ge-STEPS_LIMIT w ↦ record {
+      | in-None+else-not-has_room w ↦ record {
         reads = step None _ c.lines.invariant.reads c.in_ok-line.ensures.line (sym c.is_only.ensures ∙ c.if-is_only.false)
-            c.words.ensures c.in-Ok.ensures w.in-None.ensures (lt-ltb c.lines.count STEPS_LIMIT w.if-count-ge-STEPS_LIMIT.false)
+            c.words.ensures c.in-Ok.ensures w.in-None.ensures (sym w.has_room.ensures ∙ w.if-not-has_room.false)
             c.in_ok-push.ensures.items w.count-is w.labels-is;
-        few = omega (arith, w.count-is, w.if-count-ge-STEPS_LIMIT.false);
+        few = omega (arith, w.count-is, ltb-true c.lines.count STEPS_LIMIT (sym w.has_room.ensures ∙ w.if-not-has_room.false));
       }
     ]
