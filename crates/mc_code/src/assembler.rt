@@ -21,6 +21,7 @@ pub fn assemble(alloc: Global, script: &Script) -> Result<Code, AsmFault>
     ensures layout { IfOk result (λ code. code ≡ layout.code_of script.now) }
     ensures agrees { IfOk result (Agrees script.now) }
     ensures exceeded { IfErr result (layout.IsExceeded script.now) }
+    ensures first { IfErr result (layout.IsFirst script.now) }
 {
     check_limits(script)?;
     let keys = copies(alloc, script.keys())?;

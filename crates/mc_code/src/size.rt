@@ -90,6 +90,7 @@ pub(crate) fn check_limits(script: &Script) -> Result<(), AsmFault>
     ensures templates { OnOk result (layout.template_count script.now ≤ TEMPLATES_LIMIT) }
     ensures instructions { OnOk result ((actor : actor.Actor) → layout.instruction_count script.now actor ≤ INSTRUCTIONS_LIMIT) }
     ensures exceeded { IfErr result (layout.IsExceeded script.now) }
+    ensures first { IfErr result (layout.IsFirst script.now) }
 {
     let templates = request_count(script, Actor::P)
         + request_count(script, Actor::A)
@@ -105,6 +106,7 @@ pub(crate) fn check_limits(script: &Script) -> Result<(), AsmFault>
 fn check_section(script: &Script, actor: Actor) -> Result<(), AsmFault>
     ensures few { OnOk result (layout.instruction_count script.now actor ≤ INSTRUCTIONS_LIMIT) }
     ensures exceeded { IfErr result (layout.IsExceeded script.now) }
+    ensures named { IfErr result (λ fault. fault ≡ AsmFault.TooManyInstructions actor) }
 {
     if instruction_count(script, actor) > INSTRUCTIONS_LIMIT {
         return Err(AsmFault::TooManyInstructions(actor));
