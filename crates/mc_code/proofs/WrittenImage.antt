@@ -1,5 +1,5 @@
 -- Images that are written: the pieces that make a template, and those that make an image.
-use Rattle.std.proofs.Common.{◌≡◌, ℕ, List, [], ◌∷◌, ◌++◌, length, refl, sym, ap, ◌∙◌, append-nil, append_assoc, false, Result, Ok, Err, is_err, OnOk}
+use Rattle.std.proofs.Common.{◌≡◌, ℕ, List, [], ◌∷◌, ◌++◌, length, sym, ap, ◌∙◌, append-nil, append_assoc, false, Result, Ok, Err, is_err, OnOk}
 use Rattle.std.specs.Int.{w32, w64, to_be_bytes}
 use Rattle.mc_script.specs.declared.step.Template.{Template}
 use Rattle.mc_code.specs.Code.{Code}
