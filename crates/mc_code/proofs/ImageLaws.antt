@@ -1,15 +1,14 @@
 -- The whole image: what is read was written, and is code; and the image of code is read again.
-use Rattle.std.proofs.Common.{◌≡◌, ℕ, ◌≤◌, ◌==◌, true, not, Option, Some, None, List, [], ◌∷◌, ◌++◌, length, All, cond, refl, sym, ap, subst, ◌∙◌, append_assoc, arith}
+use Rattle.std.proofs.Common.{◌≡◌, ℕ, ◌≤◌, ◌==◌, true, not, Some, None, List, [], ◌∷◌, ◌++◌, length, All, cond, refl, sym, ap, subst, ◌∙◌, append_assoc, arith}
 use Rattle.std.specs.Str.{bytes_eq}
 use Rattle.std.proofs.lemmas.List.{append-nil}
 use Rattle.std.proofs.lemmas.Slice.Eq.{bytes_eq-Decides}
 use Rattle.mc_script.specs.declared.limits.TheConstants.{KEYS_LIMIT, KEY_BYTES_LIMIT, FLAGS_LIMIT, VARIABLES_LIMIT, REQUESTS_LIMIT, BYTES_LIMIT}
 use Rattle.mc_script.specs.declared.section.Budget.{Budget}
 use Rattle.mc_script.specs.Script.{may_be_declared}
-use Rattle.mc_script.specs.Steps.{◌>>=◌}
 use Rattle.mc_code.specs.declared.instr.Instr.{Instr}
 use Rattle.mc_code.specs.declared.limits.TheConstants.{INSTRUCTIONS_LIMIT}
-use Rattle.mc_code.specs.Code.{IsInstr, IsSection, Code, IsCode}
+use Rattle.mc_code.specs.Code.{IsInstr, Code, IsCode}
 use Rattle.mc_code.specs.Image.{magic, sized, counted, budget_bytes, template_bytes, instr_bytes, section_bytes, image_of, ImagesAreOfOneCode}
 use Rattle.mc_code.specs.ImageReading.{Field, Three, bytes_in, small_in, keys_in, budget_in, templates_in, instructions_in, magic_in, Declared, declared_in, each_in, code_of, ended_in, code_in}
 use Rattle.mc_code.proofs.FieldLaws.{then-some, only-then, some-same, IsBytes, Takes, Takes-then, bytes_take, bytes_again, small_takes, small_again}
@@ -61,8 +60,11 @@ declared_takes bytes x fits e =
 declared_again : (d : Declared) (rest : List ℕ) → AreDeclared d → declared_in (counted sized d.keys ++ (d.flags ∷ d.vars ∷ rest)) ≡ Some (d, rest)
 unfolding declared_in
 declared_again d rest h =
-    rw (keys_again d.keys (d.flags ∷ d.vars ∷ rest) h.some_key h.keys, small_again 0 FLAGS_LIMIT d.flags (d.vars ∷ rest) (omega arith) h.flags,
-    small_again 0 VARIABLES_LIMIT d.vars rest (omega arith) h.vars) refl
+    rw (
+      keys_again d.keys (d.flags ∷ d.vars ∷ rest) h.some_key h.keys,
+      small_again 0 FLAGS_LIMIT d.flags (d.vars ∷ rest) (omega arith) h.flags,
+      small_again 0 VARIABLES_LIMIT d.vars rest (omega arith) h.vars,
+    ) refl
 
 -- ---- one for each section
 
@@ -147,7 +149,7 @@ code-read bytes c fits e =
     let keys = counted sized d.0.0.keys in
     let tail : front ++ templates ++ (sp ++ sa ++ sb) ≡ front ++ templates ++ sp ++ sa ++ sb = regroup front templates sp sa sb in
     let declared : declared_text d.0.0 ++ (front ++ templates ++ (sp ++ sa ++ sb))
-        ≡ keys ++ (d.0.0.flags ∷ d.0.0.vars ∷ (front ++ templates ++ sp ++ sa ++ sb)) =
+    ≡ keys ++ (d.0.0.flags ∷ d.0.0.vars ∷ (front ++ templates ++ sp ++ sa ++ sb)) =
     append_assoc keys (d.0.0.flags ∷ d.0.0.vars ∷ []) (front ++ templates ++ (sp ++ sa ++ sb))
     ∙ ap (λ (text : List ℕ). keys ++ (d.0.0.flags ∷ d.0.0.vars ∷ text)) tail in
     let made = code_of d.0.0 u.0.0 t.0.0 s.0.0 in
@@ -184,13 +186,15 @@ code-again c h =
     ap (λ (text : List ℕ). magic ++ (counted sized c.keys ++ (c.flags ∷ c.vars ∷ (budget_bytes c.p.budget ++ (budget_bytes c.a.budget ++ (budget_bytes c.b.budget ++ text))))))
     (spread templates sp sa sb) in
     ap code_in regrouped
-    ∙ rw (magic_again (counted sized c.keys ++ (c.flags ∷ c.vars ∷ budgets)),
-    declared_again d budgets (record { some_key = h.some_key; keys = h.keys; flags = h.flags; vars = h.vars }),
-    each_again budget_in budget_bytes FitsBudget budgets_law c.p.budget c.a.budget c.b.budget (templates ++ sections)
-    (h.p.requests, h.p.bytes) (h.a.requests, h.a.bytes) (h.b.requests, h.b.bytes),
-    templates_again (length c.keys) c.flags c.vars c.templates sections h.flags h.vars h.few h.templates,
-    each_again instructions_in (counted instr_bytes) AreInstructions sections_law c.p.instructions c.a.instructions c.b.instructions []
-    (h.p.few, h.p.instructions) (h.a.few, h.a.instructions) (h.b.few, h.b.instructions)) refl
+    ∙ rw (
+      magic_again (counted sized c.keys ++ (c.flags ∷ c.vars ∷ budgets)),
+      declared_again d budgets (record { some_key = h.some_key; keys = h.keys; flags = h.flags; vars = h.vars }),
+      each_again budget_in budget_bytes FitsBudget budgets_law c.p.budget c.a.budget c.b.budget (templates ++ sections)
+          (h.p.requests, h.p.bytes) (h.a.requests, h.a.bytes) (h.b.requests, h.b.bytes),
+      templates_again (length c.keys) c.flags c.vars c.templates sections h.flags h.vars h.few h.templates,
+      each_again instructions_in (counted instr_bytes) AreInstructions sections_law c.p.instructions c.a.instructions c.b.instructions []
+          (h.p.few, h.p.instructions) (h.a.few, h.a.instructions) (h.b.few, h.b.instructions),
+    ) refl
 
 pub one_code : ImagesAreOfOneCode
 one_code c d hc hd same = some-same c d (sym (code-again c hc) ∙ ap code_in same ∙ code-again d hd)

@@ -3,7 +3,6 @@ use Rattle.std.proofs.Common.{◌≡◌, ℕ, zero, suc, ◌≤◌, Some, List, 
 use Rattle.std.specs.List.{flat_map}
 use Rattle.std.proofs.lemmas.List.{append-nil}
 use Rattle.std.proofs.lemmas.List.Concat.{flat_map-cons}
-use Rattle.mc_script.specs.Steps.{◌>>=◌}
 use Rattle.mc_code.specs.Image.{counted}
 use Rattle.mc_code.specs.ImageReading.{Field, small_in, items_in, counted_in}
 use Rattle.mc_code.proofs.FieldLaws.{then-some, some-same, IsBytes, Takes, Takes-then, small_takes, small_again}
@@ -36,13 +35,15 @@ items_take {A} f text P law (suc n) items bytes y fits p e =
     let first = law.takes items bytes a.0 fits p a.1 in
     let others = items_take f text P law n (items ++ a.0.0 ∷ []) a.0.1 y first.0.fits first.1 a.2 in
     let o = others.0 in
-    let both = Takes-then bytes (text a.0.0) a.0.1 (flat_map text o.xs) y.1 first.0 o.taken in
-    (record {
-      xs = a.0.0 ∷ o.xs;
-      all = o.all ∙ push-assoc items a.0.0 o.xs;
-      taken = rw (flat_map-cons text a.0.0 o.xs) both;
-      count = ap suc o.count;
-    }, others.1)
+    let both = Takes-then bytes (text a.0.0) a.0.1 (flat_map text o.xs) y.1 first.0 o.taken in (
+      record {
+        xs = a.0.0 ∷ o.xs;
+        all = o.all ∙ push-assoc items a.0.0 o.xs;
+        taken = rw (flat_map-cons text a.0.0 o.xs) both;
+        count = ap suc o.count;
+      },
+      others.1,
+    )
 
 items_again : {A : Type 0} (f : List A → List ℕ → Field A) (text : A → List ℕ) (P : List A → Type 0) (law : IsItem f text P)
     → (xs : List A) (items : List A) (rest : List ℕ) → P (items ++ xs) → items_in f (length xs) items (flat_map text xs ++ rest) ≡ Some (items ++ xs, rest)
@@ -65,11 +66,12 @@ counted_takes {A} f text P law least greatest bytes y fits p e =
     let o = others.0 in
     let count : n.0.0 ≡ length y.0 = sym o.count ∙ ap length (sym o.all) in
     let both = Takes-then bytes (n.0.0 ∷ []) n.0.1 (flat_map text o.xs) y.1 t.0 o.taken in
-    let same : Takes bytes (n.0.0 ∷ flat_map text y.0) y.1 = subst (λ (xs : List A). Takes bytes (n.0.0 ∷ flat_map text xs) y.1) (sym o.all) both in
-    (subst (λ (k : ℕ). Takes bytes (k ∷ flat_map text y.0) y.1) count same,
-    subst (λ (k : ℕ). least ≤ k) count t.1,
-    subst (λ (k : ℕ). k ≤ greatest) count t.2,
-    others.1)
+    let same : Takes bytes (n.0.0 ∷ flat_map text y.0) y.1 = subst (λ (xs : List A). Takes bytes (n.0.0 ∷ flat_map text xs) y.1) (sym o.all) both in (
+      subst (λ (k : ℕ). Takes bytes (k ∷ flat_map text y.0) y.1) count same,
+      subst (λ (k : ℕ). least ≤ k) count t.1,
+      subst (λ (k : ℕ). k ≤ greatest) count t.2,
+      others.1,
+    )
 
 pub counted_again : {A : Type 0} (f : List A → List ℕ → Field A) (text : A → List ℕ) (P : List A → Type 0) (law : IsItem f text P)
     → (least greatest : ℕ) (xs : List A) (rest : List ℕ) → P xs → least ≤ length xs → length xs ≤ greatest

@@ -1,5 +1,5 @@
 -- Keys: what is read was written, and may be declared; and what was written is read again.
-use Rattle.std.proofs.Common.{◌≡◌, ℕ, ◌≤◌, ◌==◌, Bool, true, false, cond, leb, not, ◌&&◌, ◌||◌, Some, None, List, [], ◌∷◌, ◌++◌, length, refl, sym, subst, ◌∙◌, arith}
+use Rattle.std.proofs.Common.{◌≡◌, ℕ, ◌≤◌, ◌==◌, true, false, leb, not, ◌&&◌, Some, List, [], ◌∷◌, ◌++◌, length, refl, sym, subst, ◌∙◌, arith}
 use Rattle.std.specs.List.{list_all, list_any}
 use Rattle.std.specs.Str.{bytes_eq}
 use Rattle.std.proofs.lemmas.Bool.{leb-true, le-leb, not-true, not_from_false, false_from_ne_true, both_ways, or_parts, or_from, and_parts, and_from}
@@ -9,7 +9,6 @@ use Rattle.std.proofs.lemmas.Slice.Eq.{bytes_eq-Decides}
 use Rattle.mc_script.specs.declared.limits.TheConstants.{KEYS_LIMIT, KEY_BYTES_LIMIT}
 use Rattle.mc_script.specs.Script.{may_be_declared}
 use Rattle.mc_script.specs.ScriptWords.{Word, is_named, is_new, are_distinct, are_name_bytes}
-use Rattle.mc_script.specs.Steps.{◌>>=◌}
 use Rattle.mc_code.specs.Image.{sized, counted}
 use Rattle.mc_code.specs.ImageReading.{bytes_in, small_in, key_in, keys_in}
 use Rattle.mc_code.proofs.FieldLaws.{then-some, only-then, some-same, IsBytes, Takes, Takes-then, small_takes, small_again, bytes_take, bytes_again}

@@ -1,5 +1,5 @@
 -- Budgets and instructions: what is read was written, and keeps the limits; and what was written is read again.
-use Rattle.std.proofs.Common.{◌≡◌, ℕ, zero, suc, ◌^◌, ◌<◌, ◌≤◌, cond, leb, Some, None, List, [], ◌∷◌, ◌++◌, length, All, refl, subst, ◌∙◌, sym, arith}
+use Rattle.std.proofs.Common.{◌≡◌, ℕ, zero, suc, ◌^◌, ◌≤◌, leb, Some, List, [], ◌∷◌, ◌++◌, length, All, refl, subst, sym, arith}
 use Rattle.std.specs.Int.{w16, to_be_bytes}
 use Rattle.std.proofs.lemmas.Bool.{leb-true, le-leb}
 use Rattle.std.proofs.lemmas.List.Elements.{All-nil, All-push, All-from_get_or}
@@ -36,8 +36,11 @@ pub budget_again : (budget : Budget) (rest : List ℕ) → budget.requests ≤ R
     → budget_in (budget_bytes budget ++ rest) ≡ Some (budget, rest)
 unfolding budget_in
 budget_again budget rest few-requests few-bytes =
-    rw (small_again 0 REQUESTS_LIMIT budget.requests (to_be_bytes w16 budget.bytes ++ rest) (omega arith) few-requests,
-    number_again w16 (2 ^ 16) wide16 budget.bytes rest (omega (arith, few-bytes)), le-leb budget.bytes BYTES_LIMIT few-bytes) refl
+    rw (
+      small_again 0 REQUESTS_LIMIT budget.requests (to_be_bytes w16 budget.bytes ++ rest) (omega arith) few-requests,
+      number_again w16 (2 ^ 16) wide16 budget.bytes rest (omega (arith, few-bytes)),
+      le-leb budget.bytes BYTES_LIMIT few-bytes,
+    ) refl
 
 -- ---- one instruction
 

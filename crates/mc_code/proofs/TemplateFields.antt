@@ -1,5 +1,5 @@
 -- The fields of a template: what is read was written, and what was written is read again.
-use Rattle.std.proofs.Common.{◌≡◌, ℕ, zero, suc, ◌^◌, ◌<◌, ◌≤◌, ◌==◌, Bool, true, false, cond, ltb, leb, eqb, ◌&&◌, Option, Some, None, List, [], ◌∷◌, ◌++◌, length, refl, sym, ap, subst, ◌∙◌, arith}
+use Rattle.std.proofs.Common.{◌≡◌, ℕ, zero, suc, ◌^◌, ◌<◌, ◌≤◌, ◌==◌, Bool, true, false, cond, ltb, leb, eqb, ◌&&◌, Option, Some, List, [], ◌∷◌, ◌++◌, length, refl, sym, ap, subst, ◌∙◌, arith}
 use Rattle.std.specs.List.{find}
 use Rattle.std.specs.Int.{w32, w64, to_be_bytes}
 use Rattle.std.proofs.lemmas.Bool.{ltb-true, lt-ltb, leb-true, eqb-true, and_parts}
@@ -131,10 +131,12 @@ pub masks_again : (m : Masks) (rest : List ℕ) → m.require_set < 2 ^ 32 → m
     → masks_in (masks_text m ++ rest) ≡ Some (m, rest)
 unfolding masks_in
 masks_again m rest a b c d =
-    rw (number_again w32 (2 ^ 32) wide32 m.require_set (mask_bytes m.require_clear ++ (mask_bytes m.sets ++ (mask_bytes m.clears ++ rest))) a,
-    number_again w32 (2 ^ 32) wide32 m.require_clear (mask_bytes m.sets ++ (mask_bytes m.clears ++ rest)) b,
-    number_again w32 (2 ^ 32) wide32 m.sets (mask_bytes m.clears ++ rest) c,
-    number_again w32 (2 ^ 32) wide32 m.clears rest d) refl
+    rw (
+      number_again w32 (2 ^ 32) wide32 m.require_set (mask_bytes m.require_clear ++ (mask_bytes m.sets ++ (mask_bytes m.clears ++ rest))) a,
+      number_again w32 (2 ^ 32) wide32 m.require_clear (mask_bytes m.sets ++ (mask_bytes m.clears ++ rest)) b,
+      number_again w32 (2 ^ 32) wide32 m.sets (mask_bytes m.clears ++ rest) c,
+      number_again w32 (2 ^ 32) wide32 m.clears rest d,
+    ) refl
 
 -- ---- fields that a verb has
 

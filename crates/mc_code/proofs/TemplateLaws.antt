@@ -1,8 +1,8 @@
 -- Templates: what is read was written, and may stand; and what was written is read again.
-use Rattle.std.proofs.Common.{◌≡◌, ℕ, ◌^◌, ◌<◌, ◌≤◌, ◌==◌, Bool, true, cond, ltb, eqb, ◌&&◌, Option, Some, None, List, [], ◌∷◌, ◌++◌, length, All, refl, sym, ap, subst, ◌∙◌, append_assoc, arith, inl, inr}
+use Rattle.std.proofs.Common.{◌≡◌, ℕ, ◌^◌, ◌<◌, ◌≤◌, true, ltb, eqb, ◌&&◌, Option, Some, None, List, [], ◌∷◌, ◌++◌, length, All, refl, ap, subst, ◌∙◌, append_assoc, arith, inl, inr}
 use Rattle.std.specs.Int.{w32, to_be_bytes}
 use Rattle.std.specs.Int.Bits.{bit_and}
-use Rattle.std.proofs.lemmas.Bool.{ltb-true, lt-ltb, eqb-true, eq-eqb, and_parts, and_from, cases_lt}
+use Rattle.std.proofs.lemmas.Bool.{ltb-true, lt-ltb, eqb-true, eq-eqb, and_parts, cases_lt}
 use Rattle.std.proofs.lemmas.List.Elements.{All-nil, All-push, All-head, All-tail}
 use Rattle.std.proofs.lemmas.Nat.{pow_below}
 use Rattle.mc_protocol.specs.Fields.{fields_of}
@@ -10,7 +10,6 @@ use Rattle.mc_protocol.specs.declared.request.Verb.{Verb}
 use Rattle.mc_script.specs.declared.limits.TheConstants.{FLAGS_LIMIT, VARIABLES_LIMIT, BODY_LIMIT}
 use Rattle.mc_script.specs.declared.step.Argument.{Argument}
 use Rattle.mc_script.specs.declared.step.Template.{Template}
-use Rattle.mc_script.specs.Steps.{◌>>=◌}
 use Rattle.mc_script.specs.Templates.{has_fields, IsTemplate}
 use Rattle.mc_code.specs.declared.limits.TheConstants.{TEMPLATES_LIMIT}
 use Rattle.mc_code.specs.declared.read_template.Masks.{Masks}
@@ -46,9 +45,16 @@ template-tested keys flags vars t e =
 template-passes : (keys flags vars : ℕ) (t : Template) → IsTemplate keys flags vars t → is_template keys flags vars t ≡ true
 unfolding is_template
 template-passes keys flags vars t h =
-    rw (lt-ltb t.key keys h.key, h.fields, lt-ltb t.require_set (2 ^ flags) h.require_set, lt-ltb t.require_clear (2 ^ flags) h.require_clear,
-    lt-ltb t.sets (2 ^ flags) h.sets, lt-ltb t.clears (2 ^ flags) h.clears, eq-eqb (bit_and t.require_set t.require_clear) 0 h.needs_apart,
-    eq-eqb (bit_and t.sets t.clears) 0 h.changes_apart) refl
+    rw (
+      lt-ltb t.key keys h.key,
+      h.fields,
+      lt-ltb t.require_set (2 ^ flags) h.require_set,
+      lt-ltb t.require_clear (2 ^ flags) h.require_clear,
+      lt-ltb t.sets (2 ^ flags) h.sets,
+      lt-ltb t.clears (2 ^ flags) h.clears,
+      eq-eqb (bit_and t.require_set t.require_clear) 0 h.needs_apart,
+      eq-eqb (bit_and t.sets t.clears) 0 h.changes_apart,
+    ) refl
 
 -- ---- one template
 

@@ -139,18 +139,17 @@ static SMALL: [(&[u8], ImageKind, usize); 9] = [
     (b"MCR1\x01\x02a", Short, 6),
     (b"MCR1\x02\x01a\x01a\x21", Range, 8),
     (b"MCR1\x02\x01a\x02ab\x21", Range, 10),
-    (b"MCR1\x01\x29aaaaaaaaaaaaaaaaaaaaaaaaaaaaaaaaaaaaaaaaa", Range, 5),
+    (
+        b"MCR1\x01\x29aaaaaaaaaaaaaaaaaaaaaaaaaaaaaaaaaaaaaaaaa",
+        Range,
+        5,
+    ),
     // the first faulty field is told
     (b"MCR1\x01\x01A\xff\xff", Range, 6),
     (b"MCR1\x01\x01a\x21\xff", Range, 7),
 ];
 
-fn changed(
-    alloc: Global,
-    image: &[u8],
-    offset: usize,
-    value: u8,
-) -> Result<Vec<u8>, OutOfMemory> {
+fn changed(alloc: Global, image: &[u8], offset: usize, value: u8) -> Result<Vec<u8>, OutOfMemory> {
     let mut bytes = Vec::from_slice(alloc, image)?;
     if let Some(byte) = bytes.get_mut(offset) {
         *byte = value;
@@ -170,11 +169,17 @@ fn tells_the_first_fault(rt: HostRuntime) -> Result<(), Fail> {
     let alloc = rt.alloc();
     for (offset, value, kind, at) in FAULTY_COUNTER {
         let image = changed(alloc, COUNTER_IMAGE, offset, value)?;
-        assert!(rt; has_fault(alloc, &image, kind, at), "counter {offset} {value}");
+        assert!(rt;
+            has_fault(alloc, &image, kind, at),
+            "counter {offset} {value}"
+        );
     }
     for (offset, value, kind, at) in FAULTY_EVERYTHING {
         let image = changed(alloc, EVERYTHING_IMAGE, offset, value)?;
-        assert!(rt; has_fault(alloc, &image, kind, at), "everything {offset} {value}");
+        assert!(rt;
+            has_fault(alloc, &image, kind, at),
+            "everything {offset} {value}"
+        );
     }
     for (image, kind, at) in SMALL {
         assert!(rt; has_fault(alloc, image, kind, at), "short {at}");

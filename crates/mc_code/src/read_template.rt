@@ -44,11 +44,7 @@ fn take_templates(
 
 // Takes a template.
 #[tactic(auto, unfolding(crate::specs::ImageReading::template_in, crate::specs::ImageReading::allowed))]
-fn read_template(
-    alloc: Global,
-    fields: &mut Fields,
-    counts: Counts,
-) -> Result<Template, ImageFault>
+fn read_template(alloc: Global, fields: &mut Fields, counts: Counts) -> Result<Template, ImageFault>
     requires { counts.flags ≤ FLAGS_LIMIT }
     ensures { reading.Says (λ template. (template, fields.new)) result
         (reading.template_in counts.keys counts.flags counts.vars fields.old) }

@@ -1,4 +1,4 @@
-use Rattle.std.proofs.Common.{◌≡◌, ◌-◌, [], length}
+use Rattle.std.proofs.Common.{◌≡◌, ◌-◌, []}
 use Rattle.mc_code.specs.ImageReading.{items_in, instr_in}
 use Rattle.mc_code.proofs.read_section.take_instructions.Given as goal
 
