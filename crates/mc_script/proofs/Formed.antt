@@ -144,20 +144,26 @@ steps-formed names (l ∷ lines) (entry.Label name ∷ entries) labels place ste
 steps-formed names (l ∷ lines) (entry.Send t marks ∷ entries) labels place steps e h =
     let P : List Step → Type 0 = AreSteps names labels place in
     let (z, zs, one, others, all) = front-parts (sends t marks (jumps_on labels place marks all_classes)) (steps_from labels (place + 1) entries) steps h in
-    subst P all (request-formed names l t marks labels place (jumps_on labels place marks all_classes) z e.0 refl one,
-    steps-formed names lines entries labels (place + 1) zs e.1 others)
+    subst P all (
+      request-formed names l t marks labels place (jumps_on labels place marks all_classes) z e.0 refl one,
+      steps-formed names lines entries labels (place + 1) zs e.1 others,
+    )
 steps-formed names (l ∷ lines) (entry.Bind v ∷ entries) labels place steps e h =
     let P : List Step → Type 0 = AreSteps names labels place in
     let Q : Step → Type 0 = IsStep names labels place in
     let (z, zs, one, others, all) = front-parts (Some (step.Bind v)) (steps_from labels (place + 1) entries) steps h in
     let (name, f, i) = e.0 in
-    subst P all (subst Q (some-same (step.Bind v) z one) (index-below names.vars name v i),
-    steps-formed names lines entries labels (place + 1) zs e.1 others)
+    subst P all (
+      subst Q (some-same (step.Bind v) z one) (index-below names.vars name v i),
+      steps-formed names lines entries labels (place + 1) zs e.1 others,
+    )
 steps-formed names (l ∷ lines) (entry.Goto name ∷ entries) labels place steps e h =
     let P : List Step → Type 0 = AreSteps names labels place in
     let (z, zs, one, others, all) = front-parts (goes (label_behind labels place name)) (steps_from labels (place + 1) entries) steps h in
-    subst P all (goto-formed names labels place name (label_behind labels place name) z refl one,
-    steps-formed names lines entries labels (place + 1) zs e.1 others)
+    subst P all (
+      goto-formed names labels place name (label_behind labels place name) z refl one,
+      steps-formed names lines entries labels (place + 1) zs e.1 others,
+    )
 steps-formed names (l ∷ lines) (entry.Halt ∷ entries) labels place steps e h =
     let P : List Step → Type 0 = AreSteps names labels place in
     let Q : Step → Type 0 = IsStep names labels place in

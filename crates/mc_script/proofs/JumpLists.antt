@@ -129,9 +129,12 @@ jumps-on-formed v labels place least marks (c ∷ classes) jumps asc stand h =
     ⊎_elim
     (λ e. weaker v labels place least (class_index c + 1) jumps (omega (arith, from))
     (jumps-on-formed v labels place (class_index c + 1) marks classes jumps asc.1 stand e))
-    (λ (name, index, js, e, f, g, d). subst P (sym d)
-    (from, target-legal v marks c name stand e, label-behind labels place index name f,
-    jumps-on-formed v labels place (class_index c + 1) marks classes js asc.1 stand g))
+    (λ (name, index, js, e, f, g, d). subst P (sym d) (
+      from,
+      target-legal v marks c name stand e,
+      label-behind labels place index name f,
+      jumps-on-formed v labels place (class_index c + 1) marks classes js asc.1 stand g,
+    ))
     (jump-parts labels place c (target_of c marks) (jumps_on labels place marks classes) jumps h)
 
 pub jumps-formed : (v : Verb) (labels : List Label) (place : ℕ) (marks : List Mark) (jumps : List (Class × ℕ))

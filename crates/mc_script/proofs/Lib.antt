@@ -22,5 +22,6 @@ pub mod PrintedLines
 pub mod PrintedNames
 pub mod PrintedFlags
 pub mod PrintedMarks
+pub mod MarksAgain
 pub mod PrintedSteps
 pub mod PrintedSections

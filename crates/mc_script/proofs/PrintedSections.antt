@@ -214,9 +214,13 @@ section-lines names s k h = lines-are-lines names s.labels 0 s.steps k (label-na
 -- ---- the whole text
 
 budget-spells : (a : Actor) (names : Names) (s : Section) → IsSection names s → SpellsBudget a (budget_line a s.budget) s.budget
-budget-spells a names s h =
-    (decimal s.budget.requests, decimal s.budget.bytes, refl, decimal-spells REQUESTS_LIMIT s.budget.requests (omega arith) h.requests,
-    decimal-spells BYTES_LIMIT s.budget.bytes (omega arith) h.bytes)
+budget-spells a names s h = (
+  decimal s.budget.requests,
+  decimal s.budget.bytes,
+  refl,
+  decimal-spells REQUESTS_LIMIT s.budget.requests (omega arith) h.requests,
+  decimal-spells BYTES_LIMIT s.budget.bytes (omega arith) h.bytes,
+)
 
 actor-whole : (a : Actor) → is_whole (actor_word a) ≡ true
 actor-whole actor.P = refl

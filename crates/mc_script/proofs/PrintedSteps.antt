@@ -37,7 +37,8 @@ use Rattle.mc_script.proofs.EntryWords.{same-template}
 use Rattle.mc_script.proofs.PrintedLines.{is_plain, are_plain, is_whole, are_whole, is_line}
 use Rattle.mc_script.proofs.PrintedNames.{decimal-spells, decimal-whole, named-whole, named-plain, front-whole, body-whole, name-has, index-found, label-found}
 use Rattle.mc_script.proofs.PrintedFlags.{all-append}
-use Rattle.mc_script.proofs.PrintedMarks.{marks_of, marks-spell, marks-together, says-require_set, says-require_clear, says-sets, says-clears, says-bind, says-jumps}
+use Rattle.mc_script.proofs.PrintedMarks.{marks_of, marks-spell, marks-together}
+use Rattle.mc_script.proofs.MarksAgain.{says-require_set, says-require_clear, says-sets, says-clears, says-bind, says-jumps}
 
 -- ---- declared names
 

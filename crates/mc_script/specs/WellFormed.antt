@@ -1,7 +1,6 @@
 -- Which values are scripts, beside any text.
 use Rattle.std.specs.Prelude.{◌≡◌, ℕ, ◌+◌, ◌<◌, ◌≤◌, Bool, true, false, Option, Some, None, List, [], ◌∷◌, length, slice_get}
 use Rattle.std.specs.List.{list_any}
-
 use Rattle.mc_protocol.specs.Legal.{is_legal}
 use Rattle.mc_protocol.specs.declared.request.Verb.{Verb}
 use Rattle.mc_protocol.specs.declared.reply.Class.{Class}

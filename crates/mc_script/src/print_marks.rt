@@ -89,12 +89,7 @@ fn has_first(mask: Mask) -> bool
 }
 
 // Appends the first flag of the mask, if it has it.
-fn print_first(
-    sign: Sign,
-    mask: Mask,
-    name: &[u8],
-    out: &mut Vec<u8>,
-) -> Result<(), OutOfMemory>
+fn print_first(sign: Sign, mask: Mask, name: &[u8], out: &mut Vec<u8>) -> Result<(), OutOfMemory>
     ensures { OnOk result (out.new.items ≡ out.old.items
         ++ printed.behind_text (printed.flag_words sign mask 0 (name.now ∷ []))) }
 {

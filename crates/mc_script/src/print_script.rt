@@ -83,6 +83,14 @@ fn print_budget(actor: Actor, budget: Budget, out: &mut Vec<u8>) -> Result<(), O
     let bytes = bytes_text.format(budget.bytes).as_bytes();
     append_all(
         out,
-        &[b"budget ", actor_word(actor), b" ", requests, b" ", bytes, b"\n"],
+        &[
+            b"budget ",
+            actor_word(actor),
+            b" ",
+            requests,
+            b" ",
+            bytes,
+            b"\n",
+        ],
     )
 }

@@ -122,11 +122,7 @@ fn print_item(template: &Template, out: &mut Vec<u8>) -> Result<(), OutOfMemory>
 }
 
 // Appends the number or the variable, if there is one, behind a space.
-fn print_argument(
-    names: &Names,
-    argument: Argument,
-    out: &mut Vec<u8>,
-) -> Result<(), OutOfMemory>
+fn print_argument(names: &Names, argument: Argument, out: &mut Vec<u8>) -> Result<(), OutOfMemory>
     ensures { OnOk result (out.new.items ≡ out.old.items
         ++ printed.behind_text (printed.argument_words names.now argument)) }
 {
