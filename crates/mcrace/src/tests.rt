@@ -1,7 +1,7 @@
 //! Runs of the whole program over streams in memory.
 
+use crate::answer::INPUT_LIMIT;
 use crate::command::command;
-use crate::judge::INPUT_LIMIT;
 use crate::streams::{Reader, Writer};
 use std::alloc::{AllocError, Global};
 use std::io;
