@@ -20,7 +20,7 @@ right_for_old : (asked : Asked) (old : List ℕ) (new : List ℕ) (text : List �
 right_for_old asked old new text output status split ends (inl does) =
     inl (subst (λ (t : List ℕ). (length t ≤ INPUT_LIMIT) × Does asked t output status) (whole_text old new text split (ends does.0)) does)
 right_for_old asked old new text output status split ends (inr (inl refused)) =
-    inr (inl (longer old new text INPUT_LIMIT split refused.0, refused.1))
+    inr (inl (longer old new text INPUT_LIMIT split refused.0, refused.1, refused.2))
 right_for_old asked old new text output status split ends (inr (inr without)) = inr (inr without)
 
 -- an answer that is right for what was read is right for the whole input
