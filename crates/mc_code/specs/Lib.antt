@@ -15,3 +15,5 @@ pub mod Runs
 pub mod ScriptRuns
 pub mod Agreement
 pub mod Layout
+pub mod Assembling
+pub mod RunLaws

@@ -1,20 +1,78 @@
 //! The code of a script.
-ghost use Rattle.std.specs.Prelude.{◌≡◌, IfOk, IfErr};
-ghost use Rattle.mc_script.specs.WellFormed.{IsScript};
+ghost use Rattle.std.specs.Prelude.{◌≡◌, ◌≤◌, IfOk, IfErr};
 ghost use Rattle.mc_code.specs.Agreement.{Agrees};
 ghost use Rattle.mc_code.specs.Layout as layout;
 
+use crate::code::Section;
+use crate::emit::{add_clearing, add_steps};
+use crate::limits::{INSTRUCTIONS_LIMIT, TEMPLATES_LIMIT};
+use crate::places::Places;
+use crate::size::{check_limits, cleared_keys, request_count};
+use crate::templates::templates_of;
 use crate::{AsmFault, Code};
+use mc_protocol::{Actor, Bytes, OutOfMemory};
 use mc_script::Script;
 use std::alloc::Global;
 
 /// The code of a script, which does the same as the script, whatever is answered: behind a delete of each key P does what
 /// its steps say, and A and B do so.
 pub fn assemble(alloc: Global, script: &Script) -> Result<Code, AsmFault>
-    requires { IsScript script.now }
     ensures layout { IfOk result (λ code. code ≡ layout.code_of script.now) }
     ensures agrees { IfOk result (Agrees script.now) }
     ensures exceeded { IfErr result (layout.IsExceeded script.now) }
 {
-    Err(AsmFault::OutOfMemory)
+    check_limits(script)?;
+    let keys = copies(alloc, script.keys())?;
+    let templates = templates_of(alloc, script)?;
+    let of_p = request_count(script, Actor::P);
+    let of_a = request_count(script, Actor::A);
+    let p = section(alloc, script, Actor::P, 0)?;
+    let a = section(alloc, script, Actor::A, of_p as u8)?;
+    let b = section(alloc, script, Actor::B, (of_p + of_a) as u8)?;
+    Ok(Code {
+        keys,
+        flags: script.flags().len() as u8,
+        vars: script.vars().len() as u8,
+        templates,
+        p,
+        a,
+        b,
+    })
+}
+
+// A section's code, whose templates stand from this one on.
+fn section(
+    alloc: Global,
+    script: &Script,
+    actor: Actor,
+    first: u8,
+) -> Result<Section, OutOfMemory>
+    requires first { first ≡ layout.first_template script.now actor }
+    requires templates { layout.template_count script.now ≤ TEMPLATES_LIMIT }
+    requires instructions { layout.instruction_count script.now actor ≤ INSTRUCTIONS_LIMIT }
+    ensures { IfOk result (λ section. section ≡ layout.section_code script.now actor) }
+{
+    let keys = cleared_keys(script, actor);
+    let steps = script.steps(actor);
+    let count = keys.len() as u8;
+    let places = Places::new(alloc, count, steps, script.labels(actor))?;
+    let mut instructions = Vec::new(alloc);
+    add_clearing(&places, keys, &mut instructions)?;
+    add_steps(&places, first + count, steps, &mut instructions)?;
+    Ok(Section {
+        budget: script.budget(actor),
+        instructions,
+    })
+}
+
+fn copies(alloc: Global, keys: &[Bytes]) -> Result<Vec<Bytes>, OutOfMemory>
+    ensures { IfOk result (λ copies. copies.items ≡ keys.now) }
+{
+    let mut copies = Vec::new(alloc);
+    let mut rest = keys;
+    'keys: while let [key, others @ ..] = rest {
+        copies.push(key.copy(alloc)?)?;
+        rest = others;
+    }
+    Ok(copies)
 }

@@ -6,12 +6,17 @@
 
 mod assembler;
 mod code;
+mod emit;
 mod fault;
 mod image_reader;
 mod image_writer;
 mod instr;
 mod kind;
 mod limits;
+mod places;
+mod size;
+mod templates;
+mod run_laws;
 
 pub use assembler::assemble;
 pub use code::Code;
@@ -21,3 +26,4 @@ pub use image_writer::encode;
 pub use instr::{Call, Instr};
 pub use kind::Kind;
 pub use limits::{CLASS_COUNT, INSTRUCTIONS_LIMIT, NO_ENTRY, TEMPLATES_LIMIT};
+pub use run_laws::{codes_agree, ends_are_complete, paths_are_runs, runs_are_paths};

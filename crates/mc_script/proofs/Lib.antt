@@ -14,3 +14,6 @@ pub mod Declared
 pub mod WholeScript
 pub mod ScriptRead
 pub mod Readings
+pub mod Masks
+pub mod JumpLists
+pub mod Formed

@@ -32,7 +32,7 @@ front-length (Some x) (Some xs) ys h =
 front-length (Some x) None ys h = absurd (cc)
 front-length None xs ys h = absurd (cc)
 
-steps-count : (labels : List Label) (place : ℕ) (entries : List Entry) (steps : List Step) → steps_from labels place entries ≡ Some steps → length steps ≡ step_total entries
+pub steps-count : (labels : List Label) (place : ℕ) (entries : List Entry) (steps : List Step) → steps_from labels place entries ≡ Some steps → length steps ≡ step_total entries
 unfolding step_total
 steps-count labels place [] steps h = ap length (sym (some-same [] steps h))
 steps-count labels place (entry.Label name ∷ entries) steps h =

@@ -1,5 +1,6 @@
 ghost use Rattle.std.specs.Prelude.{◌≡◌};
 ghost use Rattle.mc_script.specs.Script as spec;
+ghost use Rattle.mc_script.specs.WellFormed.{IsScript};
 
 use crate::names::Names;
 use crate::section::Section;
@@ -7,7 +8,8 @@ use crate::{Budget, Label, Step};
 use mc_protocol::{Actor, Bytes};
 use std::marker::Model;
 
-/// A script: the names that it declares, and its three sections. Contracts see its parts as lists.
+/// A script: the names that it declares, and its three sections. Each value is one that a text can spell. Contracts see
+/// its parts as lists.
 #[derive(Debug, Drop)]
 pub struct Script {
     pub(crate) names: Names,
@@ -18,16 +20,20 @@ pub struct Script {
 
 impl Model for Script {
     ghost use Rattle.mc_script.specs.Script as spec;
+    ghost use Rattle.mc_script.specs.WellFormed.{IsScript};
 
     ghost Value = { spec.Script };
 
     ghost view = { λ s. record { names = s.names; p = s.p; a = s.a; b = s.b } };
+
+    ghost invariant = { λ s. IsScript (record { names = s.names; p = s.p; a = s.a; b = s.b }) };
 }
 
 impl Script {
     /// The keys, in the order of their declaration.
     pub fn keys(&self) -> &[Bytes]
-        ensures { result.now ≡ self.now.names.keys }
+        ensures keys { result.now ≡ self.now.names.keys }
+        ensures kept { IsScript self.now }
     {
         self.names.keys()
     }
@@ -55,7 +61,8 @@ impl Script {
 
     /// A section's steps, in order.
     pub fn steps(&self, actor: Actor) -> &[Step]
-        ensures { result.now ≡ (spec.section_of self.now actor).steps }
+        ensures steps { result.now ≡ (spec.section_of self.now actor).steps }
+        ensures kept { IsScript self.now }
     {
         self.section(actor).steps.as_slice()
     }
@@ -68,7 +75,8 @@ impl Script {
     }
 
     fn section(&self, actor: Actor) -> &Section
-        ensures { result.now ≡ spec.section_of self.now actor }
+        ensures section { result.now ≡ spec.section_of self.now actor }
+        ensures kept { IsScript self.now }
     {
         match actor {
             Actor::P => &self.p,

@@ -1,10 +1,11 @@
-ghost use Rattle.std.specs.Prelude.{◌≡◌, ◌≢◌, IfOk, IfErr};
+ghost use Rattle.std.specs.Prelude.{◌≡◌, ◌≢◌, Some, IfOk, IfErr};
 ghost use Rattle.mc_protocol.specs.declared.lines.Separator.TheVariants.{SpaceOrTab};
 ghost use Rattle.mc_protocol.specs.Lines.{words_of_text};
 ghost use Rattle.mc_script.specs.Script as spec;
 ghost use Rattle.mc_script.specs.ScriptText.{SpellsScript};
 ghost use Rattle.mc_script.specs.Reading as reading;
 ghost use Rattle.mc_script.specs.TextReading as whole;
+ghost use Rattle.mc_script.specs.WellFormed.{IsScript};
 
 use crate::declarations::{actor_word, read_budget, read_optional, take_header, take_keys};
 use crate::lines::{ScriptLine, ScriptLines};
@@ -120,6 +121,9 @@ fn resolve_all(
     budgets: Budgets,
     bodies: &Bodies,
 ) -> Result<Script, ScriptFault>
+    requires { (script : spec.Script)
+        → whole.resolved_in names budgets bodies.now.p.items bodies.now.a.items bodies.now.b.items ≡ Some script
+        → IsScript script }
     ensures { reading.Says (λ script. script) result
         (whole.resolved_in names budgets bodies.now.p.items bodies.now.a.items bodies.now.b.items) }
 {

@@ -1,0 +1,215 @@
+//! The instructions of a section.
+ghost use Rattle.std.specs.Prelude.{◌≡◌, ◌+◌, ◌++◌, ◌<◌, [], ◌∷◌, None, ◌≤◌, length, OnOk};
+ghost use Rattle.mc_script.specs.Marks as marks;
+ghost use Rattle.mc_code.specs.Layout as layout;
+ghost use Rattle.mc_code.specs.ScriptRuns as runs;
+ghost use Rattle.mc_code.specs.Assembling as spec;
+
+use crate::limits::{CLASS_COUNT, NO_ENTRY, TEMPLATES_LIMIT};
+use crate::places::Places;
+use crate::size::request_count_of;
+use crate::Instr;
+use mc_protocol::{Bytes, Class, OutOfMemory, Verb, is_legal};
+use mc_script::{STEPS_LIMIT, Step};
+
+/// Where a reply leads that has no jump.
+#[derive(Clone, Copy)]
+pub(crate) struct Onward {
+    /// A hit or a number.
+    pub(crate) number: u8,
+    /// What is left.
+    pub(crate) other: u8,
+}
+
+/// Appends the deletes of these keys, whose templates stand from this one on. Each stands at the place with its template's
+/// index.
+pub(crate) fn add_clearing(places: &Places, keys: &[Bytes], out: &mut Vec<Instr>) -> Result<(), OutOfMemory>
+    requires { length keys.now ≤ TEMPLATES_LIMIT }
+    ensures { OnOk result (out.new.items ≡ out.old.items ++ spec.clearing_code places.now.labels 0 keys.now) }
+{
+    let mut key = 0;
+    let mut rest = keys;
+    'keys: while let [_, others @ ..] = rest {
+        push(clearing_send(places, key), out)?;
+        key += 1;
+        rest = others;
+    }
+    Ok(())
+}
+
+// A delete of the key, whose replies lead to the next instruction.
+fn clearing_send(places: &Places, key: u8) -> Instr
+    requires { key < TEMPLATES_LIMIT }
+    ensures { result ≡ spec.clearing_send places.now.labels key }
+{
+    let onward = Onward {
+        number: key + 1,
+        other: key + 1,
+    };
+    Instr::Send {
+        template: key,
+        next: entries(places, Verb::Delete, &[], onward),
+    }
+}
+
+/// Appends the instructions of a section's steps, whose templates stand from this one on, and the halt behind them.
+pub(crate) fn add_steps(
+    places: &Places,
+    first: u8,
+    steps: &[Step],
+    out: &mut Vec<Instr>,
+) -> Result<(), OutOfMemory>
+    requires templates { first + length (layout.requests_of steps.now) ≤ TEMPLATES_LIMIT }
+    requires few { length steps.now ≤ STEPS_LIMIT }
+    ensures { OnOk result (out.new.items ≡ out.old.items ++ spec.instructions_from places.now first 0 steps.now) }
+{
+    let mut template = first;
+    let mut index = 0;
+    let mut rest = steps;
+    'steps: while let [step, others @ ..] = rest {
+        add_step(places, template, index, step, out)?;
+        template += request_count_of(step);
+        index += 1;
+        rest = others;
+    }
+    push(Instr::Halt, out)
+}
+
+// Appends the instructions of the step with this index, whose request has this template.
+fn add_step(
+    places: &Places,
+    template: u8,
+    index: usize,
+    step: &Step,
+    out: &mut Vec<Instr>,
+) -> Result<(), OutOfMemory>
+    requires { index < STEPS_LIMIT }
+    ensures { OnOk result (out.new.items ≡ out.old.items ++ spec.instructions_for places.now template index step.now) }
+{
+    match step {
+        Step::Send {
+            template: request,
+            jumps,
+            bind,
+        } => {
+            let onward = onward_from(places, index, *bind);
+            let next = entries(places, request.verb, jumps.as_slice(), onward);
+            push(Instr::Send { template, next }, out)?;
+            add_bind(*bind, out)
+        }
+        Step::Bind(variable) => push(Instr::Bind(*variable), out),
+        Step::Goto(label) => push(Instr::Goto(places.of_label(*label)), out),
+        Step::Halt => push(Instr::Halt, out),
+    }
+}
+
+fn push(instr: Instr, out: &mut Vec<Instr>) -> Result<(), OutOfMemory>
+    ensures { OnOk result (out.new.items ≡ out.old.items ++ instr ∷ []) }
+{
+    out.push(instr)?;
+    Ok(())
+}
+
+fn add_bind(bind: Option<u8>, out: &mut Vec<Instr>) -> Result<(), OutOfMemory>
+    ensures { OnOk result (out.new.items ≡ out.old.items ++ layout.bind_code bind) }
+{
+    match bind {
+        Some(variable) => push(Instr::Bind(variable), out),
+        None => Ok(()),
+    }
+}
+
+// Where the replies to the request with this index lead that have no jump.
+fn onward_from(places: &Places, index: usize, bind: Option<u8>) -> Onward
+    requires { index < STEPS_LIMIT }
+    ensures { result ≡ spec.onward_from places.now.steps index bind }
+{
+    let other = places.of_step(index + 1);
+    let number = match bind {
+        Some(_) => places.of_step(index) + 1,
+        None => other,
+    };
+    Onward { number, other }
+}
+
+#[tactic(auto, unfolding(crate::specs::Assembling::legal_entries))]
+fn entries(
+    places: &Places,
+    verb: Verb,
+    jumps: &[(Class, usize)],
+    onward: Onward,
+) -> [u8; CLASS_COUNT]
+    ensures { result ≡ spec.legal_entries places.now.labels verb jumps.now onward }
+{
+    [
+        entry(places, verb, jumps, onward, Class::Stored),
+        entry(places, verb, jumps, onward, Class::NotStored),
+        entry(places, verb, jumps, onward, Class::Exists),
+        entry(places, verb, jumps, onward, Class::NotFound),
+        entry(places, verb, jumps, onward, Class::Hit),
+        entry(places, verb, jumps, onward, Class::Miss),
+        entry(places, verb, jumps, onward, Class::Deleted),
+        entry(places, verb, jumps, onward, Class::Touched),
+        entry(places, verb, jumps, onward, Class::Number),
+        entry(places, verb, jumps, onward, Class::NotNumber),
+    ]
+}
+
+fn entry(
+    places: &Places,
+    verb: Verb,
+    jumps: &[(Class, usize)],
+    onward: Onward,
+    class: Class,
+) -> u8
+    ensures { result ≡ spec.legal_entry places.now.labels verb jumps.now onward class }
+{
+    if !is_legal(verb, class) {
+        return NO_ENTRY;
+    }
+    match jump_on(class, jumps) {
+        Some(label) => places.of_label(label),
+        None => without_jump(onward, class),
+    }
+}
+
+fn without_jump(onward: Onward, class: Class) -> u8
+    ensures { result ≡ spec.entry_by [] onward class None }
+{
+    match class {
+        Class::Hit | Class::Number => onward.number,
+        _ => onward.other,
+    }
+}
+
+// The position of a class in their order.
+fn class_index(class: Class) -> u8
+    ensures { result ≡ marks.class_index class }
+{
+    match class {
+        Class::Stored => 0,
+        Class::NotStored => 1,
+        Class::Exists => 2,
+        Class::NotFound => 3,
+        Class::Hit => 4,
+        Class::Miss => 5,
+        Class::Deleted => 6,
+        Class::Touched => 7,
+        Class::Number => 8,
+        Class::NotNumber => 9,
+    }
+}
+
+// The label to which a reply of the class goes, if it goes to one.
+fn jump_on(class: Class, jumps: &[(Class, usize)]) -> Option<usize>
+    ensures { result ≡ runs.jump_on class jumps.now }
+{
+    let mut rest = jumps;
+    'jumps: while let [(other, label), others @ ..] = rest {
+        if class_index(class) == class_index(*other) {
+            return Some(*label);
+        }
+        rest = others;
+    }
+    None
+}

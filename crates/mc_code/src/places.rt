@@ -1,0 +1,98 @@
+//! Where the code of each step begins.
+ghost use Rattle.std.specs.Prelude.{◌≡◌, ◌+◌, ◌<◌, IfOk};
+ghost use Rattle.std.specs.List.{All};
+ghost use Rattle.mc_code.specs.Layout as layout;
+ghost use Rattle.mc_code.specs.Assembling as spec;
+
+use crate::limits::INSTRUCTIONS_LIMIT;
+use crate::size::size_of;
+use mc_protocol::OutOfMemory;
+use mc_script::{Label, Step};
+use std::alloc::Global;
+use std::marker::Model;
+
+/// Where the code of each of a section's steps begins, and of its end; and where it begins behind each label.
+#[derive(Drop)]
+pub(crate) struct Places {
+    steps: Vec<u8>,
+    labels: Vec<u8>,
+}
+
+impl Model for Places {
+    ghost use Rattle.std.specs.Prelude.{◌<◌};
+    ghost use Rattle.std.specs.List.{All};
+    ghost use Rattle.mc_code.specs.declared.limits.TheConstants.{INSTRUCTIONS_LIMIT};
+    ghost use Rattle.mc_code.specs.Assembling as spec;
+
+    ghost Value = { spec.Places };
+
+    ghost view = { λ p. record { steps = p.steps.items; labels = p.labels.items } };
+
+    ghost invariant = { λ p. All (λ place. place < INSTRUCTIONS_LIMIT) p.steps.items };
+}
+
+impl Places {
+    /// The places of a section's steps and labels, where the code of the first step begins at this place.
+    pub(crate) fn new(alloc: Global, first: u8, steps: &[Step], labels: &[Label]) -> Result<Self, OutOfMemory>
+        requires { first + layout.size_of_all steps.now < INSTRUCTIONS_LIMIT }
+        ensures { IfOk result (λ places. places ≡ spec.places_of first steps.now labels.now) }
+    {
+        let steps = step_places(alloc, first, steps)?;
+        let labels = label_places(alloc, steps.as_slice(), labels)?;
+        Ok(Places { steps, labels })
+    }
+
+    /// Where the code of the step with this index begins; the end stands behind the last step.
+    pub(crate) fn of_step(&self, index: usize) -> u8
+        ensures place { result ≡ spec.place_in self.now.steps index }
+        ensures below { result < INSTRUCTIONS_LIMIT }
+    {
+        place_in(self.steps.as_slice(), index)
+    }
+
+    /// Where the code begins behind the label with this index.
+    pub(crate) fn of_label(&self, index: usize) -> u8
+        ensures { result ≡ spec.place_in self.now.labels index }
+    {
+        place_in(self.labels.as_slice(), index)
+    }
+}
+
+// The place with this index; 0 where there is none.
+fn place_in(places: &[u8], index: usize) -> u8
+    ensures { result ≡ spec.place_in places.now index }
+{
+    match places.get(index) {
+        Some(place) => *place,
+        None => 0,
+    }
+}
+
+fn step_places(alloc: Global, first: u8, steps: &[Step]) -> Result<Vec<u8>, OutOfMemory>
+    requires { first + layout.size_of_all steps.now < INSTRUCTIONS_LIMIT }
+    ensures places { IfOk result (λ places. places.items ≡ spec.places_from first steps.now) }
+    ensures below { IfOk result (λ places. All (λ place. place < INSTRUCTIONS_LIMIT) places.items) }
+{
+    let mut places = Vec::new(alloc);
+    let mut place = first;
+    let mut rest = steps;
+    'steps: while let [step, others @ ..] = rest {
+        places.push(place)?;
+        place += size_of(step);
+        rest = others;
+    }
+    places.push(place)?;
+    Ok(places)
+}
+
+fn label_places(alloc: Global, places: &[u8], labels: &[Label]) -> Result<Vec<u8>, OutOfMemory>
+    ensures { IfOk result (λ found. found.items ≡ spec.label_places places.now labels.now) }
+{
+    let mut found = Vec::new(alloc);
+    let mut rest = labels;
+    'labels: while let [label, others @ ..] = rest {
+        found.push(place_in(places, label.place))?;
+        rest = others;
+    }
+    Ok(found)
+}

@@ -1,0 +1,213 @@
+-- A script that a text spells is well formed.
+use Rattle.std.proofs.Common.{◌≡◌, ℕ, ◌+◌, ◌<◌, ◌≤◌, Bool, true, false, not, ◌&&◌, Option, Some, None, List, [], ◌∷◌, length, refl, sym, subst, arith}
+use Rattle.std.specs.List.{list_all, list_any}
+use Rattle.std.specs.Str.{bytes_eq}
+use Rattle.std.proofs.lemmas.Bool.{and_parts, le-leb, lt-ltb}
+use Rattle.std.proofs.lemmas.List.Quantifiers.{position-Some}
+use Rattle.std.proofs.lemmas.Nat.{pow_pos}
+use Rattle.mc_protocol.specs.Fields.{fields_of}
+use Rattle.mc_protocol.specs.declared.actor.Actor.{Actor}
+use Rattle.mc_protocol.specs.declared.actor.Actor.TheVariants as actor
+use Rattle.mc_protocol.specs.declared.request.Fields.{Fields}
+use Rattle.mc_protocol.specs.declared.request.Fields.TheVariants as fields
+use Rattle.mc_protocol.specs.declared.request.Verb.{Verb}
+use Rattle.mc_protocol.specs.declared.reply.Class.{Class}
+use Rattle.mc_script.specs.declared.entry.Entry.{Entry}
+use Rattle.mc_script.specs.declared.entry.Entry.TheVariants as entry
+use Rattle.mc_script.specs.declared.entry.Mark.{Mark}
+use Rattle.mc_script.specs.declared.entry.Mark.TheVariants as mark
+use Rattle.mc_script.specs.declared.entry.Sign.TheVariants as sign
+use Rattle.mc_script.specs.declared.section.Label.{Label}
+use Rattle.mc_script.specs.declared.step.Argument.{Argument}
+use Rattle.mc_script.specs.declared.step.Argument.TheVariants as argument
+use Rattle.mc_script.specs.declared.step.Step.{Step}
+use Rattle.mc_script.specs.declared.step.Step.TheVariants as step
+use Rattle.mc_script.specs.declared.step.Template.{Template}
+use Rattle.mc_script.specs.Script.{Names, Section, Script}
+use Rattle.mc_script.specs.ScriptWords.{Word, Words, index_of, MAX_32, MAX_64}
+use Rattle.mc_script.specs.Marks.{SpellsMark, may_stand, may_stand_together, have_no_twins, shows_numbers, is_bind, is_number_jump, bound_by}
+use Rattle.mc_script.specs.SectionText.{SpellEach, SpellsAmount, SpellsUnique, SpellsFields, SpellsRequest, SpellsEntry, SpellsSection}
+use Rattle.mc_script.specs.Steps.{in_front, sends, goes, marked, all_classes, jumps_on, label_behind, labels_from, steps_from}
+use Rattle.mc_script.specs.ScriptText.{SpellsBudget, SpellsScript}
+use Rattle.mc_script.specs.Templates.{IsTemplate, has_fields, is_variable, is_amount}
+use Rattle.mc_script.specs.WellFormed.{IsStep, AreSteps, AreLabels, IsSection, IsScript, MayBind}
+use Rattle.mc_script.proofs.Outcomes.{some-same}
+use Rattle.mc_script.proofs.Masks.{mask-below, masks-apart}
+use Rattle.mc_script.proofs.JumpLists.{label-behind, jumps-formed, no-number-jump}
+use Rattle.mc_script.proofs.MarkLists.{three}
+use Rattle.mc_script.proofs.SectionLines.{step_total}
+use Rattle.mc_script.proofs.Sections.{steps-count}
+
+index-below : (names : List Word) (name : Word) (index : ℕ) → index_of names name ≡ Some index → index < length names
+index-below names name index h = (position-Some (λ n. bytes_eq n name) names index [] h).0
+
+-- ---- templates
+
+unique-formed : (names : Names) (word : Word) (a : Argument) → SpellsUnique names word a → is_variable (length names.vars) a ≡ true
+unique-formed names word argument.Nothing s = absurd s
+unique-formed names word (argument.Number n) s = absurd s
+unique-formed names word (argument.Variable v) (name, e, i) = lt-ltb v (length names.vars) (index-below names.vars name v i)
+
+amount-formed : (names : Names) (word : Word) (a : Argument) → SpellsAmount names word a → is_amount (length names.vars) a ≡ true
+amount-formed names word argument.Nothing s = absurd s
+amount-formed names word (argument.Number n) s = le-leb n MAX_64 s.small
+amount-formed names word (argument.Variable v) (name, e, i) = lt-ltb v (length names.vars) (index-below names.vars name v i)
+
+fields-formed : (names : Names) (shape : Fields) (words : Words) (t : Template) → SpellsFields names shape words t
+    → has_fields (length names.vars) shape t.flags t.argument t.body ≡ true
+fields-formed names fields.KeyAlone words t (e, f, a, b) = rw (f, a, b) refl
+fields-formed names fields.Expiry words t (e, f, a, b) = rw (f, a, b) refl
+fields-formed names fields.Item words t (flags, e, n, a, b) = rw (le-leb t.flags MAX_32 n.small, a, b) refl
+fields-formed names fields.Swap words t (flags, unique, e, n, u, b) =
+    rw (le-leb t.flags MAX_32 n.small, unique-formed names unique t.argument u, b) refl
+fields-formed names fields.Amount words t (amount, e, f, a, b) = rw (f, b, amount-formed names amount t.argument a) refl
+
+template-formed : (names : Names) (line : Words) (t : Template) (marks : List Mark) → SpellsRequest names line t marks
+    → IsTemplate (length names.keys) (length names.flags) (length names.vars) (marked t marks)
+template-formed names line t marks s =
+    let together = three (list_all (may_stand t.verb) marks) (have_no_twins marks) _ s.together in
+    let none = pow_pos (length names.flags) in
+    record {
+      key = index-below names.keys s.key t.key s.declared;
+      fields = fields-formed names (fields_of t.verb) s.fields t s.spelled;
+      require_set = mask-below names s.others marks sign.RequireSet 0 s.marked none;
+      require_clear = mask-below names s.others marks sign.RequireClear 0 s.marked none;
+      sets = mask-below names s.others marks sign.Sets 0 s.marked none;
+      clears = mask-below names s.others marks sign.Clears 0 s.marked none;
+      needs_apart = masks-apart sign.RequireSet sign.RequireClear marks refl refl refl refl together.1;
+      changes_apart = masks-apart sign.Sets sign.Clears marks refl refl refl refl together.1;
+    }
+
+-- ---- steps
+
+bound-parts : (names : Names) (v : Verb) (words : Words) (marks : List Mark) (variable : ℕ) → SpellEach (SpellsMark names) words marks
+    → list_all (may_stand v) marks ≡ true → bound_by marks ≡ Some variable
+    → (variable < length names.vars) × (shows_numbers v ≡ true) × (list_any is_bind marks ≡ true)
+bound-parts names v [] [] variable e stand h = absurd (cc)
+bound-parts names v [] (m ∷ marks) variable e stand h = absurd e
+bound-parts names v (w ∷ ws) [] variable e stand h = absurd e
+bound-parts names v (w ∷ ws) (mark.Flag s f ∷ marks) variable e stand h = bound-parts names v ws marks variable e.1 stand h
+bound-parts names v (w ∷ ws) (mark.Jump c l ∷ marks) variable e stand h =
+    bound-parts names v ws marks variable e.1 (and_parts (may_stand v (mark.Jump c l)) (list_all (may_stand v) marks) stand).1 h
+bound-parts names v (w ∷ ws) (mark.Bind x ∷ marks) variable e stand h =
+    let (name, f, i) = e.0 in
+    let same = some-same x variable h in
+    let P : ℕ → Type 0 = λ n. n < length names.vars in
+    (subst P same (index-below names.vars name x i), (and_parts (shows_numbers v) (list_all (may_stand v) marks) stand).0, refl)
+
+free-parts : (a b : Bool) → not (a && b) ≡ true → a ≡ true → b ≡ false
+free-parts true true h e = absurd (cc)
+free-parts true false h e = refl
+free-parts false b h e = absurd (cc)
+
+bind-formed : (names : Names) (v : Verb) (words : Words) (marks : List Mark) (labels : List Label) (place : ℕ) (jumps : List (Class × ℕ)) (o : Option ℕ)
+    → bound_by marks ≡ o → SpellEach (SpellsMark names) words marks → may_stand_together v marks ≡ true
+    → jumps_on labels place marks all_classes ≡ Some jumps → MayBind names v jumps o
+bind-formed names v words marks labels place jumps None b e together h = tt
+bind-formed names v words marks labels place jumps (Some variable) b e together h =
+    let t = three (list_all (may_stand v) marks) (have_no_twins marks) (not (list_any is_bind marks && list_any is_number_jump marks)) together in
+    let p = bound-parts names v words marks variable e t.0 b in
+    (p.0, p.1, no-number-jump labels place marks all_classes jumps (free-parts (list_any is_bind marks) (list_any is_number_jump marks) t.2 p.2) h)
+
+request-formed : (names : Names) (line : Words) (t : Template) (marks : List Mark) (labels : List Label) (place : ℕ) (o : Option (List (Class × ℕ))) (s : Step)
+    → SpellsRequest names line t marks → jumps_on labels place marks all_classes ≡ o → sends t marks o ≡ Some s → IsStep names labels place s
+request-formed names line t marks labels place None s r j h = absurd (cc)
+request-formed names line t marks labels place (Some jumps) s r j h =
+    let P : Step → Type 0 = IsStep names labels place in
+    let together = three (list_all (may_stand t.verb) marks) (have_no_twins marks) _ r.together in
+    subst P (some-same (step.Send (marked t marks) jumps (bound_by marks)) s h) (
+      template-formed names line t marks r,
+      jumps-formed t.verb labels place marks jumps together.0 j,
+      bind-formed names t.verb r.others marks labels place jumps (bound_by marks) refl r.marked r.together j,
+    )
+
+goto-formed : (names : Names) (labels : List Label) (place : ℕ) (name : Word) (o : Option ℕ) (s : Step)
+    → label_behind labels place name ≡ o → goes o ≡ Some s → IsStep names labels place s
+goto-formed names labels place name None s l h = absurd (cc)
+goto-formed names labels place name (Some index) s l h =
+    let P : Step → Type 0 = IsStep names labels place in
+    subst P (some-same (step.Goto index) s h) (label-behind labels place index name l)
+
+front-parts : {A : Type 0} (x : Option A) (xs : Option (List A)) (ys : List A) → in_front x xs ≡ Some ys
+    → (z : A) × (zs : List A) × (x ≡ Some z) × (xs ≡ Some zs) × (z ∷ zs ≡ ys)
+front-parts (Some x) (Some xs) ys h = (x, xs, refl, refl, some-same (x ∷ xs) ys h)
+front-parts (Some x) None ys h = absurd (cc)
+front-parts None xs ys h = absurd (cc)
+
+steps-formed : (names : Names) (lines : List Words) (entries : List Entry) (labels : List Label) (place : ℕ) (steps : List Step)
+    → SpellEach (SpellsEntry names) lines entries → steps_from labels place entries ≡ Some steps → AreSteps names labels place steps
+steps-formed names [] [] labels place steps e h =
+    let P : List Step → Type 0 = AreSteps names labels place in subst P (some-same [] steps h) tt
+steps-formed names [] (x ∷ entries) labels place steps e h = absurd e
+steps-formed names (l ∷ lines) [] labels place steps e h = absurd e
+steps-formed names (l ∷ lines) (entry.Label name ∷ entries) labels place steps e h = steps-formed names lines entries labels place steps e.1 h
+steps-formed names (l ∷ lines) (entry.Send t marks ∷ entries) labels place steps e h =
+    let P : List Step → Type 0 = AreSteps names labels place in
+    let (z, zs, one, others, all) = front-parts (sends t marks (jumps_on labels place marks all_classes)) (steps_from labels (place + 1) entries) steps h in
+    subst P all (request-formed names l t marks labels place (jumps_on labels place marks all_classes) z e.0 refl one,
+    steps-formed names lines entries labels (place + 1) zs e.1 others)
+steps-formed names (l ∷ lines) (entry.Bind v ∷ entries) labels place steps e h =
+    let P : List Step → Type 0 = AreSteps names labels place in
+    let Q : Step → Type 0 = IsStep names labels place in
+    let (z, zs, one, others, all) = front-parts (Some (step.Bind v)) (steps_from labels (place + 1) entries) steps h in
+    let (name, f, i) = e.0 in
+    subst P all (subst Q (some-same (step.Bind v) z one) (index-below names.vars name v i),
+    steps-formed names lines entries labels (place + 1) zs e.1 others)
+steps-formed names (l ∷ lines) (entry.Goto name ∷ entries) labels place steps e h =
+    let P : List Step → Type 0 = AreSteps names labels place in
+    let (z, zs, one, others, all) = front-parts (goes (label_behind labels place name)) (steps_from labels (place + 1) entries) steps h in
+    subst P all (goto-formed names labels place name (label_behind labels place name) z refl one,
+    steps-formed names lines entries labels (place + 1) zs e.1 others)
+steps-formed names (l ∷ lines) (entry.Halt ∷ entries) labels place steps e h =
+    let P : List Step → Type 0 = AreSteps names labels place in
+    let Q : Step → Type 0 = IsStep names labels place in
+    let (z, zs, one, others, all) = front-parts (Some step.Halt) (steps_from labels (place + 1) entries) steps h in
+    subst P all (subst Q (some-same step.Halt z one) tt, steps-formed names lines entries labels (place + 1) zs e.1 others)
+
+-- ---- labels
+
+labels-weaker : (steps a b : ℕ) (labels : List Label) → a ≤ b → AreLabels steps b labels → AreLabels steps a labels
+labels-weaker steps a b [] le h = tt
+labels-weaker steps a b (label ∷ labels) le (name, from, to, rest) = (name, omega (arith, from, le), to, rest)
+
+labels-formed : (names : Names) (lines : List Words) (entries : List Entry) (steps place : ℕ) → SpellEach (SpellsEntry names) lines entries
+    → steps ≡ place + step_total entries → AreLabels steps place (labels_from place entries)
+unfolding step_total
+labels-formed names [] [] steps place e h = tt
+labels-formed names [] (x ∷ entries) steps place e h = absurd e
+labels-formed names (l ∷ lines) [] steps place e h = absurd e
+labels-formed names (l ∷ lines) (entry.Label name ∷ entries) steps place e h =
+    (e.0.1, omega arith, omega (arith, h), labels-formed names lines entries steps place e.1 (omega (arith, h)))
+labels-formed names (l ∷ lines) (entry.Send t marks ∷ entries) steps place e h =
+    labels-weaker steps place (place + 1) (labels_from (place + 1) entries) (omega arith) (labels-formed names lines entries steps (place + 1) e.1 (omega (arith, h)))
+labels-formed names (l ∷ lines) (entry.Bind v ∷ entries) steps place e h =
+    labels-weaker steps place (place + 1) (labels_from (place + 1) entries) (omega arith) (labels-formed names lines entries steps (place + 1) e.1 (omega (arith, h)))
+labels-formed names (l ∷ lines) (entry.Goto name ∷ entries) steps place e h =
+    labels-weaker steps place (place + 1) (labels_from (place + 1) entries) (omega arith) (labels-formed names lines entries steps (place + 1) e.1 (omega (arith, h)))
+labels-formed names (l ∷ lines) (entry.Halt ∷ entries) steps place e h =
+    labels-weaker steps place (place + 1) (labels_from (place + 1) entries) (omega arith) (labels-formed names lines entries steps (place + 1) e.1 (omega (arith, h)))
+
+-- ---- the whole
+
+section-formed : (names : Names) (section : Actor) (budget : Words) (lines : List Words) (s : Section) → SpellsBudget section budget s.budget
+    → SpellsSection names lines s → IsSection names s
+section-formed names section budget lines s (r, y, e, n, m) p =
+    let total = steps-count s.labels 0 p.entries s.steps p.steps in
+    let P : List Label → Type 0 = AreLabels (length s.steps) 0 in
+    record {
+      requests = n.small;
+      bytes = m.small;
+      few = p.few;
+      steps = steps-formed names lines p.entries s.labels 0 s.steps p.spelled p.steps;
+      labels = subst P (sym p.labels) (labels-formed names lines p.entries (length s.steps) 0 p.spelled (omega (arith, total)));
+      distinct = p.distinct;
+    }
+
+pub script-formed : (text : List ℕ) (s : Script) → SpellsScript text s → IsScript s
+script-formed text s h =
+    record {
+      declared = h.declared;
+      p = section-formed s.names actor.P h.p_budget h.p s.p h.p_allowed h.p_spelled;
+      a = section-formed s.names actor.A h.a_budget h.a s.a h.a_allowed h.a_spelled;
+      b = section-formed s.names actor.B h.b_budget h.b s.b h.b_allowed h.b_spelled;
+    }
