@@ -5,7 +5,7 @@ ghost use Rattle.mc_code.specs.Requests as requests;
 use crate::{Call, Instr};
 use mc_protocol::{Actor, Bytes, OutOfMemory, Request};
 use mc_script::{Budget, Template};
-use std::alloc::{AllocError, Global};
+use std::alloc::Global;
 use std::marker::Model;
 
 /// One section: what it may send at most, and its instructions. Contracts see the vector as a list.
@@ -23,8 +23,9 @@ impl Model for Section {
     ghost view = { λ s. record { budget = s.budget; instructions = s.instructions.items } };
 }
 
-/// Code: keys, how many flags and variables there are, templates, and three sections of instructions. Contracts see its
-/// parts as lists. Where the instructions lead, and which templates and variables they name, isn't looked at.
+/// Code: 1 to 8 keys, how many flags and variables there are (at most 32 and 16), at most 64 templates, and three
+/// sections of at most 64 instructions each. A template's key, flags and variable are there. Where the instructions lead,
+/// and which templates and variables they name, isn't looked at. Contracts see its parts as lists.
 #[derive(Debug, Drop)]
 pub struct Code {
     pub(crate) keys: Vec<Bytes>,
@@ -76,7 +77,7 @@ impl Code {
         self.part(actor).budget
     }
 
-    /// The templates of the requests.
+    /// The templates of the requests. Instructions and calls name them by index.
     pub fn templates(&self) -> &[Template]
         ensures templates { result.now ≡ self.now.templates }
         ensures kept { spec.IsCode self.now }
@@ -84,19 +85,27 @@ impl Code {
         self.templates.as_slice()
     }
 
-    /// A section's instructions.
+    /// A section's instructions. The first is where it begins.
     pub fn section(&self, actor: Actor) -> &[Instr]
         ensures { result.now ≡ (spec.section_of self.now actor).instructions }
     {
         self.part(actor).instructions.as_slice()
     }
 
-    /// The request of a call: the template's, with the call's number.
+    /// The request of a call: its template's, with the call's number. The template must be there. Its key and its body are
+    /// copied, and `OutOfMemory` comes where there is no memory for them.
     pub fn request(&self, alloc: Global, call: Call) -> Result<Request, OutOfMemory>
         requires { call.template < length self.now.templates }
         ensures { IfOk result (requests.IsRequest self.now call) }
     {
-        Err(AllocError)
+        let template = &self.templates[usize::from(call.template)];
+        Ok(Request {
+            verb: template.verb,
+            key: self.keys[usize::from(template.key)].copy(alloc)?,
+            flags: template.flags,
+            body: template.body.copy(alloc)?,
+            number: call.number,
+        })
     }
 
     fn part(&self, actor: Actor) -> &Section

@@ -11,9 +11,11 @@ pub enum AsmFault {
     /// The keys and the requests of all sections need more than 64 templates.
     #[error("expected at most 64 templates: one for each key, and one for each request")]
     TooManyTemplates,
-    /// This section, the first such, needs more than 64 instructions. Where there are too many templates, that is told.
+    /// This section, the first such of P, A and B, needs more than 64 instructions. Where there are too many templates
+    /// too, those are told.
     #[error("expected at most 64 instructions in a section")]
     TooManyInstructions(Actor),
+    /// There is no memory for the code.
     #[error("out of memory")]
     OutOfMemory,
 }
@@ -41,16 +43,22 @@ impl<T: Drop> From<AllocFailed<T>> for AsmFault {
 /// Why bytes are no image.
 #[derive(Clone, Copy, Debug, Drop, PartialEq, Eq, Error)]
 pub enum ImageKind {
+    /// The first four bytes are others than `MCR1`.
     #[error("expected the bytes `MCR1`")]
     Magic,
+    /// The bytes end before or inside a field.
     #[error("expected more bytes")]
     Short,
+    /// A number that is too small or too large; a key with other bytes, or one that stands twice.
     #[error("expected a number within its limits, or a key that is new and has 1 to 40 bytes `a` to `z`, `0` to `9`, `-`")]
     Range,
+    /// A whole template whose verb, key, flags, argument and body don't suit each other, or name what isn't declared.
     #[error("expected a template whose verb has these fields, and whose key, variable and flags are there")]
     Template,
+    /// Bytes behind the last instruction.
     #[error("expected no more bytes")]
     Extra,
+    /// There is no memory for the code.
     #[error("out of memory")]
     OutOfMemory,
 }

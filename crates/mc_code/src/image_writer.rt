@@ -1,9 +1,17 @@
 //! Code as bytes.
-ghost use Rattle.std.specs.Prelude.{◌≡◌, ◌++◌, OnOk, OnErr};
+ghost use Rattle.std.specs.Prelude.{◌≡◌, ◌≤◌, ◌∷◌, ◌++◌, length, take, OnOk, OnErr};
+ghost use Rattle.std.specs.List.{All};
+ghost use Rattle.std.specs.Int.{w64, to_be_bytes};
+ghost use Rattle.mc_script.specs.declared.limits.TheConstants.{REQUESTS_LIMIT, BYTES_LIMIT, BODY_LIMIT};
+ghost use Rattle.mc_code.specs.declared.limits.TheConstants.{INSTRUCTIONS_LIMIT, TEMPLATES_LIMIT};
+ghost use Rattle.mc_code.specs.Code.{IsSection};
+ghost use Rattle.mc_code.specs.Image as image;
 ghost use Rattle.mc_code.specs.Image.{image_of};
 
-use crate::Code;
-use mc_protocol::OutOfMemory;
+use crate::code::Section;
+use crate::{Code, Instr};
+use mc_protocol::{Bytes, OutOfMemory, Verb, append_all};
+use mc_script::{Argument, Budget, Template};
 use std::alloc::AllocError;
 
 /// Appends the image of code. Want of memory leaves `out` as it was.
@@ -11,5 +19,177 @@ pub fn encode(code: &Code, out: &mut Vec<u8>) -> Result<(), OutOfMemory>
     ensures ok { OnOk result (out.new.items ≡ out.old.items ++ image_of code.now) }
     ensures err { OnErr result (out.new.items ≡ out.old.items) }
 {
-    Err(AllocError)
+    let start = out.len();
+    out.extend_from_slice(b"MCR1")?;
+    if push_keys(code.keys.as_slice(), out).is_err()
+        || out.extend_from_slice(&[code.flags, code.vars]).is_err()
+        || push_budgets(code, out).is_err()
+        || push_templates(code.templates.as_slice(), out).is_err()
+        || push_sections(code, out).is_err()
+    {
+        out.truncate(start);
+        return Err(AllocError);
+    }
+    Ok(())
+}
+
+// Appends how many keys there are, and each with its length.
+fn push_keys(keys: &[Bytes], out: &mut Vec<u8>) -> Result<(), OutOfMemory>
+    requires few { length keys.now ≤ 255 }
+    requires short { All (λ key. length key ≤ 255) keys.now }
+    ensures ok { OnOk result (out.new.items ≡ out.old.items ++ image.counted image.sized keys.now) }
+    ensures err { OnErr result (out.new.items ≡ out.old.items) }
+{
+    let start = out.len();
+    out.push(keys.len() as u8)?;
+    'keys: for key in keys {
+        if push_sized(key.as_slice(), out).is_err() {
+            out.truncate(start);
+            return Err(AllocError);
+        }
+    }
+    Ok(())
+}
+
+// Appends how many bytes there are, and the bytes.
+fn push_sized(bytes: &[u8], out: &mut Vec<u8>) -> Result<(), OutOfMemory>
+    requires { length bytes.now ≤ 255 }
+    ensures ok { OnOk result (out.new.items ≡ out.old.items ++ image.sized bytes.now) }
+    ensures err { OnErr result (out.new.items ≡ out.old.items) }
+{
+    append_all(out, &[&[bytes.len() as u8], bytes])
+}
+
+// Appends what each section may send.
+fn push_budgets(code: &Code, out: &mut Vec<u8>) -> Result<(), OutOfMemory>
+    ensures ok { OnOk result (out.new.items ≡ out.old.items ++ image.budget_bytes code.now.p.budget
+        ++ image.budget_bytes code.now.a.budget ++ image.budget_bytes code.now.b.budget) }
+    ensures err { OnErr result (out.new.items ≡ out.old.items) }
+{
+    append_all(
+        out,
+        &[
+            &budget_bytes(code.p.budget),
+            &budget_bytes(code.a.budget),
+            &budget_bytes(code.b.budget),
+        ],
+    )
+}
+
+// The bytes of a budget.
+fn budget_bytes(budget: Budget) -> [u8; 3]
+    requires requests { budget.requests ≤ REQUESTS_LIMIT }
+    requires bytes { budget.bytes ≤ BYTES_LIMIT }
+    ensures { result ≡ image.budget_bytes budget }
+{
+    let [high, low] = (budget.bytes as u16).to_be_bytes();
+    [budget.requests as u8, high, low]
+}
+
+// Appends how many templates there are, and each of them.
+fn push_templates(templates: &[Template], out: &mut Vec<u8>) -> Result<(), OutOfMemory>
+    requires few { length templates.now ≤ TEMPLATES_LIMIT }
+    requires short { All (λ t. length t.body ≤ BODY_LIMIT) templates.now }
+    ensures ok { OnOk result (out.new.items ≡ out.old.items ++ image.counted image.template_bytes templates.now) }
+    ensures err { OnErr result (out.new.items ≡ out.old.items) }
+{
+    let start = out.len();
+    out.push(templates.len() as u8)?;
+    'templates: for template in templates {
+        if push_template(template, out).is_err() {
+            out.truncate(start);
+            return Err(AllocError);
+        }
+    }
+    Ok(())
+}
+
+// Appends the fields of a template.
+fn push_template(template: &Template, out: &mut Vec<u8>) -> Result<(), OutOfMemory>
+    requires { length template.now.body ≤ BODY_LIMIT }
+    ensures ok { OnOk result (out.new.items ≡ out.old.items ++ image.template_bytes template.now) }
+    ensures err { OnErr result (out.new.items ≡ out.old.items) }
+{
+    let body = template.body.as_slice();
+    let (sort, argument) = argument_fields(template.argument);
+    append_all(
+        out,
+        &[
+            &[verb_index(template.verb), template.key],
+            &template.flags.to_be_bytes(),
+            &[sort],
+            &argument.to_be_bytes(),
+            &[body.len() as u8],
+            body,
+            &template.require_set.to_be_bytes(),
+            &template.require_clear.to_be_bytes(),
+            &template.sets.to_be_bytes(),
+            &template.clears.to_be_bytes(),
+        ],
+    )
+}
+
+// The position of a verb in the order of the verbs.
+fn verb_index(verb: Verb) -> u8
+    ensures { result ≡ image.verb_index verb }
+{
+    verb as u8
+}
+
+// What an argument is, and its number or that of its variable, or 0.
+fn argument_fields(argument: Argument) -> (u8, u64)
+    ensures { result.0 ∷ to_be_bytes w64 result.1 ≡ image.argument_bytes argument }
+{
+    match argument {
+        Argument::Nothing => (0, 0),
+        Argument::Number(number) => (1, number),
+        Argument::Variable(variable) => (2, u64::from(variable)),
+    }
+}
+
+// Appends the instructions of each section.
+fn push_sections(code: &Code, out: &mut Vec<u8>) -> Result<(), OutOfMemory>
+    ensures ok { OnOk result (out.new.items ≡ out.old.items ++ image.section_bytes code.now.p
+        ++ image.section_bytes code.now.a ++ image.section_bytes code.now.b) }
+    ensures err { OnErr result (out.new.items ≡ out.old.items) }
+{
+    let start = out.len();
+    if push_section(&code.p, out).is_err()
+        || push_section(&code.a, out).is_err()
+        || push_section(&code.b, out).is_err()
+    {
+        out.truncate(start);
+        return Err(AllocError);
+    }
+    Ok(())
+}
+
+// Appends how many instructions a section has, and each of them.
+fn push_section(section: &Section, out: &mut Vec<u8>) -> Result<(), OutOfMemory>
+    requires { length section.now.instructions ≤ INSTRUCTIONS_LIMIT }
+    ensures ok { OnOk result (out.new.items ≡ out.old.items ++ image.section_bytes section.now) }
+    ensures err { OnErr result (out.new.items ≡ out.old.items) }
+{
+    let start = out.len();
+    out.push(section.instructions.len() as u8)?;
+    'instructions: for instr in section.instructions.as_slice() {
+        if push_instr(*instr, out).is_err() {
+            out.truncate(start);
+            return Err(AllocError);
+        }
+    }
+    Ok(())
+}
+
+// Appends an instruction.
+fn push_instr(instr: Instr, out: &mut Vec<u8>) -> Result<(), OutOfMemory>
+    ensures ok { OnOk result (out.new.items ≡ out.old.items ++ image.instr_bytes instr) }
+    ensures err { OnErr result (out.new.items ≡ out.old.items) }
+{
+    match instr {
+        Instr::Send { template, next } => append_all(out, &[&[0, template], &next]),
+        Instr::Bind(variable) => out.extend_from_slice(&[1, variable]),
+        Instr::Goto(place) => out.extend_from_slice(&[2, place]),
+        Instr::Halt => out.extend_from_slice(&[3]),
+    }
 }

@@ -7,10 +7,11 @@ pub enum Instr {
     Send {
         /// The index of the request's template.
         template: u8,
-        /// The place to which each class of reply leads, in the order of the classes.
+        /// The place to which each class of reply leads, in the order of the classes: `Stored` first, `NotNumber` last.
         next: [u8; CLASS_COUNT],
     },
-    /// The variable with this index takes the number that the section's last reply showed.
+    /// The variable with this index takes the number that the section's last reply showed, and the next instruction
+    /// follows.
     Bind(u8),
     /// Goes to this place.
     Goto(u8),

@@ -27,3 +27,8 @@ pub use instr::{Call, Instr};
 pub use kind::Kind;
 pub use limits::{CLASS_COUNT, INSTRUCTIONS_LIMIT, NO_ENTRY, TEMPLATES_LIMIT};
 pub use run_laws::{codes_agree, ends_are_complete, paths_are_runs, runs_are_paths};
+
+#[cfg(test)]
+mod image_tests;
+#[cfg(test)]
+mod test_codes;

@@ -1,0 +1,57 @@
+-- Images that are written: the pieces that make a template, and those that make an image.
+use Rattle.std.proofs.Common.{◌≡◌, ℕ, List, [], ◌∷◌, ◌++◌, length, refl, sym, ap, ◌∙◌, append-nil, append_assoc, false, Result, Ok, Err, is_err, OnOk}
+use Rattle.std.specs.Int.{w32, w64, to_be_bytes}
+use Rattle.mc_script.specs.declared.step.Template.{Template}
+use Rattle.mc_code.specs.Code.{Code}
+use Rattle.mc_code.specs.Image.{magic, sized, counted, budget_bytes, verb_index, argument_bytes, mask_bytes, masks_bytes, template_bytes, section_bytes, image_of}
+
+-- ---- templates
+
+-- the masks, the last with nothing behind it
+masks-pieces : (t : Template)
+    → mask_bytes t.require_set ++ (mask_bytes t.require_clear ++ (mask_bytes t.sets ++ (mask_bytes t.clears ++ []))) ≡ masks_bytes t
+masks-pieces t = simp (append-nil, append_assoc)
+
+-- the pieces of a template, whose argument stands in two of them
+pub template-pieces : (t : Template) (sort number : ℕ) → sort ∷ to_be_bytes w64 number ≡ argument_bytes t.argument
+    → (verb_index t.verb ∷ t.key ∷ []) ++ (to_be_bytes w32 t.flags ++ ((sort ∷ []) ++ (to_be_bytes w64 number ++ ((length t.body ∷ []) ++ (t.body
+    ++ (mask_bytes t.require_set ++ (mask_bytes t.require_clear ++ (mask_bytes t.sets ++ (mask_bytes t.clears ++ [])))))))))
+    ≡ template_bytes t
+template-pieces t sort number e =
+    ap (λ front. verb_index t.verb ∷ t.key ∷ front)
+    (ap (λ masks. to_be_bytes w32 t.flags ++ ((sort ∷ to_be_bytes w64 number) ++ (sized t.body ++ masks))) (masks-pieces t)
+    ∙ ap (λ argument. to_be_bytes w32 t.flags ++ (argument ++ (sized t.body ++ masks_bytes t))) e
+    ∙ sym (append_assoc (to_be_bytes w32 t.flags) (argument_bytes t.argument) (sized t.body ++ masks_bytes t))
+    ∙ sym (append_assoc (to_be_bytes w32 t.flags ++ argument_bytes t.argument) (sized t.body) (masks_bytes t)))
+
+-- ---- images
+
+-- lists behind a front, one by one and together
+in_a_row : (front m k : List ℕ) (f v : ℕ) (p a b t x y z : List ℕ)
+    → (((((((((front ++ m) ++ k) ++ (f ∷ v ∷ [])) ++ p) ++ a) ++ b) ++ t) ++ x) ++ y) ++ z
+    ≡ front ++ ((m ++ k) ++ (f ∷ v ∷ ((((((p ++ a) ++ b) ++ t) ++ x) ++ y) ++ z)))
+in_a_row front m k f v p a b t x y z = simp append_assoc
+
+-- the pieces of an image
+image-pieces : (front : List ℕ) (c : Code)
+    → (((((((((front ++ magic) ++ counted sized c.keys) ++ (c.flags ∷ c.vars ∷ [])) ++ budget_bytes c.p.budget) ++ budget_bytes c.a.budget)
+    ++ budget_bytes c.b.budget) ++ counted template_bytes c.templates) ++ section_bytes c.p) ++ section_bytes c.a) ++ section_bytes c.b
+    ≡ front ++ image_of c
+image-pieces front c =
+    in_a_row front magic (counted sized c.keys) c.flags c.vars (budget_bytes c.p.budget) (budget_bytes c.a.budget) (budget_bytes c.b.budget)
+    (counted template_bytes c.templates) (section_bytes c.p) (section_bytes c.a) (section_bytes c.b)
+
+-- what was written, piece by piece, is the image
+pub image-written : (c : Code) (front first second third fourth fifth last : List ℕ) → first ≡ front ++ magic → second ≡ first ++ counted sized c.keys
+    → third ≡ second ++ (c.flags ∷ c.vars ∷ [])
+    → fourth ≡ ((third ++ budget_bytes c.p.budget) ++ budget_bytes c.a.budget) ++ budget_bytes c.b.budget
+    → fifth ≡ fourth ++ counted template_bytes c.templates
+    → last ≡ ((fifth ++ section_bytes c.p) ++ section_bytes c.a) ++ section_bytes c.b
+    → last ≡ front ++ image_of c
+image-written c front first second third fourth fifth last e0 e1 e2 e3 e4 e5 =
+    rw (e5, e4, e3, e2, e1, e0) (image-pieces front c)
+
+-- what a call ensures that did not fail
+pub at_ok : {T E P : Type 0} (r : Result T E) → is_err r ≡ false → OnOk r P → P
+at_ok (Ok x) e h = h
+at_ok (Err y) e h = absurd (cc)
