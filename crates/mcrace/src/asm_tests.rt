@@ -118,9 +118,21 @@ fn names_each_kind(rt: HostRuntime) -> Result<(), Fail> {
         (9, "incr a 1 ?f\n", "refused script 6 UnknownFlag line 9\n"),
         (9, "incr a $v\n", "refused script 7 UnknownVar line 9\n"),
         (9, "goto l\n", "refused script 8 UnknownLabel line 9\n"),
-        (9, "l:\ngoto l\n", "refused script 9 BackwardLabel line 10\n"),
-        (7, "set a 4294967296 =5\n", "refused script 10 Number line 7\n"),
-        (2, "keys a b c d e f g h i\n", "refused script 12 TooMany line 2\n"),
+        (
+            9,
+            "l:\ngoto l\n",
+            "refused script 9 BackwardLabel line 10\n",
+        ),
+        (
+            7,
+            "set a 4294967296 =5\n",
+            "refused script 10 Number line 7\n",
+        ),
+        (
+            2,
+            "keys a b c d e f g h i\n",
+            "refused script 12 TooMany line 2\n",
+        ),
     ];
     for (number, line, wanted) in rows {
         let script = with_line(alloc, COUNTED, number, line)?;
@@ -195,7 +207,12 @@ fn assembling_fails_with_its_output(rt: HostRuntime) -> Result<(), Fail> {
         let status = run_into(rt.alloc(), &["asm"], COUNTED.as_bytes(), Narrow { room })?;
         assert_eq!(rt; status, 4);
     }
-    let status = run_into(rt.alloc(), &["asm"], COUNTED.as_bytes(), Narrow { room: 202 })?;
+    let status = run_into(
+        rt.alloc(),
+        &["asm"],
+        COUNTED.as_bytes(),
+        Narrow { room: 202 },
+    )?;
     assert_eq!(rt; status, 0);
     Ok(())
 }
