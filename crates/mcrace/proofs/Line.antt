@@ -1,5 +1,5 @@
 -- What clap finds in the program's command line.
-use Rattle.std.proofs.Common.{refl, sym, arith, ap, ap₂, unwrap_or, inl, inr, codes, true, false, ℕ, List, [], ◌∷◌, ◌++◌, ◌≡◌, ◌∙◌, Some, None}
+use Rattle.std.proofs.Common.{refl, sym, arith, ap, ap₂, unwrap_or, inl, inr, codes, Bool, true, false, true≢false, is_some, Option, ℕ, List, [], ◌∷◌, ◌++◌, ◌≡◌, ◌∙◌, Some, None}
 use Rattle.clap.specs.Words.{App, HasKind, fault_of, is_simple_and_free, kind_of, subcommand_of, subcommand_rows_of, HasMatchesOf, is_simple, built, one_of, Shape, Kinds}
 use Rattle.clap.specs.Faults.{check_fault, defaults_fault, settle_fault, walk_fault}
 use Rattle.clap.specs.Kinds.{or_else}
@@ -13,12 +13,14 @@ use Rattle.clap.specs.declared.error.kind.ErrorKind.TheVariants as kind
 use Rattle.clap.proofs.OnLiterals.{clap_on_literals}
 use Rattle.std.specs.Prelude.{find}
 use Rattle.std.specs.Str.Parse.{IsNumeral}
+use Rattle.std.specs.Str.{bytes_eq}
+use Rattle.std.proofs.lemmas.Slice.Eq.{bytes_eq-Decides}
 use Rattle.mcrace.proofs.Limit.{limit_is_taken, no_hyphen}
 use Rattle.mcrace.proofs.OptionValue.{IsNoFlag, no_flag, value_walked, value_has_no_fault}
 use Rattle.mcrace.specs.declared.arguments.Asked.{Asked}
 use Rattle.mcrace.specs.declared.arguments.Asked.TheVariants as asked
-use Rattle.mcrace.specs.Command.{AsksFor, AsksForJudge, SpellsLimit}
-use Rattle.mcrace.specs.CommandLine.{GREATEST_LIMIT, DEFAULT_LIMIT, judge_app, given_limit, given_name, line_faults, program_app}
+use Rattle.mcrace.specs.Command.{AsksFor, AsksForJudge, IsNamed, IsReadAs, SpellsLimit}
+use Rattle.mcrace.specs.CommandLine.{GREATEST_LIMIT, DEFAULT_LIMIT, judge_app, given_limit, given_name, line_command, line_faults, program_app}
 
 -- the faults of the command that the program makes
 pub line_faults-is : (app : App) (words : List (List ℕ)) → app ≡ program_app
@@ -35,6 +37,25 @@ pub subcommand-is : (app : App) (words : List (List ℕ)) (m : ArgMatches) → a
     → subcommand_rows_of m ≡ subcommand_of program_app words
 unfolding clap_on_literals
 subcommand-is app words m is found = (found (ap is_simple is)).1 ∙ ap (λ (a : App). subcommand_of a words) is
+
+-- the name of the subcommand that such a parse finds
+pub line_command-is : (app : App) (words : List (List ℕ)) (m : ArgMatches) → app ≡ program_app → HasMatchesOf app words m
+    → given_name (subcommand_rows_of m) ≡ line_command words
+unfolding line_command
+line_command-is app words m is found = ap given_name (subcommand-is app words m is found)
+
+-- some request is read in a line of any name
+read_as : (name : Option (List ℕ)) → (wanted : Asked) × IsNamed name wanted
+read_as None = (asked.Judge 0, λ is. absurd (true≢false (sym (ap is_some is))))
+read_as (Some name) = by_test name (bytes_eq name (codes "asm")) refl
+  where
+    by_test : (name : List ℕ) (b : Bool) → bytes_eq name (codes "asm") ≡ b → (wanted : Asked) × IsNamed (Some name) wanted
+    by_test name true same = (asked.Asm, ap Some ((bytes_eq-Decides name (codes "asm")).0 same))
+    by_test name false differ =
+        (asked.Judge 0, λ is. absurd (true≢false (sym ((bytes_eq-Decides name (codes "asm")).1 (ap (λ (o : Option (List ℕ)). unwrap_or o []) is)) ∙ differ)))
+
+pub some_is_read : (words : List (List ℕ)) → (wanted : Asked) × IsReadAs words wanted
+some_is_read words = read_as (line_command words)
 
 -- ---- the lines that ask for a judgement: clap finds no fault in them, and the limit that they name
 

@@ -1,10 +1,10 @@
 -- What the program does with a line of words.
-use Rattle.std.specs.Prelude.{◌≡◌, ◌⊎◌, ℕ, ◌≤◌, Option, Some, None, List, [], ◌∷◌, ◌++◌, codes}
+use Rattle.std.specs.Prelude.{◌≡◌, ◌≢◌, ◌⊎◌, ℕ, ◌≤◌, Option, Some, None, List, [], ◌∷◌, ◌++◌, codes}
 use Rattle.std.specs.Str.Parse.{IsNumeral, digits_value}
 use Rattle.mcrace.specs.declared.arguments.Asked.{Asked}
 use Rattle.mcrace.specs.declared.arguments.Asked.TheVariants as asked
 use Rattle.mcrace.specs.Answers.{IsAnswer}
-use Rattle.mcrace.specs.CommandLine.{DEFAULT_LIMIT, GREATEST_LIMIT}
+use Rattle.mcrace.specs.CommandLine.{DEFAULT_LIMIT, GREATEST_LIMIT, line_command}
 use Rattle.mcrace.specs.Streams.{Grows}
 
 -- the word is a decimal of the limit, which is in its range
@@ -30,6 +30,15 @@ AsksForAsm words = (program : List ℕ) × (words ≡ program ∷ codes "asm" �
 abbrev pub AsksFor : List (List ℕ) → Asked → Type 0
 AsksFor words (asked.Judge limit) = AsksForJudge words limit
 AsksFor words asked.Asm = AsksForAsm words
+
+-- what is asked for by a line with the subcommand of this name: an image, or else a judgement
+abbrev pub IsNamed : Option (List ℕ) → Asked → Type 0
+IsNamed name (asked.Judge limit) = name ≢ Some (codes "asm")
+IsNamed name asked.Asm = name ≡ Some (codes "asm")
+
+-- what clap reads in the words
+abbrev pub IsReadAs : List (List ℕ) → Asked → Type 0
+IsReadAs words asked = IsNamed (line_command words) asked
 
 -- the text is all that was left, where that is known
 abbrev pub IsWhole : Option (List ℕ) → List ℕ → Type 0

@@ -1,6 +1,6 @@
 -- What the program's command line may be.
 use Rattle.std.specs.Prelude.{ℕ, Option, Some, List, [], true, codes, option_and_then, option_map}
-use Rattle.clap.specs.Words.{App, Kinds, Row, Rule, Text, fault_of, new_app, new_rule, one_of, with_rule, with_subcommand}
+use Rattle.clap.specs.Words.{App, Kinds, Row, Rule, Text, fault_of, new_app, new_rule, one_of, subcommand_of, with_rule, with_subcommand}
 use Rattle.clap.specs.Simple.{new_shape}
 use Rattle.clap.specs.declared.builder.value_parser.ValueParser.TheVariants as parser
 
@@ -42,11 +42,15 @@ program_app = with_subcommand (with_subcommand bare_app judge_app.top) asm_app.t
 unfoldable pub line_faults : List (List ℕ) → Kinds
 line_faults words = fault_of program_app words
 
--- ---- what private clauses cite
-
--- the name of the subcommand that clap found, if it found one
+-- the name of a subcommand that was found, if one was
 abbrev pub given_name : Option (Text × List Row) → Option Text
 given_name entered = option_map (λ found. found.0) entered
+
+-- the name of the subcommand that clap finds in the words
+unfoldable pub line_command : List (List ℕ) → Option Text
+line_command words = given_name (subcommand_of program_app words)
+
+-- ---- what private clauses cite
 
 -- the value of `--limit` that clap found for the subcommand, if it found one
 abbrev pub given_limit : Option (Text × List Row) → Option Text

@@ -3,7 +3,7 @@ ghost use Rattle.std.specs.Prelude.{◌≡◌, ℕ, List, Some, None, false, map
 ghost use Rattle.clap.specs.Words.{FailsBy, app_of, rule_of, subcommand_rows_of};
 ghost use Rattle.mcrace.specs.CommandLine.{given_limit, given_name, limit_rule, line_faults, program_app};
 ghost use Rattle.mcrace.specs.CommandLine as command_line;
-ghost use Rattle.mcrace.specs.Command.{AsksFor, SpellsLimit};
+ghost use Rattle.mcrace.specs.Command.{AsksFor, IsNamed, IsReadAs, SpellsLimit};
 
 use clap::{Arg, ArgMatches, Command, Error, value_parser};
 use std::alloc::{AllocError, Global};
@@ -33,7 +33,7 @@ of it; behind a move `pad` and `refuse`, what the server chose where the protoco
 
 An explanation is searched for, and the answer is written:
   explained    one was found; its lines follow, and `end`
-  unexplained  the search went through every order that it tries, and found none
+  unexplained  the search came to its end, and found none
   undecided    the turns of the search were used up before either was known
 A turn tries one request at one place in the order.
 
@@ -116,6 +116,7 @@ pub enum Asked {
 pub fn parsed(alloc: Global, line: &[String]) -> Result<Asked, Error>
     ensures fails { FailsBy (line_faults (map string_bytes line.now)) result }
     ensures asked { IfOk result (λ given. (asked : Asked) → AsksFor (map string_bytes line.now) asked → given ≡ asked) }
+    ensures read { IfOk result (IsReadAs (map string_bytes line.now)) }
 {
     let matches = program(alloc)?.try_get_matches_from(line)?;
     Ok(asked_by(&matches))
@@ -123,6 +124,7 @@ pub fn parsed(alloc: Global, line: &[String]) -> Result<Asked, Error>
 
 // What the subcommand is. There is one in every line that clap takes.
 fn asked_by(matches: &ArgMatches) -> Asked
+    ensures named { IsNamed (given_name (subcommand_rows_of matches.now)) result }
     ensures asm { given_name (subcommand_rows_of matches.now) ≡ Some (codes "asm") → result ≡ Asked.Asm }
     ensures given { (word : List ℕ) (limit : ℕ) → given_name (subcommand_rows_of matches.now) ≡ Some (codes "judge")
         → given_limit (subcommand_rows_of matches.now) ≡ Some word → SpellsLimit word limit → result ≡ Asked.Judge limit }

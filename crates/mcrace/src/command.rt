@@ -2,7 +2,7 @@
 ghost use Rattle.std.specs.Prelude.{◌≡◌, ◌≢◌, ◌⊎◌, ℕ, List, [], ◌+◌, ◌<◌, ◌≤◌, true, false, map, string_bytes, length, IfOk, IfErr};
 ghost use Rattle.mcrace.specs.Answers.{IsAnswer, out_of_memory_text};
 ghost use Rattle.mcrace.specs.CommandLine.{line_faults};
-ghost use Rattle.mcrace.specs.Command.{AsksFor, Answers, IsWhole};
+ghost use Rattle.mcrace.specs.Command.{AsksFor, Answers, IsReadAs, IsWhole};
 ghost use Rattle.mcrace.specs.Input as input_rule;
 ghost use Rattle.mcrace.specs.Streams.{Grows, TakesAtMost};
 ghost use Rattle.clap.specs.Words.{kind_of};
@@ -37,7 +37,8 @@ pub fn command<I: Source, O: Sink, F: Sink>(
     ensures any_line { line_faults (map string_bytes line.now) ≡ []
         → I.has_failed input.old ≡ false → I.has_failed input.new ≡ false
         → O.has_failed output.old ≡ false → O.has_failed output.new ≡ false
-        → (asked : Asked) × Answers asked (I.left input.old) (O.written output.old) (O.written output.new) result }
+        → (asked : Asked) × IsReadAs (map string_bytes line.now) asked
+        × Answers asked (I.left input.old) (O.written output.old) (O.written output.new) result }
     ensures no_fault { (asked : Asked) → AsksFor (map string_bytes line.now) asked → faults.new ≡ faults.old }
     ensures unread { line_faults (map string_bytes line.now) ≢ [] → input.new ≡ input.old }
     ensures broken_input { I.has_failed input.old ≡ false → I.has_failed input.new ≡ true

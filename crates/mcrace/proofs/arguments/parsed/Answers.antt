@@ -1,6 +1,6 @@
 use Rattle.std.proofs.Common.{ap, sym, map, string_bytes, ◌∙◌}
 use Rattle.std.proofs.lemmas.Result.{err_from_is_err_and}
-use Rattle.mcrace.proofs.Line.{asked_is_found, line_faults-is, program_is_simple, subcommand-is}
+use Rattle.mcrace.proofs.Line.{asked_is_found, line_command-is, line_faults-is, program_is_simple, subcommand-is}
 use Rattle.mcrace.specs.CommandLine.{given_limit, given_name}
 use Rattle.mcrace.proofs.arguments.parsed.Goals as goal
 
@@ -25,3 +25,8 @@ returns-clause-asked c wanted asks =
     (λ is. c.asked_by.ensures.asm (name ∙ is))
     (λ word n judge is. c.asked_by.ensures.given word n (name ∙ judge) (limit ∙ is))
     (λ judge none. c.asked_by.ensures.none (name ∙ judge) (limit ∙ none))
+
+pub returns-clause-read : goal.returns-clause-read
+returns-clause-read c =
+    rw (line_command-is _ (map string_bytes c.args.line.now) c.in_ok-matches.matches c.in_ok-program.ensures c.in_ok-matches.ensures.matches)
+    at c.asked_by.ensures.named

@@ -1,5 +1,4 @@
-use Rattle.mcrace.specs.declared.arguments.Asked.TheVariants as asked
-use Rattle.mcrace.proofs.Line.{asking_lacks_memory, faultless_lacks_memory}
+use Rattle.mcrace.proofs.Line.{asking_lacks_memory, faultless_lacks_memory, some_is_read}
 use Rattle.mcrace.proofs.Right.{out_of_memory_answers}
 use Rattle.mcrace.proofs.command.command.Goals as goal
 
@@ -11,7 +10,8 @@ returns-in-Err-clause-answered g c wanted asks input_old input_new output_old ou
 pub returns-in-Err-clause-any_line : goal.returns-in-Err-clause-any_line
 returns-in-Err-clause-any_line g c none input_old input_new output_old output_new =
     let written = c.explain.ensures.memory (faultless_lacks_memory _ c.in-Err.error none c.in-Err.ensures.fails) output_old output_new in
-    (asked.Asm, out_of_memory_answers asked.Asm _ _ _ _ written.0 written.1)
+    let read = some_is_read _ in
+    (read.0, read.1, out_of_memory_answers read.0 _ _ _ _ written.0 written.1)
 
 pub returns-in-Err-clause-no_fault : goal.returns-in-Err-clause-no_fault
 returns-in-Err-clause-no_fault g c wanted asks =
