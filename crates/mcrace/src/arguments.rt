@@ -99,7 +99,7 @@ const STATUSES: &str = "Exit status:
   0  confirmed, explained or assembled
   1  not confirmed or unexplained
   2  the command line is wrong
-  3  refused: the input is no history, no script or one that is too large, or has more than
+  3  refused: the input is no history, no script or too large a script, or has more than
      1,048,576 bytes
   4  undecided; out of memory; or input or output failed";
 
