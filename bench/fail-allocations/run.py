@@ -33,7 +33,7 @@ MOST_PRINTED = 3
 SECONDS = 60
 
 # Lines that the program tells something of on its own.
-LINES = [[], ["--help"], ["judge", "x"]]
+LINES = [[], ["--help"], ["judge", "x"], ["asm", "--help"], ["asm", "x"]]
 
 WANT = r"\b(OutOfMemory|AllocError|AllocFailed)\b"
 
@@ -117,8 +117,9 @@ def sweep_program(sweep):
     # This builds it where it is not built.
     subprocess.run([ROOT / "mcrace", "--help"], check=True, stdout=subprocess.DEVNULL)
     program = ROOT / "crates/mcrace/out/mcrace"
-    for example in sorted(ROOT.glob("examples/*.history")):
-        sweep.sweep(example.name, [program, "judge"], program_may_end, example)
+    for command, kind in [("judge", "history"), ("asm", "script")]:
+        for example in sorted(ROOT.glob(f"examples/*.{kind}")):
+            sweep.sweep(example.name, [program, command], program_may_end, example)
     for words in LINES:
         sweep.sweep(" ".join(["mcrace", *words]), [program, *words], program_may_end)
 

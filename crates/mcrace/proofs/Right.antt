@@ -1,10 +1,9 @@
 -- The answer to what was read is right for the whole input.
 use Rattle.std.proofs.Common.{arith, refl, ap, sym, subst, inl, inr, ◌≡◌, ◌∙◌, ℕ, ◌<◌, ◌≤◌, List, [], ◌++◌, length, Option, Some, None, length-append, append-nil}
-use Rattle.mcrace.specs.declared.judge.Answer.{Answer}
-use Rattle.mcrace.specs.declared.judge.Answer.TheVariants as answer
-use Rattle.mcrace.specs.Answers.{IsRight, INPUT_LIMIT}
-use Rattle.mcrace.specs.Command.{Answers, IsWhole, IsWritten}
-use Rattle.mcrace.specs.Streams.{IsAtEnd, Loses}
+use Rattle.mcrace.specs.declared.arguments.Asked.{Asked}
+use Rattle.mcrace.specs.Answers.{Does, IsAnswer, INPUT_LIMIT, out_of_memory_text}
+use Rattle.mcrace.specs.Command.{Answers, IsWhole}
+use Rattle.mcrace.specs.Streams.{Grows, IsAtEnd, Loses}
 
 -- a text that was read to the end of the input is the input
 whole_text : (old : List ℕ) (new : List ℕ) (text : List ℕ) → old ≡ text ++ new → new ≡ [] → text ≡ old
@@ -16,52 +15,43 @@ longer old new text n split long =
     let lengths : length old ≡ length (text ++ new) = ap length split in
     omega (arith, lengths, length-append text new)
 
-right_for_old : (limit : ℕ) (old : List ℕ) (new : List ℕ) (text : List ℕ) (given : Answer) → old ≡ text ++ new
-    → (length text ≤ INPUT_LIMIT → new ≡ []) → IsRight limit text given → IsRight limit old given
-right_for_old limit old new text answer.Confirmed split ends right =
-    subst (λ (t : List ℕ). IsRight limit t answer.Confirmed) (whole_text old new text split (ends right.0)) right
-right_for_old limit old new text answer.NotConfirmed split ends right =
-    subst (λ (t : List ℕ). IsRight limit t answer.NotConfirmed) (whole_text old new text split (ends right.0)) right
-right_for_old limit old new text (answer.Judged found turns) split ends right =
-    subst (λ (t : List ℕ). IsRight limit t (answer.Judged found turns)) (whole_text old new text split (ends right.0)) right
-right_for_old limit old new text (answer.Refused fault) split ends right =
-    subst (λ (t : List ℕ). IsRight limit t (answer.Refused fault)) (whole_text old new text split (ends right.0)) right
-right_for_old limit old new text answer.TooLong split ends right = longer old new text INPUT_LIMIT split right
-right_for_old limit old new text answer.OutOfMemory split ends right = tt
+right_for_old : (asked : Asked) (old : List ℕ) (new : List ℕ) (text : List ℕ) (output : List ℕ) (status : ℕ) → old ≡ text ++ new
+    → (length text ≤ INPUT_LIMIT → new ≡ []) → IsAnswer asked text output status → IsAnswer asked old output status
+right_for_old asked old new text output status split ends (inl does) =
+    inl (subst (λ (t : List ℕ). (length t ≤ INPUT_LIMIT) × Does asked t output status) (whole_text old new text split (ends does.0)) does)
+right_for_old asked old new text output status split ends (inr (inl refused)) =
+    inr (inl (longer old new text INPUT_LIMIT split refused.0, refused.1, refused.2))
+right_for_old asked old new text output status split ends (inr (inr without)) = inr (inr without)
 
 -- an answer that is right for what was read is right for the whole input
-pub right_for_whole : (limit : ℕ) (left : Option (List ℕ)) (new : Option (List ℕ)) (text : List ℕ) (given : Answer) → Loses left new text
-    → (length text ≤ INPUT_LIMIT → IsAtEnd new) → IsRight limit text given
-    → (whole : List ℕ) × IsWhole left whole × IsRight limit whole given
-right_for_whole limit None new text given lost ends right = (text, tt, right)
-right_for_whole limit (Some old) None text given lost ends right = absurd lost
-right_for_whole limit (Some old) (Some new) text given lost ends right = (old, refl, right_for_old limit old new text given lost ends right)
+pub right_for_whole : (asked : Asked) (left : Option (List ℕ)) (new : Option (List ℕ)) (text : List ℕ) (output : List ℕ) (status : ℕ)
+    → Loses left new text → (length text ≤ INPUT_LIMIT → IsAtEnd new) → IsAnswer asked text output status
+    → (whole : List ℕ) × IsWhole left whole × IsAnswer asked whole output status
+right_for_whole asked None new text output status lost ends right = (text, tt, right)
+right_for_whole asked (Some old) None text output status lost ends right = absurd lost
+right_for_whole asked (Some old) (Some new) text output status lost ends right =
+    (old, refl, right_for_old asked old new text output status lost ends right)
 
--- want of memory is an answer to any input
-pub out_of_memory_for_whole : (limit : ℕ) (left : Option (List ℕ))
-    → (whole : List ℕ) × IsWhole left whole × IsRight limit whole answer.OutOfMemory
-out_of_memory_for_whole limit None = ([], tt, tt)
-out_of_memory_for_whole limit (Some old) = (old, refl, tt)
+-- there is a text that is the whole input, whatever is known of it
+some_whole : (left : Option (List ℕ)) → (whole : List ℕ) × IsWhole left whole
+some_whole None = ([], tt)
+some_whole (Some old) = (old, refl)
 
--- an answer that is right for the whole input was written, or that of want of memory
-pub answers_of : (limit : ℕ) (left : Option (List ℕ)) (old : Option (List ℕ)) (new : Option (List ℕ)) (status : ℕ) (given : Answer)
-    → ((whole : List ℕ) × IsWhole left whole × IsRight limit whole given) → IsWritten given old new status
-    → Answers limit left old new status
-answers_of limit left old new status given found (inl (grows, status_is)) = record {
+-- an answer that is right for the whole input was written
+pub answers_of : (asked : Asked) (left : Option (List ℕ)) (old : Option (List ℕ)) (new : Option (List ℕ)) (status : ℕ) (output : List ℕ)
+    → ((whole : List ℕ) × IsWhole left whole × IsAnswer asked whole output status) → Grows old new output
+    → Answers asked left old new status
+answers_of asked left old new status output found grows = record {
   text = found.0;
   whole = found.1;
-  answer = given;
+  output = output;
   right = found.2;
   written = grows;
-  status_is = status_is;
 }
-answers_of limit left old new status given found (inr (grows, status_is)) =
-    let other = out_of_memory_for_whole limit left in
-    record {
-      text = other.0;
-      whole = other.1;
-      answer = answer.OutOfMemory;
-      right = other.2;
-      written = grows;
-      status_is = status_is;
-    }
+
+-- want of memory is an answer to any input
+pub out_of_memory_answers : (asked : Asked) (left : Option (List ℕ)) (old : Option (List ℕ)) (new : Option (List ℕ)) (status : ℕ)
+    → Grows old new out_of_memory_text → status ≡ 4 → Answers asked left old new status
+out_of_memory_answers asked left old new status grows status_is =
+    let whole = some_whole left in
+    answers_of asked left old new status out_of_memory_text (whole.0, whole.1, inr (inr (refl, status_is))) grows

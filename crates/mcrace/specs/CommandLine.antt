@@ -1,6 +1,6 @@
 -- What the program's command line may be.
-use Rattle.std.specs.Prelude.{ℕ, Option, Some, List, [], true, codes, option_and_then}
-use Rattle.clap.specs.Words.{App, Kinds, Row, Rule, Text, fault_of, new_app, new_rule, one_of, with_rule, with_subcommand}
+use Rattle.std.specs.Prelude.{ℕ, Option, Some, List, [], true, codes, option_and_then, option_map}
+use Rattle.clap.specs.Words.{App, Kinds, Row, Rule, Text, fault_of, new_app, new_rule, one_of, subcommand_of, with_rule, with_subcommand}
 use Rattle.clap.specs.Simple.{new_shape}
 use Rattle.clap.specs.declared.builder.value_parser.ValueParser.TheVariants as parser
 
@@ -23,6 +23,10 @@ limit_rule = record (new_rule (codes "limit")) {
 abbrev pub judge_app : App
 judge_app = with_rule (new_app (codes "judge")) limit_rule
 
+-- the subcommand `asm`
+abbrev pub asm_app : App
+asm_app = new_app (codes "asm")
+
 -- the program, without its subcommands
 abbrev pub bare_app : App
 bare_app = record {
@@ -32,11 +36,19 @@ bare_app = record {
 
 -- what clap reads of the program's command
 abbrev pub program_app : App
-program_app = with_subcommand bare_app judge_app.top
+program_app = with_subcommand (with_subcommand bare_app judge_app.top) asm_app.top
 
 -- the kinds of the first fault that clap finds in the words, of which it gives one; a call for help is one too
 unfoldable pub line_faults : List (List ℕ) → Kinds
 line_faults words = fault_of program_app words
+
+-- the name of a subcommand that was found, if one was
+abbrev pub given_name : Option (Text × List Row) → Option Text
+given_name entered = option_map (λ found. found.0) entered
+
+-- the name of the subcommand that clap finds in the words
+unfoldable pub line_command : List (List ℕ) → Option Text
+line_command words = given_name (subcommand_of program_app words)
 
 -- ---- what private clauses cite
 

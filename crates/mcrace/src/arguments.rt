@@ -1,9 +1,9 @@
 //! The command line.
-ghost use Rattle.std.specs.Prelude.{◌≡◌, ℕ, List, Some, None, false, map, string_bytes, IfOk};
+ghost use Rattle.std.specs.Prelude.{◌≡◌, ℕ, List, Some, None, false, map, string_bytes, codes, IfOk};
 ghost use Rattle.clap.specs.Words.{FailsBy, app_of, rule_of, subcommand_rows_of};
-ghost use Rattle.mcrace.specs.CommandLine.{given_limit, limit_rule, line_faults, program_app};
+ghost use Rattle.mcrace.specs.CommandLine.{given_limit, given_name, limit_rule, line_faults, program_app};
 ghost use Rattle.mcrace.specs.CommandLine as command_line;
-ghost use Rattle.mcrace.specs.Command.{AsksForJudge, SpellsLimit};
+ghost use Rattle.mcrace.specs.Command.{AsksFor, IsNamed, IsReadAs, SpellsLimit};
 
 use clap::{Arg, ArgMatches, Command, Error, value_parser};
 use std::alloc::{AllocError, Global};
@@ -33,7 +33,7 @@ of it; behind a move `pad` and `refuse`, what the server chose where the protoco
 
 An explanation is searched for, and the answer is written:
   explained    one was found; its lines follow, and `end`
-  unexplained  there is none
+  unexplained  the search came to its end, and found none
   undecided    the turns of the search were used up before either was known
 A turn tries one request at one place in the order.
 
@@ -64,21 +64,77 @@ A text that is no history is `refused`, with the reason.";
 
 const LIMIT_HELP: &str = "Search for at most N turns, 0 to 1000000000 [default: 1000000]";
 
+const ASM_ABOUT: &str = "Assembles the script on standard input";
+
+const ASM_LONG_ABOUT: &str = "Assembles the script on standard input, and writes its image.
+
+A script is what three clients of one server send: P, which runs alone first, and then A and B, which
+run side by side. It declares its keys, then its flags and variables if it has any, and how many
+requests and bytes each client may send at most. Behind a request may stand marks: `?f` or `!f`, flag f
+is set or clear then; `+f` or `-f`, the request sets or clears it; `class:L`, where to go on after a
+reply of that class; `>v`, the variable that takes the number which is shown.
+
+An example, in which both clients count:
+
+  script 1
+  keys a
+  budget P 2 26
+  budget A 1 10
+  budget B 1 10
+  P
+  set a 0 =5
+  A
+  incr a 1
+  B
+  incr a 1
+  end
+
+The image begins with `MCR1`. Its templates are the requests, in front of them one `delete` for each
+key, with which P begins. Whether the code keeps its budgets and its flags isn't looked at.
+
+A text that is no script, or a script that needs more than 64 templates, or more than 64 instructions
+in a section, is `refused`, with the reason.";
+
 const STATUSES: &str = "Exit status:
-  0  confirmed or explained
+  0  confirmed, explained or assembled
   1  not confirmed or unexplained
   2  the command line is wrong
-  3  refused: the input is no history, or has more than 1,048,576 bytes
+  3  refused: the input is no history, no script or too large a script, or has more than
+     1,048,576 bytes
   4  undecided; out of memory; or input or output failed";
 
-/// Reads the line, whose first word is the program's name. It asks for a judgement, and the answer is the most turns of its
-/// search; or the error says what to write and where.
-pub fn parsed(alloc: Global, line: &[String]) -> Result<u64, Error>
+/// What a line asks for.
+#[derive(Clone, Copy, Debug, Drop, PartialEq, Eq)]
+pub enum Asked {
+    /// A judgement, in a search of at most so many turns.
+    Judge(u64),
+    /// The image of a script.
+    Asm,
+}
+
+/// Reads the line, whose first word is the program's name. It asks for something; or the error says what to write and where.
+pub fn parsed(alloc: Global, line: &[String]) -> Result<Asked, Error>
     ensures fails { FailsBy (line_faults (map string_bytes line.now)) result }
-    ensures limit { IfOk result (λ given. (limit : ℕ) → AsksForJudge (map string_bytes line.now) limit → given ≡ limit) }
+    ensures asked { IfOk result (λ given. (asked : Asked) → AsksFor (map string_bytes line.now) asked → given ≡ asked) }
+    ensures read { IfOk result (IsReadAs (map string_bytes line.now)) }
 {
     let matches = program(alloc)?.try_get_matches_from(line)?;
-    Ok(limit_of(&matches))
+    Ok(asked_by(&matches))
+}
+
+// What the subcommand is. There is one in every line that clap takes.
+fn asked_by(matches: &ArgMatches) -> Asked
+    ensures named { IsNamed (given_name (subcommand_rows_of matches.now)) result }
+    ensures asm { given_name (subcommand_rows_of matches.now) ≡ Some (codes "asm") → result ≡ Asked.Asm }
+    ensures given { (word : List ℕ) (limit : ℕ) → given_name (subcommand_rows_of matches.now) ≡ Some (codes "judge")
+        → given_limit (subcommand_rows_of matches.now) ≡ Some word → SpellsLimit word limit → result ≡ Asked.Judge limit }
+    ensures none { given_name (subcommand_rows_of matches.now) ≡ Some (codes "judge")
+        → given_limit (subcommand_rows_of matches.now) ≡ None → result ≡ Asked.Judge command_line.DEFAULT_LIMIT }
+{
+    match matches.subcommand_name() {
+        Some("asm") => Asked::Asm,
+        _ => Asked::Judge(limit_of(matches)),
+    }
 }
 
 // The limit that the words behind `judge` name, or the default.
@@ -101,12 +157,17 @@ fn program<'a>(alloc: Global) -> Result<Command<'a>, AllocError>
         .long_about(JUDGE_LONG_ABOUT)
         .after_help(STATUSES)
         .arg(limit(alloc))?;
+    let asm = Command::new(alloc, "asm")
+        .about(ASM_ABOUT)
+        .long_about(ASM_LONG_ABOUT)
+        .after_help(STATUSES);
     Command::new(alloc, "mcrace")
         .about(ABOUT)
         .after_help(STATUSES)
         .subcommand_required(true)
         .arg_required_else_help(true)
-        .subcommand(judge)
+        .subcommand(judge)?
+        .subcommand(asm)
 }
 
 // The option `--limit`.

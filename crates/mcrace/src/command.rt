@@ -1,26 +1,22 @@
 //! The whole program, over any streams.
-ghost use Rattle.std.specs.Prelude.{◌≡◌, ◌≢◌, ◌⊎◌, ℕ, [], ◌+◌, ◌<◌, ◌≤◌, true, false, map, string_bytes, length, IfOk, IfErr};
-ghost use Rattle.mcrace.specs.Answers as answers;
+ghost use Rattle.std.specs.Prelude.{◌≡◌, ◌≢◌, ◌⊎◌, ℕ, List, [], ◌+◌, ◌<◌, ◌≤◌, true, false, map, string_bytes, length, IfOk, IfErr};
+ghost use Rattle.mcrace.specs.Answers.{IsAnswer, out_of_memory_text};
 ghost use Rattle.mcrace.specs.CommandLine.{line_faults};
-ghost use Rattle.mcrace.specs.Command.{AsksForJudge, Answers, IsWritten};
+ghost use Rattle.mcrace.specs.Command.{AsksFor, Answers, IsReadAs, IsWhole};
+ghost use Rattle.mcrace.specs.Input as input_rule;
 ghost use Rattle.mcrace.specs.Streams.{Grows, TakesAtMost};
 ghost use Rattle.clap.specs.Words.{kind_of};
 
-use crate::arguments::parsed;
+use crate::answer::{Answer, INPUT_LIMIT, NO_ANSWER, OUT_OF_MEMORY, answer_to};
+use crate::arguments::{Asked, parsed};
 use crate::input::{InputFault, read_input};
-use crate::judge::{Answer, INPUT_LIMIT, judge_text, status_of, text_of};
 use crate::streams::{Sink, Source};
 use clap::Error;
 use clap::error::ErrorKind;
 use std::alloc::Global;
 use std::io;
 
-const OUT_OF_MEMORY: &[u8] = b"out of memory\n";
-
 const NOT_UTF8: &[u8] = b"error: the command line is not UTF-8\n";
-
-// The status where input or output failed, or memory ran out.
-const NO_ANSWER: u8 = 4;
 
 const WRONG_LINE: u8 = 2;
 
@@ -34,15 +30,16 @@ pub fn command<I: Source, O: Sink, F: Sink>(
     output: &mut O,
     faults: &mut F,
 ) -> u8
-    ensures judged { (limit : ℕ) → AsksForJudge (map string_bytes line.now) limit
+    ensures answered { (asked : Asked) → AsksFor (map string_bytes line.now) asked
         → I.has_failed input.old ≡ false → I.has_failed input.new ≡ false
         → O.has_failed output.old ≡ false → O.has_failed output.new ≡ false
-        → Answers limit (I.left input.old) (O.written output.old) (O.written output.new) result }
+        → Answers asked (I.left input.old) (O.written output.old) (O.written output.new) result }
     ensures any_line { line_faults (map string_bytes line.now) ≡ []
         → I.has_failed input.old ≡ false → I.has_failed input.new ≡ false
         → O.has_failed output.old ≡ false → O.has_failed output.new ≡ false
-        → (limit : ℕ) × Answers limit (I.left input.old) (O.written output.old) (O.written output.new) result }
-    ensures no_fault { (limit : ℕ) → AsksForJudge (map string_bytes line.now) limit → faults.new ≡ faults.old }
+        → (asked : Asked) × IsReadAs (map string_bytes line.now) asked
+        × Answers asked (I.left input.old) (O.written output.old) (O.written output.new) result }
+    ensures no_fault { (asked : Asked) → AsksFor (map string_bytes line.now) asked → faults.new ≡ faults.old }
     ensures unread { line_faults (map string_bytes line.now) ≢ [] → input.new ≡ input.old }
     ensures broken_input { I.has_failed input.old ≡ false → I.has_failed input.new ≡ true
         → (result ≡ 4) × (output.new ≡ output.old) }
@@ -51,7 +48,7 @@ pub fn command<I: Source, O: Sink, F: Sink>(
     ensures taken { TakesAtMost 1048577 (I.left input.old) (I.left input.new) }
 {
     match parsed(alloc, line) {
-        Ok(limit) => judge(alloc, limit, input, output),
+        Ok(asked) => answer(alloc, asked, input, output),
         Err(error) => explain(alloc, &error, output, faults),
     }
 }
@@ -68,42 +65,39 @@ pub fn unread_line<O: Sink, F: Sink>(error: &io::Error, output: &mut O, faults: 
     }
 }
 
-fn judge<I: Source, O: Sink>(alloc: Global, limit: u64, input: &mut I, output: &mut O) -> u8
-    ensures judged { I.has_failed input.old ≡ false → I.has_failed input.new ≡ false
+// Reads the input, and writes what is answered to it.
+fn answer<I: Source, O: Sink>(alloc: Global, asked: Asked, input: &mut I, output: &mut O) -> u8
+    ensures answered { I.has_failed input.old ≡ false → I.has_failed input.new ≡ false
         → O.has_failed output.old ≡ false → O.has_failed output.new ≡ false
-        → Answers limit (I.left input.old) (O.written output.old) (O.written output.new) result }
+        → Answers asked (I.left input.old) (O.written output.old) (O.written output.new) result }
     ensures broken_input { I.has_failed input.old ≡ false → I.has_failed input.new ≡ true
         → (result ≡ 4) × (output.new ≡ output.old) }
     ensures broken_output { O.has_failed output.old ≡ false → O.has_failed output.new ≡ true → result ≡ 4 }
     ensures taken { TakesAtMost 1048577 (I.left input.old) (I.left input.new) }
 {
-    match read_input(alloc, input, INPUT_LIMIT) {
-        Ok(text) => {
-            let answer = judge_text(alloc, text.as_slice(), limit);
-            write_answer(alloc, &answer, output)
-        }
+    match read_answer(alloc, asked, input) {
+        Ok(answer) => write_text(answer.output.as_slice(), answer.status, output),
         Err(InputFault::Broken) => NO_ANSWER,
-        Err(InputFault::OutOfMemory) => write_answer(alloc, &Answer::OutOfMemory, output),
+        Err(InputFault::OutOfMemory) => write_text(OUT_OF_MEMORY, NO_ANSWER, output),
     }
 }
 
-// Writes the answer by one call; where memory runs out for its text, that is the answer.
-fn write_answer<O: Sink>(alloc: Global, answer: &Answer, output: &mut O) -> u8
-    ensures written { O.has_failed output.old ≡ false → O.has_failed output.new ≡ false
-        → IsWritten answer.now (O.written output.old) (O.written output.new) result }
-    ensures broken { O.has_failed output.old ≡ false → O.has_failed output.new ≡ true → result ≡ 4 }
+// Reads the input whole, and finds the answer to it.
+fn read_answer<I: Source>(alloc: Global, asked: Asked, input: &mut I) -> Result<Answer, InputFault>
+    ensures right { IfOk result (λ answer. (text : List ℕ) × IsWhole (I.left input.old) text
+        × IsAnswer asked text answer.output.items answer.status) }
+    ensures fails { input_rule.Fails (I.has_failed input.old) (I.has_failed input.new) result }
+    ensures taken { TakesAtMost 1048577 (I.left input.old) (I.left input.new) }
 {
-    match text_of(alloc, answer) {
-        Ok(text) => write_text(text.as_slice(), status_of(answer), output),
-        Err(_) => write_text(OUT_OF_MEMORY, NO_ANSWER, output),
-    }
+    let text = read_input(alloc, input, INPUT_LIMIT)?;
+    Ok(answer_to(alloc, asked, text.as_slice())?)
 }
 
 // Writes clap's text: help to the output, and a fault of the line to the faults.
 fn explain<O: Sink, F: Sink>(alloc: Global, error: &Error, output: &mut O, faults: &mut F) -> u8
     ensures memory { kind_of error.now ≡ ErrorKind.OutOfMemory
         → O.has_failed output.old ≡ false → O.has_failed output.new ≡ false
-        → IsWritten Answer.OutOfMemory (O.written output.old) (O.written output.new) result }
+        → Grows (O.written output.old) (O.written output.new) out_of_memory_text × (result ≡ 4) }
     ensures no_fault { kind_of error.now ≡ ErrorKind.OutOfMemory → faults.new ≡ faults.old }
     ensures broken_output { O.has_failed output.old ≡ false → O.has_failed output.new ≡ true → result ≡ 4 }
     ensures broken_faults { F.has_failed faults.old ≡ false → F.has_failed faults.new ≡ true → result ≡ 4 }

@@ -1,6 +1,6 @@
 //! What `judge` answers to a text.
 ghost use Rattle.std.specs.Prelude.{◌≡◌, ◌++◌, codes, decimal, string_bytes, IfOk};
-ghost use Rattle.mcrace.specs.Answers as answers;
+ghost use Rattle.mcrace.specs.JudgeAnswers as answers;
 
 use mc_explain::{
     Explanation, HistoryFault, Verdict, confirms, judge, parse_history, print_explanation,
@@ -8,12 +8,9 @@ use mc_explain::{
 use mc_model::{History, HistoryKind};
 use std::alloc::{AllocError, Global};
 
-/// The most bytes of an input.
-pub const INPUT_LIMIT: usize = 1_048_576;
-
 /// What is answered to a text.
 #[derive(Debug, Drop)]
-pub enum Answer {
+pub enum Judgement {
     /// The explanation in the text explains the history.
     Confirmed,
     /// The explanation in the text does not explain the history.
@@ -22,18 +19,12 @@ pub enum Answer {
     Judged(Verdict, u64),
     /// The text is no history.
     Refused(HistoryFault),
-    /// The input has more than 1,048,576 bytes.
-    TooLong,
-    OutOfMemory,
 }
 
 /// Reads the text, and confirms its explanation, or searches for one in at most `limit` turns.
-pub fn judge_text(alloc: Global, text: &[u8], limit: u64) -> Answer
-    ensures { answers.IsRight limit text.now result }
+pub fn judge_text(alloc: Global, text: &[u8], limit: u64) -> Result<Judgement, AllocError>
+    ensures { IfOk result (answers.IsRight limit text.now) }
 {
-    if text.len() > INPUT_LIMIT {
-        return Answer::TooLong;
-    }
     match parse_history(alloc, text) {
         Ok(parsed) => {
             let (history, explanation) = parsed;
@@ -44,42 +35,42 @@ pub fn judge_text(alloc: Global, text: &[u8], limit: u64) -> Answer
         }
         // Want of memory is no fault of the text.
         Err(fault) => match fault.kind {
-            HistoryKind::OutOfMemory => Answer::OutOfMemory,
-            _ => Answer::Refused(fault),
+            HistoryKind::OutOfMemory => Err(AllocError),
+            _ => Ok(Judgement::Refused(fault)),
         },
     }
 }
 
-fn confirmed(alloc: Global, history: &History, explanation: &Explanation) -> Answer
-    ensures { answers.ConfirmsRightly history.now explanation.now result }
+fn confirmed(
+    alloc: Global,
+    history: &History,
+    explanation: &Explanation,
+) -> Result<Judgement, AllocError>
+    ensures { IfOk result (answers.ConfirmsRightly history.now explanation.now) }
 {
-    match confirms(alloc, history, explanation) {
-        Ok(true) => Answer::Confirmed,
-        Ok(false) => Answer::NotConfirmed,
-        Err(_) => Answer::OutOfMemory,
+    if confirms(alloc, history, explanation)? {
+        Ok(Judgement::Confirmed)
+    } else {
+        Ok(Judgement::NotConfirmed)
     }
 }
 
-fn judged(alloc: Global, history: &History, limit: u64) -> Answer
-    ensures { answers.JudgesRightly limit history.now result }
+fn judged(alloc: Global, history: &History, limit: u64) -> Result<Judgement, AllocError>
+    ensures { IfOk result (answers.JudgesRightly limit history.now) }
 {
-    match judge(alloc, history, limit) {
-        Ok((verdict, turns)) => Answer::Judged(verdict, turns),
-        Err(_) => Answer::OutOfMemory,
-    }
+    let (verdict, turns) = judge(alloc, history, limit)?;
+    Ok(Judgement::Judged(verdict, turns))
 }
 
 /// The text that is written for an answer.
-pub fn text_of(alloc: Global, answer: &Answer) -> Result<Vec<u8>, AllocError>
+pub fn text_of(alloc: Global, answer: &Judgement) -> Result<Vec<u8>, AllocError>
     ensures { IfOk result (λ text. text.items ≡ answers.text_of answer.now) }
 {
     match answer {
-        Answer::Confirmed => Vec::from_slice(alloc, b"confirmed\n"),
-        Answer::NotConfirmed => Vec::from_slice(alloc, b"not confirmed\n"),
-        Answer::Judged(verdict, _) => verdict_text(alloc, verdict),
-        Answer::Refused(fault) => Ok(refusal_text(alloc, *fault)?.into_bytes()),
-        Answer::TooLong => Vec::from_slice(alloc, b"refused input too long\n"),
-        Answer::OutOfMemory => Vec::from_slice(alloc, b"out of memory\n"),
+        Judgement::Confirmed => Vec::from_slice(alloc, b"confirmed\n"),
+        Judgement::NotConfirmed => Vec::from_slice(alloc, b"not confirmed\n"),
+        Judgement::Judged(verdict, _) => verdict_text(alloc, verdict),
+        Judgement::Refused(fault) => Ok(refusal_text(alloc, *fault)?.into_bytes()),
     }
 }
 
@@ -146,13 +137,13 @@ fn kind_name(kind: HistoryKind) -> &'static str
 }
 
 /// The exit status of an answer.
-pub fn status_of(answer: &Answer) -> u8
+pub fn status_of(answer: &Judgement) -> u8
     ensures { result ≡ answers.status_of answer.now }
 {
     match answer {
-        Answer::Confirmed | Answer::Judged(Verdict::Explained(_), _) => 0,
-        Answer::NotConfirmed | Answer::Judged(Verdict::Unexplained, _) => 1,
-        Answer::Refused(_) | Answer::TooLong => 3,
-        Answer::Judged(Verdict::Undecided, _) | Answer::OutOfMemory => 4,
+        Judgement::Confirmed | Judgement::Judged(Verdict::Explained(_), _) => 0,
+        Judgement::NotConfirmed | Judgement::Judged(Verdict::Unexplained, _) => 1,
+        Judgement::Refused(_) => 3,
+        Judgement::Judged(Verdict::Undecided, _) => 4,
     }
 }

@@ -1,6 +1,6 @@
 //! Histories written by hand, each with what `judge` must write of it and its status.
 
-use crate::tests::{Ran, run};
+use crate::tests::{Ran, has_answered, run};
 use std::alloc::{AllocError, Global};
 use std::test::Fail;
 
@@ -18,11 +18,6 @@ B incr a 1 -> NUMBER 7
 fn judged(alloc: Global, words: &[&str], lines: &str) -> Result<Ran, AllocError> {
     let text = format!(in alloc; "history 1\n{lines}end\n")?;
     run(alloc, words, text.as_bytes())
-}
-
-// Whether the run wrote this text to its output alone, and ended with the status.
-fn has_answered(ran: &Ran, text: &str, status: u8) -> bool {
-    ran.output.as_slice() == text.as_bytes() && ran.status == status && ran.faults.is_empty()
 }
 
 #[test]

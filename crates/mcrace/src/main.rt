@@ -1,7 +1,9 @@
 //! Tests servers that speak memcached's text protocol.
 #![tactic(auto)]
 
+mod answer;
 mod arguments;
+mod asm;
 mod command;
 mod input;
 mod judge;
@@ -34,6 +36,8 @@ fn line_of<R: Env + AllocGlobal>(rt: &R) -> io::Result<Vec<String>> {
     Ok(env::args(rt)?.collect(rt.alloc())?)
 }
 
+#[cfg(test)]
+mod asm_tests;
 #[cfg(test)]
 mod judge_tests;
 #[cfg(test)]

@@ -1,7 +1,7 @@
 //! Runs of the whole program over streams in memory.
 
+use crate::answer::INPUT_LIMIT;
 use crate::command::command;
-use crate::judge::INPUT_LIMIT;
 use crate::streams::{Reader, Writer};
 use std::alloc::{AllocError, Global};
 use std::io;
@@ -29,12 +29,18 @@ pub struct Ran {
     pub faults: Vec<u8>,
 }
 
-pub fn run<R: Read + Drop>(alloc: Global, words: &[&str], input: R) -> Result<Ran, AllocError> {
+// The line of these words behind the program's name.
+fn line_of(alloc: Global, words: &[&str]) -> Result<Vec<String>, AllocError> {
     let mut line = Vec::new(alloc);
     line.push(String::from_str(alloc, "mcrace")?)?;
     for word in words {
         line.push(String::from_str(alloc, word)?)?;
     }
+    Ok(line)
+}
+
+pub fn run<R: Read + Drop>(alloc: Global, words: &[&str], input: R) -> Result<Ran, AllocError> {
+    let line = line_of(alloc, words)?;
     let mut output = Vec::new(alloc);
     let mut faults = Vec::new(alloc);
     let status = command(
@@ -51,9 +57,32 @@ pub fn run<R: Read + Drop>(alloc: Global, words: &[&str], input: R) -> Result<Ra
     })
 }
 
+// The status of a run that writes to this output.
+pub fn run_into<R: Read + Drop, W: Write + Drop>(
+    alloc: Global,
+    words: &[&str],
+    input: R,
+    output: W,
+) -> Result<u8, AllocError> {
+    let line = line_of(alloc, words)?;
+    let mut faults = Vec::new(alloc);
+    Ok(command(
+        alloc,
+        line.as_slice(),
+        &mut Reader::new(input),
+        &mut Writer::new(output),
+        &mut Writer::new(&mut faults),
+    ))
+}
+
+// Whether the run wrote this text to its output alone, and ended with the status.
+pub fn has_answered(ran: &Ran, text: &str, status: u8) -> bool {
+    ran.output.as_slice() == text.as_bytes() && ran.status == status && ran.faults.is_empty()
+}
+
 // A reader that only fails.
 #[derive(Drop)]
-struct Failing;
+pub struct Failing;
 
 impl Read for Failing {
     fn read(&mut self, _buf: &mut [u8]) -> io::Result<usize> {
@@ -63,8 +92,8 @@ impl Read for Failing {
 
 // A writer that fails once it has no room.
 #[derive(Drop)]
-struct Narrow {
-    room: usize,
+pub struct Narrow {
+    pub room: usize,
 }
 
 impl Write for Narrow {
@@ -128,20 +157,13 @@ fn fails_with_its_input(rt: HostRuntime) -> Result<(), Fail> {
 
 #[test]
 fn fails_with_its_output(rt: HostRuntime) -> Result<(), Fail> {
-    let alloc = rt.alloc();
-    let line = [
-        String::from_str(alloc, "mcrace")?,
-        String::from_str(alloc, "judge")?,
-    ];
     for room in 0.."confirmed\n".len() {
-        let mut faults = Vec::new(alloc);
-        let status = command(
-            alloc,
-            line.as_slice(),
-            &mut Reader::new(CONFIRMED.as_bytes()),
-            &mut Writer::new(Narrow { room }),
-            &mut Writer::new(&mut faults),
-        );
+        let status = run_into(
+            rt.alloc(),
+            &["judge"],
+            CONFIRMED.as_bytes(),
+            Narrow { room },
+        )?;
         assert_eq!(rt; status, 4);
     }
     Ok(())

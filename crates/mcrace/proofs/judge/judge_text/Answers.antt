@@ -1,9 +1,7 @@
-use Rattle.std.proofs.Common.{arith}
 use Rattle.mcrace.proofs.judge.judge_text.Goals as goal
 
 pub returns : goal.returns
 returns c = (
-  omega arith,
   c.in_default.not-OutOfMemory,
   λ s claim spelled. c.in-Err.ensures.none c.in_default.not-OutOfMemory (s, claim) spelled,
 )

@@ -1,0 +1,65 @@
+//! What is answered to a text, whatever the line asks for.
+ghost use Rattle.std.specs.Prelude.{◌≡◌, IfOk};
+ghost use Rattle.mcrace.specs.Answers as answers;
+ghost use Rattle.mcrace.specs.AsmAnswers.{Assembles};
+ghost use Rattle.mcrace.specs.JudgeAnswers.{Judges};
+
+use crate::arguments::Asked;
+use crate::{asm, judge};
+use std::alloc::{AllocError, Global};
+
+/// The most bytes of an input.
+pub const INPUT_LIMIT: usize = 1_048_576;
+
+/// What is written where memory runs out.
+pub const OUT_OF_MEMORY: &[u8] = b"out of memory\n";
+
+/// The status where input or output failed, or memory ran out.
+pub const NO_ANSWER: u8 = 4;
+
+const TOO_LONG: &[u8] = b"refused input too long\n";
+
+// The status of a refusal.
+const REFUSED: u8 = 3;
+
+/// What is written for a text, and the exit status with it.
+#[derive(Debug, Drop)]
+pub struct Answer {
+    pub output: Vec<u8>,
+    pub status: u8,
+}
+
+/// Does what is asked for with the text, which has been read to its end or to one byte more than the limit.
+pub fn answer_to(alloc: Global, asked: Asked, text: &[u8]) -> Result<Answer, AllocError>
+    ensures { IfOk result (λ answer. answers.IsAnswer asked text.now answer.output.items answer.status) }
+{
+    if text.len() > INPUT_LIMIT {
+        let output = Vec::from_slice(alloc, TOO_LONG)?;
+        return Ok(Answer {
+            output,
+            status: REFUSED,
+        });
+    }
+    match asked {
+        Asked::Judge(limit) => judge_answer(alloc, text, limit),
+        Asked::Asm => asm_answer(alloc, text),
+    }
+}
+
+fn judge_answer(alloc: Global, text: &[u8], limit: u64) -> Result<Answer, AllocError>
+    ensures { IfOk result (λ answer. Judges limit text.now answer.output.items answer.status) }
+{
+    let judgement = judge::judge_text(alloc, text, limit)?;
+    let output = judge::text_of(alloc, &judgement)?;
+    let status = judge::status_of(&judgement);
+    Ok(Answer { output, status })
+}
+
+fn asm_answer(alloc: Global, text: &[u8]) -> Result<Answer, AllocError>
+    ensures { IfOk result (λ answer. Assembles text.now answer.output.items answer.status) }
+{
+    let assembly = asm::assemble_text(alloc, text)?;
+    let output = asm::text_of(alloc, &assembly)?;
+    let status = asm::status_of(&assembly);
+    Ok(Answer { output, status })
+}
