@@ -30,3 +30,5 @@ pub use run_laws::{codes_agree, ends_are_complete, paths_are_runs, runs_are_path
 
 #[cfg(test)]
 mod assembler_tests;
+#[cfg(test)]
+mod limit_tests;
