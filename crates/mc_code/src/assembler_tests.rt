@@ -292,7 +292,10 @@ fn is_as(template: &Template, expected: &Expected) -> bool {
 
 fn are_as(templates: &[Template], expected: &[Expected]) -> bool {
     templates.len() == expected.len()
-        && templates.iter().zip(expected).all(|(template, expected)| is_as(template, expected))
+        && templates
+            .iter()
+            .zip(expected)
+            .all(|(template, expected)| is_as(template, expected))
 }
 
 #[test]
