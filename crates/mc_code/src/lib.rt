@@ -51,4 +51,6 @@ mod image_fault_tests;
 #[cfg(test)]
 mod image_tests;
 #[cfg(test)]
+mod limit_tests;
+#[cfg(test)]
 mod test_codes;
