@@ -1,5 +1,5 @@
 -- The layout of a script keeps what code keeps, where the counts are within their limits.
-use Rattle.std.proofs.Common.{◌≡◌, ℕ, zero, suc, ◌+◌, ◌<◌, ◌≤◌, ◌^◌, Bool, true, false, Option, Some, None, List, [], ◌∷◌, ◌++◌, map, length, take, slice_get, refl, sym, ap, subst, ◌∙◌, if◌then◌else◌, arith, length-append}
+use Rattle.std.proofs.Common.{◌≡◌, ℕ, zero, suc, ◌+◌, ◌<◌, ◌≤◌, Bool, true, false, Option, Some, None, List, [], ◌∷◌, ◌++◌, length, slice_get, refl, sym, subst, if◌then◌else◌, arith, length-append}
 use Rattle.std.specs.List.{All}
 use Rattle.std.proofs.lemmas.List.Elements.{All-nil, All-cons, All-head, All-tail, All-append, All-map}
 use Rattle.std.proofs.lemmas.Grind.{flat_map-append}
@@ -18,13 +18,12 @@ use Rattle.mc_script.specs.ScriptWords.{Word}
 use Rattle.mc_script.specs.Steps.{all_classes}
 use Rattle.mc_script.specs.Templates.{IsTemplate}
 use Rattle.mc_script.specs.WellFormed.{IsScript, IsStep, AreSteps, is_number_class}
-use Rattle.mc_code.specs.declared.instr.Instr.{Instr}
 use Rattle.mc_code.specs.declared.instr.Instr.TheVariants as instr
-use Rattle.mc_code.specs.declared.limits.TheConstants.{NO_ENTRY, TEMPLATES_LIMIT, INSTRUCTIONS_LIMIT}
+use Rattle.mc_code.specs.declared.limits.TheConstants.{TEMPLATES_LIMIT, INSTRUCTIONS_LIMIT}
 use Rattle.mc_code.specs.Agreement.{Agrees}
 use Rattle.mc_code.specs.Code as code
 use Rattle.mc_code.specs.ScriptRuns.{clearing, clearing_steps, front_of, all_steps, all_labels, jump_on}
-use Rattle.mc_code.specs.Layout.{request_of, requests_of, templates_of, size_of, size_of_all, code_place, behind_label, label_place, entry, entry_for, entries, bind_code, step_code, code_from, first_template, instructions_of, section_code, code_of, template_count, instruction_count}
+use Rattle.mc_code.specs.Layout.{request_of, requests_of, templates_of, size_of, size_of_all, code_place, behind_label, label_place, entry, entry_for, entries, bind_code, step_code, code_from, first_template, section_code, code_of, template_count, instruction_count}
 use Rattle.mc_code.proofs.Agreeing.{code_agrees}
 use Rattle.mc_code.proofs.Bounds.{section-kept, declared-few}
 use Rattle.mc_code.proofs.Rooms.{section-within}
@@ -110,8 +109,12 @@ code-length : (L : List Label) (S : List Step) (template p : ℕ) (rest : List S
 code-length L S template p [] = refl
 code-length L S template p (s ∷ rest) =
     let more = code_from L S (template + length (request_of s)) (p + 1) rest in
-    omega (arith, length-append (step_code L S template p s) more, step-length L S template p s,
-    code-length L S (template + length (request_of s)) (p + 1) rest)
+    omega (
+      arith,
+      length-append (step_code L S template p s) more,
+      step-length L S template p s,
+      code-length L S (template + length (request_of s)) (p + 1) rest,
+    )
 
 -- ---- steps
 
@@ -203,8 +206,8 @@ section-code s actor h templates instructions = record {
   bytes = (section-kept s actor h).bytes;
   few = omega (arith, code-length (all_labels s actor) (all_steps s actor) (first_template s actor) 0 (all_steps s actor));
   instructions =
-    code-kept (all_labels s actor) (all_steps s actor) (first_template s actor) 0 (all_steps s actor) (omega arith)
-    (omega (arith, section-within s actor)) (all-bind s actor h);
+      code-kept (all_labels s actor) (all_steps s actor) (first_template s actor) 0 (all_steps s actor) (omega arith)
+      (omega (arith, section-within s actor)) (all-bind s actor h);
 }
 
 pub code-of-script : (s : Script) → IsScript s → template_count s ≤ TEMPLATES_LIMIT → ((actor : Actor) → instruction_count s actor ≤ INSTRUCTIONS_LIMIT)

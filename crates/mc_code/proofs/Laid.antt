@@ -1,11 +1,10 @@
 -- What the assembler's functions make is the code of the script.
-use Rattle.std.proofs.Common.{◌≡◌, ℕ, zero, suc, ◌+◌, ◌<◌, ◌≤◌, Bool, true, false, Option, Some, None, List, [], ◌∷◌, ◌++◌, map, length, take, slice_get, slice_index_or, refl, sym, ap, subst, ◌∙◌, if◌then◌else◌, arith}
+use Rattle.std.proofs.Common.{◌≡◌, ℕ, zero, suc, ◌+◌, ◌<◌, ◌≤◌, Bool, true, false, Option, Some, None, List, [], ◌∷◌, ◌++◌, map, length, take, refl, sym, ap, subst, ◌∙◌, if◌then◌else◌, arith}
 use Rattle.std.proofs.Math.Seq.{take-append-add}
 use Rattle.mc_protocol.specs.Legal.{is_legal}
 use Rattle.mc_protocol.specs.declared.actor.Actor.{Actor}
 use Rattle.mc_protocol.specs.declared.actor.Actor.TheVariants as actor
 use Rattle.mc_protocol.specs.declared.reply.Class.{Class}
-use Rattle.mc_protocol.specs.declared.request.Verb.{Verb}
 use Rattle.mc_protocol.specs.declared.request.Verb.TheVariants as verb
 use Rattle.mc_script.specs.declared.section.Label.{Label}
 use Rattle.mc_script.specs.declared.step.Step.{Step}
@@ -15,14 +14,12 @@ use Rattle.mc_script.specs.Script.{Script, section_of}
 use Rattle.mc_script.specs.ScriptWords.{Word}
 use Rattle.mc_script.specs.Steps.{all_classes}
 use Rattle.mc_script.specs.WellFormed.{IsScript, AreLabels, is_number_class}
-use Rattle.mc_code.specs.declared.instr.Instr.{Instr}
 use Rattle.mc_code.specs.declared.instr.Instr.TheVariants as instr
 use Rattle.mc_code.specs.declared.limits.TheConstants.{NO_ENTRY}
-use Rattle.mc_code.specs.ScriptRuns.{clearing, clearing_steps, front_of, all_steps, all_labels, moved, jump_on}
+use Rattle.mc_code.specs.ScriptRuns.{clearing, clearing_steps, moved, jump_on}
 use Rattle.mc_code.specs.Layout.{request_of, size_of, size_of_all, code_place, label_place, entry, entry_for, entries, bind_code, step_code, code_from, first_template, instructions_of}
-use Rattle.mc_code.specs.Assembling.{cleared_keys, Places, place_in, places_from, label_places, places_of, onward_from, entry_by, legal_entry, legal_entries, send_for, instructions_for, instructions_from, clearing_send, clearing_code}
-use Rattle.mc_code.proofs.Fronts.{all-steps, clearing-length}
-use Rattle.mc_code.proofs.Bounds.{section-kept}
+use Rattle.mc_code.specs.Assembling.{cleared_keys, Places, place_in, places_from, label_places, places_of, onward_from, entry_by, legal_entry, legal_entries, instructions_for, instructions_from, clearing_send, clearing_code}
+use Rattle.mc_code.proofs.Fronts.{clearing-length}
 
 map-same : {X Y : Type 0} (f g : X → Y) → ((x : X) → f x ≡ g x) → (xs : List X) → map f xs ≡ map g xs
 map-same f g h [] = refl
@@ -140,7 +137,7 @@ front-same L S rest places key (word ∷ keys) h =
     let e : key + 1 + length keys ≡ key + length (word ∷ keys) = omega arith in
     let others = front-same L S rest places (key + 1) keys (λ j below. h j (omega arith)) in
     let P : ℕ → Type 0 = λ n. code_from L S (key + 1) (key + 1) (clearing_steps (key + 1) keys ++ rest)
-        ≡ clearing_code places (key + 1) keys ++ code_from L S n n rest in
+    ≡ clearing_code places (key + 1) keys ++ code_from L S n n rest in
     rw (clearing-same L S places key (h key (omega arith)), subst P e others) refl
 
 -- ---- a section
@@ -159,9 +156,9 @@ laid keys steps labels first h e =
     let front = front-same L S steps places.labels 0 keys (λ j below. place-in-front 0 keys steps (j + 1) (omega arith)) in
     let zero-before : 0 + length keys ≡ length keys + 0 = omega arith in
     let at : code_from L S (0 + length keys) (0 + length keys) steps ≡ instructions_from places first 0 steps =
-        rw (e) (subst (λ n. code_from L S n n steps ≡ instructions_from places (length keys) 0 steps) (sym zero-before)
-        (subst (λ n. code_from L S n (length keys + 0) steps ≡ instructions_from places (length keys) 0 steps) (omega arith)
-        (steps-same (stands keys steps labels h) (length keys) 0 steps (omega arith)))) in
+    rw (e) (subst (λ n. code_from L S n n steps ≡ instructions_from places (length keys) 0 steps) (sym zero-before)
+    (subst (λ n. code_from L S n (length keys + 0) steps ≡ instructions_from places (length keys) 0 steps) (omega arith)
+    (steps-same (stands keys steps labels h) (length keys) 0 steps (omega arith)))) in
     front ∙ ap (λ code. clearing_code places.labels 0 keys ++ code) at
 
 -- a section that clears no key
@@ -176,8 +173,8 @@ pub section-laid : (s : Script) (actor : Actor) → IsScript s → (first : ℕ)
 section-laid s actor.P h first e =
     let n : length (clearing_steps 0 s.names.keys) ≡ length s.names.keys = clearing-length 0 s.names.keys in
     let P : ℕ → Type 0 = λ k. clearing_code (places_of (length s.names.keys) s.p.steps s.p.labels).labels 0 s.names.keys
-        ++ instructions_from (places_of (length s.names.keys) s.p.steps s.p.labels) first 0 s.p.steps
-        ≡ code_from (map (moved k) s.p.labels) (clearing_steps 0 s.names.keys ++ s.p.steps) 0 0 (clearing_steps 0 s.names.keys ++ s.p.steps) in
+    ++ instructions_from (places_of (length s.names.keys) s.p.steps s.p.labels) first 0 s.p.steps
+    ≡ code_from (map (moved k) s.p.labels) (clearing_steps 0 s.names.keys ++ s.p.steps) 0 0 (clearing_steps 0 s.names.keys ++ s.p.steps) in
     subst P (sym n) (sym (laid s.names.keys s.p.steps s.p.labels first h.p.labels (omega (arith, e))))
 section-laid s actor.A h first e =
     let same : first ≡ first_template s actor.A = omega (arith, e) in

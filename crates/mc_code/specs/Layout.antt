@@ -1,5 +1,5 @@
 -- How the code of a script is laid out: templates, places and instructions.
-use Rattle.std.specs.Prelude.{ℕ, ◌+◌, ◌<◌, Option, Some, None, List, [], ◌∷◌, ◌++◌, map, length, take, slice_get, if◌then◌else◌}
+use Rattle.std.specs.Prelude.{ℕ, ◌+◌, ◌<◌, ◌≤◌, Option, Some, None, List, [], ◌∷◌, ◌++◌, map, length, take, slice_get, if◌then◌else◌}
 use Rattle.std.specs.List.{flat_map}
 use Rattle.mc_protocol.specs.Legal.{is_legal}
 use Rattle.mc_protocol.specs.declared.actor.Actor.{Actor}
@@ -133,3 +133,14 @@ abbrev pub IsExceeded : script.Script → AsmFault → Type 0
 IsExceeded s fault.TooManyTemplates = TEMPLATES_LIMIT < template_count s
 IsExceeded s (fault.TooManyInstructions actor) = INSTRUCTIONS_LIMIT < instruction_count s actor
 IsExceeded s fault.OutOfMemory = Unit {0}
+
+-- the limits before the one that a refusal names are kept: the templates come first, and then P, A and B
+abbrev pub IsFirst : script.Script → AsmFault → Type 0
+IsFirst s fault.TooManyTemplates = Unit {0}
+IsFirst s (fault.TooManyInstructions actor.P) = template_count s ≤ TEMPLATES_LIMIT
+IsFirst s (fault.TooManyInstructions actor.A) =
+    (template_count s ≤ TEMPLATES_LIMIT) × (instruction_count s actor.P ≤ INSTRUCTIONS_LIMIT)
+IsFirst s (fault.TooManyInstructions actor.B) =
+    (template_count s ≤ TEMPLATES_LIMIT) × (instruction_count s actor.P ≤ INSTRUCTIONS_LIMIT)
+    × (instruction_count s actor.A ≤ INSTRUCTIONS_LIMIT)
+IsFirst s fault.OutOfMemory = Unit {0}

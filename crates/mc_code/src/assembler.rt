@@ -15,11 +15,13 @@ use mc_script::Script;
 use std::alloc::Global;
 
 /// The code of a script, which does the same as the script, whatever is answered: behind a delete of each key P does what
-/// its steps say, and A and B do so.
+/// its steps say, and A and B do so. It is refused where it needs too many templates, and then where a section needs too
+/// many instructions, the first such section.
 pub fn assemble(alloc: Global, script: &Script) -> Result<Code, AsmFault>
     ensures layout { IfOk result (λ code. code ≡ layout.code_of script.now) }
     ensures agrees { IfOk result (Agrees script.now) }
     ensures exceeded { IfErr result (layout.IsExceeded script.now) }
+    ensures first { IfErr result (layout.IsFirst script.now) }
 {
     check_limits(script)?;
     let keys = copies(alloc, script.keys())?;
@@ -41,12 +43,7 @@ pub fn assemble(alloc: Global, script: &Script) -> Result<Code, AsmFault>
 }
 
 // A section's code, whose templates stand from this one on.
-fn section(
-    alloc: Global,
-    script: &Script,
-    actor: Actor,
-    first: u8,
-) -> Result<Section, OutOfMemory>
+fn section(alloc: Global, script: &Script, actor: Actor, first: u8) -> Result<Section, OutOfMemory>
     requires first { first ≡ layout.first_template script.now actor }
     requires templates { layout.template_count script.now ≤ TEMPLATES_LIMIT }
     requires instructions { layout.instruction_count script.now actor ≤ INSTRUCTIONS_LIMIT }

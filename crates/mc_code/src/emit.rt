@@ -5,10 +5,10 @@ ghost use Rattle.mc_code.specs.Layout as layout;
 ghost use Rattle.mc_code.specs.ScriptRuns as runs;
 ghost use Rattle.mc_code.specs.Assembling as spec;
 
+use crate::Instr;
 use crate::limits::{CLASS_COUNT, NO_ENTRY, TEMPLATES_LIMIT};
 use crate::places::Places;
 use crate::size::request_count_of;
-use crate::Instr;
 use mc_protocol::{Bytes, Class, OutOfMemory, Verb, is_legal};
 use mc_script::{STEPS_LIMIT, Step};
 
@@ -21,9 +21,12 @@ pub(crate) struct Onward {
     pub(crate) other: u8,
 }
 
-/// Appends the deletes of these keys, whose templates stand from this one on. Each stands at the place with its template's
-/// index.
-pub(crate) fn add_clearing(places: &Places, keys: &[Bytes], out: &mut Vec<Instr>) -> Result<(), OutOfMemory>
+/// Appends a delete of each of these keys. Its place and its template's index are the key's index.
+pub(crate) fn add_clearing(
+    places: &Places,
+    keys: &[Bytes],
+    out: &mut Vec<Instr>,
+) -> Result<(), OutOfMemory>
     requires { length keys.now ≤ TEMPLATES_LIMIT }
     ensures { OnOk result (out.new.items ≡ out.old.items ++ spec.clearing_code places.now.labels 0 keys.now) }
 {
@@ -72,7 +75,8 @@ pub(crate) fn add_steps(
         index += 1;
         rest = others;
     }
-    push(Instr::Halt, out)
+    out.push(Instr::Halt)?;
+    Ok(())
 }
 
 // Appends the instructions of the step with this index, whose request has this template.
@@ -155,13 +159,7 @@ fn entries(
     ]
 }
 
-fn entry(
-    places: &Places,
-    verb: Verb,
-    jumps: &[(Class, usize)],
-    onward: Onward,
-    class: Class,
-) -> u8
+fn entry(places: &Places, verb: Verb, jumps: &[(Class, usize)], onward: Onward, class: Class) -> u8
     ensures { result ≡ spec.legal_entry places.now.labels verb jumps.now onward class }
 {
     if !is_legal(verb, class) {

@@ -14,9 +14,9 @@ mod instr;
 mod kind;
 mod limits;
 mod places;
+mod run_laws;
 mod size;
 mod templates;
-mod run_laws;
 
 pub use assembler::assemble;
 pub use code::Code;
@@ -28,6 +28,8 @@ pub use kind::Kind;
 pub use limits::{CLASS_COUNT, INSTRUCTIONS_LIMIT, NO_ENTRY, TEMPLATES_LIMIT};
 pub use run_laws::{codes_agree, ends_are_complete, paths_are_runs, runs_are_paths};
 
+#[cfg(test)]
+mod assembler_tests;
 #[cfg(test)]
 mod image_tests;
 #[cfg(test)]

@@ -33,7 +33,12 @@ impl Model for Places {
 
 impl Places {
     /// The places of a section's steps and labels, where the code of the first step begins at this place.
-    pub(crate) fn new(alloc: Global, first: u8, steps: &[Step], labels: &[Label]) -> Result<Self, OutOfMemory>
+    pub(crate) fn new(
+        alloc: Global,
+        first: u8,
+        steps: &[Step],
+        labels: &[Label],
+    ) -> Result<Self, OutOfMemory>
         requires { first + layout.size_of_all steps.now < INSTRUCTIONS_LIMIT }
         ensures { IfOk result (λ places. places ≡ spec.places_of first steps.now labels.now) }
     {

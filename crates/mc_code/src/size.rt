@@ -5,8 +5,8 @@ ghost use Rattle.mc_code.specs.Layout as layout;
 ghost use Rattle.mc_code.specs.ScriptRuns as runs;
 ghost use Rattle.mc_code.specs.Assembling as assembling;
 
-use crate::limits::{INSTRUCTIONS_LIMIT, TEMPLATES_LIMIT};
 use crate::AsmFault;
+use crate::limits::{INSTRUCTIONS_LIMIT, TEMPLATES_LIMIT};
 use mc_protocol::{Actor, Bytes};
 use mc_script::{KEYS_LIMIT, STEPS_LIMIT, Script, Step};
 
@@ -90,6 +90,7 @@ pub(crate) fn check_limits(script: &Script) -> Result<(), AsmFault>
     ensures templates { OnOk result (layout.template_count script.now ≤ TEMPLATES_LIMIT) }
     ensures instructions { OnOk result ((actor : actor.Actor) → layout.instruction_count script.now actor ≤ INSTRUCTIONS_LIMIT) }
     ensures exceeded { IfErr result (layout.IsExceeded script.now) }
+    ensures first { IfErr result (layout.IsFirst script.now) }
 {
     let templates = request_count(script, Actor::P)
         + request_count(script, Actor::A)
@@ -105,6 +106,7 @@ pub(crate) fn check_limits(script: &Script) -> Result<(), AsmFault>
 fn check_section(script: &Script, actor: Actor) -> Result<(), AsmFault>
     ensures few { OnOk result (layout.instruction_count script.now actor ≤ INSTRUCTIONS_LIMIT) }
     ensures exceeded { IfErr result (layout.IsExceeded script.now) }
+    ensures named { IfErr result (λ fault. fault ≡ AsmFault.TooManyInstructions actor) }
 {
     if instruction_count(script, actor) > INSTRUCTIONS_LIMIT {
         return Err(AsmFault::TooManyInstructions(actor));
