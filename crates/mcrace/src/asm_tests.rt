@@ -164,6 +164,11 @@ fn refuses_what_is_too_large(rt: HostRuntime) -> Result<(), Fail> {
         let ran = assembled(alloc, script.as_bytes())?;
         assert!(rt; has_answered(&ran, wanted, 3), "{wanted}");
     }
+    // Of two such sections the first is named.
+    let one = with_line(alloc, COUNTED, 11, halts.as_str())?;
+    let both = with_line(alloc, one.as_str(), 9, halts.as_str())?;
+    let ran = assembled(alloc, both.as_bytes())?;
+    assert!(rt; has_answered(&ran, "refused asm 2 TooManyInstructions A\n", 3));
     // With the delete, the `set` and B's `incr` these are 64 templates, and one more.
     for (count, status) in [(61, 0), (62, 3)] {
         let lines = repeated(alloc, "get a\n", count)?;
