@@ -62,9 +62,9 @@ fn assembled<R: Read + Drop>(alloc: Global, input: R) -> Result<Ran, AllocError>
 // The text with these lines in place of the line with this number.
 fn with_line(alloc: Global, text: &str, number: usize, lines: &str) -> Result<String, AllocError> {
     let mut changed = String::new(alloc);
-    let mut at = 0;
+    let mut at = 0usize;
     for line in text.lines() {
-        at += 1;
+        at = at.wrapping_add(1);
         if at == number {
             changed.push_str(lines)?;
         } else {
