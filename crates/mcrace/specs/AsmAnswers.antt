@@ -6,10 +6,11 @@ use Rattle.mc_script.specs.declared.fault.ScriptKind.{ScriptKind}
 use Rattle.mc_script.specs.declared.fault.ScriptKind.TheVariants as kind
 use Rattle.mc_script.specs.Script.{Script}
 use Rattle.mc_script.specs.ScriptText.{SpellsScript, actor_word}
+use Rattle.mc_code.specs.declared.fault.AsmFault.{AsmFault}
 use Rattle.mc_code.specs.declared.fault.AsmFault.TheVariants as fault
 use Rattle.mc_code.specs.Agreement.{Agrees}
 use Rattle.mc_code.specs.Image.{image_of}
-use Rattle.mc_code.specs.Layout.{IsExceeded, code_of}
+use Rattle.mc_code.specs.Layout.{IsExceeded, IsFirst, code_of}
 use Rattle.mcrace.specs.declared.asm.Assembly.{Assembly}
 use Rattle.mcrace.specs.declared.asm.Assembly.TheVariants as assembly
 
@@ -17,12 +18,16 @@ use Rattle.mcrace.specs.declared.asm.Assembly.TheVariants as assembly
 abbrev pub SpellsNoScript : List ℕ → Type 0
 SpellsNoScript text = (s : Script) → SpellsScript text s → ⊥
 
--- the answer is right for the script: its code, which does the same; or a limit that it exceeds
+-- the script exceeds the limit that is named, and none that is told before it
+abbrev pub IsRefused : Script → AsmFault → Type 0
+IsRefused s why = IsExceeded s why × IsFirst s why
+
+-- the answer is right for the script: its code, which does the same; or the first limit that it exceeds
 abbrev pub IsRightFor : Script → Assembly → Type 0
 IsRightFor s (assembly.Assembled code) = Agrees s code × (code ≡ code_of s)
 IsRightFor s (assembly.NoScript found) = ⊥
-IsRightFor s assembly.TooManyTemplates = IsExceeded s fault.TooManyTemplates
-IsRightFor s (assembly.TooManyInstructions actor) = IsExceeded s (fault.TooManyInstructions actor)
+IsRightFor s assembly.TooManyTemplates = IsRefused s fault.TooManyTemplates
+IsRightFor s (assembly.TooManyInstructions actor) = IsRefused s (fault.TooManyInstructions actor)
 
 -- the answer is right for the script that the text spells
 abbrev pub IsRightForText : List ℕ → Assembly → Type 0

@@ -18,7 +18,7 @@ pub enum Assembly {
     NoScript(ScriptFault),
     /// The script needs more than 64 templates.
     TooManyTemplates,
-    /// This section of the script needs more than 64 instructions.
+    /// This section of the script, the first such, needs more than 64 instructions, and the templates suffice.
     TooManyInstructions(Actor),
 }
 

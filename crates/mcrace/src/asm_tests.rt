@@ -62,9 +62,9 @@ fn assembled<R: Read + Drop>(alloc: Global, input: R) -> Result<Ran, AllocError>
 // The text with these lines in place of the line with this number.
 fn with_line(alloc: Global, text: &str, number: usize, lines: &str) -> Result<String, AllocError> {
     let mut changed = String::new(alloc);
-    let mut at = 0;
+    let mut at = 0usize;
     for line in text.lines() {
-        at += 1;
+        at = at.wrapping_add(1);
         if at == number {
             changed.push_str(lines)?;
         } else {
@@ -164,6 +164,11 @@ fn refuses_what_is_too_large(rt: HostRuntime) -> Result<(), Fail> {
         let ran = assembled(alloc, script.as_bytes())?;
         assert!(rt; has_answered(&ran, wanted, 3), "{wanted}");
     }
+    // Of two such sections the first is named.
+    let one = with_line(alloc, COUNTED, 11, halts.as_str())?;
+    let both = with_line(alloc, one.as_str(), 9, halts.as_str())?;
+    let ran = assembled(alloc, both.as_bytes())?;
+    assert!(rt; has_answered(&ran, "refused asm 2 TooManyInstructions A\n", 3));
     // With the delete, the `set` and B's `incr` these are 64 templates, and one more.
     for (count, status) in [(61, 0), (62, 3)] {
         let lines = repeated(alloc, "get a\n", count)?;
