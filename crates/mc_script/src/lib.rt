@@ -51,6 +51,8 @@ mod limit_tests;
 #[cfg(test)]
 mod mark_tests;
 #[cfg(test)]
+mod number_tests;
+#[cfg(test)]
 mod print_tests;
 #[cfg(test)]
 mod test_texts;
