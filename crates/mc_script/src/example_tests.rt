@@ -1,6 +1,6 @@
-use crate::test_texts::sent_at;
-use crate::{Argument, Step, Template, parse};
-use mc_protocol::{Actor, Class, Verb};
+use crate::test_texts::{Sent, does, sent_at};
+use crate::{Argument, Label, Script, Step, Template, parse};
+use mc_protocol::{Actor, Bytes, Class, Verb};
 use std::test::Fail;
 
 // The script with every mark of docs/FORMATS.md.
@@ -46,106 +46,159 @@ fn is_template(
         ] == masks
 }
 
-#[test]
-fn reads_the_example_and_its_prefix(rt: HostRuntime) -> Result<(), Fail> {
-    let script = parse(rt.alloc(), EXAMPLE.as_bytes())?;
-    assert_eq!(rt; script.keys().len(), 1);
-    assert!(rt; script.keys()[0].as_slice() == b"item".as_slice());
-    assert_eq!(rt; script.flags().len(), 2);
-    assert!(rt; script.flags()[0].as_slice() == b"ready".as_slice());
-    assert!(rt; script.flags()[1].as_slice() == b"done".as_slice());
-    assert_eq!(rt; script.vars().len(), 2);
-    assert!(rt; script.vars()[0].as_slice() == b"unique".as_slice());
-    assert!(rt; script.vars()[1].as_slice() == b"count".as_slice());
-    for actor in [Actor::P, Actor::A, Actor::B] {
-        assert_eq!(rt; script.budget(actor).requests, 2);
-        assert_eq!(rt; script.budget(actor).bytes, 100);
+fn is_label(label: &Label, name: &str, place: usize) -> bool {
+    label.name.as_slice() == name.as_bytes() && label.place == place
+}
+
+// Whether the one label of a section is `gone`, at this place.
+fn has_gone(labels: &[Label], place: usize) -> bool {
+    match labels {
+        [label] => is_label(label, "gone", place),
+        _ => false,
     }
-    assert_eq!(rt; script.steps(Actor::P).len(), 1);
-    let step = sent_at(&script, Actor::P, 0)?;
-    assert!(rt;
-        is_template(
-            step.template,
-            Verb::Set,
-            Argument::Nothing,
-            "5",
-            [0, 0, 1, 0]
-        )
-    );
-    assert!(rt; step.jumps.as_slice().is_empty());
-    assert_eq!(rt; step.bind, None);
-    assert!(rt; script.labels(Actor::P).is_empty());
+}
+
+fn is_name(name: &Bytes, expected: &str) -> bool {
+    name.as_slice() == expected.as_bytes()
+}
+
+fn has_one_key(keys: &[Bytes]) -> bool {
+    match keys {
+        [key] => is_name(key, "item"),
+        _ => false,
+    }
+}
+
+fn are_pair(names: &[Bytes], first: &str, second: &str) -> bool {
+    match names {
+        [name, other] => is_name(name, first) && is_name(other, second),
+        _ => false,
+    }
+}
+
+fn has_budget(script: &Script, actor: Actor) -> bool {
+    let budget = script.budget(actor);
+    budget.requests == 2 && budget.bytes == 100
+}
+
+fn has_names(script: &Script) -> bool {
+    has_one_key(script.keys())
+        && are_pair(script.flags(), "ready", "done")
+        && are_pair(script.vars(), "unique", "count")
+}
+
+#[test]
+fn reads_the_example_s_declarations(rt: HostRuntime) -> Result<(), Fail> {
+    let script = parse(rt.alloc(), EXAMPLE.as_bytes())?;
+    let is_right = has_names(&script)
+        && has_budget(&script, Actor::P)
+        && has_budget(&script, Actor::A)
+        && has_budget(&script, Actor::B);
+    assert!(rt; is_right);
     Ok(())
+}
+
+fn is_set(step: &Sent<'_>) -> bool {
+    is_template(
+        step.template,
+        Verb::Set,
+        Argument::Nothing,
+        "5",
+        [0, 0, 1, 0],
+    ) && does(step, &[], None)
+}
+
+fn is_prefix(script: &Script) -> Result<bool, Fail> {
+    let step = sent_at(script, Actor::P, 0)?;
+    Ok(script.steps(Actor::P).len() == 1 && script.labels(Actor::P).is_empty() && is_set(&step))
+}
+
+#[test]
+fn reads_the_example_s_prefix(rt: HostRuntime) -> Result<(), Fail> {
+    let script = parse(rt.alloc(), EXAMPLE.as_bytes())?;
+    let is_right = is_prefix(&script)?;
+    assert!(rt; is_right);
+    Ok(())
+}
+
+fn is_gets(step: &Sent<'_>) -> bool {
+    is_template(
+        step.template,
+        Verb::Gets,
+        Argument::Nothing,
+        "",
+        [1, 0, 0, 0],
+    ) && does(step, &[(Class::Miss, 0)], Some(0))
+}
+
+fn is_cas(step: &Sent<'_>) -> bool {
+    is_template(
+        step.template,
+        Verb::Cas,
+        Argument::Variable(0),
+        "7",
+        [0, 0, 2, 1],
+    ) && does(step, &[(Class::Exists, 0)], None)
+}
+
+fn is_branch_a(script: &Script) -> Result<bool, Fail> {
+    let first = sent_at(script, Actor::A, 0)?;
+    let second = sent_at(script, Actor::A, 1)?;
+    Ok(
+        script.steps(Actor::A).len() == 2
+            && is_gets(&first)
+            && is_cas(&second)
+            && has_gone(script.labels(Actor::A), 2),
+    )
 }
 
 #[test]
 fn reads_the_example_s_branch_a(rt: HostRuntime) -> Result<(), Fail> {
     let script = parse(rt.alloc(), EXAMPLE.as_bytes())?;
-    assert_eq!(rt; script.steps(Actor::A).len(), 2);
-    let step = sent_at(&script, Actor::A, 0)?;
-    assert!(rt;
-        is_template(
-            step.template,
-            Verb::Gets,
-            Argument::Nothing,
-            "",
-            [1, 0, 0, 0]
-        )
-    );
-    assert_eq!(rt; step.jumps.as_slice(), [(Class::Miss, 0)].as_slice());
-    assert_eq!(rt; step.bind, Some(0));
-    let step = sent_at(&script, Actor::A, 1)?;
-    assert!(rt;
-        is_template(
-            step.template,
-            Verb::Cas,
-            Argument::Variable(0),
-            "7",
-            [0, 0, 2, 1]
-        )
-    );
-    assert_eq!(rt; step.jumps.as_slice(), [(Class::Exists, 0)].as_slice());
-    assert_eq!(rt; step.bind, None);
-    assert_eq!(rt; script.labels(Actor::A).len(), 1);
-    assert!(rt; script.labels(Actor::A)[0].name.as_slice() == b"gone".as_slice());
-    assert_eq!(rt; script.labels(Actor::A)[0].place, 2);
+    let is_right = is_branch_a(&script)?;
+    assert!(rt; is_right);
     Ok(())
+}
+
+fn is_incr(step: &Sent<'_>) -> bool {
+    is_template(
+        step.template,
+        Verb::Incr,
+        Argument::Number(1),
+        "",
+        [0, 2, 0, 0],
+    ) && does(step, &[(Class::NotFound, 0), (Class::NotNumber, 0)], None)
+}
+
+fn is_decr(step: &Sent<'_>) -> bool {
+    is_template(
+        step.template,
+        Verb::Decr,
+        Argument::Variable(1),
+        "",
+        [0, 0, 0, 0],
+    ) && does(step, &[], None)
+}
+
+fn binds_second(steps: &[Step]) -> bool {
+    matches!(steps, [_, Step::Bind(1), _])
+}
+
+fn is_branch_b(script: &Script) -> Result<bool, Fail> {
+    let first = sent_at(script, Actor::B, 0)?;
+    let third = sent_at(script, Actor::B, 2)?;
+    Ok(
+        binds_second(script.steps(Actor::B))
+            && is_incr(&first)
+            && is_decr(&third)
+            && has_gone(script.labels(Actor::B), 3),
+    )
 }
 
 #[test]
 fn reads_the_example_s_branch_b(rt: HostRuntime) -> Result<(), Fail> {
     let script = parse(rt.alloc(), EXAMPLE.as_bytes())?;
-    assert_eq!(rt; script.steps(Actor::B).len(), 3);
-    let step = sent_at(&script, Actor::B, 0)?;
-    assert!(rt;
-        is_template(
-            step.template,
-            Verb::Incr,
-            Argument::Number(1),
-            "",
-            [0, 2, 0, 0]
-        )
-    );
-    assert_eq!(rt;
-        step.jumps.as_slice(),
-        [(Class::NotFound, 0), (Class::NotNumber, 0)].as_slice()
-    );
-    assert_eq!(rt; step.bind, None);
-    assert!(rt; matches!(script.steps(Actor::B)[1], Step::Bind(1)));
-    let step = sent_at(&script, Actor::B, 2)?;
-    assert!(rt;
-        is_template(
-            step.template,
-            Verb::Decr,
-            Argument::Variable(1),
-            "",
-            [0, 0, 0, 0]
-        )
-    );
-    assert!(rt; step.jumps.as_slice().is_empty());
-    assert_eq!(rt; step.bind, None);
-    assert_eq!(rt; script.labels(Actor::B).len(), 1);
-    assert!(rt; script.labels(Actor::B)[0].name.as_slice() == b"gone".as_slice());
-    assert_eq!(rt; script.labels(Actor::B)[0].place, 3);
+    let is_right = is_branch_b(&script)?;
+    assert!(rt; is_right);
     Ok(())
 }

@@ -45,6 +45,8 @@ mod example_tests;
 #[cfg(test)]
 mod fault_tests;
 #[cfg(test)]
+mod jump_tests;
+#[cfg(test)]
 mod label_tests;
 #[cfg(test)]
 mod limit_tests;

@@ -1,6 +1,6 @@
 //! What the tests of scripts share: texts around the lines of a section, and what was made of them.
 use crate::{Jumps, Script, ScriptFault, ScriptKind, Step, Template, parse};
-use mc_protocol::Actor;
+use mc_protocol::{Actor, Class};
 use std::alloc::{AllocError, Global};
 
 // The lines in front of the sections. A section A behind an empty P begins behind its ninth line.
@@ -63,4 +63,9 @@ pub(crate) fn sent_at<'a>(
         Some(_) => Err("no request"),
         None => Err("no step"),
     }
+}
+
+// Whether the step has these jumps, and binds this.
+pub(crate) fn does(step: &Sent<'_>, jumps: &[(Class, usize)], bind: Option<u8>) -> bool {
+    step.jumps.as_slice() == jumps && step.bind == bind
 }
