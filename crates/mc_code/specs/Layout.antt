@@ -128,23 +128,10 @@ template_count s = length (templates_of s)
 abbrev pub instruction_count : script.Script → Actor → ℕ
 instruction_count s actor = size_of_all (all_steps s actor) + 1
 
-abbrev pub HasFewTemplates : script.Script → Type 0
-HasFewTemplates s = template_count s ≤ TEMPLATES_LIMIT
-
-abbrev pub IsShort : script.Script → Actor → Type 0
-IsShort s actor = instruction_count s actor ≤ INSTRUCTIONS_LIMIT
-
--- the sections before this one are short
-abbrev pub IsShortBefore : script.Script → Actor → Type 0
-IsShortBefore s actor.P = Unit {0}
-IsShortBefore s actor.A = IsShort s actor.P
-IsShortBefore s actor.B = IsShort s actor.P × IsShort s actor.A
-
--- the limit that a refusal names is exceeded, and none that goes before it: templates first, then P, A and B
+-- the limit that a refusal names is exceeded
 abbrev pub IsExceeded : script.Script → AsmFault → Type 0
 IsExceeded s fault.TooManyTemplates = TEMPLATES_LIMIT < template_count s
-IsExceeded s (fault.TooManyInstructions actor) =
-    HasFewTemplates s × IsShortBefore s actor × (INSTRUCTIONS_LIMIT < instruction_count s actor)
+IsExceeded s (fault.TooManyInstructions actor) = INSTRUCTIONS_LIMIT < instruction_count s actor
 IsExceeded s fault.OutOfMemory = Unit {0}
 
 -- the limits before the one that a refusal names are kept: the templates come first, and then P, A and B

@@ -104,9 +104,7 @@ pub(crate) fn check_limits(script: &Script) -> Result<(), AsmFault>
 }
 
 fn check_section(script: &Script, actor: Actor) -> Result<(), AsmFault>
-    requires few { layout.HasFewTemplates script.now }
-    requires first { layout.IsShortBefore script.now actor }
-    ensures few { OnOk result (layout.IsShort script.now actor) }
+    ensures few { OnOk result (layout.instruction_count script.now actor ≤ INSTRUCTIONS_LIMIT) }
     ensures exceeded { IfErr result (layout.IsExceeded script.now) }
     ensures named { IfErr result (λ fault. fault ≡ AsmFault.TooManyInstructions actor) }
 {
