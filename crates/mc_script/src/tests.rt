@@ -1,5 +1,6 @@
-use crate::{Argument, Step, parse};
-use mc_protocol::{Actor, Class, Verb};
+use crate::test_texts::{Sent, sent_at};
+use crate::{Argument, Label, Script, Step, Template, parse};
+use mc_protocol::{Actor, Bytes, Class, Verb};
 use std::test::Fail;
 
 // Two increments of one counter.
@@ -93,68 +94,103 @@ fn reads_the_counter(rt: HostRuntime) -> Result<(), Fail> {
     Ok(())
 }
 
-#[test]
-fn reads_names_budgets_and_labels(rt: HostRuntime) -> Result<(), Fail> {
-    let script = parse(rt.alloc(), EVERYTHING.as_bytes())?;
-    assert_eq!(rt; script.keys().len(), 2);
-    assert!(rt; script.keys()[1].as_slice() == b"b-1".as_slice());
-    assert_eq!(rt; script.flags().len(), 2);
-    assert!(rt; script.flags()[1].as_slice() == b"g".as_slice());
-    assert_eq!(rt; script.vars().len(), 2);
-    assert!(rt; script.vars()[0].as_slice() == b"v".as_slice());
-    assert_eq!(rt; script.budget(Actor::P).requests, 24);
-    assert_eq!(rt; script.budget(Actor::P).bytes, 8192);
-    assert_eq!(rt; script.budget(Actor::A).requests, 5);
-    assert_eq!(rt; script.budget(Actor::B).requests, 0);
-    assert_eq!(rt; script.steps(Actor::P).len(), 2);
-    assert_eq!(rt; script.steps(Actor::A).len(), 5);
-    assert_eq!(rt; script.steps(Actor::B).len(), 3);
-    let names = ["start", "middle", "gone", "last"];
-    let places = [0, 4, 5, 5];
-    let labels = script.labels(Actor::A);
-    assert_eq!(rt; labels.len(), 4);
-    for (i, label) in labels.iter().enumerate() {
-        assert!(rt; label.name.as_slice() == names[i].as_bytes());
-        assert_eq!(rt; label.place, places[i]);
+// Whether there are two names, of which this is at a place.
+fn are_two_names(names: &[Bytes], place: usize, name: &str) -> bool {
+    match names.get(place) {
+        Some(found) => names.len() == 2 && found.as_slice() == name.as_bytes(),
+        None => false,
     }
-    // A line of one word with `:` at its end is a label, also `set:`.
-    assert_eq!(rt; script.labels(Actor::B).len(), 1);
-    assert_eq!(rt; script.labels(Actor::B)[0].place, 3);
+}
+
+fn has_names(script: &Script) -> bool {
+    are_two_names(script.keys(), 1, "b-1")
+        && are_two_names(script.flags(), 1, "g")
+        && are_two_names(script.vars(), 0, "v")
+}
+
+fn has_budgets(script: &Script) -> bool {
+    script.budget(Actor::P).requests == 24
+        && script.budget(Actor::P).bytes == 8192
+        && script.budget(Actor::A).requests == 5
+        && script.budget(Actor::B).requests == 0
+}
+
+#[test]
+fn reads_names_and_budgets(rt: HostRuntime) -> Result<(), Fail> {
+    let script = parse(rt.alloc(), EVERYTHING.as_bytes())?;
+    assert!(rt; has_names(&script) && has_budgets(&script));
     Ok(())
+}
+
+// Whether the sections have so many steps.
+fn has_steps(script: &Script, p: usize, a: usize, b: usize) -> bool {
+    script.steps(Actor::P).len() == p
+        && script.steps(Actor::A).len() == a
+        && script.steps(Actor::B).len() == b
+}
+
+fn is_label(label: &Label, name: &str, place: usize) -> bool {
+    label.name.as_slice() == name.as_bytes() && label.place == place
+}
+
+fn has_labels_of_a(script: &Script) -> bool {
+    match script.labels(Actor::A) {
+        [first, second, third, fourth] => {
+            is_label(first, "start", 0)
+                && is_label(second, "middle", 4)
+                && is_label(third, "gone", 5)
+                && is_label(fourth, "last", 5)
+        }
+        _ => false,
+    }
+}
+
+// A line of one word with `:` at its end is a label, also `set:`.
+fn has_label_of_b(script: &Script) -> bool {
+    match script.labels(Actor::B) {
+        [only] => only.place == 3,
+        _ => false,
+    }
+}
+
+#[test]
+fn reads_steps_and_labels(rt: HostRuntime) -> Result<(), Fail> {
+    let script = parse(rt.alloc(), EVERYTHING.as_bytes())?;
+    assert!(rt; has_steps(&script, 2, 5, 3) && has_labels_of_a(&script) && has_label_of_b(&script));
+    Ok(())
+}
+
+fn is_first_of_p(template: &Template) -> bool {
+    template.flags == 7
+        && template.body.as_slice() == b"5aZ".as_slice()
+        && template.sets == 1
+        && template.clears == 2
+        && template.require_set == 0
+        && template.require_clear == 0
+}
+
+#[test]
+fn reads_changes_of_flags(rt: HostRuntime) -> Result<(), Fail> {
+    let script = parse(rt.alloc(), EVERYTHING.as_bytes())?;
+    let sent = sent_at(&script, Actor::P, 0)?;
+    assert!(rt; is_first_of_p(sent.template));
+    Ok(())
+}
+
+fn is_first_of_a(sent: Sent) -> bool {
+    sent.template.verb == Verb::Gets
+        && sent.template.key == 1
+        && sent.template.require_set == 1
+        && sent.template.require_clear == 2
+        && sent.jumps.as_slice() == [(Class::Miss, 2)].as_slice()
+        && sent.bind == Some(0)
 }
 
 #[test]
 fn reads_marks(rt: HostRuntime) -> Result<(), Fail> {
     let script = parse(rt.alloc(), EVERYTHING.as_bytes())?;
-    match script.steps(Actor::P) {
-        [Step::Send { template, .. }, _] => {
-            assert_eq!(rt; template.flags, 7);
-            assert!(rt; template.body.as_slice() == b"5aZ".as_slice());
-            assert_eq!(rt; template.sets, 1);
-            assert_eq!(rt; template.clears, 2);
-            assert_eq!(rt; template.require_set, 0);
-            assert_eq!(rt; template.require_clear, 0);
-        }
-        _ => assert!(rt; false, "no request"),
-    }
-    match script.steps(Actor::A) {
-        [
-            Step::Send {
-                template,
-                jumps,
-                bind,
-            },
-            ..
-        ] => {
-            assert_eq!(rt; template.verb, Verb::Gets);
-            assert_eq!(rt; template.key, 1);
-            assert_eq!(rt; template.require_set, 1);
-            assert_eq!(rt; template.require_clear, 2);
-            assert!(rt; jumps.as_slice() == [(Class::Miss, 2)].as_slice());
-            assert_eq!(rt; *bind, Some(0));
-        }
-        _ => assert!(rt; false, "no request"),
-    }
+    let sent = sent_at(&script, Actor::A, 0)?;
+    assert!(rt; is_first_of_a(sent));
     Ok(())
 }
 
