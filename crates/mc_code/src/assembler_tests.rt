@@ -50,7 +50,7 @@ end
 ";
 
 // No entry. Entries are those of stored, notstored, exists, notfound, hit, miss, deleted, touched, number, notnumber.
-const NO: u8 = NO_ENTRY;
+pub(crate) const NO: u8 = NO_ENTRY;
 
 static COUNTER_P: [Instr; 3] = [
     Instr::Send {

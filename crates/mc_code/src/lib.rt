@@ -51,6 +51,8 @@ mod image_fault_tests;
 #[cfg(test)]
 mod image_tests;
 #[cfg(test)]
+mod jump_tests;
+#[cfg(test)]
 mod limit_tests;
 #[cfg(test)]
 mod test_codes;

@@ -57,6 +57,8 @@ mod number_tests;
 #[cfg(test)]
 mod print_tests;
 #[cfg(test)]
+mod step_tests;
+#[cfg(test)]
 mod test_texts;
 #[cfg(test)]
 mod tests;
