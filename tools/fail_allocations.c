@@ -1,4 +1,4 @@
-// Loaded in front of the C library, it makes allocations of a program fail: with FAIL_ALLOCATION=N the Nth, counted
+// Loaded before the C library, it makes allocations of a program fail: with FAIL_ALLOCATION=N the Nth, counted
 // from 1, and with FAIL_ALLOCATION=N+ all from there on. At the end of the program it writes how many it was asked for to
 // the file that COUNT_ALLOCATIONS names, if one is named.
 typedef __SIZE_TYPE__ size_t;
