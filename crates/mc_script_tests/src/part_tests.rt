@@ -238,7 +238,7 @@ fn gives_the_fault(rt: HostRuntime) -> Result<(), Fail> {
         Ok(_) => None,
         Err(fault) => Some((fault.kind, fault.line)),
     };
-    assert!(rt; found == Some((Header, 3)));
+    assert_eq!(rt; found, Some((Header, 3)));
     Ok(())
 }
 
