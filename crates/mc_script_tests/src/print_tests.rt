@@ -1,10 +1,26 @@
-use crate::tests::COUNTER;
-use crate::{parse, print};
+//! The text that is printed of a script.
+
+use mc_script::{parse, print};
 use std::alloc::Global;
 use std::test::Fail;
 
+// Two increments of one counter.
+const COUNTER: &str = "script 1
+keys a
+budget P 2 26
+budget A 1 10
+budget B 1 10
+P
+set a 0 =5
+A
+incr a 1
+B
+incr a 1
+end
+";
+
 // Every mark, and labels at the end of a section.
-static MARKS: &str = "script 1
+const MARKS: &str = "script 1
 keys item
 flags ready done
 vars unique count
@@ -26,7 +42,7 @@ end
 ";
 
 // The same, as it is printed: of two changes `+` goes before `-`, and both go before jumps.
-static MARKS_PRINTED: &str = "script 1
+const MARKS_PRINTED: &str = "script 1
 keys item
 flags ready done
 vars unique count
@@ -48,7 +64,7 @@ end
 ";
 
 // Comments, blank lines, tabs, CRs, zeros that lead, and marks out of their order.
-static UNTIDY: &str = "# a comment\r
+const UNTIDY: &str = "# a comment\r
   script \t 1 \r
 
 keys  a\tb-1\r
@@ -77,10 +93,10 @@ bind v
 touch b-1
 set:
 end
-# behind
+# after the end
 ";
 
-static TIDY: &str = "script 1
+const TIDY: &str = "script 1
 keys a b-1
 flags f g h
 vars v w
@@ -108,8 +124,8 @@ set:
 end
 ";
 
-// The counter behind another line.
-static BEHIND: &str = "before
+// The counter after another line.
+const AFTER_A_LINE: &str = "before
 script 1
 keys a
 budget P 2 26
@@ -124,48 +140,35 @@ incr a 1
 end
 ";
 
-// What is printed of the script that the text spells.
-fn printed(alloc: Global, text: &str) -> Result<Vec<u8>, Fail> {
+// Each script with its printed text, which is printed of itself.
+static PRINTED: [(&str, &str); 5] = [
+    (COUNTER, COUNTER),
+    (MARKS, MARKS_PRINTED),
+    (MARKS_PRINTED, MARKS_PRINTED),
+    (UNTIDY, TIDY),
+    (TIDY, TIDY),
+];
+
+// What is printed of the script that the text spells, after these bytes.
+fn printed(alloc: Global, text: &str, before: &[u8]) -> Result<Vec<u8>, Fail> {
     let script = parse(alloc, text.as_bytes())?;
-    let mut out = Vec::new(alloc);
+    let mut out = Vec::from_slice(alloc, before)?;
     print(alloc, &script, &mut out)?;
     Ok(out)
 }
 
 #[test]
-fn prints_the_counter_as_it_was_read(rt: HostRuntime) -> Result<(), Fail> {
-    let out = printed(rt.alloc(), COUNTER)?;
-    assert!(rt; out.as_slice() == COUNTER.as_bytes());
-    Ok(())
-}
-
-#[test]
-fn prints_every_mark(rt: HostRuntime) -> Result<(), Fail> {
-    let out = printed(rt.alloc(), MARKS)?;
-    assert!(rt; out.as_slice() == MARKS_PRINTED.as_bytes());
-    Ok(())
-}
-
-#[test]
 fn prints_in_one_order(rt: HostRuntime) -> Result<(), Fail> {
-    let out = printed(rt.alloc(), UNTIDY)?;
-    assert!(rt; out.as_slice() == TIDY.as_bytes());
-    Ok(())
-}
-
-#[test]
-fn reads_again_what_it_prints(rt: HostRuntime) -> Result<(), Fail> {
-    let out = printed(rt.alloc(), TIDY)?;
-    assert!(rt; out.as_slice() == TIDY.as_bytes());
+    for (text, wanted) in &PRINTED {
+        let out = printed(rt.alloc(), text, b"")?;
+        assert!(rt; out.as_slice() == wanted.as_bytes(), "{text}");
+    }
     Ok(())
 }
 
 #[test]
 fn appends(rt: HostRuntime) -> Result<(), Fail> {
-    let alloc = rt.alloc();
-    let script = parse(alloc, COUNTER.as_bytes())?;
-    let mut out = Vec::from_slice(alloc, b"before\n")?;
-    print(alloc, &script, &mut out)?;
-    assert!(rt; out.as_slice() == BEHIND.as_bytes());
+    let out = printed(rt.alloc(), COUNTER, b"before\n")?;
+    assert!(rt; out.as_slice() == AFTER_A_LINE.as_bytes());
     Ok(())
 }
