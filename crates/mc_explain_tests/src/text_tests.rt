@@ -1,7 +1,9 @@
 //! The parts of what is read, and what is printed of it.
 
-use mc_explain::{HistoryFault, Move, parse_history, print_explanation, print_history};
-use mc_model::{Choice, HistoryKind};
+use mc_explain::{
+    Explanation, HistoryFault, Move, parse_history, print_explanation, print_history,
+};
+use mc_model::{Choice, History, HistoryKind};
 use mc_protocol::{Actor, Verb};
 use std::alloc::Global;
 use std::test::Fail;
@@ -48,65 +50,59 @@ fn prints_what_was_read(rt: HostRuntime) -> Result<(), Fail> {
     Ok(())
 }
 
-// The moves of the claim in `reads_parts`.
-static MOVES: [Move; 4] = [
-    Move {
-        actor: Actor::P,
-        choice: Choice {
-            pad: true,
-            read: false,
-        },
-        number: 1,
-    },
-    Move {
-        actor: Actor::A,
-        choice: Choice {
-            pad: true,
-            read: true,
-        },
-        number: 0,
-    },
-    Move {
-        actor: Actor::B,
-        choice: Choice {
-            pad: false,
-            read: false,
-        },
-        number: 7,
-    },
-    Move {
-        actor: Actor::B,
-        choice: Choice {
-            pad: false,
-            read: true,
-        },
-        number: 8,
-    },
+const CLAIMED: &[u8] =
+    b"history 1\nP delete a -> NOT_FOUND\nB set a 1 =%00 -> STORED\nA get a -> ?\nexplain\nstart b 2\nstart a 18446744073709551615\nP 1 pad refuse\nA 0 pad\nB 7 refuse\nB 8\nend\n";
+
+// The sections' only requests, and whether they were answered.
+static SENT: [(Actor, Verb, bool); 3] = [
+    (Actor::P, Verb::Delete, true),
+    (Actor::A, Verb::Get, false),
+    (Actor::B, Verb::Set, true),
 ];
+
+static STARTS: [(&[u8], u64); 2] = [(b"b", 2), (b"a", u64::MAX)];
+
+// The moves: their sections, whether they pad and read, and their numbers.
+static MOVES: [(Actor, bool, bool, u64); 4] = [
+    (Actor::P, true, false, 1),
+    (Actor::A, true, true, 0),
+    (Actor::B, false, false, 7),
+    (Actor::B, false, true, 8),
+];
+
+fn has_sent(history: &History) -> bool {
+    SENT.iter().all(|(actor, verb, is_answered)| match history.sent(*actor) {
+        [sent] => sent.request.verb == *verb && sent.reply.is_some() == *is_answered,
+        _ => false,
+    })
+}
+
+fn has_starts(explanation: &Explanation) -> bool {
+    explanation.start.len() == STARTS.len()
+        && explanation.start.iter().zip(&STARTS).all(|(found, wanted)| {
+            found.0.as_slice() == wanted.0 && found.1 == wanted.1
+        })
+}
+
+fn has_moves(explanation: &Explanation) -> bool {
+    explanation.order.len() == MOVES.len()
+        && explanation.order.iter().zip(&MOVES).all(|(found, wanted)| {
+            let (actor, pad, read, number) = *wanted;
+            let choice = Choice { pad, read };
+            *found
+                == Move {
+                    actor,
+                    choice,
+                    number,
+                }
+        })
+}
 
 #[test]
 fn reads_parts(rt: HostRuntime) -> Result<(), Fail> {
-    let text =
-        b"history 1\nP delete a -> NOT_FOUND\nB set a 1 =%00 -> STORED\nA get a -> ?\nexplain\nstart b 2\nstart a 18446744073709551615\nP 1 pad refuse\nA 0 pad\nB 7 refuse\nB 8\nend\n";
-    let (history, explanation) = parse_history(rt.alloc(), text)?;
+    let (history, explanation) = parse_history(rt.alloc(), CLAIMED)?;
     let explanation = explanation.ok_or("a claim")?;
-    let sections = [
-        (Actor::P, Verb::Delete, true),
-        (Actor::A, Verb::Get, false),
-        (Actor::B, Verb::Set, true),
-    ];
-    for (actor, verb, is_answered) in sections {
-        let [sent] = history.sent(actor) else {
-            return Err("one request".into());
-        };
-        assert!(rt; sent.request.verb == verb && sent.reply.is_some() == is_answered);
-    }
-    let [first, second] = explanation.start.as_slice() else {
-        return Err("two starts".into());
-    };
-    assert!(rt; first.0.as_slice() == b"b".as_slice() && first.1 == 2);
-    assert!(rt; second.0.as_slice() == b"a".as_slice() && second.1 == u64::MAX);
-    assert!(rt; explanation.order.as_slice() == MOVES.as_slice());
+    assert!(rt; has_sent(&history) && has_starts(&explanation) && has_moves(&explanation));
     Ok(())
 }
 
