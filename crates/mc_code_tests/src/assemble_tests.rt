@@ -1,8 +1,8 @@
 //! `assemble`: the parts of a script's code, and why a script has none.
 
-use crate::images::COUNTER_IMAGE;
+use crate::images::{COUNTER_IMAGE, written};
 use crate::parts::{COUNTER, has_parts};
-use mc_code::{AsmFault, assemble, encode};
+use mc_code::{AsmFault, assemble};
 use mc_protocol::{Actor, OutOfMemory};
 use mc_script::parse;
 use std::alloc::Global;
@@ -56,9 +56,8 @@ fn assembles(rt: HostRuntime) -> Result<(), Fail> {
 fn writes_an_image_after_what_is_there(rt: HostRuntime) -> Result<(), Fail> {
     let alloc = rt.alloc();
     let code = assemble(alloc, &parse(alloc, COUNTER_SCRIPT)?)?;
-    let mut out = Vec::from_slice(alloc, b"before")?;
-    encode(&code, &mut out)?;
-    assert!(rt; out.strip_prefix(b"before") == Some(COUNTER_IMAGE));
+    let out = written(alloc, b"before", &code)?;
+    assert!(rt; is_joined(&out, b"before", COUNTER_IMAGE));
     Ok(())
 }
 
@@ -72,21 +71,29 @@ fn refuses_what_exceeds_a_limit(rt: HostRuntime) -> Result<(), Fail> {
     Ok(())
 }
 
-fn script_of(alloc: Global, counts: [usize; 3]) -> Result<Vec<u8>, OutOfMemory> {
-    let [p, a, b] = counts;
-    let mut text = Vec::from_slice(alloc, HEAD)?;
-    append(&mut text, b"get a\n", p)?;
-    append(&mut text, b"A\n", 1)?;
-    append(&mut text, b"halt\n", a)?;
-    append(&mut text, b"B\n", 1)?;
-    append(&mut text, b"halt\n", b)?;
-    append(&mut text, b"end\n", 1)?;
-    Ok(text)
+fn is_joined(bytes: &[u8], front: &[u8], rest: &[u8]) -> bool {
+    match bytes.strip_prefix(front) {
+        Some(found) => found == rest,
+        None => false,
+    }
 }
 
-fn append(text: &mut Vec<u8>, line: &[u8], count: usize) -> Result<(), OutOfMemory> {
-    for _ in 0..count {
-        text.extend_from_slice(line)?;
+fn script_of(alloc: Global, counts: [usize; 3]) -> Result<Vec<u8>, OutOfMemory> {
+    let [p, a, b] = counts;
+    let lines: [(&[u8], usize); 7] = [
+        (HEAD, 1),
+        (b"get a\n", p),
+        (b"A\n", 1),
+        (b"halt\n", a),
+        (b"B\n", 1),
+        (b"halt\n", b),
+        (b"end\n", 1),
+    ];
+    let mut text = Vec::new(alloc);
+    for (line, count) in lines {
+        for _ in 0..count {
+            text.extend_from_slice(line)?;
+        }
     }
-    Ok(())
+    Ok(text)
 }

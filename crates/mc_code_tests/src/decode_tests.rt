@@ -1,8 +1,8 @@
 //! `decode`: the code of two images, its parts and its requests, and what is read of changed images.
 
-use crate::images::{COUNTER_IMAGE, EVERYTHING_IMAGE, LONGEST_BODY};
+use crate::images::{COUNTER_IMAGE, EVERYTHING_IMAGE, LONGEST_BODY, written};
 use crate::parts::{COUNTER, EVERYTHING, has_parts};
-use mc_code::{Call, Code, ImageFault, ImageKind, decode, encode};
+use mc_code::{Call, Code, ImageFault, ImageKind, decode};
 use mc_protocol::{OutOfMemory, Verb};
 use std::alloc::Global;
 use std::test::Fail;
@@ -35,7 +35,7 @@ fn count_written(alloc: Global, image: &[u8]) -> Result<Option<usize>, ImageFaul
             let mut bytes = Vec::from_slice(alloc, image)?;
             bytes[offset] = value;
             match decode(alloc, &bytes) {
-                Ok(code) if image_of(alloc, &code)? == bytes => count = count.saturating_add(1),
+                Ok(code) if written(alloc, b"", &code)? == bytes => count = count.saturating_add(1),
                 Ok(_) => return Ok(None),
                 Err(fault) if fault.kind == ImageKind::OutOfMemory => return Err(fault),
                 Err(_) => {}
@@ -43,12 +43,6 @@ fn count_written(alloc: Global, image: &[u8]) -> Result<Option<usize>, ImageFaul
         }
     }
     Ok(Some(count))
-}
-
-fn image_of(alloc: Global, code: &Code) -> Result<Vec<u8>, OutOfMemory> {
-    let mut out = Vec::new(alloc);
-    encode(code, &mut out)?;
-    Ok(out)
 }
 
 // A call of a template, and the request that it makes.

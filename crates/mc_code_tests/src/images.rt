@@ -1,4 +1,8 @@
-//! Two images, written by hand.
+//! Two images, written by hand, and images that are written by `encode`.
+
+use mc_code::{Code, encode};
+use mc_protocol::OutOfMemory;
+use std::alloc::Global;
 
 /// The image of the code of two increments of one counter: head, templates of 32 or 33 bytes (two rows each), sections of
 /// 26, 14 and 14 bytes.
@@ -52,3 +56,10 @@ pub(crate) static EVERYTHING_IMAGE: &[u8] = b"MCR1\x02\x01a\x03b-1\
 /// Its longest body, which is the longest that there may be.
 pub(crate) const LONGEST_BODY: &[u8] =
     b"0123456789abcdefghijklmnopqrstuvwxyzABCDEFGHIJKLMNOPQRSTUVWXYZ01";
+
+/// What stands there first, and the image that is appended to it.
+pub(crate) fn written(alloc: Global, front: &[u8], code: &Code) -> Result<Vec<u8>, OutOfMemory> {
+    let mut out = Vec::from_slice(alloc, front)?;
+    encode(code, &mut out)?;
+    Ok(out)
+}
