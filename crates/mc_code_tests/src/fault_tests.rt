@@ -47,7 +47,7 @@ static FAULTY_COUNTER: [(usize, u8, ImageKind, usize); 50] = [
     (42, 1, Template, 19),
     (46, 1, Template, 19),
     (50, 1, Template, 19),
-    // a `set`: what stands behind its key, its body, and a verb that has none
+    // a `set`: what comes after its key, its body, and a verb that has none
     (57, 1, Template, 51),
     (67, b'-', Template, 51),
     (51, 6, Template, 51),
@@ -133,23 +133,40 @@ static OTHERS: [(&[u8], ImageKind, usize); 9] = [
 static COUNTER_FIELDS: [usize; 72] = [
     // the head
     0, 4, 5, 6, 7, 8, 9, 10, 12, 13, 15, 16, 18,
-    // templates, each a row: the second has a body
-    19, 20, 21, 25, 26, 34, 35, 39, 43, 47, 51, 52, 53, 57, 58, 66, 67, 68, 72, 76, 80, 84, 85, 86,
-    90, 91, 99, 100, 104, 108, 112, 116, 117, 118, 122, 123, 131, 132, 136, 140, 144,
-    // sections
-    148, 149, 150, 151, 161, 162, 163, 173, 174, 175, 176, 177, 187, 188, 189, 190, 191, 201,
+    // a `delete`
+    19, 20, 21, 25, 26, 34, 35, 39, 43, 47,
+    // a `set`, which has a body
+    51, 52, 53, 57, 58, 66, 67, 68, 72, 76, 80,
+    // an `incr`
+    84, 85, 86, 90, 91, 99, 100, 104, 108, 112,
+    // another
+    116, 117, 118, 122, 123, 131, 132, 136, 140, 144,
+    // the instructions of P
+    148, 149, 150, 151, 161, 162, 163, 173,
+    // of A
+    174, 175, 176, 177, 187,
+    // of B
+    188, 189, 190, 191, 201,
 ];
 
 // The same of the image with everything.
 static EVERYTHING_FIELDS: [usize; 79] = [
     // the head
     0, 4, 5, 6, 7, 8, 11, 12, 13, 14, 16, 17, 19, 20, 22,
-    // templates: the first two have a body
-    23, 24, 25, 29, 30, 38, 39, 103, 107, 111, 115, 119, 120, 121, 125, 126, 134, 135, 136, 140,
-    144, 148, 152, 153, 154, 158, 159, 167, 168, 172, 176, 180, 184, 185, 186, 190, 191, 199, 200,
-    204, 208, 212, 216, 217, 218, 222, 223, 231, 232, 236, 240, 244,
-    // sections
-    248, 249, 250, 251, 261, 262, 263, 264, 265, 266, 267, 268,
+    // an `add`, which has a body
+    23, 24, 25, 29, 30, 38, 39, 103, 107, 111, 115,
+    // a `cas`, which has one too
+    119, 120, 121, 125, 126, 134, 135, 136, 140, 144, 148,
+    // an `incr`
+    152, 153, 154, 158, 159, 167, 168, 172, 176, 180,
+    // a `decr`
+    184, 185, 186, 190, 191, 199, 200, 204, 208, 212,
+    // a `gets`
+    216, 217, 218, 222, 223, 231, 232, 236, 240, 244,
+    // the instructions of P
+    248, 249, 250, 251, 261, 262, 263, 264, 265,
+    // of A, and that B has none
+    266, 267, 268,
 ];
 
 #[test]
