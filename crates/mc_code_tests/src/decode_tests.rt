@@ -98,7 +98,11 @@ static MADE: [Made; 3] = [
 fn makes_requests(rt: HostRuntime) -> Result<(), Fail> {
     let code = decode(rt.alloc(), EVERYTHING_IMAGE)?;
     for made in &MADE {
-        assert!(rt; makes(rt.alloc(), &code, made)?, "{}", made.call.template);
+        assert!(rt;
+            makes(rt.alloc(), &code, made)?,
+            "template {}",
+            made.call.template
+        );
     }
     Ok(())
 }

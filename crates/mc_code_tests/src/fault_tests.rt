@@ -186,7 +186,7 @@ fn tells_fields_before_their_template(rt: HostRuntime) -> Result<(), Fail> {
     for (changes, end, kind, at) in INSIDE {
         let bytes = changed(alloc, EVERYTHING_IMAGE, changes)?;
         let cut = bytes.get(..end).unwrap_or_default();
-        assert!(rt; has_fault(alloc, cut, kind, at)?, "{at}");
+        assert!(rt; has_fault(alloc, cut, kind, at)?, "offset {at}");
     }
     Ok(())
 }
@@ -194,7 +194,7 @@ fn tells_fields_before_their_template(rt: HostRuntime) -> Result<(), Fail> {
 #[test]
 fn tells_faults_of_other_bytes(rt: HostRuntime) -> Result<(), Fail> {
     for (bytes, kind, at) in OTHERS {
-        assert!(rt; has_fault(rt.alloc(), bytes, kind, at)?, "{at}");
+        assert!(rt; has_fault(rt.alloc(), bytes, kind, at)?, "offset {at}");
     }
     Ok(())
 }
