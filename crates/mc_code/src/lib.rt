@@ -43,16 +43,3 @@ pub use run_laws::{
     codes_agree, complete_paths_end, ends_are_complete, paths_are_runs, paths_split,
     runs_are_paths, sections_stop_once,
 };
-
-#[cfg(test)]
-mod assembler_tests;
-#[cfg(test)]
-mod image_fault_tests;
-#[cfg(test)]
-mod image_tests;
-#[cfg(test)]
-mod jump_tests;
-#[cfg(test)]
-mod limit_tests;
-#[cfg(test)]
-mod test_codes;
