@@ -4,7 +4,7 @@ use std::alloc::Global;
 use std::test::Fail;
 
 // A byte, and whether it separates words by `Separator::Space` and by `Separator::SpaceOrTab`.
-static SEPARATORS: [(u8, bool, bool); 4] = [
+static SEPARATORS: &[(u8, bool, bool)] = &[
     (b' ', true, true),
     (b'\t', false, true),
     (b'\r', false, false),
@@ -15,8 +15,8 @@ static SEPARATORS: [(u8, bool, bool); 4] = [
 fn knows_separators(rt: HostRuntime) {
     for (byte, is_space, is_space_or_tab) in SEPARATORS {
         assert!(rt;
-            Separator::Space.separates(byte) == is_space
-                && Separator::SpaceOrTab.separates(byte) == is_space_or_tab,
+            Separator::Space.separates(*byte) == *is_space
+                && Separator::SpaceOrTab.separates(*byte) == *is_space_or_tab,
             "{byte}"
         );
     }
@@ -30,7 +30,7 @@ type Row = (
     u32,
 );
 
-static TEXTS: [Row; 4] = [
+static TEXTS: &[Row] = &[
     // A tab alone is a word where the space is the only separator. A CR with no LF after it belongs to its word.
     (
         b"# first\r\n\n  \n a  b\tc \r\n\tx\n#\n y\r",
@@ -64,11 +64,11 @@ fn has_lines(text: &[u8], separator: Separator, expected: &[(u32, &[u8])], count
 #[test]
 fn takes_lines(rt: HostRuntime) {
     for (text, separator, expected, count) in TEXTS {
-        assert!(rt; has_lines(text, separator, expected, count), "{count}");
+        assert!(rt; has_lines(text, *separator, expected, *count), "{count}");
     }
 }
 
-static LINES: [(Separator, &[u8], &[&[u8]]); 2] = [
+static LINES: &[(Separator, &[u8], &[&[u8]])] = &[
     (Separator::Space, b" a  b\tc ", &[b"a", b"b\tc"]),
     (Separator::SpaceOrTab, b" a  b\tc ", &[b"a", b"b", b"c"]),
 ];
@@ -86,7 +86,7 @@ fn has_words(
 fn takes_words(rt: HostRuntime) -> Result<(), Fail> {
     for (separator, line, expected) in LINES {
         assert!(rt;
-            has_words(rt.alloc(), separator, line, expected)?,
+            has_words(rt.alloc(), *separator, line, expected)?,
             "{separator:?}"
         );
     }

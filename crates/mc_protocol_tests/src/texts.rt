@@ -39,7 +39,7 @@ fn appends_pieces(rt: HostRuntime) -> Result<(), Fail> {
 }
 
 // A request with the key `a`, its body and number, and its text.
-static REQUESTS: [(Verb, &str, u64, &str); 12] = [
+static REQUESTS: &[(Verb, &str, u64, &str)] = &[
     (Verb::Set, "5", 0, "set a 0 0 1\r\n5\r\n"),
     (Verb::Add, "", 0, "add a 0 0 0\r\n\r\n"),
     (Verb::Replace, "5", 0, "replace a 0 0 1\r\n5\r\n"),
@@ -54,38 +54,18 @@ static REQUESTS: [(Verb, &str, u64, &str); 12] = [
     (Verb::Touch, "", 0, "touch a 0\r\n"),
 ];
 
-fn renders_request(
-    alloc: Global,
-    verb: Verb,
-    body: &str,
-    number: u64,
-    text: &str,
-) -> Result<bool, OutOfMemory> {
-    let request = request(alloc, verb, b"a", body.as_bytes(), number)?;
+fn renders_request(alloc: Global, request: &Request, text: &str) -> Result<bool, OutOfMemory> {
     let mut out = Vec::new(alloc);
-    let answer = render_request(&request, &mut out);
+    let answer = render_request(request, &mut out);
     appended(answer, out.as_slice(), b"", text.as_bytes())
 }
-
-#[test]
-fn renders_requests(rt: HostRuntime) -> Result<(), Fail> {
-    for (verb, body, number, text) in REQUESTS {
-        assert!(rt;
-            renders_request(rt.alloc(), verb, body, number, text)?,
-            "{text}"
-        );
-    }
-    Ok(())
-}
-
-static LONG_KEY: [u8; 250] = [b'k'; 250];
 
 fn has_length(request: &Request, length: usize) -> bool {
     request.key.as_slice().len() <= 250 && request_len(request) == length
 }
 
-// Whether the request has as many bytes as the text, and 249 more with a key of 250.
-fn has_lengths(
+// Whether the text is rendered, and its length is known; with a key of 250 bytes it is longer by 249.
+fn has_text(
     alloc: Global,
     verb: Verb,
     body: &str,
@@ -94,16 +74,19 @@ fn has_lengths(
 ) -> Result<bool, OutOfMemory> {
     let short = request(alloc, verb, b"a", body.as_bytes(), number)?;
     let long = request(alloc, verb, &LONG_KEY, body.as_bytes(), number)?;
-    Ok(has_length(&short, text.len()) && has_length(&long, text.len() + 249))
+    Ok(
+        renders_request(alloc, &short, text)?
+            && has_length(&short, text.len())
+            && has_length(&long, text.len() + 249),
+    )
 }
 
+static LONG_KEY: [u8; 250] = [b'k'; 250];
+
 #[test]
-fn knows_lengths(rt: HostRuntime) -> Result<(), Fail> {
+fn renders_requests(rt: HostRuntime) -> Result<(), Fail> {
     for (verb, body, number, text) in REQUESTS {
-        assert!(rt;
-            has_lengths(rt.alloc(), verb, body, number, text)?,
-            "{text}"
-        );
+        assert!(rt; has_text(rt.alloc(), *verb, body, *number, text)?, "{text}");
     }
     Ok(())
 }
@@ -139,7 +122,7 @@ fn renders_replies(rt: HostRuntime) -> Result<(), Fail> {
 }
 
 // The flags, body and cas number of a hit, and its text.
-static HITS: [(u32, &str, Option<u64>, &str); 2] = [
+static HITS: &[(u32, &str, Option<u64>, &str)] = &[
     (0, "1", Some(11), "VALUE a 0 1 11\r\n1\r\nEND\r\n"),
     (7, "\r\n", None, "VALUE a 7 2\r\n\r\n\r\nEND\r\n"),
 ];
@@ -152,7 +135,7 @@ fn hit(alloc: Global, flags: u32, body: &str, cas: Option<u64>) -> Result<Reply,
 #[test]
 fn renders_hits(rt: HostRuntime) -> Result<(), Fail> {
     for (flags, body, cas, text) in HITS {
-        let reply = hit(rt.alloc(), flags, body, cas)?;
+        let reply = hit(rt.alloc(), *flags, body, *cas)?;
         assert!(rt; renders_reply(rt.alloc(), &reply, text)?, "{text}");
     }
     Ok(())
