@@ -8,4 +8,10 @@ mod acts;
 #[cfg(test)]
 mod caches;
 #[cfg(test)]
+mod faults;
+#[cfg(test)]
+mod histories;
+#[cfg(test)]
 mod lines;
+#[cfg(test)]
+mod words;
