@@ -6,7 +6,7 @@ use mc_protocol::OutOfMemory;
 use std::alloc::Global;
 use std::test::Fail;
 
-// What a server may do where nothing else is asked.
+// What a server chooses where a row asks for nothing else.
 const PLAIN: Choice = Choice {
     pad: false,
     read: false,

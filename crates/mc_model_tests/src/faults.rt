@@ -1,4 +1,4 @@
-//! Words that spell nothing, and the texts of faults. More such words are cases of the program.
+//! Words that spell nothing, and the texts of faults. More such words are cases of the program (`faulty-words.cases`).
 use crate::lines::{reply_in, request_in};
 use mc_model::{HistoryKind, WordsFault, read_body};
 use mc_protocol::OutOfMemory;

@@ -99,7 +99,7 @@ fn reads_and_prints_each_reply(rt: HostRuntime) -> Result<(), Fail> {
     Ok(())
 }
 
-// The line of a hit, and its flags, body and cas number. The last is printed otherwise.
+// The line of a hit, and its flags, body and cas number.
 static HITS: &[(&str, u32, &[u8], Option<u64>)] = &[
     ("HIT 3 =%00a%25", 3, b"\0a%", None),
     ("HIT 0 = 12", 0, b"", Some(12)),
