@@ -12,7 +12,6 @@ GAVE_UP = "`search` gave up at one of its limits"
 def place(edit, crate, found):
     """Notes of an edit the functions that it stands in, and of one that changes a type or a constant those that use it."""
     changed = [(file, at) for file, lines in edit.changed.items() for at in lines]
-    edit.items = []
     for file, at in changed:
         line = (crate.folder / file).read_text(encoding="utf-8").split("\n")[at]
         item = next((it for it in found if it.file == file and it.holds(at)), None)
@@ -80,12 +79,18 @@ def refusal(edit, answer):
     return weaker
 
 
+def is_proved(edit, answer):
+    """Whether the answer proves each function of the edit."""
+    lines = [it for function in edit.functions for it in lines_of(answer, function)]
+    return set(edit.functions) <= set(lines) and all(answer.words[it] == "proved" for it in lines)
+
+
 def why_not(edit, answer):
     """What the answer says of an edit that it doesn't refuse."""
-    said = [f"{name}: {answer.words[name]}" for it in edit.functions for name in lines_of(answer, it)]
-    if said and all(it.endswith(": proved") for it in said):
-        return f"NOT REFUSED: {edit.functions[0]} is still proved"
-    return "; ".join(it for it in said if not it.endswith(": proved")) or "no message of its function"
+    if is_proved(edit, answer):
+        return f"NOT REFUSED: {', '.join(edit.functions)} still proved"
+    lines = [it for function in edit.functions for it in lines_of(answer, function)]
+    return "; ".join(f"{it}: {answer.words[it]}" for it in lines if answer.words[it] != "proved") or "no message of its function"
 
 
 def fault_of(edit, answer):

@@ -25,6 +25,10 @@ class Edit:
     changed: dict = field(default_factory=dict)
     # The crate and the name of the test that refuses it.
     test: tuple | None = None
+    # The items that it changes, and the functions that are to refuse it. Where it changes more than bodies, it is tried alone.
+    items: list = field(default_factory=list)
+    functions: list = field(default_factory=list)
+    is_alone: bool = False
 
     def __str__(self):
         return f"{self.crate}/{self.name}"

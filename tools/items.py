@@ -140,22 +140,23 @@ def items_of(folder):
     return found
 
 
-def exported(root):
-    """The names that a library's root file gives on."""
-    text = root.read_text(encoding="utf-8")
+def offered_by(folder):
+    """The names that a library's root file gives on, and the modules that are public, the root among them."""
+    text = (folder / "src/lib.rt").read_text(encoding="utf-8")
     used = re.findall(r"^pub use ([^;]*);", text, re.M)
-    return {name for it in used for name in re.findall(r"(\w+)(?=[,\s}]*\Z|\s*,|\s*\})", it)}
+    names = {name for it in used for name in re.findall(r"(\w+)(?=\s*(?:[,}]|\Z))", it)}
+    return names, {(), *((it,) for it in re.findall(r"^pub mod (\w+);", text, re.M))}
 
 
 def public_functions(folder):
     """The functions that a library offers, laws left out: a law has an empty body, and its contract says it."""
-    root = folder / "src/lib.rt"
-    if not root.is_file():
+    if not (folder / "src/lib.rt").is_file():
         return []
-    offered = exported(root)
+    names, modules = offered_by(folder)
     found = []
     for item in items_of(folder):
-        is_offered = item.is_public and item.kind == "fn" and not item.is_of_trait
-        if is_offered and not item.is_empty and (item.owner or item.name) in offered:
-            found.append(item)
+        module = item.path[: -2 if item.owner else -1]
+        if item.kind == "fn" and item.is_public and not item.is_of_trait and not item.is_empty:
+            if (item.owner or item.name) in names or module in modules:
+                found.append(item)
     return found
