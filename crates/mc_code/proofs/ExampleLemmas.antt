@@ -8,7 +8,7 @@ use Rattle.mc_script.specs.declared.step.Argument.TheVariants as argument
 use Rattle.mc_script.specs.Templates.{has_fields, IsTemplate}
 use Rattle.mc_script.specs.WellFormed.{IsSection, IsScript}
 use Rattle.mc_code.specs.declared.instr.Instr.TheVariants as instr
-use Rattle.mc_code.specs.Examples.{CounterIsImage, CounterIsLaidOut, CounterMeets, SwapIsLaidOut, SwapMeets, after_count, after_delete, after_set, request, send, section, counter, swap}
+use Rattle.mc_code.specs.Examples.{CounterIsImage, CounterIsLaidOut, CounterComesTo, SwapIsLaidOut, SwapComesTo, after_count, after_delete, after_set, request, send, section, counter, swap}
 use Rattle.mc_code.specs.Runs as run
 use Rattle.mc_code.specs.ScriptRuns as walk
 
@@ -92,8 +92,8 @@ swap_script = record {
 
 -- ---- what they meet
 
-pub counter_meetings : CounterMeets
-counter_meetings = record {
+pub counter_outcomes : CounterComesTo
+counter_outcomes = record {
   script = counter_script;
   clears = ((0, walk.rests, refl), (0, run.rests, refl));
   stores = (
@@ -120,8 +120,8 @@ counter_meetings = record {
 abbrev after_read : List ℕ
 after_read = 255 ∷ 255 ∷ 255 ∷ 255 ∷ 1 ∷ 3 ∷ 255 ∷ 255 ∷ 255 ∷ 255 ∷ []
 
-pub swap_meetings : SwapMeets
-swap_meetings = record {
+pub swap_outcomes : SwapComesTo
+swap_outcomes = record {
   script = swap_script;
   swapped = λ number. (
     (1, walk.sends refl refl refl walk.rests, refl),

@@ -23,7 +23,7 @@ use Rattle.mc_code.specs.declared.limits.TheConstants.{TEMPLATES_LIMIT, INSTRUCT
 use Rattle.mc_code.specs.Agreement.{Agrees}
 use Rattle.mc_code.specs.Code as code
 use Rattle.mc_code.specs.ScriptRuns.{clearing, clearing_steps, front_of, all_steps, all_labels, jump_on}
-use Rattle.mc_code.specs.Layout.{request_of, requests_of, templates_of, size_of, size_of_all, code_place, behind_label, label_place, entry, entry_for, entries, bind_code, step_code, code_from, first_template, section_code, code_of, template_count, instruction_count}
+use Rattle.mc_code.specs.Layout.{request_of, requests_of, templates_of, size_of, size_of_all, code_place, after_label, label_place, entry, entry_for, entries, bind_code, step_code, code_from, first_template, section_code, code_of, template_count, instruction_count}
 use Rattle.mc_code.proofs.Agreeing.{code_agrees}
 use Rattle.mc_code.proofs.Bounds.{section-kept, declared-few}
 use Rattle.mc_code.proofs.Rooms.{section-within}
@@ -35,7 +35,7 @@ place-below steps zero = omega arith
 place-below [] (suc p) = omega arith
 place-below (s ∷ steps) (suc p) = omega (arith, place-below steps p)
 
-behind-below : (steps : List Step) (label : Option Label) → behind_label steps label ≤ size_of_all steps
+behind-below : (steps : List Step) (label : Option Label) → after_label steps label ≤ size_of_all steps
 behind-below steps None = omega arith
 behind-below steps (Some label) = place-below steps label.place
 

@@ -1,4 +1,4 @@
--- Two small scripts: how their code is laid out, and what it meets.
+-- Two small scripts: how their code is laid out, and what it comes to.
 use Rattle.std.specs.Prelude.{◌≡◌, ℕ, Some, None, List, [], ◌∷◌, ◌++◌, length, take, drop, codes}
 use Rattle.mc_protocol.specs.declared.actor.Actor.{Actor}
 use Rattle.mc_protocol.specs.declared.actor.Actor.TheVariants as actor
@@ -18,9 +18,9 @@ use Rattle.mc_code.specs.declared.instr.Instr.TheVariants as instr
 use Rattle.mc_code.specs.declared.kind.Kind.TheVariants as kind
 use Rattle.mc_code.specs.Image.{image_of}
 use Rattle.mc_code.specs.Layout.{templates_of, instructions_of, code_of}
-use Rattle.mc_code.specs.Runs.{Answer, Does}
-use Rattle.mc_code.specs.ScriptRuns.{clearing, ScriptDoes}
-use Rattle.mc_code.specs.States.{Tagged, nothing, State, begun, Meeting, call, nothing_to_bind, ended}
+use Rattle.mc_code.specs.Runs.{Exchange, ComesTo}
+use Rattle.mc_code.specs.ScriptRuns.{clearing, ScriptComesTo}
+use Rattle.mc_code.specs.States.{Tagged, nothing, State, begun, Outcome, call, nothing_to_bind, ended}
 
 -- a request on the first key, with no flags
 abbrev pub request : Verb → Argument → List ℕ → Template
@@ -44,10 +44,10 @@ send t = step.Send t [] None
 abbrev pub section : ℕ → ℕ → List Step → Section
 section requests bytes steps = record { budget = record { requests = requests; bytes = bytes }; steps = steps; labels = [] }
 
--- the script and its code meet the same
-abbrev pub Meets : Script → Actor → List Tagged → List Answer → State → Meeting → Type 0
-Meets s actor variables answers st meeting =
-    ScriptDoes s actor variables answers st meeting × Does (code_of s) actor variables answers st meeting
+-- the script and its code come to the same
+abbrev pub BothComeTo : Script → Actor → List Tagged → List Exchange → State → Outcome → Type 0
+BothComeTo s actor variables exchanges st outcome =
+    ScriptComesTo s actor variables exchanges st outcome × ComesTo (code_of s) actor variables exchanges st outcome
 
 -- ---- two increments of one counter
 
@@ -97,26 +97,26 @@ counter_sections =
     (3 ∷ 0 ∷ 0 ∷ after_delete 1) ++ (0 ∷ 1 ∷ after_set 2) ++ (3 ∷ [])
     ++ (2 ∷ 0 ∷ 2 ∷ after_count 1) ++ (3 ∷ 2 ∷ 0 ∷ 3 ∷ after_count 1) ++ (3 ∷ [])
 
--- how long the image is, and what stands before and behind the templates
+-- how long the image is, and what stands before and after the templates
 pub record CounterIsImage : Type 0 where
   pub size : length (image_of (code_of counter)) ≡ 202
   pub head : take 19 (image_of (code_of counter)) ≡ counter_head
   pub sections : drop 148 (image_of (code_of counter)) ≡ counter_sections
 
 -- it is a script; what its sections send, and when they are done
-pub record CounterMeets : Type 0 where
+pub record CounterComesTo : Type 0 where
   pub script : IsScript counter
   -- P deletes the key first
-  pub clears : Meets counter actor.P [] [] (begun []) (call (clearing 0) 0)
+  pub clears : BothComeTo counter actor.P [] [] (begun []) (call (clearing 0) 0)
   -- then it stores 5
-  pub stores : Meets counter actor.P [] ((clearing 0, reply.NotFound) ∷ []) (begun []) (call stores_five 0)
+  pub stores : BothComeTo counter actor.P [] ((clearing 0, reply.NotFound) ∷ []) (begun []) (call stores_five 0)
   -- and is done, also where it stored nothing
-  pub done : Meets counter actor.P [] ((clearing 0, reply.Deleted) ∷ (stores_five, reply.NotStored) ∷ []) (begun []) ended
+  pub done : BothComeTo counter actor.P [] ((clearing 0, reply.Deleted) ∷ (stores_five, reply.NotStored) ∷ []) (begun []) ended
   -- B counts up by 1
-  pub counts : Meets counter actor.B [] [] (begun []) (call counts_up 1)
+  pub counts : BothComeTo counter actor.B [] [] (begun []) (call counts_up 1)
   -- and is done once it has the count
   pub counted : (count : ℕ)
-      → Meets counter actor.B [] ((counts_up, reply.Number count) ∷ []) (record { variables = []; last = (kind.Num, count) }) ended
+      → BothComeTo counter actor.B [] ((counts_up, reply.Number count) ∷ []) (record { variables = []; last = (kind.Num, count) }) ended
 
 -- ---- a swap of what was read
 
@@ -155,15 +155,15 @@ pub record SwapIsLaidOut : Type 0 where
 abbrev pub hit : ℕ → Reply
 hit number = reply.Hit 0 (codes "5") (Some number)
 
--- it is a script; what A swaps with, where a miss leads, and what B meets that was shown nothing
-pub record SwapMeets : Type 0 where
+-- it is a script; what A swaps with, where a miss leads, and what B comes to that was shown nothing
+pub record SwapComesTo : Type 0 where
   pub script : IsScript swap
   -- the cas has the number that the hit showed
-  pub swapped : (number : ℕ) → Meets swap actor.A (nothing ∷ []) ((reads, hit number) ∷ [])
+  pub swapped : (number : ℕ) → BothComeTo swap actor.A (nothing ∷ []) ((reads, hit number) ∷ [])
       (record { variables = (kind.Cas 0, number) ∷ []; last = (kind.Cas 0, number) }) (call swaps number)
   -- a miss leads to the end
-  pub missed : Meets swap actor.A (nothing ∷ []) ((reads, reply.Miss) ∷ []) (begun (nothing ∷ [])) ended
+  pub missed : BothComeTo swap actor.A (nothing ∷ []) ((reads, reply.Miss) ∷ []) (begun (nothing ∷ [])) ended
   -- no reply has shown B a number
-  pub nothing_shown : Meets swap actor.B (nothing ∷ []) [] (begun (nothing ∷ [])) (nothing_to_bind 0)
+  pub nothing_shown : BothComeTo swap actor.B (nothing ∷ []) [] (begun (nothing ∷ [])) (nothing_to_bind 0)
   -- and it goes on
-  pub goes_on : Meets swap actor.B (nothing ∷ []) [] (begun (nothing ∷ [])) (call touches 0)
+  pub goes_on : BothComeTo swap actor.B (nothing ∷ []) [] (begun (nothing ∷ [])) (call touches 0)

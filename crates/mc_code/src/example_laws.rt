@@ -1,5 +1,5 @@
 //! What the definitions say of two small scripts.
-ghost use Rattle.mc_code.specs.Examples.{CounterIsImage, CounterIsLaidOut, CounterMeets, SwapIsLaidOut, SwapMeets};
+ghost use Rattle.mc_code.specs.Examples.{CounterIsImage, CounterIsLaidOut, CounterComesTo, SwapIsLaidOut, SwapComesTo};
 
 /// The code of two increments of one counter.
 pub fn counter_is_laid_out()
@@ -12,8 +12,8 @@ pub fn counter_is_image()
 {}
 
 /// What it sends, and when it is done.
-pub fn counter_meets()
-    ensures { CounterMeets }
+pub fn counter_comes_to()
+    ensures { CounterComesTo }
 {}
 
 /// The code of a swap of what was read, where a miss goes to the end.
@@ -21,7 +21,7 @@ pub fn swap_is_laid_out()
     ensures { SwapIsLaidOut }
 {}
 
-/// It swaps with the number that it was shown, and meets a bind that was shown none.
-pub fn swap_meets()
-    ensures { SwapMeets }
+/// It swaps with the number that it was shown, and comes to a bind that was shown none.
+pub fn swap_comes_to()
+    ensures { SwapComesTo }
 {}

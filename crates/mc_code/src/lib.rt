@@ -30,7 +30,7 @@ mod well_formed;
 pub use assembler::assemble;
 pub use code::Code;
 pub use example_laws::{
-    counter_is_image, counter_is_laid_out, counter_meets, swap_is_laid_out, swap_meets,
+    counter_comes_to, counter_is_image, counter_is_laid_out, swap_comes_to, swap_is_laid_out,
 };
 pub use fault::{AsmFault, ImageFault, ImageKind};
 pub use image_laws::images_are_of_one_code;
