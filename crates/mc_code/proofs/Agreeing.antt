@@ -7,8 +7,9 @@ use Rattle.mc_script.specs.WellFormed.{IsScript}
 use Rattle.mc_code.specs.Agreement.{Agrees}
 use Rattle.mc_code.specs.Code as code
 use Rattle.mc_code.specs.Layout.{code_place, templates_of, first_template, instructions_of, code_of}
-use Rattle.mc_code.specs.Runs.{Exchange, IsRun, met_at, ComesTo}
+use Rattle.mc_code.specs.Runs.{Exchange, IsRun, met_at}
 use Rattle.mc_code.specs.ScriptRuns.{all_steps, all_labels, ScriptComesTo}
+use Rattle.mc_code.specs.Standing.{ComesTo}
 use Rattle.mc_code.specs.States.{Tagged, State, begun, Outcome}
 use Rattle.mc_code.proofs.Backwards.{comes_to_too}
 use Rattle.mc_code.proofs.Forwards.{forwards}

@@ -13,7 +13,7 @@ use Rattle.mc_script.specs.declared.step.Template.{Template}
 use Rattle.mc_code.specs.declared.instr.Instr.{Instr}
 use Rattle.mc_code.specs.declared.instr.Instr.TheVariants as instr
 use Rattle.mc_code.specs.declared.kind.Kind.TheVariants as kind
-use Rattle.mc_code.specs.Code.{section_of}
+use Rattle.mc_code.specs.Code.{instructions_in}
 use Rattle.mc_code.specs.Paths.{Edge, Slides, Sends, IsPath, IsComplete}
 use Rattle.mc_code.specs.Paths as path
 use Rattle.mc_code.specs.Runs.{Exchange, is_fit_for, slid, IsRun, rests, slides, sends, met_by_send, met_at}
@@ -215,10 +215,10 @@ ended_at_halt templates (Some instr.Halt) st met = refl
 
 pub ends_complete : EndsAreComplete
 ends_complete c actor variables exchanges st (p, run, met) =
-    (p, run_path run, ended_at_halt c.templates (slice_get (section_of c actor).instructions p) st met)
+    (p, run_path run, ended_at_halt c.templates (slice_get (instructions_in c actor) p) st met)
 
 pub complete_ends : CompletePathsEnd
 complete_ends c actor variables edges (p, is_path, halt) =
-    let section = (section_of c actor).instructions in
+    let section = instructions_in c actor in
     let run : AreOfRun c.templates section 0 (begun variables) edges p = path_run c.templates section 0 is_path (begun variables) in
     (run.0, run.1, (p, run.2, ap (λ o. met_at c.templates o run.1) halt), run.3)

@@ -6,7 +6,7 @@ use Rattle.mc_protocol.specs.declared.reply.Reply.{Reply}
 use Rattle.mc_script.specs.declared.step.Template.{Template}
 use Rattle.mc_code.specs.declared.instr.Instr.{Instr}
 use Rattle.mc_code.specs.declared.instr.Instr.TheVariants as instr
-use Rattle.mc_code.specs.Code.{section_of}
+use Rattle.mc_code.specs.Code.{instructions_in}
 use Rattle.mc_code.specs.Paths.{Slides, Sends}
 use Rattle.mc_code.specs.Runs.{Exchange, is_fit_for, slid, IsRun, rests, slides, sends, met_at}
 use Rattle.mc_code.specs.RunLaws.{stops, StopsOnce}
@@ -127,7 +127,7 @@ one_stop templates section (sends {p = p} {q = q} {r = s} {st = st} {st' = mid} 
 
 pub stop_once : StopsOnce
 stop_once c actor variables exchanges st st' outcome outcome' (p, run, met) (q, run', met') stop stop' =
-    let section = (section_of c actor).instructions in
+    let section = instructions_in c actor in
     let here = stops_at c.templates section p st outcome met stop in
     let there = stops_at c.templates section q st' outcome' met' stop' in
     let same = one_stop c.templates section run here q st' run' there in

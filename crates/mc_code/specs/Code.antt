@@ -32,6 +32,9 @@ section_of c actor.P = c.p
 section_of c actor.A = c.a
 section_of c actor.B = c.b
 
+abbrev pub instructions_in : Code → Actor → List Instr
+instructions_in c actor = (section_of c actor).instructions
+
 -- ---- what code keeps
 
 abbrev pub is_byte : ℕ → Type 0

@@ -18,8 +18,9 @@ use Rattle.mc_code.specs.declared.instr.Instr.TheVariants as instr
 use Rattle.mc_code.specs.declared.kind.Kind.TheVariants as kind
 use Rattle.mc_code.specs.Image.{image_of}
 use Rattle.mc_code.specs.Layout.{templates_of, instructions_of, code_of}
-use Rattle.mc_code.specs.Runs.{Exchange, ComesTo}
+use Rattle.mc_code.specs.Runs.{Exchange}
 use Rattle.mc_code.specs.ScriptRuns.{clearing, ScriptComesTo}
+use Rattle.mc_code.specs.Standing.{ComesTo}
 use Rattle.mc_code.specs.States.{Tagged, nothing, State, begun, Outcome, call, nothing_to_bind, ended}
 
 -- a request on the first key, with no flags

@@ -12,6 +12,8 @@ pub mod Image
 pub mod Paths
 pub mod States
 pub mod Runs
+pub mod Standing
+pub mod Calls
 pub mod ScriptRuns
 pub mod Agreement
 pub mod Layout

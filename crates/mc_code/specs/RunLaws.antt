@@ -7,10 +7,11 @@ use Rattle.mc_script.specs.Script.{Script}
 use Rattle.mc_script.specs.WellFormed.{IsScript}
 use Rattle.mc_code.specs.declared.instr.Instr.{Instr}
 use Rattle.mc_code.specs.Agreement.{Agrees}
-use Rattle.mc_code.specs.Code.{Code, section_of}
+use Rattle.mc_code.specs.Code.{Code, instructions_in}
 use Rattle.mc_code.specs.Layout.{code_of}
 use Rattle.mc_code.specs.Paths.{Edge, IsPath, IsComplete}
-use Rattle.mc_code.specs.Runs.{Exchange, IsRun, ComesTo}
+use Rattle.mc_code.specs.Runs.{Exchange, IsRun}
+use Rattle.mc_code.specs.Standing.{ComesTo}
 use Rattle.mc_code.specs.States.{Tagged, State, Outcome, nothing_to_bind, ended}
 
 -- the edge along which an exchange goes
@@ -40,12 +41,12 @@ PathsAreRuns = (templates : List Template) (section : List Instr) (p q : ℕ) (e
 -- the edges of a section that is done are a complete path
 abbrev pub EndsAreComplete : Type 0
 EndsAreComplete = (c : Code) (actor : Actor) (variables : List Tagged) (exchanges : List Exchange) (st : State)
-    → ComesTo c actor variables exchanges st ended → IsComplete c.templates (section_of c actor).instructions (edges_of exchanges)
+    → ComesTo c actor variables exchanges st ended → IsComplete c.templates (instructions_in c actor) (edges_of exchanges)
 
 -- each complete path is that of a section that is done, whatever its variables were at its start
 abbrev pub CompletePathsEnd : Type 0
 CompletePathsEnd = (c : Code) (actor : Actor) (variables : List Tagged) (edges : List Edge)
-    → IsComplete c.templates (section_of c actor).instructions edges
+    → IsComplete c.templates (instructions_in c actor) edges
     → (exchanges : List Exchange) × (st : State) × ComesTo c actor variables exchanges st ended × (edges_of exchanges ≡ edges)
 
 -- the section goes no further without a reply: it goes on past a bind that was shown no number

@@ -1,16 +1,13 @@
 -- Runs of code: a section's instructions, from reply to reply, with what its variables hold.
-use Rattle.std.specs.Prelude.{◌≡◌, ℕ, true, ◌&&◌, Bool, Option, Some, None, List, [], ◌∷◌, slice_get, replicate}
+use Rattle.std.specs.Prelude.{◌≡◌, ℕ, true, ◌&&◌, Bool, Option, Some, None, List, [], ◌∷◌, slice_get}
 use Rattle.mc_protocol.specs.Legal.{class_of, is_legal, suits}
-use Rattle.mc_protocol.specs.declared.actor.Actor.{Actor}
-use Rattle.mc_protocol.specs.declared.actor.Actor.TheVariants as actor
 use Rattle.mc_protocol.specs.declared.request.Verb.{Verb}
 use Rattle.mc_protocol.specs.declared.reply.Reply.{Reply}
 use Rattle.mc_script.specs.declared.step.Template.{Template}
 use Rattle.mc_code.specs.declared.instr.Instr.{Instr}
 use Rattle.mc_code.specs.declared.instr.Instr.TheVariants as instr
-use Rattle.mc_code.specs.Code.{Code, section_of}
 use Rattle.mc_code.specs.Paths.{Slides, Sends}
-use Rattle.mc_code.specs.States.{Tagged, nothing, State, begun, answered, bound, Outcome, outside, ended, sending, binding}
+use Rattle.mc_code.specs.States.{State, answered, bound, Outcome, outside, ended, sending, binding}
 
 -- a request of the verb may have this reply
 abbrev pub is_fit_for : Verb → Reply → Bool
@@ -37,7 +34,7 @@ pub data IsRun (templates : List Template) (section : List Instr) : ℕ → Stat
       → IsRun templates section q (answered t reply st) exchanges r st'
       → IsRun templates section p st ((t, reply) ∷ exchanges) r st'
 
--- ---- what a section comes to
+-- ---- what stands at a place
 
 -- what a send comes to, if its template is there
 abbrev pub met_by_send : Option Template → State → Outcome
@@ -51,17 +48,3 @@ met_at templates (Some (instr.Send t next)) st = Some (met_by_send (slice_get te
 met_at templates (Some (instr.Bind variable)) st = binding variable st
 met_at templates (Some (instr.Goto place)) st = None
 met_at templates (Some instr.Halt) st = Some ended
-
--- begun with these variables, the section comes after these exchanges to this, in this state
-abbrev pub ComesTo : Code → Actor → List Tagged → List Exchange → State → Outcome → Type 0
-ComesTo c actor variables exchanges st outcome =
-    (p : ℕ) × IsRun c.templates (section_of c actor).instructions 0 (begun variables) exchanges p st
-    × (met_at c.templates (slice_get (section_of c actor).instructions p) st ≡ Some outcome)
-
--- P begins with no number in its variables, and a branch with those of a P that is done
-abbrev pub Begins : Code → Actor → List Tagged → Type 0
-Begins c actor.P variables = variables ≡ replicate c.vars nothing
-Begins c actor.A variables =
-    (exchanges : List Exchange) × (st : State) × ComesTo c actor.P (replicate c.vars nothing) exchanges st ended × (variables ≡ st.variables)
-Begins c actor.B variables =
-    (exchanges : List Exchange) × (st : State) × ComesTo c actor.P (replicate c.vars nothing) exchanges st ended × (variables ≡ st.variables)
