@@ -18,6 +18,7 @@ pub mod ScriptRuns
 pub mod Agreement
 pub mod Layout
 pub mod RunLaws
+pub mod StandingLaws
 pub mod Examples
 -- What private contracts cite.
 pub mod Assembling

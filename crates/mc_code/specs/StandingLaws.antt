@@ -1,0 +1,28 @@
+-- Laws of where a section stands, whatever the code is.
+use Rattle.std.specs.Prelude.{◌≡◌, ℕ, Some, List, [], ◌∷◌, ◌++◌, slice_get}
+use Rattle.mc_protocol.specs.declared.actor.Actor.{Actor}
+use Rattle.mc_script.specs.declared.step.Template.{Template}
+use Rattle.mc_code.specs.declared.instr.Call.{Call}
+use Rattle.mc_code.specs.Calls.{IsCalling, calls_of, Opens}
+use Rattle.mc_code.specs.Code.{Code}
+use Rattle.mc_code.specs.RunLaws.{edges_of}
+use Rattle.mc_code.specs.Runs.{Exchange}
+use Rattle.mc_code.specs.Standing.{Leaves}
+use Rattle.mc_code.specs.States.{Tagged}
+
+-- P leaves one list of variables after the same exchanges
+abbrev pub LeavesOnce : Type 0
+LeavesOnce = (c : Code) (before : List Exchange) (variables others : List Tagged)
+    → Leaves c before variables → Leaves c before others → variables ≡ others
+
+-- a section makes one call after the same exchanges, with one index and one number
+abbrev pub CallsOnce : Type 0
+CallsOnce = (c : Code) (actor : Actor) (variables : List Tagged) (exchanges : List Exchange) (made other : Call)
+    → IsCalling c actor variables exchanges made → IsCalling c actor variables exchanges other → made ≡ other
+
+-- what a section has sent, and the template of the call that it is about to make, are the calls of a path to a send
+abbrev pub CallsOpen : Type 0
+CallsOpen = (c : Code) (actor : Actor) (variables : List Tagged) (exchanges : List Exchange) (made : Call)
+    → IsCalling c actor variables exchanges made
+    → (place : ℕ) × (t : Template) × (slice_get c.templates made.template ≡ Some t)
+    × Opens c actor place (calls_of (edges_of exchanges) ++ t ∷ [])
