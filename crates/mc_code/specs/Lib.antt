@@ -19,6 +19,7 @@ pub mod Agreement
 pub mod Layout
 pub mod RunLaws
 pub mod StandingLaws
+pub mod NumberLaws
 pub mod Examples
 -- What private contracts cite.
 pub mod Assembling

@@ -1,0 +1,31 @@
+-- Laws of the numbers that variables have along a run, whatever the code is.
+use Rattle.std.specs.Prelude.{◌≡◌, ◌⊎◌, ℕ, Some, List, [], ◌∷◌, slice_get}
+use Rattle.mc_protocol.specs.declared.request.Verb.TheVariants as verb
+use Rattle.mc_protocol.specs.declared.reply.Reply.TheVariants as reply
+use Rattle.mc_script.specs.declared.step.Template.{Template}
+use Rattle.mc_code.specs.declared.instr.Instr.{Instr}
+use Rattle.mc_code.specs.declared.kind.Kind.TheVariants as kind
+use Rattle.mc_code.specs.Runs.{Exchange, IsRun}
+use Rattle.mc_code.specs.States.{State}
+
+-- ---- cas uniques
+
+-- the exchange is a `gets` of the key that was answered with this cas unique
+abbrev pub Shows : ℕ → ℕ → Exchange → Type 0
+Shows key number exchange = (flags : ℕ) × (body : List ℕ)
+    × (exchange.0.verb ≡ verb.Gets) × (exchange.0.key ≡ key) × (exchange.1 ≡ reply.Hit flags body (Some number))
+
+-- one of these exchanges is
+abbrev pub IsShownIn : ℕ → ℕ → List Exchange → Type 0
+IsShownIn key number [] = ⊥
+IsShownIn key number (exchange ∷ exchanges) = Shows key number exchange ⊎ IsShownIn key number exchanges
+
+-- the variable has this cas unique of the key
+abbrev pub Holds : State → ℕ → ℕ → ℕ → Type 0
+Holds st variable key number = slice_get st.variables variable ≡ Some (kind.Cas key, number)
+
+-- a variable that has a cas unique had it at the start, or the last reply before the start shows it, or one of these exchanges
+abbrev pub NumbersWereShown : Type 0
+NumbersWereShown = (templates : List Template) (section : List Instr) (p q : ℕ) (st end : State) (exchanges : List Exchange)
+    (variable key number : ℕ) → IsRun templates section p st exchanges q end → Holds end variable key number
+    → Holds st variable key number ⊎ ((st.last ≡ (kind.Cas key, number)) ⊎ IsShownIn key number exchanges)

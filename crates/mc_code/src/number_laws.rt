@@ -1,0 +1,7 @@
+//! What follows from the definition of runs for the numbers that variables have, whatever the code is.
+ghost use Rattle.mc_code.specs.NumberLaws.{NumbersWereShown};
+
+/// The cas unique that a variable has was there at the start, or a `gets` of its key showed it.
+pub fn numbers_were_shown()
+    ensures { NumbersWereShown }
+{}
