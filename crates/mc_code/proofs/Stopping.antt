@@ -34,19 +34,19 @@ stops_at templates section p st outcome met no_bind i q at leads = by_instr i (a
 
 -- ---- moves lead to one place
 
-slides_once : (i : Instr) (p q r : ℕ) → Slides i p q → Slides i p r → q ≡ r
+pub slides_once : (i : Instr) (p q r : ℕ) → Slides i p q → Slides i p r → q ≡ r
 slides_once (instr.Send n next) p q r e f = absurd e
 slides_once (instr.Bind v) p q r e f = e ∙ sym f
 slides_once (instr.Goto place) p q r e f = e ∙ sym f
 slides_once instr.Halt p q r e f = absurd e
 
-sends_once : (templates : List Template) (i : Instr) (t : Template) (c : Class) (q r : ℕ) → Sends templates i t c q → Sends templates i t c r → q ≡ r
+pub sends_once : (templates : List Template) (i : Instr) (t : Template) (c : Class) (q r : ℕ) → Sends templates i t c q → Sends templates i t c r → q ≡ r
 sends_once templates (instr.Send n next) t c q r e f = e.2 ∙ sym f.2
 sends_once templates (instr.Bind v) t c q r e f = absurd e
 sends_once templates (instr.Goto place) t c q r e f = absurd e
 sends_once templates instr.Halt t c q r e f = absurd e
 
-slides_or_sends : (templates : List Template) (i : Instr) (p q r : ℕ) (t : Template) (c : Class) → Slides i p q → Sends templates i t c r → ⊥
+pub slides_or_sends : (templates : List Template) (i : Instr) (p q r : ℕ) (t : Template) (c : Class) → Slides i p q → Sends templates i t c r → ⊥
 slides_or_sends templates (instr.Send n next) p q r t c e f = e
 slides_or_sends templates (instr.Bind v) p q r t c e f = f
 slides_or_sends templates (instr.Goto place) p q r t c e f = f

@@ -1,12 +1,15 @@
 -- Laws of the numbers that variables have along a run, whatever the code is.
-use Rattle.std.specs.Prelude.{◌≡◌, ◌⊎◌, ℕ, Some, List, [], ◌∷◌, slice_get}
+use Rattle.std.specs.Prelude.{◌≡◌, ◌⊎◌, ℕ, Some, List, [], ◌∷◌, map, slice_get}
 use Rattle.mc_protocol.specs.declared.request.Verb.TheVariants as verb
 use Rattle.mc_protocol.specs.declared.reply.Reply.TheVariants as reply
 use Rattle.mc_script.specs.declared.step.Template.{Template}
 use Rattle.mc_code.specs.declared.instr.Instr.{Instr}
+use Rattle.mc_code.specs.declared.kind.Kind.{Kind}
 use Rattle.mc_code.specs.declared.kind.Kind.TheVariants as kind
+use Rattle.mc_code.specs.Paths.{LeadsForwards}
+use Rattle.mc_code.specs.RunLaws.{edges_of}
 use Rattle.mc_code.specs.Runs.{Exchange, IsRun}
-use Rattle.mc_code.specs.States.{State}
+use Rattle.mc_code.specs.States.{Tagged, State}
 
 -- ---- cas uniques
 
@@ -29,3 +32,19 @@ abbrev pub NumbersWereShown : Type 0
 NumbersWereShown = (templates : List Template) (section : List Instr) (p q : ℕ) (st end : State) (exchanges : List Exchange)
     (variable key number : ℕ) → IsRun templates section p st exchanges q end → Holds end variable key number
     → Holds st variable key number ⊎ ((st.last ≡ (kind.Cas key, number)) ⊎ IsShownIn key number exchanges)
+
+-- ---- kinds
+
+abbrev pub kinds_of : List Tagged → List Kind
+kinds_of variables = map (λ (variable : Tagged). variable.0) variables
+
+-- the variables of both have the same kinds, and so have the numbers that were shown last
+abbrev pub HaveSameKinds : State → State → Type 0
+HaveSameKinds st other = (kinds_of st.variables ≡ kinds_of other.variables) × (st.last.0 ≡ other.last.0)
+
+-- runs by the same edges to one place, from states of the same kinds, end in states of the same kinds; where code leads
+-- backwards a run may come to the place again, and bind on its way
+abbrev pub KindsFollowEdges : Type 0
+KindsFollowEdges = (templates : List Template) (section : List Instr) (p q : ℕ) (st other end end' : State) (xs ys : List Exchange)
+    → LeadsForwards templates section → HaveSameKinds st other → edges_of xs ≡ edges_of ys
+    → IsRun templates section p st xs q end → IsRun templates section p other ys q end' → HaveSameKinds end end'

@@ -1,5 +1,5 @@
 -- Paths of a section: the edges on the way from one place to another.
-use Rattle.std.specs.Prelude.{◌≡◌, ℕ, ◌+◌, true, Some, List, [], ◌∷◌, slice_get, slice_index}
+use Rattle.std.specs.Prelude.{◌≡◌, ◌⊎◌, ℕ, ◌+◌, ◌<◌, true, Some, List, [], ◌∷◌, length, slice_get, slice_index}
 use Rattle.mc_protocol.specs.Legal.{is_legal}
 use Rattle.mc_protocol.specs.declared.reply.Class.{Class}
 use Rattle.mc_script.specs.Marks.{class_index}
@@ -38,6 +38,12 @@ pub data IsPath (templates : List Template) (section : List Instr) : ℕ → Lis
   sends : {p q r : ℕ} {edges : List Edge} {template : Template} {class : Class} (i : Instr) → slice_get section p ≡ Some i
       → Sends templates i template class q → IsPath templates section q edges r
       → IsPath templates section p ((template, class) ∷ edges) r
+
+-- each instruction leads to later places of the section alone, with a reply or without
+abbrev pub LeadsForwards : List Template → List Instr → Type 0
+LeadsForwards templates section = (i : Instr) (p q : ℕ) → slice_get section p ≡ Some i
+    → Slides i p q ⊎ ((template : Template) × (class : Class) × Sends templates i template class q)
+    → (p < q) × (q < length section)
 
 -- the path leads to the section's end
 abbrev pub IsComplete : List Template → List Instr → List Edge → Type 0
