@@ -30,7 +30,7 @@ use Rattle.mc_code.proofs.Rooms.{section-within}
 
 -- ---- places
 
-place-below : (steps : List Step) (p : ℕ) → code_place steps p ≤ size_of_all steps
+pub place-below : (steps : List Step) (p : ℕ) → code_place steps p ≤ size_of_all steps
 place-below steps zero = omega arith
 place-below [] (suc p) = omega arith
 place-below (s ∷ steps) (suc p) = omega (arith, place-below steps p)
@@ -105,7 +105,7 @@ step-length L S template p (step.Bind variable) = refl
 step-length L S template p (step.Goto label) = refl
 step-length L S template p step.Halt = refl
 
-code-length : (L : List Label) (S : List Step) (template p : ℕ) (rest : List Step) → length (code_from L S template p rest) ≡ size_of_all rest + 1
+pub code-length : (L : List Label) (S : List Step) (template p : ℕ) (rest : List Step) → length (code_from L S template p rest) ≡ size_of_all rest + 1
 code-length L S template p [] = refl
 code-length L S template p (s ∷ rest) =
     let more = code_from L S (template + length (request_of s)) (p + 1) rest in

@@ -49,7 +49,7 @@ template_found (s ∷ steps) (suc p) u t at is =
 
 -- ---- instructions
 
-code_length : (labels : List Label) (steps : List Step) (n p : ℕ) (s : Step) → length (step_code labels steps n p s) ≡ size_of s
+pub code_length : (labels : List Label) (steps : List Step) (n p : ℕ) (s : Step) → length (step_code labels steps n p s) ≡ size_of s
 code_length labels steps n p (step.Send t jumps None) = refl
 code_length labels steps n p (step.Send t jumps (Some v)) = refl
 code_length labels steps n p (step.Bind v) = refl

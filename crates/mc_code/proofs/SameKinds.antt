@@ -71,7 +71,7 @@ bound_alike v st other same = by_number (is_number st.last.0) (is_number other.l
   where
     by_number : (b c : Bool) → b ≡ c
         → HaveSameKinds (if b then record { variables = slice_set st.variables v st.last; last = st.last } else st)
-            (if c then record { variables = slice_set other.variables v other.last; last = other.last } else other)
+        (if c then record { variables = slice_set other.variables v other.last; last = other.last } else other)
     by_number true true e = (set_kinds st.variables other.variables v st.last other.last same.0 same.1, same.1)
     by_number true false e = absurd (cc)
     by_number false true e = absurd (cc)

@@ -46,7 +46,7 @@ pub calls_once : CallsOnce
 calls_once c actor variables exchanges made other x y =
     let section = instructions_in c actor in
     let same = one_stop c.templates section x.stands (stops_at_send section x.p made.template x.next x.sends) y.p y.st y.stands
-        (stops_at_send section y.p other.template y.next y.sends) in
+    (stops_at_send section y.p other.template y.next y.sends) in
     let meets = sym x.meets ∙ ap (λ p. met_in c actor p x.st) same.0 ∙ ap (met_in c actor y.p) same.1 ∙ y.meets in
     let sends = sym x.sends ∙ ap (slice_get section) same.0 ∙ y.sends in
     same_call made other (same_send made.template other.template x.next y.next sends) (same_number x.t y.t made.number other.number meets)

@@ -54,7 +54,7 @@ place_is labels steps index q e = by_label (slice_get labels index) e
     by_label None e = absurd (cc)
     by_label (Some label) e = ap (code_place steps) (some_is label.place q e)
 
-entry_at : (labels : List Label) (steps : List Step) (p : ℕ) (t : Template) (jumps : List (Class × ℕ)) (bind : Option ℕ) (c : Class)
+pub entry_at : (labels : List Label) (steps : List Step) (p : ℕ) (t : Template) (jumps : List (Class × ℕ)) (bind : Option ℕ) (c : Class)
     → entry_of (entries labels steps p t jumps bind) c ≡ entry labels steps p t jumps bind c
 entry_at labels steps p t jumps bind class.Stored = refl
 entry_at labels steps p t jumps bind class.NotStored = refl

@@ -20,6 +20,7 @@ pub mod Layout
 pub mod RunLaws
 pub mod StandingLaws
 pub mod NumberLaws
+pub mod LayoutLaws
 pub mod Examples
 -- What private contracts cite.
 pub mod Assembling

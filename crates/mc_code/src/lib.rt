@@ -16,6 +16,7 @@ mod image_reader;
 mod image_writer;
 mod instr;
 mod kind;
+mod layout_laws;
 mod limits;
 mod names;
 mod number_laws;
@@ -40,6 +41,7 @@ pub use image_reader::decode;
 pub use image_writer::encode;
 pub use instr::{Call, Instr};
 pub use kind::Kind;
+pub use layout_laws::{entries_are_legal, layouts_lead_forwards};
 pub use limits::{CLASS_COUNT, INSTRUCTIONS_LIMIT, NO_ENTRY, TEMPLATES_LIMIT};
 pub use number_laws::{kinds_follow_edges, numbers_were_shown};
 pub use run_laws::{
