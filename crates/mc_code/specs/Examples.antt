@@ -1,4 +1,4 @@
--- Two small scripts: how their code is laid out, and what it comes to.
+-- Three small scripts: how their code is laid out, and what it comes to.
 use Rattle.std.specs.Prelude.{◌≡◌, ℕ, Some, None, List, [], ◌∷◌, ◌++◌, length, take, drop, codes}
 use Rattle.mc_protocol.specs.declared.actor.Actor.{Actor}
 use Rattle.mc_protocol.specs.declared.actor.Actor.TheVariants as actor
@@ -14,14 +14,16 @@ use Rattle.mc_script.specs.declared.step.Step.TheVariants as step
 use Rattle.mc_script.specs.declared.step.Template.{Template}
 use Rattle.mc_script.specs.Script.{Section, Script}
 use Rattle.mc_script.specs.WellFormed.{IsScript}
+use Rattle.mc_code.specs.declared.instr.Call.{Call}
 use Rattle.mc_code.specs.declared.instr.Instr.TheVariants as instr
 use Rattle.mc_code.specs.declared.kind.Kind.TheVariants as kind
+use Rattle.mc_code.specs.Calls.{IsCalling}
 use Rattle.mc_code.specs.Image.{image_of}
 use Rattle.mc_code.specs.Layout.{templates_of, instructions_of, code_of}
 use Rattle.mc_code.specs.Runs.{Exchange}
 use Rattle.mc_code.specs.ScriptRuns.{clearing, ScriptComesTo}
-use Rattle.mc_code.specs.Standing.{ComesTo}
-use Rattle.mc_code.specs.States.{Tagged, nothing, State, begun, Outcome, call, nothing_to_bind, ended}
+use Rattle.mc_code.specs.Standing.{ComesTo, IsRightAlong, Leaves}
+use Rattle.mc_code.specs.States.{Tagged, nothing, State, begun, Outcome, call, unbound, wrong_kind, nothing_to_bind, ended}
 
 -- a request on the first key, with no flags
 abbrev pub request : Verb → Argument → List ℕ → Template
@@ -119,6 +121,15 @@ pub record CounterComesTo : Type 0 where
   pub counted : (count : ℕ)
       → BothComeTo counter actor.B [] ((counts_up, reply.Number count) ∷ []) (record { variables = []; last = (kind.Num, count) }) ended
 
+-- the call of the template with this index, with this number
+abbrev pub call_of : ℕ → ℕ → Call
+call_of template number = record { template = template; number = number }
+
+-- A calls its own template, and not that of B, which is equal
+pub record CounterCalls : Type 0 where
+  pub own : IsCalling (code_of counter) actor.A [] [] (call_of 2 1)
+  pub not_other : IsCalling (code_of counter) actor.A [] [] (call_of 3 1) → ⊥
+
 -- ---- a swap of what was read
 
 -- `gets a`
@@ -168,3 +179,68 @@ pub record SwapComesTo : Type 0 where
   pub nothing_shown : BothComeTo swap actor.B (nothing ∷ []) [] (begun (nothing ∷ [])) (nothing_to_bind 0)
   -- and it goes on
   pub goes_on : BothComeTo swap actor.B (nothing ∷ []) [] (begun (nothing ∷ [])) (call touches 0)
+
+-- ---- jumps, and numbers that don't fit
+
+-- `incr a $n`
+abbrev pub counts_by : Template
+counts_by = request verb.Incr (argument.Variable 0) []
+
+-- P stores 5 with `set a 0 =5 stored:out`, else it does `touch a`, and `out:` is its end; A reads with `gets a >n`, does
+-- `goto on` past a `touch a`, and `incr a $n` stands at `on:`; B does `cas a 0 =6 $n`
+abbrev pub jumper : Script
+jumper = record {
+  names = record { keys = codes "a" ∷ []; flags = []; vars = codes "n" ∷ [] };
+  p = record {
+    budget = record { requests = 3; bytes = 37 };
+    steps = step.Send stores_five ((class.Stored, 0) ∷ []) None ∷ send touches ∷ [];
+    labels = record { name = codes "out"; place = 2 } ∷ [];
+  };
+  a = record {
+    budget = record { requests = 2; bytes = 37 };
+    steps = step.Send reads [] (Some 0) ∷ step.Goto 0 ∷ send touches ∷ send counts_by ∷ [];
+    labels = record { name = codes "on"; place = 3 } ∷ [];
+  };
+  b = section 1 37 (send swaps ∷ []);
+}
+
+-- where the classes of a touch lead
+abbrev pub after_touch : ℕ → List ℕ
+after_touch place = 255 ∷ 255 ∷ 255 ∷ place ∷ 255 ∷ 255 ∷ 255 ∷ place ∷ 255 ∷ 255 ∷ []
+
+-- where a stored set leads in P, and another one
+abbrev pub after_jump : List ℕ
+after_jump = 3 ∷ 2 ∷ 2 ∷ 2 ∷ 255 ∷ 255 ∷ 255 ∷ 255 ∷ 255 ∷ 255 ∷ []
+
+-- where a hit leads in A, and a miss
+abbrev pub after_gets : List ℕ
+after_gets = 255 ∷ 255 ∷ 255 ∷ 255 ∷ 1 ∷ 2 ∷ 255 ∷ 255 ∷ 255 ∷ 255 ∷ []
+
+-- the delete that clears the key stands before the steps that P's label counts
+pub record JumperIsLaidOut : Type 0 where
+  pub templates : templates_of jumper ≡ clearing 0 ∷ stores_five ∷ touches ∷ reads ∷ touches ∷ counts_by ∷ swaps ∷ []
+  pub p : instructions_of jumper actor.P
+      ≡ instr.Send 0 (after_delete 1) ∷ instr.Send 1 after_jump ∷ instr.Send 2 (after_touch 3) ∷ instr.Halt ∷ []
+  pub a : instructions_of jumper actor.A
+      ≡ instr.Send 3 after_gets ∷ instr.Bind 0 ∷ instr.Goto 4 ∷ instr.Send 4 (after_touch 4) ∷ instr.Send 5 (after_count 5)
+      ∷ instr.Halt ∷ []
+  pub b : instructions_of jumper actor.B ≡ instr.Send 6 (after_set 1) ∷ instr.Halt ∷ []
+
+-- it is a script; where its jumps lead, and what it comes to with numbers that don't fit
+pub record JumperComesTo : Type 0 where
+  pub script : IsScript jumper
+  -- once it has stored, P is done, and leaves no number
+  pub stored : BothComeTo jumper actor.P (nothing ∷ []) ((clearing 0, reply.NotFound) ∷ (stores_five, reply.Stored) ∷ []) (begun (nothing ∷ [])) ended
+  pub left : Leaves (code_of jumper) ((clearing 0, reply.NotFound) ∷ (stores_five, reply.Stored) ∷ []) (nothing ∷ [])
+  -- else it goes on to its touch
+  pub not_stored : BothComeTo jumper actor.P (nothing ∷ []) ((clearing 0, reply.NotFound) ∷ (stores_five, reply.NotStored) ∷ [])
+      (begun (nothing ∷ [])) (call touches 0)
+  pub touched : IsCalling (code_of jumper) actor.P (nothing ∷ []) ((clearing 0, reply.NotFound) ∷ (stores_five, reply.NotStored) ∷ []) (call_of 2 0)
+  -- after a hit A jumps to an increment by a cas unique
+  pub of_wrong_kind : (number : ℕ) → BothComeTo jumper actor.A (nothing ∷ []) ((reads, hit number) ∷ [])
+      (record { variables = (kind.Cas 0, number) ∷ []; last = (kind.Cas 0, number) }) (wrong_kind counts_by)
+  -- after a miss its variable has no number
+  pub not_bound : BothComeTo jumper actor.A (nothing ∷ []) ((reads, reply.Miss) ∷ []) (begun (nothing ∷ [])) (unbound counts_by)
+  -- nor has that of B
+  pub never_bound : BothComeTo jumper actor.B (nothing ∷ []) [] (begun (nothing ∷ [])) (unbound swaps)
+  pub not_right : IsRightAlong (code_of jumper) actor.B (nothing ∷ []) [] → ⊥

@@ -1,5 +1,5 @@
-//! What the definitions say of two small scripts.
-ghost use Rattle.mc_code.specs.Examples.{CounterIsImage, CounterIsLaidOut, CounterComesTo, SwapIsLaidOut, SwapComesTo};
+//! What the definitions say of three small scripts.
+ghost use Rattle.mc_code.specs.Examples.{CounterCalls, CounterComesTo, CounterIsImage, CounterIsLaidOut, JumperComesTo, JumperIsLaidOut, SwapComesTo, SwapIsLaidOut};
 
 /// The code of two increments of one counter.
 pub fn counter_is_laid_out()
@@ -16,6 +16,11 @@ pub fn counter_comes_to()
     ensures { CounterComesTo }
 {}
 
+/// Its A calls its own template, and not an equal one.
+pub fn counter_calls()
+    ensures { CounterCalls }
+{}
+
 /// The code of a swap of what was read, where a miss goes to the end.
 pub fn swap_is_laid_out()
     ensures { SwapIsLaidOut }
@@ -24,4 +29,14 @@ pub fn swap_is_laid_out()
 /// It swaps with the number that it was shown, and comes to a bind that was shown none.
 pub fn swap_comes_to()
     ensures { SwapComesTo }
+{}
+
+/// The code of a script with a label in P and a goto in A.
+pub fn jumper_is_laid_out()
+    ensures { JumperIsLaidOut }
+{}
+
+/// Where its jumps lead, and what it comes to with a number of the wrong kind, and with none.
+pub fn jumper_comes_to()
+    ensures { JumperComesTo }
 {}

@@ -33,7 +33,8 @@ mod well_formed;
 pub use assembler::assemble;
 pub use code::Code;
 pub use example_laws::{
-    counter_comes_to, counter_is_image, counter_is_laid_out, swap_comes_to, swap_is_laid_out,
+    counter_calls, counter_comes_to, counter_is_image, counter_is_laid_out, jumper_comes_to,
+    jumper_is_laid_out, swap_comes_to, swap_is_laid_out,
 };
 pub use fault::{AsmFault, ImageFault, ImageKind};
 pub use image_laws::images_are_of_one_code;
