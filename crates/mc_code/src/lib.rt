@@ -1,8 +1,10 @@
 //! Code: the templates of a script's requests, and for each section the instructions that send them.
 //!
 //! Below it stand `mc_protocol` and `mc_script`. The crates above use what code is (`specs/Code.antt`), how a section of
-//! it runs (`specs/Paths.antt`, `specs/Runs.antt`), and that code agrees with its script (`specs/Agreement.antt`). What
-//! follows from these stands in `specs/RunLaws.antt`, and what they say of two small scripts in `specs/Examples.antt`.
+//! it runs (`specs/Paths.antt`, `specs/Runs.antt`), where it stands then and which calls it makes (`specs/Standing.antt`,
+//! `specs/Calls.antt`), and that code agrees with its script (`specs/Agreement.antt`). What follows from these stands in
+//! `specs/RunLaws.antt`, `specs/StandingLaws.antt`, `specs/NumberLaws.antt` and `specs/LayoutLaws.antt`, and what they say
+//! of three small scripts in `specs/Examples.antt`.
 #![tactic(auto)]
 
 mod assembler;
