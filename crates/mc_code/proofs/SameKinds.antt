@@ -1,5 +1,7 @@
 -- The kinds of numbers follow the edges of a run.
 use Rattle.std.proofs.Common.{◌≡◌, ℕ, zero, suc, ◌≤◌, Bool, true, false, not, ◌&&◌, Some, None, List, [], ◌∷◌, slice_get, slice_set, refl, ap, sym, subst, ◌∙◌, inl, inr, if◌then◌else◌, arith}
+use Rattle.std.specs.List.{All}
+use Rattle.std.proofs.lemmas.List.Elements.{All-head, All-tail}
 use Rattle.mc_protocol.specs.Legal.{class_of, shows_number}
 use Rattle.mc_protocol.specs.declared.request.Verb.{Verb}
 use Rattle.mc_protocol.specs.declared.reply.Class.{Class}
@@ -11,7 +13,7 @@ use Rattle.mc_code.specs.declared.instr.Instr.{Instr}
 use Rattle.mc_code.specs.declared.instr.Instr.TheVariants as instr
 use Rattle.mc_code.specs.declared.kind.Kind.{Kind}
 use Rattle.mc_code.specs.declared.kind.Kind.TheVariants as kind
-use Rattle.mc_code.specs.NumberLaws.{kinds_of, HaveSameKinds, KindsFollowEdges}
+use Rattle.mc_code.specs.NumberLaws.{kinds_of, HaveSameKinds, IsFit, EdgesLeadAlike, KindsFollowEdges}
 use Rattle.mc_code.specs.Paths.{Edge, LeadsForwards, Slides, Sends}
 use Rattle.mc_code.specs.RunLaws.{edges_of}
 use Rattle.mc_code.specs.Runs.{Exchange, is_fit_for, slid, IsRun, rests, slides, sends}
@@ -175,3 +177,41 @@ ends_alike templates section forwards (sends {p = p} {q = q} {r = s} {st = st} {
 pub kinds_follow_edges : KindsFollowEdges
 kinds_follow_edges templates section p q st other end end' xs ys forwards same edges run run' =
     ends_alike templates section forwards run other end' ys same edges run'
+
+-- ---- other exchanges by the same edges
+
+-- from this state too, these exchanges lead to the place, in a state of the same kinds
+abbrev AlsoLeads : List Template → List Instr → ℕ → State → List Exchange → ℕ → State → Type 0
+AlsoLeads templates section p other ys q end = (end' : State) × IsRun templates section p other ys q end' × HaveSameKinds end end'
+
+sent_alike : (templates : List Template) (section : List Instr) (i : Instr) (p q s : ℕ) (st other end : State) (t : Template) (r : Reply) (xs : List Exchange)
+    → slice_get section p ≡ Some i → Sends templates i t (class_of r) q → is_fit_for t.verb r ≡ true → HaveSameKinds st other
+    → ((other : State) (ys : List Exchange) → HaveSameKinds (answered t r st) other → edges_of xs ≡ edges_of ys → All IsFit ys
+        → AlsoLeads templates section q other ys s end)
+    → (ys : List Exchange) → (t, class_of r) ∷ edges_of xs ≡ edges_of ys → All IsFit ys → AlsoLeads templates section p other ys s end
+sent_alike templates section i p q s st other end t r xs at leads fit same others [] edges fits = absurd (cc)
+sent_alike templates section i p q s st other end t r xs at leads fit same others ((t', r') ∷ ys) edges fits =
+    let first : (t, class_of r) ≡ (t', class_of r') = head_is (t, class_of r) (t', class_of r') (edges_of xs) (edges_of ys) edges in
+    let rest = rest_is (t, class_of r) (t', class_of r') (edges_of xs) (edges_of ys) edges in
+    let sent : t ≡ t' = ap (λ (e : Edge). e.0) first in
+    let classes : class_of r ≡ class_of r' = ap (λ (e : Edge). e.1) first in
+    let fit' : is_fit_for t'.verb r' ≡ true = All-head IsFit (t', r') ys fits in
+    let here : Sends templates i t' (class_of r') q = subst (λ (e : Edge). Sends templates i e.0 e.1 q) first leads in
+    let kinds = answered_alike t' r r' st other (subst (λ (t : Template). is_fit_for t.verb r ≡ true) sent fit) fit' classes same in
+    let more = others (answered t' r' other) ys (subst (λ t. HaveSameKinds (answered t r st) (answered t' r' other)) (sym sent) kinds) rest
+        (All-tail IsFit (t', r') ys fits) in
+    (more.0, sends i at here fit' more.1, more.2)
+
+lead_alike : (templates : List Template) (section : List Instr) → {p q : ℕ} {st end : State} {xs : List Exchange}
+    → IsRun templates section p st xs q end → (other : State) (ys : List Exchange) → HaveSameKinds st other → edges_of xs ≡ edges_of ys
+    → All IsFit ys → AlsoLeads templates section p other ys q end
+lead_alike templates section rests other [] same edges fits = (other, rests, same)
+lead_alike templates section rests other (y ∷ ys) same edges fits = absurd (cc)
+lead_alike templates section (slides {st = st} i at leads more) other ys same edges fits =
+    let on = lead_alike templates section more (slid i other) ys (slid_alike i st other same) edges fits in
+    (on.0, slides i at leads on.1, on.2)
+lead_alike templates section (sends {p = p} {q = q} {r = s} {st = st} {st' = end} {exchanges = xs} {t = t} {reply = r} i at leads fit more) other ys same edges fits =
+    sent_alike templates section i p q s st other end t r xs at leads fit same (lead_alike templates section more) ys edges fits
+
+pub edges_lead_alike : EdgesLeadAlike
+edges_lead_alike templates section p q st other end xs ys same edges fits run = lead_alike templates section run other ys same edges fits

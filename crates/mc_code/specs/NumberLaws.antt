@@ -1,5 +1,6 @@
 -- Laws of the numbers that variables have along a run, whatever the code is.
-use Rattle.std.specs.Prelude.{◌≡◌, ◌⊎◌, ℕ, Some, List, [], ◌∷◌, map, slice_get}
+use Rattle.std.specs.Prelude.{◌≡◌, ◌⊎◌, ℕ, true, Some, List, [], ◌∷◌, map, slice_get}
+use Rattle.std.specs.List.{All}
 use Rattle.mc_protocol.specs.declared.request.Verb.TheVariants as verb
 use Rattle.mc_protocol.specs.declared.reply.Reply.TheVariants as reply
 use Rattle.mc_script.specs.declared.step.Template.{Template}
@@ -8,7 +9,7 @@ use Rattle.mc_code.specs.declared.kind.Kind.{Kind}
 use Rattle.mc_code.specs.declared.kind.Kind.TheVariants as kind
 use Rattle.mc_code.specs.Paths.{LeadsForwards}
 use Rattle.mc_code.specs.RunLaws.{edges_of}
-use Rattle.mc_code.specs.Runs.{Exchange, IsRun}
+use Rattle.mc_code.specs.Runs.{Exchange, is_fit_for, IsRun}
 use Rattle.mc_code.specs.States.{Tagged, State}
 
 -- ---- cas uniques
@@ -48,3 +49,13 @@ abbrev pub KindsFollowEdges : Type 0
 KindsFollowEdges = (templates : List Template) (section : List Instr) (p q : ℕ) (st other end end' : State) (xs ys : List Exchange)
     → LeadsForwards templates section → HaveSameKinds st other → edges_of xs ≡ edges_of ys
     → IsRun templates section p st xs q end → IsRun templates section p other ys q end' → HaveSameKinds end end'
+
+-- the reply is one that its request may have
+abbrev pub IsFit : Exchange → Type 0
+IsFit exchange = is_fit_for exchange.0.verb exchange.1 ≡ true
+
+-- where a run leads, other exchanges by the same edges lead too, from each state of the same kinds, to a state of the same kinds
+abbrev pub EdgesLeadAlike : Type 0
+EdgesLeadAlike = (templates : List Template) (section : List Instr) (p q : ℕ) (st other end : State) (xs ys : List Exchange)
+    → HaveSameKinds st other → edges_of xs ≡ edges_of ys → All IsFit ys → IsRun templates section p st xs q end
+    → (end' : State) × IsRun templates section p other ys q end' × HaveSameKinds end end'

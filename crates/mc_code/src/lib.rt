@@ -46,7 +46,7 @@ pub use instr::{Call, Instr};
 pub use kind::Kind;
 pub use layout_laws::{entries_are_legal, layouts_lead_forwards};
 pub use limits::{CLASS_COUNT, INSTRUCTIONS_LIMIT, NO_ENTRY, TEMPLATES_LIMIT};
-pub use number_laws::{kinds_follow_edges, numbers_were_shown};
+pub use number_laws::{edges_lead_alike, kinds_follow_edges, numbers_were_shown};
 pub use run_laws::{
     codes_agree, complete_paths_end, ends_are_complete, paths_are_runs, paths_split,
     runs_are_paths, sections_stop_once,
