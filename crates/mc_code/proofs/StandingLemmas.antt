@@ -68,7 +68,7 @@ sent_is t u (argument.Variable v) variables n e = by_given (slice_index_or varia
     by_given (kind.Cas key, m) e = by_kind (is_same (kind.Cas key) (wanted_by t.verb t.key)) m e
     by_given (kind.Num, m) e = by_kind (is_same kind.Num (wanted_by t.verb t.key)) m e
 
-template_is : (o : Option Template) (st : State) (t : Template) (n : ℕ) → Some (met_by_send o st) ≡ Some (call t n) → o ≡ Some t
+pub template_is : (o : Option Template) (st : State) (t : Template) (n : ℕ) → Some (met_by_send o st) ≡ Some (call t n) → o ≡ Some t
 template_is None st t n e = absurd (cc)
 template_is (Some u) st t n e =
     let same : sending u st ≡ call t n = some_is (sending u st) (call t n) e in

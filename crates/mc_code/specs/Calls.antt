@@ -1,12 +1,15 @@
 -- The calls that a section makes, and the paths that lead to them.
-use Rattle.std.specs.Prelude.{◌≡◌, ℕ, Some, List, [], ◌∷◌, ◌++◌, map, slice_get}
+use Rattle.std.specs.Prelude.{◌≡◌, ℕ, true, Some, List, [], ◌∷◌, ◌++◌, map, slice_get, slice_index_or}
 use Rattle.mc_protocol.specs.declared.actor.Actor.{Actor}
+use Rattle.mc_protocol.specs.declared.reply.Reply.{Reply}
+use Rattle.mc_protocol.specs.declared.request.Verb.TheVariants as verb
+use Rattle.mc_script.specs.declared.step.Argument.TheVariants as argument
 use Rattle.mc_script.specs.declared.step.Template.{Template}
 use Rattle.mc_code.specs.declared.instr.Call.{Call}
 use Rattle.mc_code.specs.declared.instr.Instr.TheVariants as instr
 use Rattle.mc_code.specs.Code.{Code, instructions_in}
 use Rattle.mc_code.specs.Paths.{Edge, IsPath}
-use Rattle.mc_code.specs.Runs.{Exchange}
+use Rattle.mc_code.specs.Runs.{Exchange, is_fit_for}
 use Rattle.mc_code.specs.Standing.{StandsAt, met_in}
 use Rattle.mc_code.specs.States.{Tagged, State, call}
 
@@ -20,6 +23,36 @@ pub record IsCalling (c : Code) (actor : Actor) (variables : List Tagged) (excha
   pub stands : StandsAt c actor variables exchanges p st
   pub sends : slice_get (instructions_in c actor) p ≡ Some (instr.Send made.template next)
   pub meets : met_in c actor p st ≡ Some (call t made.number)
+
+-- ---- calls with their replies
+
+-- what a look-up gives where the code has no such template
+abbrev pub no_template : Template
+no_template = record {
+  verb = verb.Get;
+  key = 0;
+  flags = 0;
+  argument = argument.Nothing;
+  body = [];
+  require_set = 0;
+  require_clear = 0;
+  sets = 0;
+  clears = 0;
+}
+
+abbrev pub template_of : Code → Call → Template
+template_of c made = slice_index_or c.templates made.template no_template
+
+-- the exchange of a call with its reply
+abbrev pub exchange_of : Code → Call × Reply → Exchange
+exchange_of c (made, reply) = (template_of c made, reply)
+
+-- after these exchanges the section makes these calls, one after the other, and each gets this reply, which it may have
+abbrev pub MakesAll : Code → Actor → List Tagged → List Exchange → List (Call × Reply) → Type 0
+MakesAll c actor variables before [] = Unit {0}
+MakesAll c actor variables before ((made, reply) ∷ more) =
+    IsCalling c actor variables before made × (is_fit_for (template_of c made).verb reply ≡ true)
+    × MakesAll c actor variables (before ++ exchange_of c (made, reply) ∷ []) more
 
 -- ---- paths to a send
 

@@ -1,14 +1,15 @@
 -- Laws of where a section stands, whatever the code is.
-use Rattle.std.specs.Prelude.{◌≡◌, ℕ, Some, List, [], ◌∷◌, ◌++◌, slice_get}
+use Rattle.std.specs.Prelude.{◌≡◌, ℕ, Some, List, [], ◌∷◌, ◌++◌, map, slice_get}
 use Rattle.mc_protocol.specs.declared.actor.Actor.{Actor}
+use Rattle.mc_protocol.specs.declared.reply.Reply.{Reply}
 use Rattle.mc_script.specs.declared.step.Template.{Template}
 use Rattle.mc_code.specs.declared.instr.Call.{Call}
-use Rattle.mc_code.specs.Calls.{IsCalling, calls_of, Opens}
+use Rattle.mc_code.specs.Calls.{IsCalling, MakesAll, exchange_of, calls_of, Opens}
 use Rattle.mc_code.specs.Code.{Code}
 use Rattle.mc_code.specs.RunLaws.{edges_of}
 use Rattle.mc_code.specs.Runs.{Exchange}
-use Rattle.mc_code.specs.Standing.{Leaves}
-use Rattle.mc_code.specs.States.{Tagged}
+use Rattle.mc_code.specs.Standing.{Leaves, StandsAt}
+use Rattle.mc_code.specs.States.{Tagged, State}
 
 -- P leaves one list of variables after the same exchanges
 abbrev pub LeavesOnce : Type 0
@@ -26,3 +27,8 @@ CallsOpen = (c : Code) (actor : Actor) (variables : List Tagged) (exchanges : Li
     → IsCalling c actor variables exchanges made
     → (place : ℕ) × (t : Template) × (slice_get c.templates made.template ≡ Some t)
     × Opens c actor place (calls_of (edges_of exchanges) ++ t ∷ [])
+
+-- a section stands somewhere after the calls that it makes and their replies
+abbrev pub CallsStand : Type 0
+CallsStand = (c : Code) (actor : Actor) (variables : List Tagged) (pairs : List (Call × Reply)) → MakesAll c actor variables [] pairs
+    → (p : ℕ) × (st : State) × StandsAt c actor variables (map (exchange_of c) pairs) p st

@@ -1,5 +1,5 @@
 //! What follows from the definitions of where a section stands and which calls it makes, whatever the code is.
-ghost use Rattle.mc_code.specs.StandingLaws.{CallsOnce, CallsOpen, LeavesOnce};
+ghost use Rattle.mc_code.specs.StandingLaws.{CallsOnce, CallsOpen, CallsStand, LeavesOnce};
 
 /// P leaves the same variables each time that it is done after the same exchanges.
 pub fn leaves_once()
@@ -14,4 +14,9 @@ pub fn calls_once()
 /// What a section has sent, and the call that it is about to make, are those of a path to a send.
 pub fn calls_open()
     ensures { CallsOpen }
+{}
+
+/// After the calls that a section makes, and their replies, it stands somewhere.
+pub fn calls_stand()
+    ensures { CallsStand }
 {}
