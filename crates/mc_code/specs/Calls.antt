@@ -40,6 +40,7 @@ no_template = record {
   clears = 0;
 }
 
+-- the template that the call names
 abbrev pub template_of : Code → Call → Template
 template_of c made = slice_index_or c.templates made.template no_template
 

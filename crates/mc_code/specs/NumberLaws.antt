@@ -36,6 +36,7 @@ NumbersWereShown = (templates : List Template) (section : List Instr) (p q : ℕ
 
 -- ---- kinds
 
+-- what the numbers of the variables are
 abbrev pub kinds_of : List Tagged → List Kind
 kinds_of variables = map (λ (variable : Tagged). variable.0) variables
 

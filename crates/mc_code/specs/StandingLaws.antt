@@ -8,7 +8,7 @@ use Rattle.mc_code.specs.Calls.{IsCalling, MakesAll, exchange_of, calls_of, Open
 use Rattle.mc_code.specs.Code.{Code}
 use Rattle.mc_code.specs.RunLaws.{edges_of}
 use Rattle.mc_code.specs.Runs.{Exchange}
-use Rattle.mc_code.specs.Standing.{Leaves, StandsAt}
+use Rattle.mc_code.specs.Standing.{IsRightAlong, Leaves, StandsAt}
 use Rattle.mc_code.specs.States.{Tagged, State}
 
 -- P leaves one list of variables after the same exchanges
@@ -32,3 +32,9 @@ CallsOpen = (c : Code) (actor : Actor) (variables : List Tagged) (exchanges : Li
 abbrev pub CallsStand : Type 0
 CallsStand = (c : Code) (actor : Actor) (variables : List Tagged) (pairs : List (Call × Reply)) → MakesAll c actor variables [] pairs
     → (p : ℕ) × (st : State) × StandsAt c actor variables (map (exchange_of c) pairs) p st
+
+-- where a section comes to nothing wrong on its way, each of its exchanges is that of a call that it makes
+abbrev pub RightRunsAreCalled : Type 0
+RightRunsAreCalled = (c : Code) (actor : Actor) (variables : List Tagged) (exchanges : List Exchange) (p : ℕ) (st : State)
+    → StandsAt c actor variables exchanges p st → IsRightAlong c actor variables exchanges
+    → (pairs : List (Call × Reply)) × MakesAll c actor variables [] pairs × (map (exchange_of c) pairs ≡ exchanges)

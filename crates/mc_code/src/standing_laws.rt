@@ -1,5 +1,5 @@
 //! What follows from the definitions of where a section stands and which calls it makes, whatever the code is.
-ghost use Rattle.mc_code.specs.StandingLaws.{CallsOnce, CallsOpen, CallsStand, LeavesOnce};
+ghost use Rattle.mc_code.specs.StandingLaws.{CallsOnce, CallsOpen, CallsStand, LeavesOnce, RightRunsAreCalled};
 
 /// P leaves the same variables each time that it is done after the same exchanges.
 pub fn leaves_once()
@@ -19,4 +19,9 @@ pub fn calls_open()
 /// After the calls that a section makes, and their replies, it stands somewhere.
 pub fn calls_stand()
     ensures { CallsStand }
+{}
+
+/// Where a section comes to nothing wrong, it makes a call for each of its exchanges.
+pub fn right_runs_are_called()
+    ensures { RightRunsAreCalled }
 {}
