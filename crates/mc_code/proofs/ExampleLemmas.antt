@@ -1,5 +1,5 @@
 -- What the definitions say of three small scripts.
-use Rattle.std.proofs.Common.{◌≡◌, ◌≤◌, ℕ, true, false, List, [], ◌∷◌, codes, refl, ap, arith}
+use Rattle.std.proofs.Common.{◌≡◌, ◌≤◌, ℕ, true, false, List, [], ◌∷◌, codes, refl, ap, arith, Some, sym, subst, ◌∙◌}
 use Rattle.mc_protocol.specs.Fields.{fields_of}
 use Rattle.mc_protocol.specs.declared.actor.Actor.TheVariants as actor
 use Rattle.mc_protocol.specs.declared.reply.Reply.TheVariants as reply
@@ -10,16 +10,20 @@ use Rattle.mc_script.specs.declared.step.Argument.TheVariants as argument
 use Rattle.mc_script.specs.Templates.{has_fields, IsTemplate}
 use Rattle.mc_script.specs.WellFormed.{IsSection, IsScript}
 use Rattle.mc_code.specs.declared.instr.Call.{Call}
+use Rattle.mc_code.specs.declared.instr.Instr.{Instr}
 use Rattle.mc_code.specs.declared.instr.Instr.TheVariants as instr
-use Rattle.mc_code.specs.Examples.{CounterIsImage, CounterIsLaidOut, CounterComesTo, CounterCalls, SwapIsLaidOut, SwapComesTo, JumperIsLaidOut, JumperComesTo, after_count, after_delete, after_gets, after_jump, after_set, after_touch, request, stores_five, swaps, touches, send, section, call_of, counter, swap, jumper}
+use Rattle.mc_code.specs.Examples.{CounterIsImage, CounterIsLaidOut, CounterComesTo, CounterCalls, SwapIsLaidOut, SwapComesTo, JumperIsLaidOut, JumperComesTo, after_count, after_delete, after_gets, after_jump, after_set, after_touch, request, stores_five, swaps, touches, send, section, call_of, counter, swap, jumper, counts_up}
 use Rattle.mc_code.specs.Calls.{IsCalling}
 use Rattle.mc_code.specs.Layout.{code_of}
+use Rattle.mc_code.specs.Paths.{Slides}
 use Rattle.mc_code.specs.Runs as run
 use Rattle.mc_code.specs.ScriptRuns as walk
 use Rattle.mc_code.specs.ScriptRuns.{clearing}
-use Rattle.mc_code.specs.Standing.{StandsAt}
-use Rattle.mc_code.specs.States.{nothing, begun, unbound}
+use Rattle.mc_code.specs.Standing.{StandsAt, IsRightAlong, is_right, met_in}
+use Rattle.mc_code.specs.States.{nothing, begun, unbound, State, Outcome, call}
+use Rattle.mc_code.proofs.LookUps.{some_is}
 use Rattle.mc_code.proofs.StandingLemmas.{calls_once}
+use Rattle.mc_code.proofs.Stopping.{RunBegins, rested, slid_first, sent_first, run_begins}
 
 pub counter_laid_out : CounterIsLaidOut
 counter_laid_out = record { templates = refl; p = refl; a = refl; b = refl }
@@ -193,10 +197,26 @@ swap_outcomes = record {
 }
 
 pub counter_calls : CounterCalls
-counter_calls = record { own = own; not_other = λ other. apart (ap (λ (made : Call). made.template) (calls_once (code_of counter) actor.A [] [] _ _ own other)) }
+counter_calls = record { right = right; own = own; not_other = λ other. apart (ap (λ (made : Call). made.template) (calls_once (code_of counter) actor.A [] [] _ _ own other)) }
   where
     own : IsCalling (code_of counter) actor.A [] [] (call_of 2 1)
     own = record { p = 0; st = begun []; t = _; next = after_count 1; stands = run.rests; sends = refl; meets = refl }
+
+    first : Instr
+    first = instr.Send 2 (after_count 1)
+
+    at_first : (p : ℕ) (st : State) (outcome : Outcome) → RunBegins (code_of counter).templates (first ∷ instr.Halt ∷ []) 0 (begun []) [] p st
+        → met_in (code_of counter) actor.A p st ≡ Some outcome → is_right outcome ≡ true
+    at_first p st outcome (rested place same none) met =
+        let here : Some (call counts_up 1) ≡ Some outcome =
+        ap (λ p. met_in (code_of counter) actor.A p (begun [])) place ∙ ap (met_in (code_of counter) actor.A p) same ∙ met in
+        sym (ap is_right (some_is (call counts_up 1) outcome here))
+    at_first p st outcome (slid_first i q at leads run) met = absurd (subst (λ i. Slides i 0 q) (sym (some_is first i at)) leads)
+    at_first p st outcome (sent_first i q t given rest at leads fit run is) met = absurd (cc)
+
+    right : IsRightAlong (code_of counter) actor.A [] []
+    right [] ys st outcome is (p, stands, met) = at_first p st outcome (run_begins stands) met
+    right (x ∷ xs) ys st outcome is comes = absurd (cc)
 
     apart : ◌≡◌ {A = ℕ} 2 3 → ⊥
     apart e = absurd (cc)

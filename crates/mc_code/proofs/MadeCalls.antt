@@ -94,8 +94,7 @@ call_at : (c : Code) (actor : Actor) (variables : List Tagged) (before : List Ex
 call_at c actor variables before p q st (instr.Send n next) t class stands at leads right =
     let met : met_in c actor p st ≡ Some (sending t st) =
     ap (λ o. met_at c.templates o st) at ∙ ap (λ o. Some (met_by_send o st)) leads.0 in
-    let sent = right_send t st (right (sending t st) (p, stands, met)) in
-    (
+    let sent = right_send t st (right (sending t st) (p, stands, met)) in (
       record { template = n; number = sent.0 },
       record { p = p; st = st; t = t; next = next; stands = stands; sends = at; meets = met ∙ ap Some sent.1 },
       found c.templates n t no_template leads.0,
@@ -133,10 +132,10 @@ called_along c actor variables before (sends {p = p} {q = q} {st = st} {exchange
     let whole = append_assoc before ((t, reply) ∷ []) rest in
     called_first c actor variables before t reply rest
     (call_at c actor variables before p q st i t (class_of reply) stands at leads
-        (λ outcome comes. right before ((t, reply) ∷ rest) st outcome refl comes))
+    (λ outcome comes. right before ((t, reply) ∷ rest) st outcome refl comes))
     fit
     (called_along c actor variables (before ++ (t, reply) ∷ []) more (run_sends stands i t reply at leads fit)
-        (subst (IsRightAlong c actor variables) (sym whole) right))
+    (subst (IsRightAlong c actor variables) (sym whole) right))
 
 pub right_runs_are_called : RightRunsAreCalled
 right_runs_are_called c actor variables exchanges p st stands right = called_along c actor variables [] stands rests right

@@ -125,8 +125,9 @@ pub record CounterComesTo : Type 0 where
 abbrev pub call_of : ℕ → ℕ → Call
 call_of template number = record { template = template; number = number }
 
--- A calls its own template, and not that of B, which is equal
+-- A begins rightly: it calls its own template, and not that of B, which is equal
 pub record CounterCalls : Type 0 where
+  pub right : IsRightAlong (code_of counter) actor.A [] []
   pub own : IsCalling (code_of counter) actor.A [] [] (call_of 2 1)
   pub not_other : IsCalling (code_of counter) actor.A [] [] (call_of 3 1) → ⊥
 

@@ -16,7 +16,7 @@ pub fn counter_comes_to()
     ensures { CounterComesTo }
 {}
 
-/// Its A calls its own template, and not an equal one.
+/// Its A begins rightly, and calls its own template, not an equal one.
 pub fn counter_calls()
     ensures { CounterCalls }
 {}

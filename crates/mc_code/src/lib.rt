@@ -51,9 +51,7 @@ pub use run_laws::{
     codes_agree, complete_paths_end, ends_are_complete, paths_are_runs, paths_split,
     runs_are_paths, sections_stop_once,
 };
-pub use standing_laws::{
-    calls_once, calls_open, calls_stand, leaves_once, right_runs_are_called,
-};
+pub use standing_laws::{calls_once, calls_open, calls_stand, leaves_once, right_runs_are_called};
 
 #[cfg(test)]
 mod assembler_tests;
