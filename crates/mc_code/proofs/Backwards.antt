@@ -16,7 +16,7 @@ use Rattle.mc_code.specs.Runs.{Exchange, is_fit_for, slid, met_at, IsRun, rests,
 use Rattle.mc_code.specs.ScriptRuns.{IsScriptRun, jump_on, place_of_label, place_of, next_of, taken, met_at_step}
 use Rattle.mc_code.specs.ScriptRuns as script_run
 use Rattle.mc_code.specs.States.{State, answered, bound, Outcome, nothing_to_bind, is_number}
-use Rattle.mc_code.proofs.LookUps.{some_is, number_at, code_of_all, first_of_step, second_of_step, behind_steps, next_place}
+use Rattle.mc_code.proofs.LookUps.{some_is, number_at, code_of_all, first_of_step, second_of_step, after_steps, next_place}
 use Rattle.mc_code.proofs.StepFacts.{HasLabel, Binds, IsLaid, entry_is, fit_is_legal, number_shown, same_outcome}
 
 -- from this place and state the script goes on by these exchanges, and meets this
@@ -24,7 +24,7 @@ abbrev Goes : List Label → List Step → ℕ → State → List Exchange → S
 Goes labels steps p st exchanges st' outcome =
     (r : ℕ) × IsScriptRun labels steps p st exchanges r st' × (met_at_step (slice_get steps r) st' ≡ Some outcome)
 
--- the code is at a bind behind a request, whose number was shown; the script has bound it already
+-- the code is at a bind after a request, whose number was shown; the script has bound it already
 abbrev IsAtBind : List Label → List Step → ℕ → ℕ → State → ℕ → State → Type 0
 IsAtBind labels steps first x st p u =
     (v : ℕ) × (slice_get (code_of_all labels steps first) x ≡ Some (instr.Bind v)) × (is_number st.last.0 ≡ true)
@@ -46,7 +46,7 @@ slid_from_step : (labels : List Label) (steps : List Step) (templates : List Tem
     → slice_get (code_of_all labels steps first) (code_place steps p) ≡ Some i → Slides i (code_place steps p) q
     → Follows labels steps first q (slid i st) exchanges st' outcome → Goes labels steps p st exchanges st' outcome
 slid_from_step labels steps templates first laid p q st st' exchanges outcome i None e at leads others =
-    absurd (subst (λ i. Slides i (code_place steps p) q) (some_is i instr.Halt (sym at ∙ behind_steps labels steps first p e)) leads)
+    absurd (subst (λ i. Slides i (code_place steps p) q) (some_is i instr.Halt (sym at ∙ after_steps labels steps first p e)) leads)
 slid_from_step labels steps templates first laid p q st st' exchanges outcome i (Some (step.Send t jumps bind)) e at leads others =
     let send = instr.Send (number_at steps first p) (entries labels steps p t jumps bind) in
     let is = some_is i send (sym at ∙ first_of_step labels steps first p (step.Send t jumps bind) e send refl) in
@@ -99,9 +99,9 @@ landed labels steps first p q t jumps r (Some v) None st at fit labelled may on 
         → IsAt labels steps first q (answered t r st) (p + 1) (if b then bound v (answered t r st) else answered t r st)
     by_class true number leads =
         let s = step.Send t jumps (Some v) in
-        let behind = next_place steps p s at in
+        let after = next_place steps p s at in
         let bind = ap (slice_get (code_of_all labels steps first)) leads ∙ second_of_step labels steps first p s at (instr.Bind v) refl in
-        inr (v, bind, number_shown t.verb t.key r fit may.0 number, omega (arith, behind, leads), refl)
+        inr (v, bind, number_shown t.verb t.key r fit may.0 number, omega (arith, after, leads), refl)
     by_class false number leads = inl (leads, refl)
 landed labels steps first p q t jumps r (Some v) (Some index) st at fit labelled may on leads =
     let has = labelled (class_of r) index on in
@@ -132,7 +132,7 @@ sent_from_step : (labels : List Label) (steps : List Step) (templates : List Tem
     → slice_get (code_of_all labels steps first) (code_place steps p) ≡ Some i → Sends templates i t (class_of r) q → is_fit_for t.verb r ≡ true
     → Follows labels steps first q (answered t r st) exchanges st' outcome → Goes labels steps p st ((t, r) ∷ exchanges) st' outcome
 sent_from_step labels steps templates first laid p q st st' exchanges outcome i t r None e at leads fit others =
-    absurd (subst (λ i. Sends templates i t (class_of r) q) (some_is i instr.Halt (sym at ∙ behind_steps labels steps first p e)) leads)
+    absurd (subst (λ i. Sends templates i t (class_of r) q) (some_is i instr.Halt (sym at ∙ after_steps labels steps first p e)) leads)
 sent_from_step labels steps templates first laid p q st st' exchanges outcome i t r (Some (step.Send u jumps bind)) e at leads fit others =
     let s = step.Send u jumps bind in
     let send = instr.Send (number_at steps first p) (entries labels steps p u jumps bind) in

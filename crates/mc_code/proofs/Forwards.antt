@@ -34,8 +34,8 @@ entered labels steps templates first p q r st st' exchanges t jumps c (Some v) N
     by_class : (b : Bool) → IsRun templates (code_of_all labels steps first) (code_place steps (p + 1)) (if b then bound v st else st) exchanges r st'
         → IsRun templates (code_of_all labels steps first) (if b then code_place steps p + 1 else code_place steps (p + 1)) st exchanges r st'
     by_class true more =
-        let behind = next_place steps p (step.Send t jumps (Some v)) at in
-        run.slides (instr.Bind v) (second_of_step labels steps first p (step.Send t jumps (Some v)) at (instr.Bind v) refl) (omega (arith, behind)) more
+        let after = next_place steps p (step.Send t jumps (Some v)) at in
+        run.slides (instr.Bind v) (second_of_step labels steps first p (step.Send t jumps (Some v)) at (instr.Bind v) refl) (omega (arith, after)) more
     by_class false more = more
 entered labels steps templates first p q r st st' exchanges t jumps c (Some v) (Some index) at may on next more =
     subst (λ x. IsRun templates (code_of_all labels steps first) x st exchanges r st') (sym (place_is labels steps index q next))

@@ -35,9 +35,9 @@ place-below steps zero = omega arith
 place-below [] (suc p) = omega arith
 place-below (s ∷ steps) (suc p) = omega (arith, place-below steps p)
 
-behind-below : (steps : List Step) (label : Option Label) → after_label steps label ≤ size_of_all steps
-behind-below steps None = omega arith
-behind-below steps (Some label) = place-below steps label.place
+after-below : (steps : List Step) (label : Option Label) → after_label steps label ≤ size_of_all steps
+after-below steps None = omega arith
+after-below steps (Some label) = place-below steps label.place
 
 either-below : (b : Bool) (n m limit : ℕ) → n < limit → m < limit → (if b then n else m) < limit
 either-below true n m limit f g = f
@@ -45,7 +45,7 @@ either-below false n m limit f g = g
 
 led-below : (L : List Label) (S : List Step) (p : ℕ) (bind : Option ℕ) (class : Class) (to : Option ℕ) → size_of_all S < INSTRUCTIONS_LIMIT
     → code.is_byte (entry_for L S p bind class to)
-led-below L S p bind class (Some label) h = omega (arith, behind-below S (slice_get L label))
+led-below L S p bind class (Some label) h = omega (arith, after-below S (slice_get L label))
 led-below L S p None class None h = omega (arith, place-below S (p + 1))
 led-below L S p (Some variable) class None h =
     either-below (is_number_class class) _ _ 256 (omega (arith, place-below S p)) (omega (arith, place-below S (p + 1)))
@@ -84,7 +84,7 @@ step-kept L S template p (step.Send t jumps (Some variable)) h room b =
     (All-cons code.IsInstr (instr.Bind variable) [] b (All-nil code.IsInstr))
 step-kept L S template p (step.Bind variable) h room b = All-cons code.IsInstr (instr.Bind variable) [] b (All-nil code.IsInstr)
 step-kept L S template p (step.Goto label) h room b =
-    All-cons code.IsInstr (instr.Goto (label_place L S label)) [] (omega (arith, behind-below S (slice_get L label))) (All-nil code.IsInstr)
+    All-cons code.IsInstr (instr.Goto (label_place L S label)) [] (omega (arith, after-below S (slice_get L label))) (All-nil code.IsInstr)
 step-kept L S template p step.Halt h room b = All-cons code.IsInstr instr.Halt [] tt (All-nil code.IsInstr)
 
 requests-cons : (s : Step) (rest : List Step) → length (requests_of (s ∷ rest)) ≡ length (request_of s) + length (requests_of rest)

@@ -59,15 +59,15 @@ clearing_onward : (labels : List Label) (p key : ℕ) (keys : List Word) → Are
 clearing_onward labels p key [] = tt
 clearing_onward labels p key (_ ∷ keys) = (λ c index e. absurd (cc), clearing_onward labels (p + 1) (key + 1) keys)
 
-behind_moved : (labels : List Label) (count p q index : ℕ) → q ≡ count + p → IsBehind labels p index → IsBehind (map (moved count) labels) q index
-behind_moved labels count p q index place (label, at, after) =
+after_moved : (labels : List Label) (count p q index : ℕ) → q ≡ count + p → IsBehind labels p index → IsBehind (map (moved count) labels) q index
+after_moved labels count p q index place (label, at, after) =
     (moved count label, slice_get-map (moved count) labels index ∙ ap (option_map (moved count)) at, omega (arith, place, after))
 
-jump_behind : (v : Verb) (labels : List Label) (place least : ℕ) (jumps : List (Class × ℕ)) → AreJumps v labels place least jumps
+jump_after : (v : Verb) (labels : List Label) (place least : ℕ) (jumps : List (Class × ℕ)) → AreJumps v labels place least jumps
     → (c : Class) (index : ℕ) → jump_on c jumps ≡ Some index → IsBehind labels place index
-jump_behind v labels place least [] are c index on = absurd (cc)
-jump_behind v labels place least (jump ∷ jumps) are c index on =
-    by_class (class_index c == class_index jump.0) on (jump_behind v labels place (class_index jump.0 + 1) jumps are.3 c index)
+jump_after v labels place least [] are c index on = absurd (cc)
+jump_after v labels place least (jump ∷ jumps) are c index on =
+    by_class (class_index c == class_index jump.0) on (jump_after v labels place (class_index jump.0 + 1) jumps are.3 c index)
   where
     by_class : (b : Bool) → (if b then Some jump.1 else jump_on c jumps) ≡ Some index → (jump_on c jumps ≡ Some index → IsBehind labels place index)
         → IsBehind labels place index
@@ -76,9 +76,9 @@ jump_behind v labels place least (jump ∷ jumps) are c index on =
 
 step_onward : (names : Names) (labels : List Label) (count p q : ℕ) (s : Step) → q ≡ count + p → IsStep names labels p s → IsOnward (map (moved count) labels) q s
 step_onward names labels count p q (step.Send t jumps bind) place is =
-    λ c index on. behind_moved labels count p q index place (jump_behind t.verb labels p 0 jumps is.1 c index on)
+    λ c index on. after_moved labels count p q index place (jump_after t.verb labels p 0 jumps is.1 c index on)
 step_onward names labels count p q (step.Bind variable) place is = tt
-step_onward names labels count p q (step.Goto label) place is = behind_moved labels count p q label place is
+step_onward names labels count p q (step.Goto label) place is = after_moved labels count p q label place is
 step_onward names labels count p q step.Halt place is = tt
 
 steps_onward : (names : Names) (labels : List Label) (count p q : ℕ) (steps : List Step) → q ≡ count + p → AreSteps names labels p steps
@@ -125,11 +125,11 @@ label_ahead labels steps p s index at (label, is, after) =
 entry_ahead : (labels : List Label) (steps : List Step) (p : ℕ) (t : Template) (jumps : List (Class × ℕ)) (bind : Option ℕ) (c : Class) (to : Option ℕ)
     → slice_get steps p ≡ Some (step.Send t jumps bind) → ((index : ℕ) → to ≡ Some index → IsBehind labels p index)
     → IsAhead steps (code_place steps p) (entry_for labels steps p bind c to)
-entry_ahead labels steps p t jumps bind c (Some index) at behind = label_ahead labels steps p (step.Send t jumps bind) index at (behind index refl)
-entry_ahead labels steps p t jumps None c None at behind =
+entry_ahead labels steps p t jumps bind c (Some index) at after = label_ahead labels steps p (step.Send t jumps bind) index at (after index refl)
+entry_ahead labels steps p t jumps None c None at after =
     let next = next_place steps p (step.Send t jumps None) at in
     (omega (arith, next), place-below steps (p + 1))
-entry_ahead labels steps p t jumps (Some v) c None at behind = by_class (is_number_class c)
+entry_ahead labels steps p t jumps (Some v) c None at after = by_class (is_number_class c)
   where
     by_class : (b : Bool) → IsAhead steps (code_place steps p) (if b then code_place steps p + 1 else code_place steps (p + 1))
     by_class true =

@@ -20,7 +20,7 @@ use Rattle.mc_code.specs.Paths.{entry_of}
 use Rattle.mc_code.specs.Runs.{is_fit_for, met_by_send, met_at}
 use Rattle.mc_code.specs.ScriptRuns.{jump_on, place_of_label, place_of, met_at_step}
 use Rattle.mc_code.specs.States.{State, is_number, shown_of}
-use Rattle.mc_code.proofs.LookUps.{some_is, number_at, code_of_all, first_of_step, behind_steps}
+use Rattle.mc_code.proofs.LookUps.{some_is, number_at, code_of_all, first_of_step, after_steps}
 
 abbrev pub HasLabel : List Label → ℕ → Type 0
 HasLabel labels index = (label : Label) × (slice_get labels index ≡ Some label)
@@ -121,7 +121,7 @@ same_outcome labels steps templates first laid p st = by_step (slice_get steps p
 
     by_step : (o : Option Step) → slice_get steps p ≡ o
         → met_at templates (slice_get (code_of_all labels steps first) (code_place steps p)) st ≡ met_at_step o st
-    by_step None e = met instr.Halt (behind_steps labels steps first p e)
+    by_step None e = met instr.Halt (after_steps labels steps first p e)
     by_step (Some (step.Send t jumps bind)) e =
         let send = instr.Send (number_at steps first p) (entries labels steps p t jumps bind) in
         met send (first_of_step labels steps first p (step.Send t jumps bind) e send refl)
