@@ -7,47 +7,48 @@ use Rattle.mc_script.specs.WellFormed.{IsScript}
 use Rattle.mc_code.specs.Agreement.{Agrees}
 use Rattle.mc_code.specs.Code as code
 use Rattle.mc_code.specs.Layout.{code_place, templates_of, first_template, instructions_of, code_of}
-use Rattle.mc_code.specs.Runs.{Answer, IsRun, met_at, Does}
-use Rattle.mc_code.specs.ScriptRuns.{all_steps, all_labels, ScriptDoes}
-use Rattle.mc_code.specs.States.{Tagged, State, begun, Meeting}
-use Rattle.mc_code.proofs.Backwards.{does_too}
+use Rattle.mc_code.specs.Runs.{Exchange, IsRun, met_at}
+use Rattle.mc_code.specs.ScriptRuns.{all_steps, all_labels, ScriptComesTo}
+use Rattle.mc_code.specs.Standing.{ComesTo}
+use Rattle.mc_code.specs.States.{Tagged, State, begun, Outcome}
+use Rattle.mc_code.proofs.Backwards.{comes_to_too}
 use Rattle.mc_code.proofs.Forwards.{forwards}
-use Rattle.mc_code.proofs.StepFacts.{same_meeting}
+use Rattle.mc_code.proofs.StepFacts.{same_outcome}
 use Rattle.mc_code.proofs.WellLaid.{script_laid}
 
 -- what the instructions of a section do
-abbrev CodeDoes : script.Script → Actor → List Tagged → List Answer → State → Meeting → Type 0
-CodeDoes s k variables answers st meeting =
-    (p : ℕ) × IsRun (templates_of s) (instructions_of s k) 0 (begun variables) answers p st
-    × (met_at (templates_of s) (slice_get (instructions_of s k) p) st ≡ Some meeting)
+abbrev CodeComesTo : script.Script → Actor → List Tagged → List Exchange → State → Outcome → Type 0
+CodeComesTo s k variables exchanges st outcome =
+    (p : ℕ) × IsRun (templates_of s) (instructions_of s k) 0 (begun variables) exchanges p st
+    × (met_at (templates_of s) (slice_get (instructions_of s k) p) st ≡ Some outcome)
 
-does_same : (s : script.Script) → IsScript s → (k : Actor) (variables : List Tagged) (answers : List Answer) (st : State) (meeting : Meeting)
-    → ScriptDoes s k variables answers st meeting ↔ CodeDoes s k variables answers st meeting
-does_same s is k variables answers st meeting = (there, back)
+comes_to_same : (s : script.Script) → IsScript s → (k : Actor) (variables : List Tagged) (exchanges : List Exchange) (st : State) (outcome : Outcome)
+    → ScriptComesTo s k variables exchanges st outcome ↔ CodeComesTo s k variables exchanges st outcome
+comes_to_same s is k variables exchanges st outcome = (there, back)
   where
-    there : ScriptDoes s k variables answers st meeting → CodeDoes s k variables answers st meeting
+    there : ScriptComesTo s k variables exchanges st outcome → CodeComesTo s k variables exchanges st outcome
     there (p, run, met) =
         let laid = script_laid s is k in (
           code_place (all_steps s k) p,
           forwards (all_labels s k) (all_steps s k) (templates_of s) (first_template s k) laid run,
-          same_meeting (all_labels s k) (all_steps s k) (templates_of s) (first_template s k) laid p st ∙ met,
+          same_outcome (all_labels s k) (all_steps s k) (templates_of s) (first_template s k) laid p st ∙ met,
         )
 
-    back : CodeDoes s k variables answers st meeting → ScriptDoes s k variables answers st meeting
+    back : CodeComesTo s k variables exchanges st outcome → ScriptComesTo s k variables exchanges st outcome
     back (r, run, met) =
-        does_too (all_labels s k) (all_steps s k) (templates_of s) (first_template s k) (script_laid s is k) (begun variables) st answers meeting r run met
+        comes_to_too (all_labels s k) (all_steps s k) (templates_of s) (first_template s k) (script_laid s is k) (begun variables) st exchanges outcome r run met
 
--- the layout of a script does what the script does
+-- the layout of a script agrees with it
 pub code_agrees : (s : script.Script) → IsScript s → Agrees s (code_of s)
-code_agrees s is = record { keys = refl; flags = refl; vars = refl; budgets = budgets; does = does }
+code_agrees s is = record { keys = refl; flags = refl; vars = refl; budgets = budgets; comes_to = comes_to }
   where
     budgets : (k : Actor) → (code.section_of (code_of s) k).budget ≡ (script.section_of s k).budget
     budgets actor.P = refl
     budgets actor.A = refl
     budgets actor.B = refl
 
-    does : (k : Actor) (variables : List Tagged) (answers : List Answer) (st : State) (meeting : Meeting)
-        → ScriptDoes s k variables answers st meeting ↔ Does (code_of s) k variables answers st meeting
-    does actor.P = does_same s is actor.P
-    does actor.A = does_same s is actor.A
-    does actor.B = does_same s is actor.B
+    comes_to : (k : Actor) (variables : List Tagged) (exchanges : List Exchange) (st : State) (outcome : Outcome)
+        → ScriptComesTo s k variables exchanges st outcome ↔ ComesTo (code_of s) k variables exchanges st outcome
+    comes_to actor.P = comes_to_same s is actor.P
+    comes_to actor.A = comes_to_same s is actor.A
+    comes_to actor.B = comes_to_same s is actor.B

@@ -138,7 +138,7 @@ pub small_again : (least greatest n : ℕ) (rest : List ℕ) → least ≤ n →
 unfolding small_in
 small_again least greatest n rest low high = rw (byte_again n rest, le-leb least n low, le-leb n greatest high) refl
 
--- ---- bytes behind their number
+-- ---- bytes after their number
 
 pub sized_takes : (least greatest : ℕ) (bytes : List ℕ) (x : List ℕ × List ℕ) → IsBytes bytes → sized_in least greatest bytes ≡ Some x
     → Takes bytes (sized x.0) x.1

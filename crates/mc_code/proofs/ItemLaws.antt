@@ -1,4 +1,4 @@
--- Items behind their number: what is read was written, and what was written is read again.
+-- Items after their number: what is read was written, and what was written is read again.
 use Rattle.std.proofs.Common.{◌≡◌, ℕ, zero, suc, ◌≤◌, Some, List, [], ◌∷◌, ◌++◌, length, refl, sym, ap, subst, ◌∙◌, append_assoc}
 use Rattle.std.specs.List.{flat_map}
 use Rattle.std.proofs.lemmas.List.{append-nil}
@@ -13,7 +13,7 @@ pub record IsItem {A : Type 0} (item_in : List A → List ℕ → Field A) (text
       → Takes bytes (text x.0) x.1 × P (items ++ x.0 ∷ [])
   pub again : (items : List A) (x : A) (others : List A) (rest : List ℕ) → P (items ++ x ∷ others) → item_in items (text x ++ rest) ≡ Some (x, rest)
 
--- what was read behind the items
+-- what was read after the items
 record Follow {A : Type 0} (text : A → List ℕ) (n : ℕ) (items : List A) (bytes : List ℕ) (y : List A × List ℕ) : Type 0 where
   xs : List A
   all : y.0 ≡ items ++ xs

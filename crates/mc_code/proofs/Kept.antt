@@ -23,21 +23,21 @@ use Rattle.mc_code.specs.declared.limits.TheConstants.{TEMPLATES_LIMIT, INSTRUCT
 use Rattle.mc_code.specs.Agreement.{Agrees}
 use Rattle.mc_code.specs.Code as code
 use Rattle.mc_code.specs.ScriptRuns.{clearing, clearing_steps, front_of, all_steps, all_labels, jump_on}
-use Rattle.mc_code.specs.Layout.{request_of, requests_of, templates_of, size_of, size_of_all, code_place, behind_label, label_place, entry, entry_for, entries, bind_code, step_code, code_from, first_template, section_code, code_of, template_count, instruction_count}
+use Rattle.mc_code.specs.Layout.{request_of, requests_of, templates_of, size_of, size_of_all, code_place, after_label, label_place, entry, entry_for, entries, bind_code, step_code, code_from, first_template, section_code, code_of, template_count, instruction_count}
 use Rattle.mc_code.proofs.Agreeing.{code_agrees}
 use Rattle.mc_code.proofs.Bounds.{section-kept, declared-few}
 use Rattle.mc_code.proofs.Rooms.{section-within}
 
 -- ---- places
 
-place-below : (steps : List Step) (p : ℕ) → code_place steps p ≤ size_of_all steps
+pub place-below : (steps : List Step) (p : ℕ) → code_place steps p ≤ size_of_all steps
 place-below steps zero = omega arith
 place-below [] (suc p) = omega arith
 place-below (s ∷ steps) (suc p) = omega (arith, place-below steps p)
 
-behind-below : (steps : List Step) (label : Option Label) → behind_label steps label ≤ size_of_all steps
-behind-below steps None = omega arith
-behind-below steps (Some label) = place-below steps label.place
+after-below : (steps : List Step) (label : Option Label) → after_label steps label ≤ size_of_all steps
+after-below steps None = omega arith
+after-below steps (Some label) = place-below steps label.place
 
 either-below : (b : Bool) (n m limit : ℕ) → n < limit → m < limit → (if b then n else m) < limit
 either-below true n m limit f g = f
@@ -45,7 +45,7 @@ either-below false n m limit f g = g
 
 led-below : (L : List Label) (S : List Step) (p : ℕ) (bind : Option ℕ) (class : Class) (to : Option ℕ) → size_of_all S < INSTRUCTIONS_LIMIT
     → code.is_byte (entry_for L S p bind class to)
-led-below L S p bind class (Some label) h = omega (arith, behind-below S (slice_get L label))
+led-below L S p bind class (Some label) h = omega (arith, after-below S (slice_get L label))
 led-below L S p None class None h = omega (arith, place-below S (p + 1))
 led-below L S p (Some variable) class None h =
     either-below (is_number_class class) _ _ 256 (omega (arith, place-below S p)) (omega (arith, place-below S (p + 1)))
@@ -84,7 +84,7 @@ step-kept L S template p (step.Send t jumps (Some variable)) h room b =
     (All-cons code.IsInstr (instr.Bind variable) [] b (All-nil code.IsInstr))
 step-kept L S template p (step.Bind variable) h room b = All-cons code.IsInstr (instr.Bind variable) [] b (All-nil code.IsInstr)
 step-kept L S template p (step.Goto label) h room b =
-    All-cons code.IsInstr (instr.Goto (label_place L S label)) [] (omega (arith, behind-below S (slice_get L label))) (All-nil code.IsInstr)
+    All-cons code.IsInstr (instr.Goto (label_place L S label)) [] (omega (arith, after-below S (slice_get L label))) (All-nil code.IsInstr)
 step-kept L S template p step.Halt h room b = All-cons code.IsInstr instr.Halt [] tt (All-nil code.IsInstr)
 
 requests-cons : (s : Step) (rest : List Step) → length (requests_of (s ∷ rest)) ≡ length (request_of s) + length (requests_of rest)
@@ -105,7 +105,7 @@ step-length L S template p (step.Bind variable) = refl
 step-length L S template p (step.Goto label) = refl
 step-length L S template p step.Halt = refl
 
-code-length : (L : List Label) (S : List Step) (template p : ℕ) (rest : List Step) → length (code_from L S template p rest) ≡ size_of_all rest + 1
+pub code-length : (L : List Label) (S : List Step) (template p : ℕ) (rest : List Step) → length (code_from L S template p rest) ≡ size_of_all rest + 1
 code-length L S template p [] = refl
 code-length L S template p (s ∷ rest) =
     let more = code_from L S (template + length (request_of s)) (p + 1) rest in

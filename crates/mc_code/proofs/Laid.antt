@@ -38,10 +38,10 @@ size-in-front : (key : ℕ) (keys : List Word) (steps : List Step) → size_of_a
 size-in-front key [] steps = omega arith
 size-in-front key (_ ∷ keys) steps = omega (arith, size-in-front (key + 1) keys steps)
 
--- the places of the steps behind the front
-place-behind : (key : ℕ) (keys : List Word) (steps : List Step) (p : ℕ)
+-- the places of the steps after the front
+place-after : (key : ℕ) (keys : List Word) (steps : List Step) (p : ℕ)
     → code_place (clearing_steps key keys ++ steps) (length keys + p) ≡ length keys + code_place steps p
-place-behind key keys steps p =
+place-after key keys steps p =
     let n : length (clearing_steps key keys) ≡ length keys = clearing-length key keys in
     let P : ℕ → Type 0 = λ k. size_of_all (take (k + p) (clearing_steps key keys ++ steps)) ≡ length keys + code_place steps p in
     subst P n (ap size_of_all (take-append-add (clearing_steps key keys) steps p) ∙ size-in-front key keys (take p steps))
@@ -55,7 +55,7 @@ place-found first (s ∷ steps) (suc p) h = omega (arith, place-found (first + s
 -- the same place in the whole section
 pub same-place : (keys : List Word) (steps : List Step) (p : ℕ) → p ≤ length steps
     → code_place (clearing_steps 0 keys ++ steps) (length keys + p) ≡ place_in (places_from (length keys) steps) p
-same-place keys steps p h = place-behind 0 keys steps p ∙ sym (place-found (length keys) steps p h)
+same-place keys steps p h = place-after 0 keys steps p ∙ sym (place-found (length keys) steps p h)
 
 same-label : (keys : List Word) (steps : List Step) (least : ℕ) (labels : List Label) → AreLabels (length steps) least labels → (index : ℕ)
     → label_place (map (moved (length keys)) labels) (clearing_steps 0 keys ++ steps) index

@@ -18,11 +18,11 @@ get_in_front [] ys k x e = absurd (cc)
 get_in_front (_ ∷ xs) ys zero x e = e
 get_in_front (_ ∷ xs) ys (suc k) x e = get_in_front xs ys k x e
 
-pub get_behind : {X : Type 0} (xs ys : List X) (k : ℕ) → slice_get (xs ++ ys) (length xs + k) ≡ slice_get ys k
-get_behind [] ys k = ap (slice_get ys) (omega arith)
-get_behind (x ∷ xs) ys k =
+pub get_after : {X : Type 0} (xs ys : List X) (k : ℕ) → slice_get (xs ++ ys) (length xs + k) ≡ slice_get ys k
+get_after [] ys k = ap (slice_get ys) (omega arith)
+get_after (x ∷ xs) ys k =
     let e : length (x ∷ xs) + k ≡ suc (length xs + k) = omega arith in
-    ap (slice_get (x ∷ xs ++ ys)) e ∙ get_behind xs ys k
+    ap (slice_get (x ∷ xs ++ ys)) e ∙ get_after xs ys k
 
 length_append : {X : Type 0} (xs ys : List X) → length (xs ++ ys) ≡ length xs + length ys
 length_append [] ys = omega arith
@@ -44,25 +44,25 @@ template_found (s ∷ steps) zero u t at is =
     get_in_front (request_of s) (requests_of steps) 0 t (ap (λ l. slice_get l 0) first)
 template_found (s ∷ steps) (suc p) u t at is =
     ap (slice_get (request_of s ++ requests_of steps)) (length_append (request_of s) (requests_of (take p steps)))
-    ∙ get_behind (request_of s) (requests_of steps) (requests_before steps p)
+    ∙ get_after (request_of s) (requests_of steps) (requests_before steps p)
     ∙ template_found steps p u t at is
 
 -- ---- instructions
 
-code_length : (labels : List Label) (steps : List Step) (n p : ℕ) (s : Step) → length (step_code labels steps n p s) ≡ size_of s
+pub code_length : (labels : List Label) (steps : List Step) (n p : ℕ) (s : Step) → length (step_code labels steps n p s) ≡ size_of s
 code_length labels steps n p (step.Send t jumps None) = refl
 code_length labels steps n p (step.Send t jumps (Some v)) = refl
 code_length labels steps n p (step.Bind v) = refl
 code_length labels steps n p (step.Goto label) = refl
 code_length labels steps n p step.Halt = refl
 
--- the code of the rest stands behind that of the first step
-code_behind : (labels : List Label) (all : List Step) (n p : ℕ) (s : Step) (rest : List Step) (k : ℕ)
+-- the code of the rest stands after that of the first step
+code_after : (labels : List Label) (all : List Step) (n p : ℕ) (s : Step) (rest : List Step) (k : ℕ)
     → slice_get (code_from labels all n p (s ∷ rest)) (size_of s + k) ≡ slice_get (code_from labels all (n + length (request_of s)) (p + 1) rest) k
-code_behind labels all n p s rest k =
+code_after labels all n p s rest k =
     let front = step_code labels all n p s in
     let back = code_from labels all (n + length (request_of s)) (p + 1) rest in
-    ap (λ m. slice_get (front ++ back) (m + k)) (sym (code_length labels all n p s)) ∙ get_behind front back k
+    ap (λ m. slice_get (front ++ back) (m + k)) (sym (code_length labels all n p s)) ∙ get_after front back k
 
 -- each instruction of a step stands where the step's code is
 code_found : (labels : List Label) (all : List Step) (n p : ℕ) (rest : List Step) (k : ℕ) (s : Step) → slice_get rest k ≡ Some s
@@ -84,22 +84,22 @@ code_found labels all n p (s ∷ rest) (suc k) u at j i is =
     let more = length_append (request_of s) (requests_of (take k rest)) in
     let number : n + length (requests_of (take (suc k) (s ∷ rest))) ≡ n + length (request_of s) + requests_before rest k = omega (arith, more) in
     let place : p + suc k ≡ p + 1 + k = omega arith in
-    let behind : slice_get (step_code labels all (n + length (request_of s) + requests_before rest k) (p + 1 + k) u) j ≡ Some i =
+    let after : slice_get (step_code labels all (n + length (request_of s) + requests_before rest k) (p + 1 + k) u) j ≡ Some i =
     ap (λ m. slice_get (step_code labels all m (p + 1 + k) u) j) (sym number)
     ∙ ap (λ m. slice_get (step_code labels all (n + length (requests_of (take (suc k) (s ∷ rest)))) m u) j) (sym place) ∙ is in
     let sum : size_of_all (take (suc k) (s ∷ rest)) + j ≡ size_of s + (size_of_all (take k rest) + j) = omega arith in
     ap (slice_get (code_from labels all n p (s ∷ rest))) sum
-    ∙ code_behind labels all n p s rest (size_of_all (take k rest) + j)
-    ∙ code_found labels all (n + length (request_of s)) (p + 1) rest k u at j i behind
+    ∙ code_after labels all n p s rest (size_of_all (take k rest) + j)
+    ∙ code_found labels all (n + length (request_of s)) (p + 1) rest k u at j i after
 
--- behind the last step stands the section's end
+-- after the last step stands the section's end
 end_found : (labels : List Label) (all : List Step) (n p : ℕ) (rest : List Step) (k : ℕ) → slice_get rest k ≡ None
     → slice_get (code_from labels all n p rest) (size_of_all (take k rest)) ≡ Some instr.Halt
 end_found labels all n p [] zero at = refl
 end_found labels all n p [] (suc k) at = refl
 end_found labels all n p (s ∷ rest) zero at = absurd (cc)
 end_found labels all n p (s ∷ rest) (suc k) at =
-    code_behind labels all n p s rest (size_of_all (take k rest))
+    code_after labels all n p s rest (size_of_all (take k rest))
     ∙ end_found labels all (n + length (request_of s)) (p + 1) rest k at
 
 -- ---- the code of all steps
@@ -133,9 +133,9 @@ pub second_of_step : (labels : List Label) (steps : List Step) (first p : ℕ) (
     → slice_get (code_of_all labels steps first) (code_place steps p + 1) ≡ Some i
 second_of_step labels steps first p s at i is = nth_of_step labels steps first p s at 1 i is
 
-pub behind_steps : (labels : List Label) (steps : List Step) (first p : ℕ) → slice_get steps p ≡ None
+pub after_steps : (labels : List Label) (steps : List Step) (first p : ℕ) → slice_get steps p ≡ None
     → slice_get (code_of_all labels steps first) (code_place steps p) ≡ Some instr.Halt
-behind_steps labels steps first p at = end_found labels steps first 0 steps p at
+after_steps labels steps first p at = end_found labels steps first 0 steps p at
 
 -- where the code of the next step begins
 pub next_place : (steps : List Step) (p : ℕ) (s : Step) → slice_get steps p ≡ Some s → code_place steps (p + 1) ≡ code_place steps p + size_of s

@@ -5,13 +5,13 @@ use Rattle.mc_code.proofs.FirstItems.{head_is, rest_is}
 
 -- ---- longer lists
 
--- an item behind the left list
+-- an item after the left list
 pub merge_left_end : {A : Type 0} {xs ys zs : List A} (x : A) → IsMerge xs ys zs → IsMerge (xs ++ x ∷ []) ys (zs ++ x ∷ [])
 merge_left_end x none = left none
 merge_left_end x (left m) = left (merge_left_end x m)
 merge_left_end x (right m) = right (merge_left_end x m)
 
--- an item behind the right list
+-- an item after the right list
 pub merge_right_end : {A : Type 0} {xs ys zs : List A} (y : A) → IsMerge xs ys zs → IsMerge xs (ys ++ y ∷ []) (zs ++ y ∷ [])
 merge_right_end y none = right none
 merge_right_end y (left m) = left (merge_right_end y m)
@@ -68,22 +68,22 @@ pub data MergeEndsBy {A : Type 0} (xs ys zs : List A) : Type 0 where
   left_last : (us ws : List A) (x : A) → IsMerge us ys ws → us ++ x ∷ [] ≡ xs → ws ++ x ∷ [] ≡ zs → MergeEndsBy xs ys zs
   right_last : (vs ws : List A) (y : A) → IsMerge xs vs ws → vs ++ y ∷ [] ≡ ys → ws ++ y ∷ [] ≡ zs → MergeEndsBy xs ys zs
 
-last_behind_left : {A : Type 0} (x : A) (xs ys zs : List A) → MergeEndsBy xs ys zs → MergeEndsBy (x ∷ xs) ys (x ∷ zs)
-last_behind_left x xs ys zs (empty e f g) =
+last_after_left : {A : Type 0} (x : A) (xs ys zs : List A) → MergeEndsBy xs ys zs → MergeEndsBy (x ∷ xs) ys (x ∷ zs)
+last_after_left x xs ys zs (empty e f g) =
     left_last [] [] x (subst (λ ys. IsMerge [] ys []) (sym f) none) (ap (λ l. x ∷ l) (sym e)) (ap (λ l. x ∷ l) (sym g))
-last_behind_left x xs ys zs (left_last us ws u m e f) = left_last (x ∷ us) (x ∷ ws) u (left m) (ap (λ l. x ∷ l) e) (ap (λ l. x ∷ l) f)
-last_behind_left x xs ys zs (right_last vs ws v m e f) = right_last vs (x ∷ ws) v (left m) e (ap (λ l. x ∷ l) f)
+last_after_left x xs ys zs (left_last us ws u m e f) = left_last (x ∷ us) (x ∷ ws) u (left m) (ap (λ l. x ∷ l) e) (ap (λ l. x ∷ l) f)
+last_after_left x xs ys zs (right_last vs ws v m e f) = right_last vs (x ∷ ws) v (left m) e (ap (λ l. x ∷ l) f)
 
-last_behind_right : {A : Type 0} (y : A) (xs ys zs : List A) → MergeEndsBy xs ys zs → MergeEndsBy xs (y ∷ ys) (y ∷ zs)
-last_behind_right y xs ys zs (empty e f g) =
+last_after_right : {A : Type 0} (y : A) (xs ys zs : List A) → MergeEndsBy xs ys zs → MergeEndsBy xs (y ∷ ys) (y ∷ zs)
+last_after_right y xs ys zs (empty e f g) =
     right_last [] [] y (subst (λ xs. IsMerge xs [] []) (sym e) none) (ap (λ l. y ∷ l) (sym f)) (ap (λ l. y ∷ l) (sym g))
-last_behind_right y xs ys zs (left_last us ws u m e f) = left_last us (y ∷ ws) u (right m) e (ap (λ l. y ∷ l) f)
-last_behind_right y xs ys zs (right_last vs ws v m e f) = right_last (y ∷ vs) (y ∷ ws) v (right m) (ap (λ l. y ∷ l) e) (ap (λ l. y ∷ l) f)
+last_after_right y xs ys zs (left_last us ws u m e f) = left_last us (y ∷ ws) u (right m) e (ap (λ l. y ∷ l) f)
+last_after_right y xs ys zs (right_last vs ws v m e f) = right_last (y ∷ vs) (y ∷ ws) v (right m) (ap (λ l. y ∷ l) e) (ap (λ l. y ∷ l) f)
 
 pub merge_last : {A : Type 0} {xs ys zs : List A} → IsMerge xs ys zs → MergeEndsBy xs ys zs
 merge_last none = empty refl refl refl
-merge_last (left {x = x} {xs = xs} {ys = ys} {zs = zs} m) = last_behind_left x xs ys zs (merge_last m)
-merge_last (right {y = y} {xs = xs} {ys = ys} {zs = zs} m) = last_behind_right y xs ys zs (merge_last m)
+merge_last (left {x = x} {xs = xs} {ys = ys} {zs = zs} m) = last_after_left x xs ys zs (merge_last m)
+merge_last (right {y = y} {xs = xs} {ys = ys} {zs = zs} m) = last_after_right y xs ys zs (merge_last m)
 
 -- a merge of two parts: each list has two parts, and the parts of the merge are merges of theirs
 pub record IsMergeOfParts {A : Type 0} (xs ys zs ws : List A) : Type 0 where

@@ -3,24 +3,24 @@ use Rattle.std.proofs.Common.{◌≡◌, ℕ, Some, List, [], ◌∷◌, ◌++�
 use Rattle.mc_protocol.specs.declared.reply.Class.{Class}
 use Rattle.mc_script.specs.declared.step.Template.{Template}
 use Rattle.mc_code.specs.declared.instr.Instr.{Instr}
-use Rattle.mc_code.specs.Paths.{Turn, Slides, Sends, IsPath, stays, slides, sends}
+use Rattle.mc_code.specs.Paths.{Edge, Slides, Sends, IsPath, stays, slides, sends}
 use Rattle.mc_code.specs.RunLaws.{PathsSplit}
 
 -- ---- longer paths
 
-pub path_append : {templates : List Template} {section : List Instr} {p q r : ℕ} {xs ys : List Turn} → IsPath templates section p xs q
+pub path_append : {templates : List Template} {section : List Instr} {p q r : ℕ} {xs ys : List Edge} → IsPath templates section p xs q
     → IsPath templates section q ys r → IsPath templates section p (xs ++ ys) r
 path_append stays more = more
 path_append (slides i at leads path) more = slides i at leads (path_append path more)
 path_append (sends i at leads path) more = sends i at leads (path_append path more)
 
-pub path_slides : {templates : List Template} {section : List Instr} {p q r : ℕ} {xs : List Turn} → IsPath templates section p xs q
+pub path_slides : {templates : List Template} {section : List Instr} {p q r : ℕ} {xs : List Edge} → IsPath templates section p xs q
     → (i : Instr) → slice_get section q ≡ Some i → Slides i q r → IsPath templates section p xs r
 path_slides stays i at leads = slides i at leads stays
 path_slides (slides j here on path) i at leads = slides j here on (path_slides path i at leads)
 path_slides (sends j here on path) i at leads = sends j here on (path_slides path i at leads)
 
-pub path_sends : {templates : List Template} {section : List Instr} {p q r : ℕ} {xs : List Turn} → IsPath templates section p xs q
+pub path_sends : {templates : List Template} {section : List Instr} {p q r : ℕ} {xs : List Edge} → IsPath templates section p xs q
     → (i : Instr) (template : Template) (class : Class) → slice_get section q ≡ Some i → Sends templates i template class r
     → IsPath templates section p (xs ++ (template, class) ∷ []) r
 path_sends stays i template class at leads = sends i at leads stays
@@ -29,38 +29,38 @@ path_sends (sends j here on path) i template class at leads = sends j here on (p
 
 -- ---- what holds along a path
 
--- what a place and a value keep with each move, where a turn changes the value
-pub record IsKept {V : Type 0} (templates : List Template) (section : List Instr) (after : V → Turn → V) (H : ℕ → V → Type 0) : Type 0 where
+-- what a place and a value keep with each move, where an edge changes the value
+pub record IsKept {V : Type 0} (templates : List Template) (section : List Instr) (after : V → Edge → V) (H : ℕ → V → Type 0) : Type 0 where
   pub slid : (i : Instr) (p q : ℕ) (v : V) → slice_get section p ≡ Some i → Slides i p q → H p v → H q v
   pub sent : (i : Instr) (p q : ℕ) (v : V) (template : Template) (class : Class) → slice_get section p ≡ Some i
       → Sends templates i template class q → H p v → H q (after v (template, class))
 
 -- it holds at the end of each path from where it holds
-pub kept_along : {V : Type 0} (templates : List Template) (section : List Instr) (after : V → Turn → V) (H : ℕ → V → Type 0)
-    → IsKept templates section after H → (v : V) → {p q : ℕ} {turns : List Turn} → IsPath templates section p turns q → H p v → H q (fold after v turns)
+pub kept_along : {V : Type 0} (templates : List Template) (section : List Instr) (after : V → Edge → V) (H : ℕ → V → Type 0)
+    → IsKept templates section after H → (v : V) → {p q : ℕ} {edges : List Edge} → IsPath templates section p edges q → H p v → H q (fold after v edges)
 kept_along templates section after H kept v stays h = h
 kept_along templates section after H kept v (slides {p = p} {q = q} i at leads path) h =
     kept_along templates section after H kept v path (kept.slid i p q v at leads h)
 kept_along templates section after H kept v (sends {p = p} {q = q} {template = template} {class = class} i at leads path) h =
     kept_along templates section after H kept (after v (template, class)) path (kept.sent i p q v template class at leads h)
 
--- ---- the first turn of a path
+-- ---- the first edge of a path
 
--- the path slides to where the turn is sent, and goes on from where that leads
-pub record BeginsWith (templates : List Template) (section : List Instr) (p : ℕ) (turn : Turn) (turns : List Turn) (r : ℕ) : Type 0 where
+-- the path slides to where the edge is sent, and goes on from where that leads
+pub record FirstEdge (templates : List Template) (section : List Instr) (p : ℕ) (edge : Edge) (edges : List Edge) (r : ℕ) : Type 0 where
   pub sent_at : ℕ
   pub led_to : ℕ
   pub i : Instr
   pub slides_there : IsPath templates section p [] sent_at
   pub at : slice_get section sent_at ≡ Some i
-  pub leads : Sends templates i turn.0 turn.1 led_to
-  pub more : IsPath templates section led_to turns r
+  pub leads : Sends templates i edge.0 edge.1 led_to
+  pub more : IsPath templates section led_to edges r
 
-pub path_first : (templates : List Template) (section : List Instr) (turn : Turn) (turns : List Turn) → {p r : ℕ} {all : List Turn}
-    → IsPath templates section p all r → all ≡ turn ∷ turns → BeginsWith templates section p turn turns r
-path_first templates section turn turns stays is = absurd (cc)
-path_first templates section turn turns (slides i at leads path) is =
-    let begins = path_first templates section turn turns path is in
+pub path_first : (templates : List Template) (section : List Instr) (edge : Edge) (edges : List Edge) → {p r : ℕ} {all : List Edge}
+    → IsPath templates section p all r → all ≡ edge ∷ edges → FirstEdge templates section p edge edges r
+path_first templates section edge edges stays is = absurd (cc)
+path_first templates section edge edges (slides i at leads path) is =
+    let begins = path_first templates section edge edges path is in
     record {
       sent_at = begins.sent_at;
       led_to = begins.led_to;
@@ -70,21 +70,21 @@ path_first templates section turn turns (slides i at leads path) is =
       leads = begins.leads;
       more = begins.more;
     }
-path_first templates section turn turns (sends {p = p} {q = q} {r = r} {turns = others} {template = template} {class = class} i at leads path) is =
-    let same : (template, class) ≡ turn = cc in
-    let rest : others ≡ turns = cc in
+path_first templates section edge edges (sends {p = p} {q = q} {r = r} {edges = others} {template = template} {class = class} i at leads path) is =
+    let same : (template, class) ≡ edge = cc in
+    let rest : others ≡ edges = cc in
     record {
       sent_at = p;
       led_to = q;
       i = i;
       slides_there = stays;
       at = at;
-      leads = subst (λ (turn : Turn). Sends templates i turn.0 turn.1 q) same leads;
+      leads = subst (λ (edge : Edge). Sends templates i edge.0 edge.1 q) same leads;
       more = subst (λ l. IsPath templates section q l r) rest path;
     }
 
 -- a path of two parts goes by a place in between
-pub path_split : (templates : List Template) (section : List Instr) (xs ys : List Turn) → {p r : ℕ} → IsPath templates section p (xs ++ ys) r
+pub path_split : (templates : List Template) (section : List Instr) (xs ys : List Edge) → {p r : ℕ} → IsPath templates section p (xs ++ ys) r
     → (q : ℕ) × IsPath templates section p xs q × IsPath templates section q ys r
 path_split templates section [] ys {p = p} is_path = (p, stays, is_path)
 path_split templates section (x ∷ xs) ys is_path =
@@ -98,34 +98,34 @@ paths_split templates section xs ys p r = (path_split templates section xs ys, �
 -- ---- the last move of a path
 
 -- a path to this place ends with a move from another, if it isn't empty
-pub data EndsBy (templates : List Template) (section : List Instr) (p r : ℕ) (turns : List Turn) : Type 0 where
-  stayed : p ≡ r → turns ≡ [] → EndsBy templates section p r turns
-  slid_last : (q : ℕ) (i : Instr) → IsPath templates section p turns q → slice_get section q ≡ Some i → Slides i q r
-      → EndsBy templates section p r turns
-  sent_last : (q : ℕ) (i : Instr) (before : List Turn) (template : Template) (class : Class) → IsPath templates section p before q
-      → slice_get section q ≡ Some i → Sends templates i template class r → before ++ (template, class) ∷ [] ≡ turns
-      → EndsBy templates section p r turns
+pub data EndsBy (templates : List Template) (section : List Instr) (p r : ℕ) (edges : List Edge) : Type 0 where
+  stayed : p ≡ r → edges ≡ [] → EndsBy templates section p r edges
+  slid_last : (q : ℕ) (i : Instr) → IsPath templates section p edges q → slice_get section q ≡ Some i → Slides i q r
+      → EndsBy templates section p r edges
+  sent_last : (q : ℕ) (i : Instr) (before : List Edge) (template : Template) (class : Class) → IsPath templates section p before q
+      → slice_get section q ≡ Some i → Sends templates i template class r → before ++ (template, class) ∷ [] ≡ edges
+      → EndsBy templates section p r edges
 
-last_behind_slide : (templates : List Template) (section : List Instr) (p q r : ℕ) (turns : List Turn) (i : Instr) → slice_get section p ≡ Some i
-    → Slides i p q → EndsBy templates section q r turns → EndsBy templates section p r turns
-last_behind_slide templates section p q r turns i at leads (stayed same none) =
+last_after_slide : (templates : List Template) (section : List Instr) (p q r : ℕ) (edges : List Edge) (i : Instr) → slice_get section p ≡ Some i
+    → Slides i p q → EndsBy templates section q r edges → EndsBy templates section p r edges
+last_after_slide templates section p q r edges i at leads (stayed same none) =
     slid_last p i (subst (λ l. IsPath templates section p l p) (sym none) stays) at (subst (Slides i p) same leads)
-last_behind_slide templates section p q r turns i at leads (slid_last s j path there on) = slid_last s j (slides i at leads path) there on
-last_behind_slide templates section p q r turns i at leads (sent_last s j before template class path there on is) =
+last_after_slide templates section p q r edges i at leads (slid_last s j path there on) = slid_last s j (slides i at leads path) there on
+last_after_slide templates section p q r edges i at leads (sent_last s j before template class path there on is) =
     sent_last s j before template class (slides i at leads path) there on is
 
-last_behind_send : (templates : List Template) (section : List Instr) (p q r : ℕ) (turns : List Turn) (i : Instr) (t : Template) (c : Class)
-    → slice_get section p ≡ Some i → Sends templates i t c q → EndsBy templates section q r turns → EndsBy templates section p r ((t, c) ∷ turns)
-last_behind_send templates section p q r turns i t c at leads (stayed same none) =
+last_after_send : (templates : List Template) (section : List Instr) (p q r : ℕ) (edges : List Edge) (i : Instr) (t : Template) (c : Class)
+    → slice_get section p ≡ Some i → Sends templates i t c q → EndsBy templates section q r edges → EndsBy templates section p r ((t, c) ∷ edges)
+last_after_send templates section p q r edges i t c at leads (stayed same none) =
     sent_last p i [] t c stays at (subst (Sends templates i t c) same leads) (ap (λ l. (t, c) ∷ l) (sym none))
-last_behind_send templates section p q r turns i t c at leads (slid_last s j path there on) = slid_last s j (sends i at leads path) there on
-last_behind_send templates section p q r turns i t c at leads (sent_last s j before template class path there on is) =
+last_after_send templates section p q r edges i t c at leads (slid_last s j path there on) = slid_last s j (sends i at leads path) there on
+last_after_send templates section p q r edges i t c at leads (sent_last s j before template class path there on is) =
     sent_last s j ((t, c) ∷ before) template class (sends i at leads path) there on (ap (λ l. (t, c) ∷ l) is)
 
-pub path_last : {templates : List Template} {section : List Instr} {p r : ℕ} {turns : List Turn} → IsPath templates section p turns r
-    → EndsBy templates section p r turns
+pub path_last : {templates : List Template} {section : List Instr} {p r : ℕ} {edges : List Edge} → IsPath templates section p edges r
+    → EndsBy templates section p r edges
 path_last stays = stayed refl refl
-path_last {templates = templates} {section = section} (slides {p = p} {q = q} {r = r} {turns = turns} i at leads path) =
-    last_behind_slide templates section p q r turns i at leads (path_last path)
-path_last {templates = templates} {section = section} (sends {p = p} {q = q} {r = r} {turns = turns} {template = template} {class = class} i at leads path) =
-    last_behind_send templates section p q r turns i template class at leads (path_last path)
+path_last {templates = templates} {section = section} (slides {p = p} {q = q} {r = r} {edges = edges} i at leads path) =
+    last_after_slide templates section p q r edges i at leads (path_last path)
+path_last {templates = templates} {section = section} (sends {p = p} {q = q} {r = r} {edges = edges} {template = template} {class = class} i at leads path) =
+    last_after_send templates section p q r edges i template class at leads (path_last path)

@@ -13,30 +13,30 @@ use Rattle.mc_script.specs.declared.step.Template.{Template}
 use Rattle.mc_code.specs.declared.instr.Instr.{Instr}
 use Rattle.mc_code.specs.declared.instr.Instr.TheVariants as instr
 use Rattle.mc_code.specs.declared.kind.Kind.TheVariants as kind
-use Rattle.mc_code.specs.Code.{section_of}
-use Rattle.mc_code.specs.Paths.{Turn, Slides, Sends, IsPath, IsComplete}
+use Rattle.mc_code.specs.Code.{instructions_in}
+use Rattle.mc_code.specs.Paths.{Edge, Slides, Sends, IsPath, IsComplete}
 use Rattle.mc_code.specs.Paths as path
-use Rattle.mc_code.specs.Runs.{Answer, is_fit_for, slid, IsRun, rests, slides, sends, met_by_send, met_at}
-use Rattle.mc_code.specs.RunLaws.{turns_of, CompletePathsEnd, EndsAreComplete, PathsAreRuns}
+use Rattle.mc_code.specs.Runs.{Exchange, is_fit_for, slid, IsRun, rests, slides, sends, met_by_send, met_at}
+use Rattle.mc_code.specs.RunLaws.{edges_of, CompletePathsEnd, EndsAreComplete, PathsAreRuns}
 use Rattle.mc_code.specs.States.{Tagged, nothing, is_number, State, begun, answered, call, wrong_kind, nothing_to_bind, ended, given, with_argument, sending, wanted_by, is_same}
 use Rattle.mc_code.proofs.FirstItems.{head_is, rest_is}
 
 -- ---- longer runs
 
-pub run_append : {templates : List Template} {section : List Instr} {p q r : ℕ} {st mid end : State} {xs ys : List Answer}
+pub run_append : {templates : List Template} {section : List Instr} {p q r : ℕ} {st mid end : State} {xs ys : List Exchange}
     → IsRun templates section p st xs q mid → IsRun templates section q mid ys r end → IsRun templates section p st (xs ++ ys) r end
 run_append rests more = more
 run_append (slides i at leads run) more = slides i at leads (run_append run more)
 run_append (sends i at leads fit run) more = sends i at leads fit (run_append run more)
 
-pub run_slides : {templates : List Template} {section : List Instr} {p q r : ℕ} {st end : State} {xs : List Answer}
+pub run_slides : {templates : List Template} {section : List Instr} {p q r : ℕ} {st end : State} {xs : List Exchange}
     → IsRun templates section p st xs q end → (i : Instr) → slice_get section q ≡ Some i → Slides i q r
     → IsRun templates section p st xs r (slid i end)
 run_slides rests i at leads = slides i at leads rests
 run_slides (slides j here on run) i at leads = slides j here on (run_slides run i at leads)
 run_slides (sends j here on fit run) i at leads = sends j here on fit (run_slides run i at leads)
 
-pub run_sends : {templates : List Template} {section : List Instr} {p q r : ℕ} {st end : State} {xs : List Answer}
+pub run_sends : {templates : List Template} {section : List Instr} {p q r : ℕ} {st end : State} {xs : List Exchange}
     → IsRun templates section p st xs q end → (i : Instr) (t : Template) (given : Reply) → slice_get section q ≡ Some i
     → Sends templates i t (class_of given) r → is_fit_for t.verb given ≡ true
     → IsRun templates section p st (xs ++ (t, given) ∷ []) r (answered t given end)
@@ -44,8 +44,8 @@ run_sends rests i t given at leads fit = sends i at leads fit rests
 run_sends (slides j here on run) i t given at leads fit = slides j here on (run_sends run i t given at leads fit)
 run_sends (sends j here on is_fit run) i t given at leads fit = sends j here on is_fit (run_sends run i t given at leads fit)
 
--- a run by two lists of answers goes by a place and a state in between
-pub run_split : (templates : List Template) (section : List Instr) (xs ys : List Answer) → {p r : ℕ} {st end : State} {all : List Answer}
+-- a run by two lists of exchanges goes by a place and a state in between
+pub run_split : (templates : List Template) (section : List Instr) (xs ys : List Exchange) → {p r : ℕ} {st end : State} {all : List Exchange}
     → IsRun templates section p st all r end → all ≡ xs ++ ys
     → (q : ℕ) × (mid : State) × IsRun templates section p st xs q mid × IsRun templates section q mid ys r end
 run_split templates section [] ys {p = p} {r = r} {st = st} {end = end} run is =
@@ -54,10 +54,10 @@ run_split templates section (x ∷ xs) ys rests is = absurd (cc)
 run_split templates section (x ∷ xs) ys (slides i at leads run) is =
     let parts = run_split templates section (x ∷ xs) ys run is in
     (parts.0, parts.1, slides i at leads parts.2, parts.3)
-run_split templates section (x ∷ xs) ys (sends {p = p} {st = st} {answers = answers} {t = t} {reply = r} i at leads fit run) is =
-    let parts = run_split templates section xs ys run (rest_is (t, r) x answers (xs ++ ys) is) in
+run_split templates section (x ∷ xs) ys (sends {p = p} {st = st} {exchanges = exchanges} {t = t} {reply = r} i at leads fit run) is =
+    let parts = run_split templates section xs ys run (rest_is (t, r) x exchanges (xs ++ ys) is) in
     let here = sends i at leads fit parts.2 in
-    (parts.0, parts.1, subst (λ x. IsRun templates section p st (x ∷ xs) parts.0 parts.1) (head_is (t, r) x answers (xs ++ ys) is) here, parts.3)
+    (parts.0, parts.1, subst (λ x. IsRun templates section p st (x ∷ xs) parts.0 parts.1) (head_is (t, r) x exchanges (xs ++ ys) is) here, parts.3)
 
 -- ---- what holds along a run
 
@@ -69,7 +69,7 @@ pub record IsKeptByRuns (templates : List Template) (section : List Instr) (H : 
 
 -- it holds at the end of each run from where it holds
 pub kept_by_run : (templates : List Template) (section : List Instr) (H : ℕ → State → Type 0) → IsKeptByRuns templates section H
-    → {p q : ℕ} {st end : State} {answers : List Answer} → IsRun templates section p st answers q end → H p st → H q end
+    → {p q : ℕ} {st end : State} {exchanges : List Exchange} → IsRun templates section p st exchanges q end → H p st → H q end
 kept_by_run templates section H kept rests h = h
 kept_by_run templates section H kept (slides {p = p} {q = q} {st = st} i at leads run) h =
     kept_by_run templates section H kept run (kept.slides_on i p q st at leads h)
@@ -78,9 +78,9 @@ kept_by_run templates section H kept (sends {p = p} {q = q} {st = st} {t = t} {r
 
 -- ---- paths
 
--- the turns of a run are a path
-pub run_path : {templates : List Template} {section : List Instr} {p q : ℕ} {st end : State} {answers : List Answer}
-    → IsRun templates section p st answers q end → IsPath templates section p (turns_of answers) q
+-- the edges of a run are a path
+pub run_path : {templates : List Template} {section : List Instr} {p q : ℕ} {st end : State} {exchanges : List Exchange}
+    → IsRun templates section p st exchanges q end → IsPath templates section p (edges_of exchanges) q
 run_path rests = path.stays
 run_path (slides i at leads run) = path.slides i at leads (run_path run)
 run_path (sends i at leads fit run) = path.sends i at leads (run_path run)
@@ -148,14 +148,14 @@ sends_legal templates (instr.Bind v) t c q leads = absurd leads
 sends_legal templates (instr.Goto place) t c q leads = absurd leads
 sends_legal templates instr.Halt t c q leads = absurd leads
 
--- these turns are those of a run from the place and the state
-abbrev pub AreOfRun : List Template → List Instr → ℕ → State → List Turn → ℕ → Type 0
-AreOfRun templates section p st turns q =
-    (answers : List Answer) × (end : State) × IsRun templates section p st answers q end × (turns_of answers ≡ turns)
+-- these edges are those of a run from the place and the state
+abbrev pub AreOfRun : List Template → List Instr → ℕ → State → List Edge → ℕ → Type 0
+AreOfRun templates section p st edges q =
+    (exchanges : List Exchange) × (end : State) × IsRun templates section p st exchanges q end × (edges_of exchanges ≡ edges)
 
--- a path is the turns of a run, also of one in which every number that is shown is this one
-pub path_run : (templates : List Template) (section : List Instr) (number : ℕ) → {p q : ℕ} {turns : List Turn} → IsPath templates section p turns q
-    → (st : State) → AreOfRun templates section p st turns q
+-- a path is the edges of a run, also of one in which every number that is shown is this one
+pub path_run : (templates : List Template) (section : List Instr) (number : ℕ) → {p q : ℕ} {edges : List Edge} → IsPath templates section p edges q
+    → (st : State) → AreOfRun templates section p st edges q
 path_run templates section number path.stays st = ([], st, rests, refl)
 path_run templates section number (path.slides i at leads more) st =
     let on = path_run templates section number more (slid i st) in
@@ -167,11 +167,11 @@ path_run templates section number (path.sends {q = q} {template = t} {class = c}
       (t, given) ∷ on.0,
       on.1,
       sends i at (subst (λ c. Sends templates i t c q) (sym class_is) leads) (reply_fits t.verb c number (sends_legal templates i t c q leads)) on.2,
-      ap (λ c. (t, c) ∷ turns_of on.0) class_is ∙ ap (λ l. (t, c) ∷ l) on.3,
+      ap (λ c. (t, c) ∷ edges_of on.0) class_is ∙ ap (λ l. (t, c) ∷ l) on.3,
     )
 
 pub paths_run : PathsAreRuns
-paths_run templates section p q turns st is_path = path_run templates section 0 is_path st
+paths_run templates section p q edges st is_path = path_run templates section 0 is_path st
 
 -- ---- the end of a section
 
@@ -214,11 +214,11 @@ ended_at_halt templates (Some (instr.Goto place)) st met = absurd (cc)
 ended_at_halt templates (Some instr.Halt) st met = refl
 
 pub ends_complete : EndsAreComplete
-ends_complete c actor variables answers st (p, run, met) =
-    (p, run_path run, ended_at_halt c.templates (slice_get (section_of c actor).instructions p) st met)
+ends_complete c actor variables exchanges st (p, run, met) =
+    (p, run_path run, ended_at_halt c.templates (slice_get (instructions_in c actor) p) st met)
 
 pub complete_ends : CompletePathsEnd
-complete_ends c actor variables turns (p, is_path, halt) =
-    let section = (section_of c actor).instructions in
-    let run : AreOfRun c.templates section 0 (begun variables) turns p = path_run c.templates section 0 is_path (begun variables) in
+complete_ends c actor variables edges (p, is_path, halt) =
+    let section = instructions_in c actor in
+    let run : AreOfRun c.templates section 0 (begun variables) edges p = path_run c.templates section 0 is_path (begun variables) in
     (run.0, run.1, (p, run.2, ap (λ o. met_at c.templates o run.1) halt), run.3)

@@ -44,7 +44,7 @@ budget_again budget rest few-requests few-bytes =
 
 -- ---- one instruction
 
--- what was read behind the sort
+-- what was read after the sort
 abbrev Behind : ℕ → List ℕ → Instr × List ℕ → Type 0
 Behind sort bytes x = (text : List ℕ) × Takes bytes text x.1 × (instr_bytes x.0 ≡ sort ∷ text) × IsInstr x.0
 
@@ -77,20 +77,20 @@ halt_takes : (bytes : List ℕ) (x : Instr × List ℕ) → IsBytes bytes → So
 halt_takes bytes x fits e =
     subst (Behind 3 bytes) (some-same (instr.Halt, bytes) x e) ([], record { parts = refl; fits = fits }, refl, tt)
 
-behind_takes : (sort : ℕ) (bytes : List ℕ) (x : Instr × List ℕ) → sort ≤ 3 → IsBytes bytes → behind_sort sort bytes ≡ Some x → Behind sort bytes x
+after_takes : (sort : ℕ) (bytes : List ℕ) (x : Instr × List ℕ) → sort ≤ 3 → IsBytes bytes → behind_sort sort bytes ≡ Some x → Behind sort bytes x
 unfolding behind_sort
-behind_takes zero bytes x le fits e = send_takes bytes x fits e
-behind_takes (suc zero) bytes x le fits e = bind_takes bytes x fits e
-behind_takes (suc (suc zero)) bytes x le fits e = goto_takes bytes x fits e
-behind_takes (suc (suc (suc zero))) bytes x le fits e = halt_takes bytes x fits e
-behind_takes (suc (suc (suc (suc n)))) bytes x le fits e = absurd (omega arith)
+after_takes zero bytes x le fits e = send_takes bytes x fits e
+after_takes (suc zero) bytes x le fits e = bind_takes bytes x fits e
+after_takes (suc (suc zero)) bytes x le fits e = goto_takes bytes x fits e
+after_takes (suc (suc (suc zero))) bytes x le fits e = halt_takes bytes x fits e
+after_takes (suc (suc (suc (suc n)))) bytes x le fits e = absurd (omega arith)
 
 instr_takes : (bytes : List ℕ) (x : Instr × List ℕ) → IsBytes bytes → instr_in bytes ≡ Some x → Takes bytes (instr_bytes x.0) x.1 × IsInstr x.0
 unfolding instr_in
 instr_takes bytes x fits e =
     let s = then-some (small_in 0 3 bytes) (λ sort. behind_sort sort.0 sort.1) x e in
     let t = small_takes 0 3 bytes s.0 fits s.1 in
-    let b = behind_takes s.0.0 s.0.1 x t.2 t.0.fits s.2 in
+    let b = after_takes s.0.0 s.0.1 x t.2 t.0.fits s.2 in
     (subst (λ (text : List ℕ). Takes bytes text x.1) (sym b.2) (Takes-then bytes (s.0.0 ∷ []) s.0.1 b.0 x.1 t.0 b.1), b.3)
 
 instr_again : (i : Instr) (rest : List ℕ) → IsInstr i → instr_in (instr_bytes i ++ rest) ≡ Some (i, rest)

@@ -15,12 +15,12 @@ use Rattle.mc_script.specs.Marks.{shows_numbers}
 use Rattle.mc_script.specs.WellFormed.{is_number_class}
 use Rattle.mc_code.specs.declared.instr.Instr.{Instr}
 use Rattle.mc_code.specs.declared.instr.Instr.TheVariants as instr
-use Rattle.mc_code.specs.Layout.{request_of, code_place, behind_label, label_place, entry_for, entry, entries}
+use Rattle.mc_code.specs.Layout.{request_of, code_place, after_label, label_place, entry_for, entry, entries}
 use Rattle.mc_code.specs.Paths.{entry_of}
 use Rattle.mc_code.specs.Runs.{is_fit_for, met_by_send, met_at}
 use Rattle.mc_code.specs.ScriptRuns.{jump_on, place_of_label, place_of, met_at_step}
 use Rattle.mc_code.specs.States.{State, is_number, shown_of}
-use Rattle.mc_code.proofs.LookUps.{some_is, number_at, code_of_all, first_of_step, behind_steps}
+use Rattle.mc_code.proofs.LookUps.{some_is, number_at, code_of_all, first_of_step, after_steps}
 
 abbrev pub HasLabel : List Label → ℕ → Type 0
 HasLabel labels index = (label : Label) × (slice_get labels index ≡ Some label)
@@ -50,11 +50,11 @@ pub place_is : (labels : List Label) (steps : List Step) (index q : ℕ) → pla
     → label_place labels steps index ≡ code_place steps q
 place_is labels steps index q e = by_label (slice_get labels index) e
   where
-    by_label : (o : Option Label) → place_of_label o ≡ Some q → behind_label steps o ≡ code_place steps q
+    by_label : (o : Option Label) → place_of_label o ≡ Some q → after_label steps o ≡ code_place steps q
     by_label None e = absurd (cc)
     by_label (Some label) e = ap (code_place steps) (some_is label.place q e)
 
-entry_at : (labels : List Label) (steps : List Step) (p : ℕ) (t : Template) (jumps : List (Class × ℕ)) (bind : Option ℕ) (c : Class)
+pub entry_at : (labels : List Label) (steps : List Step) (p : ℕ) (t : Template) (jumps : List (Class × ℕ)) (bind : Option ℕ) (c : Class)
     → entry_of (entries labels steps p t jumps bind) c ≡ entry labels steps p t jumps bind c
 entry_at labels steps p t jumps bind class.Stored = refl
 entry_at labels steps p t jumps bind class.NotStored = refl
@@ -107,13 +107,13 @@ number_shown v key reply.Deleted fit shows class = absurd (cc)
 number_shown v key reply.Touched fit shows class = absurd (cc)
 number_shown v key reply.NotNumber fit shows class = absurd (cc)
 
--- ---- meetings
+-- ---- outcomes
 
 -- the code of a step meets what the step meets
-pub same_meeting : (labels : List Label) (steps : List Step) (templates : List Template) (first : ℕ) → IsLaid labels steps templates first
+pub same_outcome : (labels : List Label) (steps : List Step) (templates : List Template) (first : ℕ) → IsLaid labels steps templates first
     → (p : ℕ) (st : State)
     → met_at templates (slice_get (code_of_all labels steps first) (code_place steps p)) st ≡ met_at_step (slice_get steps p) st
-same_meeting labels steps templates first laid p st = by_step (slice_get steps p) refl
+same_outcome labels steps templates first laid p st = by_step (slice_get steps p) refl
   where
     met : (i : Instr) → slice_get (code_of_all labels steps first) (code_place steps p) ≡ Some i
         → met_at templates (slice_get (code_of_all labels steps first) (code_place steps p)) st ≡ met_at templates (Some i) st
@@ -121,7 +121,7 @@ same_meeting labels steps templates first laid p st = by_step (slice_get steps p
 
     by_step : (o : Option Step) → slice_get steps p ≡ o
         → met_at templates (slice_get (code_of_all labels steps first) (code_place steps p)) st ≡ met_at_step o st
-    by_step None e = met instr.Halt (behind_steps labels steps first p e)
+    by_step None e = met instr.Halt (after_steps labels steps first p e)
     by_step (Some (step.Send t jumps bind)) e =
         let send = instr.Send (number_at steps first p) (entries labels steps p t jumps bind) in
         met send (first_of_step labels steps first p (step.Send t jumps bind) e send refl)

@@ -130,10 +130,10 @@ template_again keys flags vars t rest few-flags few-vars h =
     let b = sized_again 0 BODY_LIMIT t.body (masks_text masks ++ rest) (omega arith) s.body_fits in
     let a = argument_again vars t.argument (sized t.body ++ (masks_text masks ++ rest)) few-vars s.argument_fits in
     let f = number_again w32 (2 ^ 32) wide32 t.flags (argument_bytes t.argument ++ (sized t.body ++ (masks_text masks ++ rest))) s.flags_fit in
-    let behind = to_be_bytes w32 t.flags ++ (argument_bytes t.argument ++ (sized t.body ++ (masks_text masks ++ rest))) in
-    let regrouped : template_bytes t ++ rest ≡ verb_index t.verb ∷ t.key ∷ behind = spread t rest in
+    let after = to_be_bytes w32 t.flags ++ (argument_bytes t.argument ++ (sized t.body ++ (masks_text masks ++ rest))) in
+    let regrouped : template_bytes t ++ rest ≡ verb_index t.verb ∷ t.key ∷ after = spread t rest in
     ap (template_in keys flags vars) regrouped
-    ∙ rw (verb_again t.verb (t.key ∷ behind), byte_again t.key behind, f, a, b, m, template-passes keys flags vars t h) refl
+    ∙ rw (verb_again t.verb (t.key ∷ after), byte_again t.key after, f, a, b, m, template-passes keys flags vars t h) refl
 
 -- ---- all templates
 

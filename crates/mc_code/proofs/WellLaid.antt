@@ -17,7 +17,7 @@ use Rattle.mc_script.specs.ScriptWords.{Word}
 use Rattle.mc_script.specs.WellFormed.{AreJumps, is_number_class, jumps_on_number, MayBind, IsStep, AreSteps, IsScript}
 use Rattle.mc_code.specs.Layout.{requests_of, templates_of, first_template}
 use Rattle.mc_code.specs.ScriptRuns.{clearing_steps, front_of, all_steps, moved, all_labels, jump_on}
-use Rattle.mc_code.proofs.LookUps.{some_is, get_in_front, get_behind, requests_before, template_found}
+use Rattle.mc_code.proofs.LookUps.{some_is, get_in_front, get_after, requests_before, template_found}
 use Rattle.mc_code.proofs.StepFacts.{HasLabel, Binds, IsFine, IsLaid}
 
 -- ---- lists of steps
@@ -31,9 +31,9 @@ fine_at labels [] fine p s at = absurd (cc)
 fine_at labels (s ∷ steps) fine zero u at = subst (IsFine labels) (some_is s u at) fine.0
 fine_at labels (s ∷ steps) fine (suc p) u at = fine_at labels steps fine.1 p u at
 
-fine_behind : (labels : List Label) (front steps : List Step) → AreFine labels front → AreFine labels steps → AreFine labels (front ++ steps)
-fine_behind labels [] steps front fine = fine
-fine_behind labels (s ∷ rest) steps front fine = (front.0, fine_behind labels rest steps front.1 fine)
+fine_after : (labels : List Label) (front steps : List Step) → AreFine labels front → AreFine labels steps → AreFine labels (front ++ steps)
+fine_after labels [] steps front fine = fine
+fine_after labels (s ∷ rest) steps front fine = (front.0, fine_after labels rest steps front.1 fine)
 
 clearing_fine : (labels : List Label) (key : ℕ) (keys : List Word) → AreFine labels (clearing_steps key keys)
 clearing_fine labels key [] = tt
@@ -124,7 +124,7 @@ steps_fine names labels count place (s ∷ steps) are =
 
 section_fine : (s : Script) → IsScript s → (k : Actor) → AreFine (all_labels s k) (all_steps s k)
 section_fine s is actor.P =
-    fine_behind (all_labels s actor.P) (front_of s actor.P) s.p.steps (front_fine (all_labels s actor.P) s actor.P)
+    fine_after (all_labels s actor.P) (front_of s actor.P) s.p.steps (front_fine (all_labels s actor.P) s actor.P)
     (steps_fine s.names s.p.labels (length (front_of s actor.P)) 0 s.p.steps is.p.steps)
 section_fine s is actor.A = steps_fine s.names s.a.labels 0 0 s.a.steps is.a.steps
 section_fine s is actor.B = steps_fine s.names s.b.labels 0 0 s.b.steps is.b.steps
@@ -141,12 +141,12 @@ named_at s actor.A n t at =
     let p = requests_of (all_steps s actor.P) in
     let a = requests_of (all_steps s actor.A) in
     let b = requests_of (all_steps s actor.B) in
-    get_in_front (p ++ a) b (length p + n) t (get_behind p a n ∙ at)
+    get_in_front (p ++ a) b (length p + n) t (get_after p a n ∙ at)
 named_at s actor.B n t at =
     let p = requests_of (all_steps s actor.P) in
     let a = requests_of (all_steps s actor.A) in
     let b = requests_of (all_steps s actor.B) in
-    ap (λ m. slice_get (templates_of s) (m + n)) (sym (length-append p a)) ∙ get_behind (p ++ a) b n ∙ at
+    ap (λ m. slice_get (templates_of s) (m + n)) (sym (length-append p a)) ∙ get_after (p ++ a) b n ∙ at
 
 pub script_laid : (s : Script) → IsScript s → (k : Actor) → IsLaid (all_labels s k) (all_steps s k) (templates_of s) (first_template s k)
 script_laid s is k = record {

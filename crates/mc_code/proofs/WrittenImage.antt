@@ -7,7 +7,7 @@ use Rattle.mc_code.specs.Image.{magic, sized, counted, budget_bytes, verb_index,
 
 -- ---- templates
 
--- the masks, the last with nothing behind it
+-- the masks, the last with nothing after it
 masks-pieces : (t : Template)
     → mask_bytes t.require_set ++ (mask_bytes t.require_clear ++ (mask_bytes t.sets ++ (mask_bytes t.clears ++ []))) ≡ masks_bytes t
 masks-pieces t = simp (append-nil, append_assoc)
@@ -26,7 +26,7 @@ template-pieces t sort number e =
 
 -- ---- images
 
--- lists behind a front, one by one and together
+-- lists after a front, one by one and together
 in_a_row : (front m k : List ℕ) (f v : ℕ) (p a b t x y z : List ℕ)
     → (((((((((front ++ m) ++ k) ++ (f ∷ v ∷ [])) ++ p) ++ a) ++ b) ++ t) ++ x) ++ y) ++ z
     ≡ front ++ ((m ++ k) ++ (f ∷ v ∷ ((((((p ++ a) ++ b) ++ t) ++ x) ++ y) ++ z)))

@@ -34,7 +34,7 @@ abbrev pub places_from : ℕ → List Step → List ℕ
 places_from place [] = place ∷ []
 places_from place (s ∷ steps) = place ∷ places_from (place + size_of s) steps
 
--- where the code begins of each step, and behind each label
+-- where the code begins of each step, and after each label
 pub record Places : Type 0 where
   pub steps : List ℕ
   pub labels : List ℕ
@@ -80,7 +80,7 @@ instructions_for places template p (step.Bind variable) = instr.Bind variable �
 instructions_for places template p (step.Goto label) = instr.Goto (place_in places.labels label) ∷ []
 instructions_for places template p step.Halt = instr.Halt ∷ []
 
--- the instructions of these steps, and the halt behind them
+-- the instructions of these steps, and the halt after them
 abbrev pub instructions_from : Places → ℕ → ℕ → List Step → List Instr
 instructions_from places template p [] = instr.Halt ∷ []
 instructions_from places template p (s ∷ steps) =

@@ -32,6 +32,10 @@ section_of c actor.P = c.p
 section_of c actor.A = c.a
 section_of c actor.B = c.b
 
+-- those of the actor's section
+abbrev pub instructions_in : Code → Actor → List Instr
+instructions_in c actor = (section_of c actor).instructions
+
 -- ---- what code keeps
 
 abbrev pub is_byte : ℕ → Type 0

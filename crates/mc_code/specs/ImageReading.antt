@@ -30,7 +30,7 @@ abbrev pub Says : {X Y : Type 0} → (X → Y) → Result X ImageFault → Optio
 Says view (Ok x) read = read ≡ Some (view x)
 Says view (Err fault) read = fault.kind ≢ kind.OutOfMemory → read ≡ None
 
--- a value, and the bytes behind it
+-- a value, and the bytes after it
 abbrev pub Field : Type 0 → Type 0
 Field A = Option (A × List ℕ)
 
@@ -56,7 +56,7 @@ sized_in least greatest bytes = small_in least greatest bytes >>= λ n. bytes_in
 
 -- ---- lists
 
--- so many items, behind those that were read
+-- so many items, after those that were read
 unfoldable pub items_in : {A : Type 0} → (List A → List ℕ → Field A) → ℕ → List A → List ℕ → Field (List A)
 items_in item_in zero items bytes = Some (items, bytes)
 items_in item_in (suc n) items bytes = item_in items bytes >>= λ x. items_in item_in n (items ++ x.0 ∷ []) x.1
@@ -67,7 +67,7 @@ counted_in least greatest item_in bytes = small_in least greatest bytes >>= λ n
 
 -- ---- keys
 
--- a key behind these
+-- a key after these
 unfoldable pub key_in : List Word → List ℕ → Field Word
 key_in keys bytes =
     small_in 1 KEY_BYTES_LIMIT bytes >>= λ n. bytes_in n.0 n.1
@@ -95,7 +95,7 @@ verb_at index = find (λ v. verb_index v == index) all_verbs
 unfoldable pub verb_in : List ℕ → Field Verb
 verb_in bytes = byte_in bytes >>= λ n. verb_at n.0 >>= λ v. Some (v, n.1)
 
--- what a template has behind its key, by its sort and number, where there are so many variables
+-- what a template has after its key, by its sort and number, where there are so many variables
 unfoldable pub argument_of : ℕ → ℕ → ℕ → Option Argument
 argument_of vars sort number =
     if sort == 0 then (if number == 0 then Some argument.Nothing else None)

@@ -52,13 +52,13 @@ size_of_all (s ∷ steps) = size_of s + size_of_all steps
 abbrev pub code_place : List Step → ℕ → ℕ
 code_place steps p = size_of_all (take p steps)
 
--- where the code begins behind a label
-abbrev pub behind_label : List Step → Option Label → ℕ
-behind_label steps None = 0
-behind_label steps (Some label) = code_place steps label.place
+-- where the code begins after a label
+abbrev pub after_label : List Step → Option Label → ℕ
+after_label steps None = 0
+after_label steps (Some label) = code_place steps label.place
 
 abbrev pub label_place : List Label → List Step → ℕ → ℕ
-label_place labels steps index = behind_label steps (slice_get labels index)
+label_place labels steps index = after_label steps (slice_get labels index)
 
 -- ---- instructions
 

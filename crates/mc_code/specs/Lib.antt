@@ -12,10 +12,15 @@ pub mod Image
 pub mod Paths
 pub mod States
 pub mod Runs
+pub mod Standing
+pub mod Calls
 pub mod ScriptRuns
 pub mod Agreement
 pub mod Layout
 pub mod RunLaws
+pub mod StandingLaws
+pub mod NumberLaws
+pub mod LayoutLaws
 pub mod Examples
 -- What private contracts cite.
 pub mod Assembling

@@ -1,5 +1,5 @@
--- Paths of a section: what it sends, and the classes of the replies, on the way from one place to another.
-use Rattle.std.specs.Prelude.{◌≡◌, ℕ, ◌+◌, true, Some, List, [], ◌∷◌, slice_get, slice_index}
+-- Paths of a section: the edges on the way from one place to another.
+use Rattle.std.specs.Prelude.{◌≡◌, ◌⊎◌, ℕ, ◌+◌, ◌<◌, true, Some, List, [], ◌∷◌, length, slice_get, slice_index}
 use Rattle.mc_protocol.specs.Legal.{is_legal}
 use Rattle.mc_protocol.specs.declared.reply.Class.{Class}
 use Rattle.mc_script.specs.Marks.{class_index}
@@ -7,11 +7,11 @@ use Rattle.mc_script.specs.declared.step.Template.{Template}
 use Rattle.mc_code.specs.declared.instr.Instr.{Instr}
 use Rattle.mc_code.specs.declared.instr.Instr.TheVariants as instr
 
--- what is sent, and the class of its reply
-abbrev pub Turn : Type 0
-Turn = Template × Class
+-- a send, with the class of its reply
+abbrev pub Edge : Type 0
+Edge = Template × Class
 
--- a goto leads to its place, and a bind to the place behind it
+-- a goto leads to its place, and a bind to the place after it
 abbrev pub Slides : Instr → ℕ → ℕ → Type 0
 Slides (instr.Goto place) p q = q ≡ place
 Slides (instr.Bind variable) p q = q ≡ p + 1
@@ -30,16 +30,22 @@ Sends templates (instr.Bind variable) template class q = ⊥
 Sends templates (instr.Goto place) template class q = ⊥
 Sends templates instr.Halt template class q = ⊥
 
--- these turns lead from one place to another
-pub data IsPath (templates : List Template) (section : List Instr) : ℕ → List Turn → ℕ → Type 0 where
+-- these edges lead from one place to another
+pub data IsPath (templates : List Template) (section : List Instr) : ℕ → List Edge → ℕ → Type 0 where
   stays : {p : ℕ} → IsPath templates section p [] p
-  slides : {p q r : ℕ} {turns : List Turn} (i : Instr) → slice_get section p ≡ Some i → Slides i p q
-      → IsPath templates section q turns r → IsPath templates section p turns r
-  sends : {p q r : ℕ} {turns : List Turn} {template : Template} {class : Class} (i : Instr) → slice_get section p ≡ Some i
-      → Sends templates i template class q → IsPath templates section q turns r
-      → IsPath templates section p ((template, class) ∷ turns) r
+  slides : {p q r : ℕ} {edges : List Edge} (i : Instr) → slice_get section p ≡ Some i → Slides i p q
+      → IsPath templates section q edges r → IsPath templates section p edges r
+  sends : {p q r : ℕ} {edges : List Edge} {template : Template} {class : Class} (i : Instr) → slice_get section p ≡ Some i
+      → Sends templates i template class q → IsPath templates section q edges r
+      → IsPath templates section p ((template, class) ∷ edges) r
+
+-- each instruction leads to later places of the section alone, with a reply or without
+abbrev pub LeadsForwards : List Template → List Instr → Type 0
+LeadsForwards templates section = (i : Instr) (p q : ℕ) → slice_get section p ≡ Some i
+    → Slides i p q ⊎ ((template : Template) × (class : Class) × Sends templates i template class q)
+    → (p < q) × (q < length section)
 
 -- the path leads to the section's end
-abbrev pub IsComplete : List Template → List Instr → List Turn → Type 0
-IsComplete templates section turns =
-    (q : ℕ) × IsPath templates section 0 turns q × (slice_get section q ≡ Some instr.Halt)
+abbrev pub IsComplete : List Template → List Instr → List Edge → Type 0
+IsComplete templates section edges =
+    (q : ℕ) × IsPath templates section 0 edges q × (slice_get section q ≡ Some instr.Halt)

@@ -7,57 +7,58 @@ use Rattle.mc_script.specs.Script.{Script}
 use Rattle.mc_script.specs.WellFormed.{IsScript}
 use Rattle.mc_code.specs.declared.instr.Instr.{Instr}
 use Rattle.mc_code.specs.Agreement.{Agrees}
-use Rattle.mc_code.specs.Code.{Code, section_of}
+use Rattle.mc_code.specs.Code.{Code, instructions_in}
 use Rattle.mc_code.specs.Layout.{code_of}
-use Rattle.mc_code.specs.Paths.{Turn, IsPath, IsComplete}
-use Rattle.mc_code.specs.Runs.{Answer, IsRun, Does}
-use Rattle.mc_code.specs.States.{Tagged, State, Meeting, nothing_to_bind, ended}
+use Rattle.mc_code.specs.Paths.{Edge, IsPath, IsComplete}
+use Rattle.mc_code.specs.Runs.{Exchange, IsRun}
+use Rattle.mc_code.specs.Standing.{ComesTo}
+use Rattle.mc_code.specs.States.{Tagged, State, Outcome, nothing_to_bind, ended}
 
--- what was sent, and the class of its reply
-abbrev pub turn_of : Answer → Turn
-turn_of (template, reply) = (template, class_of reply)
+-- the edge along which an exchange goes
+abbrev pub edge_of : Exchange → Edge
+edge_of (template, reply) = (template, class_of reply)
 
--- those of each answer
-abbrev pub turns_of : List Answer → List Turn
-turns_of answers = map turn_of answers
+-- the edges of these exchanges
+abbrev pub edges_of : List Exchange → List Edge
+edges_of exchanges = map edge_of exchanges
 
 -- a path of two parts goes by a place in between
 abbrev pub PathsSplit : Type 0
-PathsSplit = (templates : List Template) (section : List Instr) (xs ys : List Turn) (p r : ℕ)
+PathsSplit = (templates : List Template) (section : List Instr) (xs ys : List Edge) (p r : ℕ)
     → IsPath templates section p (xs ++ ys) r ↔ ((q : ℕ) × IsPath templates section p xs q × IsPath templates section q ys r)
 
--- the turns of a run are a path
+-- the edges of a run are a path
 abbrev pub RunsArePaths : Type 0
-RunsArePaths = (templates : List Template) (section : List Instr) (p q : ℕ) (st st' : State) (answers : List Answer)
-    → IsRun templates section p st answers q st' → IsPath templates section p (turns_of answers) q
+RunsArePaths = (templates : List Template) (section : List Instr) (p q : ℕ) (st st' : State) (exchanges : List Exchange)
+    → IsRun templates section p st exchanges q st' → IsPath templates section p (edges_of exchanges) q
 
--- each path is the turns of a run, whatever is known at its start
+-- each path is the edges of a run, whatever is known at its start
 abbrev pub PathsAreRuns : Type 0
-PathsAreRuns = (templates : List Template) (section : List Instr) (p q : ℕ) (turns : List Turn) (st : State)
-    → IsPath templates section p turns q
-    → (answers : List Answer) × (st' : State) × IsRun templates section p st answers q st' × (turns_of answers ≡ turns)
+PathsAreRuns = (templates : List Template) (section : List Instr) (p q : ℕ) (edges : List Edge) (st : State)
+    → IsPath templates section p edges q
+    → (exchanges : List Exchange) × (st' : State) × IsRun templates section p st exchanges q st' × (edges_of exchanges ≡ edges)
 
--- the turns of a section that is done are a complete path
+-- the edges of a section that is done are a complete path
 abbrev pub EndsAreComplete : Type 0
-EndsAreComplete = (c : Code) (actor : Actor) (variables : List Tagged) (answers : List Answer) (st : State)
-    → Does c actor variables answers st ended → IsComplete c.templates (section_of c actor).instructions (turns_of answers)
+EndsAreComplete = (c : Code) (actor : Actor) (variables : List Tagged) (exchanges : List Exchange) (st : State)
+    → ComesTo c actor variables exchanges st ended → IsComplete c.templates (instructions_in c actor) (edges_of exchanges)
 
--- behind each complete path some section is done, whatever its variables were at its start
+-- each complete path is that of a section that is done, whatever its variables were at its start
 abbrev pub CompletePathsEnd : Type 0
-CompletePathsEnd = (c : Code) (actor : Actor) (variables : List Tagged) (turns : List Turn)
-    → IsComplete c.templates (section_of c actor).instructions turns
-    → (answers : List Answer) × (st : State) × Does c actor variables answers st ended × (turns_of answers ≡ turns)
+CompletePathsEnd = (c : Code) (actor : Actor) (variables : List Tagged) (edges : List Edge)
+    → IsComplete c.templates (instructions_in c actor) edges
+    → (exchanges : List Exchange) × (st : State) × ComesTo c actor variables exchanges st ended × (edges_of exchanges ≡ edges)
 
 -- the section goes no further without a reply: it goes on past a bind that was shown no number
-abbrev pub stops : Meeting → Bool
+abbrev pub stops : Outcome → Bool
 stops (nothing_to_bind variable) = false
 stops _ = true
 
--- after the same answers a section stops at one meeting, in one state
+-- after the same exchanges a section stops at one outcome, in one state
 abbrev pub StopsOnce : Type 0
-StopsOnce = (c : Code) (actor : Actor) (variables : List Tagged) (answers : List Answer) (st st' : State) (meeting meeting' : Meeting)
-    → Does c actor variables answers st meeting → Does c actor variables answers st' meeting' → stops meeting ≡ true → stops meeting' ≡ true
-    → (st ≡ st') × (meeting ≡ meeting')
+StopsOnce = (c : Code) (actor : Actor) (variables : List Tagged) (exchanges : List Exchange) (st st' : State) (outcome outcome' : Outcome)
+    → ComesTo c actor variables exchanges st outcome → ComesTo c actor variables exchanges st' outcome' → stops outcome ≡ true → stops outcome' ≡ true
+    → (st ≡ st') × (outcome ≡ outcome')
 
 -- every script agrees with its layout
 abbrev pub CodesAgree : Type 0

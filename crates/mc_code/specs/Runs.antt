@@ -1,24 +1,21 @@
 -- Runs of code: a section's instructions, from reply to reply, with what its variables hold.
-use Rattle.std.specs.Prelude.{◌≡◌, ℕ, true, ◌&&◌, Bool, Option, Some, None, List, [], ◌∷◌, slice_get, replicate}
+use Rattle.std.specs.Prelude.{◌≡◌, ℕ, true, ◌&&◌, Bool, Option, Some, None, List, [], ◌∷◌, slice_get}
 use Rattle.mc_protocol.specs.Legal.{class_of, is_legal, suits}
-use Rattle.mc_protocol.specs.declared.actor.Actor.{Actor}
-use Rattle.mc_protocol.specs.declared.actor.Actor.TheVariants as actor
 use Rattle.mc_protocol.specs.declared.request.Verb.{Verb}
 use Rattle.mc_protocol.specs.declared.reply.Reply.{Reply}
 use Rattle.mc_script.specs.declared.step.Template.{Template}
 use Rattle.mc_code.specs.declared.instr.Instr.{Instr}
 use Rattle.mc_code.specs.declared.instr.Instr.TheVariants as instr
-use Rattle.mc_code.specs.Code.{Code, section_of}
 use Rattle.mc_code.specs.Paths.{Slides, Sends}
-use Rattle.mc_code.specs.States.{Tagged, nothing, State, begun, answered, bound, Meeting, outside, ended, sending, binding}
+use Rattle.mc_code.specs.States.{State, answered, bound, Outcome, outside, ended, sending, binding}
 
 -- a request of the verb may have this reply
 abbrev pub is_fit_for : Verb → Reply → Bool
 is_fit_for verb r = is_legal verb (class_of r) && suits verb r
 
--- a request that was sent, and its reply
-abbrev pub Answer : Type 0
-Answer = Template × Reply
+-- a request, with its reply
+abbrev pub Exchange : Type 0
+Exchange = Template × Reply
 
 -- what is known once the instruction has led on without a reply
 abbrev pub slid : Instr → State → State
@@ -27,41 +24,27 @@ slid (instr.Goto place) st = st
 slid (instr.Send t next) st = st
 slid instr.Halt st = st
 
--- these answers lead from one place and state to another; a run goes on past what is wrong
-pub data IsRun (templates : List Template) (section : List Instr) : ℕ → State → List Answer → ℕ → State → Type 0 where
+-- these exchanges lead from one place and state to another; a run goes on past what is wrong
+pub data IsRun (templates : List Template) (section : List Instr) : ℕ → State → List Exchange → ℕ → State → Type 0 where
   rests : {p : ℕ} {st : State} → IsRun templates section p st [] p st
-  slides : {p q r : ℕ} {st st' : State} {answers : List Answer} (i : Instr) → slice_get section p ≡ Some i → Slides i p q
-      → IsRun templates section q (slid i st) answers r st' → IsRun templates section p st answers r st'
-  sends : {p q r : ℕ} {st st' : State} {answers : List Answer} {t : Template} {reply : Reply} (i : Instr)
+  slides : {p q r : ℕ} {st st' : State} {exchanges : List Exchange} (i : Instr) → slice_get section p ≡ Some i → Slides i p q
+      → IsRun templates section q (slid i st) exchanges r st' → IsRun templates section p st exchanges r st'
+  sends : {p q r : ℕ} {st st' : State} {exchanges : List Exchange} {t : Template} {reply : Reply} (i : Instr)
       → slice_get section p ≡ Some i → Sends templates i t (class_of reply) q → is_fit_for t.verb reply ≡ true
-      → IsRun templates section q (answered t reply st) answers r st'
-      → IsRun templates section p st ((t, reply) ∷ answers) r st'
+      → IsRun templates section q (answered t reply st) exchanges r st'
+      → IsRun templates section p st ((t, reply) ∷ exchanges) r st'
 
--- ---- what a section does
+-- ---- what stands at a place
 
--- what a send meets, if its template is there
-abbrev pub met_by_send : Option Template → State → Meeting
+-- what a send comes to, if its template is there
+abbrev pub met_by_send : Option Template → State → Outcome
 met_by_send (Some t) st = sending t st
 met_by_send None st = outside
 
--- what the section meets at an instruction, if anything
-abbrev pub met_at : List Template → Option Instr → State → Option Meeting
+-- what the section comes to at an instruction, if anything
+abbrev pub met_at : List Template → Option Instr → State → Option Outcome
 met_at templates None st = Some outside
 met_at templates (Some (instr.Send t next)) st = Some (met_by_send (slice_get templates t) st)
 met_at templates (Some (instr.Bind variable)) st = binding variable st
 met_at templates (Some (instr.Goto place)) st = None
 met_at templates (Some instr.Halt) st = Some ended
-
--- with these variables at its start, and after these answers, the section of the code meets this in this state
-abbrev pub Does : Code → Actor → List Tagged → List Answer → State → Meeting → Type 0
-Does c actor variables answers st meeting =
-    (p : ℕ) × IsRun c.templates (section_of c actor).instructions 0 (begun variables) answers p st
-    × (met_at c.templates (slice_get (section_of c actor).instructions p) st ≡ Some meeting)
-
--- P begins with no number in its variables, and a branch with those of a P that is done
-abbrev pub Begins : Code → Actor → List Tagged → Type 0
-Begins c actor.P variables = variables ≡ replicate c.vars nothing
-Begins c actor.A variables =
-    (answers : List Answer) × (st : State) × Does c actor.P (replicate c.vars nothing) answers st ended × (variables ≡ st.variables)
-Begins c actor.B variables =
-    (answers : List Answer) × (st : State) × Does c actor.P (replicate c.vars nothing) answers st ended × (variables ≡ st.variables)

@@ -1,4 +1,4 @@
--- Runs of a script: a section's steps by lines and labels, behind the requests that clear its keys.
+-- Runs of a script: a section's steps by lines and labels, after the requests that clear its keys.
 use Rattle.std.specs.Prelude.{◌≡◌, ℕ, ◌+◌, ◌==◌, true, Option, Some, None, List, [], ◌∷◌, ◌++◌, map, length, slice_get, if◌then◌else◌}
 use Rattle.mc_protocol.specs.Legal.{class_of}
 use Rattle.mc_protocol.specs.declared.actor.Actor.{Actor}
@@ -15,8 +15,8 @@ use Rattle.mc_script.specs.Marks.{class_index}
 use Rattle.mc_script.specs.Script.{Script, section_of}
 use Rattle.mc_script.specs.ScriptWords.{Word}
 use Rattle.mc_script.specs.WellFormed.{is_number_class}
-use Rattle.mc_code.specs.Runs.{Answer, is_fit_for}
-use Rattle.mc_code.specs.States.{Tagged, State, begun, answered, bound, Meeting, ended, sending, binding}
+use Rattle.mc_code.specs.Runs.{Exchange, is_fit_for}
+use Rattle.mc_code.specs.States.{Tagged, State, begun, answered, bound, Outcome, ended, sending, binding}
 
 -- ---- the requests that clear the keys
 
@@ -70,41 +70,41 @@ place_of_label (Some label) = Some label.place
 abbrev pub place_of : List Label → ℕ → Option ℕ
 place_of labels index = place_of_label (slice_get labels index)
 
--- the place behind the step, or the label's
+-- the place after the step, or the label's
 abbrev pub next_of : List Label → ℕ → Option ℕ → Option ℕ
 next_of labels p None = Some (p + 1)
 next_of labels p (Some label) = place_of labels label
 
--- the variable behind the request, if there is one, takes the number of a hit or of a count
+-- the variable of the request, if it binds one, takes the number of a hit or of a count
 abbrev pub taken : Option ℕ → Class → State → State
 taken None class st = st
 taken (Some variable) class st = if is_number_class class then bound variable st else st
 
 -- ---- runs
 
--- these answers lead from one place and state to another
-pub data IsScriptRun (labels : List Label) (steps : List Step) : ℕ → State → List Answer → ℕ → State → Type 0 where
+-- these exchanges lead from one place and state to another
+pub data IsScriptRun (labels : List Label) (steps : List Step) : ℕ → State → List Exchange → ℕ → State → Type 0 where
   rests : {p : ℕ} {st : State} → IsScriptRun labels steps p st [] p st
-  binds : {p r variable : ℕ} {st st' : State} {answers : List Answer} → slice_get steps p ≡ Some (step.Bind variable)
-      → IsScriptRun labels steps (p + 1) (bound variable st) answers r st' → IsScriptRun labels steps p st answers r st'
-  goes : {p q r label : ℕ} {st st' : State} {answers : List Answer} → slice_get steps p ≡ Some (step.Goto label)
-      → place_of labels label ≡ Some q → IsScriptRun labels steps q st answers r st' → IsScriptRun labels steps p st answers r st'
-  sends : {p q r : ℕ} {st st' : State} {answers : List Answer} {t : Template} {jumps : List (Class × ℕ)} {bind : Option ℕ} {reply : Reply}
+  binds : {p r variable : ℕ} {st st' : State} {exchanges : List Exchange} → slice_get steps p ≡ Some (step.Bind variable)
+      → IsScriptRun labels steps (p + 1) (bound variable st) exchanges r st' → IsScriptRun labels steps p st exchanges r st'
+  goes : {p q r label : ℕ} {st st' : State} {exchanges : List Exchange} → slice_get steps p ≡ Some (step.Goto label)
+      → place_of labels label ≡ Some q → IsScriptRun labels steps q st exchanges r st' → IsScriptRun labels steps p st exchanges r st'
+  sends : {p q r : ℕ} {st st' : State} {exchanges : List Exchange} {t : Template} {jumps : List (Class × ℕ)} {bind : Option ℕ} {reply : Reply}
       → slice_get steps p ≡ Some (step.Send t jumps bind) → is_fit_for t.verb reply ≡ true
       → next_of labels p (jump_on (class_of reply) jumps) ≡ Some q
-      → IsScriptRun labels steps q (taken bind (class_of reply) (answered t reply st)) answers r st'
-      → IsScriptRun labels steps p st ((t, reply) ∷ answers) r st'
+      → IsScriptRun labels steps q (taken bind (class_of reply) (answered t reply st)) exchanges r st'
+      → IsScriptRun labels steps p st ((t, reply) ∷ exchanges) r st'
 
--- what the section meets at a step, if anything; it is done behind its last step
-abbrev pub met_at_step : Option Step → State → Option Meeting
+-- what the section comes to at a step, if anything; after its last step it is done
+abbrev pub met_at_step : Option Step → State → Option Outcome
 met_at_step None st = Some ended
 met_at_step (Some (step.Send t jumps bind)) st = Some (sending t st)
 met_at_step (Some (step.Bind variable)) st = binding variable st
 met_at_step (Some (step.Goto label)) st = None
 met_at_step (Some step.Halt) st = Some ended
 
--- with these variables at its start, and after these answers, the section of the script meets this in this state
-abbrev pub ScriptDoes : Script → Actor → List Tagged → List Answer → State → Meeting → Type 0
-ScriptDoes s actor variables answers st meeting =
-    (p : ℕ) × IsScriptRun (all_labels s actor) (all_steps s actor) 0 (begun variables) answers p st
-    × (met_at_step (slice_get (all_steps s actor) p) st ≡ Some meeting)
+-- begun with these variables, the section of the script comes after these exchanges to this, in this state
+abbrev pub ScriptComesTo : Script → Actor → List Tagged → List Exchange → State → Outcome → Type 0
+ScriptComesTo s actor variables exchanges st outcome =
+    (p : ℕ) × IsScriptRun (all_labels s actor) (all_steps s actor) 0 (begun variables) exchanges p st
+    × (met_at_step (slice_get (all_steps s actor) p) st ≡ Some outcome)

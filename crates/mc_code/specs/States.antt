@@ -1,4 +1,4 @@
--- What a section knows: its variables, and the number that its last reply showed; and what it meets then.
+-- What a section knows: its variables, and the number that its last reply showed; and what it comes to then.
 use Rattle.std.specs.Prelude.{ℕ, ◌==◌, Bool, true, false, Option, Some, None, List, slice_set, slice_index_or, if◌then◌else◌}
 use Rattle.mc_protocol.specs.declared.request.Verb.{Verb}
 use Rattle.mc_protocol.specs.declared.request.Verb.TheVariants as verb
@@ -55,41 +55,41 @@ abbrev pub bound : ℕ → State → State
 bound variable st =
     if is_number st.last.0 then record { variables = slice_set st.variables variable st.last; last = st.last } else st
 
--- ---- what a section meets
+-- ---- what a section comes to
 
-pub data Meeting : Type 0 where
+pub data Outcome : Type 0 where
   -- it sends this request with this number
-  call : Template → ℕ → Meeting
+  call : Template → ℕ → Outcome
   -- the variable of the request has no number
-  unbound : Template → Meeting
+  unbound : Template → Outcome
   -- it has one of another kind than the verb wants
-  wrong_kind : Template → Meeting
+  wrong_kind : Template → Outcome
   -- the last reply showed no number for this variable
-  nothing_to_bind : ℕ → Meeting
+  nothing_to_bind : ℕ → Outcome
   -- it has no instruction here
-  outside : Meeting
+  outside : Outcome
   -- it is done
-  ended : Meeting
+  ended : Outcome
 
 -- a `cas` wants the cas unique of its key, and a verb that counts wants a value
 abbrev pub wanted_by : Verb → ℕ → Kind
 wanted_by verb.Cas key = kind.Cas key
 wanted_by _ key = kind.Num
 
-abbrev pub given : Template → Tagged → Meeting
+abbrev pub given : Template → Tagged → Outcome
 given t (kind.Unbound, number) = unbound t
 given t (kind.Cas key, number) = if is_same (kind.Cas key) (wanted_by t.verb t.key) then call t number else wrong_kind t
 given t (kind.Num, number) = if is_same kind.Num (wanted_by t.verb t.key) then call t number else wrong_kind t
 
-abbrev pub with_argument : Template → Argument → List Tagged → Meeting
+abbrev pub with_argument : Template → Argument → List Tagged → Outcome
 with_argument t argument.Nothing variables = call t 0
 with_argument t (argument.Number number) variables = call t number
 with_argument t (argument.Variable variable) variables = given t (slice_index_or variables variable nothing)
 
--- what a request meets: its number is its own, or its variable's
-abbrev pub sending : Template → State → Meeting
+-- what a send comes to: the request's number is its own, or its variable's
+abbrev pub sending : Template → State → Outcome
 sending t st = with_argument t t.argument st.variables
 
--- what a bind meets, if anything
-abbrev pub binding : ℕ → State → Option Meeting
+-- what a bind comes to, if anything
+abbrev pub binding : ℕ → State → Option Outcome
 binding variable st = if is_number st.last.0 then None else Some (nothing_to_bind variable)

@@ -1,5 +1,5 @@
-//! What the definitions say of two small scripts.
-ghost use Rattle.mc_code.specs.Examples.{CounterIsImage, CounterIsLaidOut, CounterMeets, SwapIsLaidOut, SwapMeets};
+//! What the definitions say of three small scripts.
+ghost use Rattle.mc_code.specs.Examples.{CounterCalls, CounterComesTo, CounterIsImage, CounterIsLaidOut, JumperComesTo, JumperIsLaidOut, SwapComesTo, SwapIsLaidOut};
 
 /// The code of two increments of one counter.
 pub fn counter_is_laid_out()
@@ -12,8 +12,13 @@ pub fn counter_is_image()
 {}
 
 /// What it sends, and when it is done.
-pub fn counter_meets()
-    ensures { CounterMeets }
+pub fn counter_comes_to()
+    ensures { CounterComesTo }
+{}
+
+/// Its A begins rightly, and calls its own template, not an equal one.
+pub fn counter_calls()
+    ensures { CounterCalls }
 {}
 
 /// The code of a swap of what was read, where a miss goes to the end.
@@ -21,7 +26,17 @@ pub fn swap_is_laid_out()
     ensures { SwapIsLaidOut }
 {}
 
-/// It swaps with the number that it was shown, and meets a bind that was shown none.
-pub fn swap_meets()
-    ensures { SwapMeets }
+/// It swaps with the number that it was shown, and comes to a bind that was shown none.
+pub fn swap_comes_to()
+    ensures { SwapComesTo }
+{}
+
+/// The code of a script with a label in P and a goto in A.
+pub fn jumper_is_laid_out()
+    ensures { JumperIsLaidOut }
+{}
+
+/// Where its jumps lead, and what it comes to with a number of the wrong kind, and with none.
+pub fn jumper_comes_to()
+    ensures { JumperComesTo }
 {}

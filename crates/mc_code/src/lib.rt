@@ -1,8 +1,10 @@
 //! Code: the templates of a script's requests, and for each section the instructions that send them.
 //!
 //! Below it stand `mc_protocol` and `mc_script`. The crates above use what code is (`specs/Code.antt`), how a section of
-//! it runs (`specs/Paths.antt`, `specs/Runs.antt`), and that code agrees with its script (`specs/Agreement.antt`). What
-//! follows from these stands in `specs/RunLaws.antt`, and what they say of two small scripts in `specs/Examples.antt`.
+//! it runs (`specs/Paths.antt`, `specs/Runs.antt`), where it stands then and which calls it makes (`specs/Standing.antt`,
+//! `specs/Calls.antt`), and that code agrees with its script (`specs/Agreement.antt`). What follows from these stands in
+//! `specs/RunLaws.antt`, `specs/StandingLaws.antt`, `specs/NumberLaws.antt` and `specs/LayoutLaws.antt`, and what they say
+//! of three small scripts in `specs/Examples.antt`.
 #![tactic(auto)]
 
 mod assembler;
@@ -16,21 +18,25 @@ mod image_reader;
 mod image_writer;
 mod instr;
 mod kind;
+mod layout_laws;
 mod limits;
 mod names;
+mod number_laws;
 mod places;
 mod read_declared;
 mod read_section;
 mod read_template;
 mod run_laws;
 mod size;
+mod standing_laws;
 mod templates;
 mod well_formed;
 
 pub use assembler::assemble;
 pub use code::Code;
 pub use example_laws::{
-    counter_is_image, counter_is_laid_out, counter_meets, swap_is_laid_out, swap_meets,
+    counter_calls, counter_comes_to, counter_is_image, counter_is_laid_out, jumper_comes_to,
+    jumper_is_laid_out, swap_comes_to, swap_is_laid_out,
 };
 pub use fault::{AsmFault, ImageFault, ImageKind};
 pub use image_laws::images_are_of_one_code;
@@ -38,8 +44,11 @@ pub use image_reader::decode;
 pub use image_writer::encode;
 pub use instr::{Call, Instr};
 pub use kind::Kind;
+pub use layout_laws::{entries_are_legal, layouts_lead_forwards};
 pub use limits::{CLASS_COUNT, INSTRUCTIONS_LIMIT, NO_ENTRY, TEMPLATES_LIMIT};
+pub use number_laws::{edges_lead_alike, kinds_follow_edges, numbers_were_shown};
 pub use run_laws::{
     codes_agree, complete_paths_end, ends_are_complete, paths_are_runs, paths_split,
     runs_are_paths, sections_stop_once,
 };
+pub use standing_laws::{calls_once, calls_open, calls_stand, leaves_once, right_runs_are_called};

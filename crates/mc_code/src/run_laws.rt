@@ -21,12 +21,12 @@ pub fn ends_are_complete()
     ensures { EndsAreComplete }
 {}
 
-/// Behind each complete path some section is done.
+/// Each complete path is that of a section that is done.
 pub fn complete_paths_end()
     ensures { CompletePathsEnd }
 {}
 
-/// After the same answers a section of code stops at the same meeting: where it is about to send, is done, or is wrong.
+/// After the same exchanges a section of code stops at the same outcome: where it is about to send, is done, or is wrong.
 pub fn sections_stop_once()
     ensures { StopsOnce }
 {}
