@@ -17,6 +17,8 @@ pub mod Agreement
 pub mod Layout
 pub mod RunLaws
 pub mod Examples
+pub mod AsmKinds
+pub mod ImageKinds
 -- What private contracts cite.
 pub mod Assembling
 pub mod ImageReading
