@@ -6,6 +6,7 @@ use Rattle.mcrace.specs.declared.arguments.Asked.TheVariants as asked
 use Rattle.mcrace.specs.Answers.{IsAnswer}
 use Rattle.mcrace.specs.CommandLine.{DEFAULT_LIMIT, GREATEST_LIMIT, line_command}
 use Rattle.mcrace.specs.Streams.{Grows}
+use Rattle.mcrace.specs.declared.status.Status.{Status}
 
 -- the word is a decimal of the limit, which is in its range
 abbrev pub SpellsLimit : List ℕ → ℕ → Type 0
@@ -46,9 +47,9 @@ IsWhole None text = Unit {0}
 IsWhole (Some left) text = left ≡ text
 
 -- what was written is right for the whole input, and so is the status
-pub record Answers (asked : Asked) (left : Option (List ℕ)) (old : Option (List ℕ)) (new : Option (List ℕ)) (status : ℕ) : Type 0 where
+pub record Answers (asked : Asked) (left : Option (List ℕ)) (old : Option (List ℕ)) (new : Option (List ℕ)) (ended : Status) : Type 0 where
   pub text : List ℕ
   pub whole : IsWhole left text
   pub output : List ℕ
-  pub right : IsAnswer asked text output status
+  pub right : IsAnswer asked text output ended
   pub written : Grows old new output

@@ -1,11 +1,12 @@
 //! What `asm` answers to a text.
-ghost use Rattle.std.specs.Prelude.{◌≡◌, ◌++◌, codes, decimal, string_bytes, IfOk};
+ghost use Rattle.std.specs.Prelude.{◌≡◌, IfOk};
 ghost use Rattle.mc_code.specs.Image.{image_of};
-ghost use Rattle.mc_script.specs.ScriptText as spells;
 ghost use Rattle.mcrace.specs.AsmAnswers as answers;
+ghost use Rattle.mcrace.specs.Refusals as refusals;
 
+use crate::refusal::{Place, Refusal, refusal_text};
+use crate::status::Status;
 use mc_code::{AsmFault, Code, assemble, encode};
-use mc_protocol::Actor;
 use mc_script::{Script, ScriptFault, ScriptKind, parse};
 use std::alloc::{AllocError, Global};
 
@@ -16,10 +17,8 @@ pub enum Assembly {
     Assembled(Code),
     /// The text is no script.
     NoScript(ScriptFault),
-    /// The script needs more than 64 templates.
-    TooManyTemplates,
-    /// This section of the script, the first such, needs more than 64 instructions, and the templates suffice.
-    TooManyInstructions(Actor),
+    /// The script is too large, by this limit.
+    TooLarge(AsmFault),
 }
 
 /// Reads the text, and assembles the script that it spells.
@@ -41,9 +40,11 @@ fn assembled(alloc: Global, script: &Script) -> Result<Assembly, AllocError>
 {
     match assemble(alloc, script) {
         Ok(code) => Ok(Assembly::Assembled(code)),
-        Err(AsmFault::TooManyTemplates) => Ok(Assembly::TooManyTemplates),
-        Err(AsmFault::TooManyInstructions(actor)) => Ok(Assembly::TooManyInstructions(actor)),
-        Err(AsmFault::OutOfMemory) => Err(AllocError),
+        // Want of memory is no fault of the script.
+        Err(fault) => match fault {
+            AsmFault::OutOfMemory => Err(AllocError),
+            _ => Ok(Assembly::TooLarge(fault)),
+        },
     }
 }
 
@@ -53,11 +54,8 @@ pub fn text_of(alloc: Global, answer: &Assembly) -> Result<Vec<u8>, AllocError>
 {
     match answer {
         Assembly::Assembled(code) => image(alloc, code),
-        Assembly::NoScript(fault) => Ok(refusal_text(alloc, *fault)?.into_bytes()),
-        Assembly::TooManyTemplates => Vec::from_slice(alloc, b"refused asm 1 TooManyTemplates\n"),
-        Assembly::TooManyInstructions(actor) => {
-            Ok(long_section_text(alloc, *actor)?.into_bytes())
-        }
+        Assembly::NoScript(fault) => refusal_text(alloc, refusal_of_script(*fault)),
+        Assembly::TooLarge(fault) => refusal_text(alloc, refusal_of_size(*fault)),
     }
 }
 
@@ -69,82 +67,38 @@ fn image(alloc: Global, code: &Code) -> Result<Vec<u8>, AllocError>
     Ok(image)
 }
 
-fn refusal_text(alloc: Global, fault: ScriptFault) -> Result<String, AllocError>
-    ensures { IfOk result (λ text. string_bytes text ≡ answers.refusal_text fault) }
+fn refusal_of_script(fault: ScriptFault) -> Refusal
+    ensures { refusals.text_of result ≡ answers.script_refusal fault }
 {
-    let number = kind_number(fault.kind);
-    let name = kind_name(fault.kind);
-    let line = fault.line;
-    format!(in alloc; "refused script {number} {name} line {line}\n")
-}
-
-fn long_section_text(alloc: Global, actor: Actor) -> Result<String, AllocError>
-    ensures { IfOk result (λ text. string_bytes text ≡ answers.long_section_text actor) }
-{
-    let name = actor_name(actor);
-    format!(in alloc; "refused asm 2 TooManyInstructions {name}\n")
-}
-
-fn actor_name(actor: Actor) -> &'static str
-    ensures { result.now ≡ spells.actor_word actor }
-{
-    match actor {
-        Actor::P => "P",
-        Actor::A => "A",
-        Actor::B => "B",
+    Refusal {
+        what: "script",
+        number: fault.kind.number(),
+        name: fault.kind.name(),
+        place: Place::Line(fault.line),
     }
 }
 
-fn kind_number(kind: ScriptKind) -> u32
-    ensures { result ≡ answers.kind_number kind }
+fn refusal_of_size(fault: AsmFault) -> Refusal
+    ensures { refusals.text_of result ≡ answers.size_refusal fault }
 {
-    match kind {
-        ScriptKind::Header => 1,
-        ScriptKind::Line => 2,
-        ScriptKind::Name => 3,
-        ScriptKind::Duplicate => 4,
-        ScriptKind::UnknownKey => 5,
-        ScriptKind::UnknownFlag => 6,
-        ScriptKind::UnknownVar => 7,
-        ScriptKind::UnknownLabel => 8,
-        ScriptKind::BackwardLabel => 9,
-        ScriptKind::Number => 10,
-        ScriptKind::Data => 11,
-        ScriptKind::TooMany => 12,
-        ScriptKind::Budget => 13,
-        ScriptKind::Unended => 14,
-        ScriptKind::OutOfMemory => 15,
-    }
-}
-
-fn kind_name(kind: ScriptKind) -> &'static str
-    ensures { result.now ≡ answers.kind_name kind }
-{
-    match kind {
-        ScriptKind::Header => "Header",
-        ScriptKind::Line => "Line",
-        ScriptKind::Name => "Name",
-        ScriptKind::Duplicate => "Duplicate",
-        ScriptKind::UnknownKey => "UnknownKey",
-        ScriptKind::UnknownFlag => "UnknownFlag",
-        ScriptKind::UnknownVar => "UnknownVar",
-        ScriptKind::UnknownLabel => "UnknownLabel",
-        ScriptKind::BackwardLabel => "BackwardLabel",
-        ScriptKind::Number => "Number",
-        ScriptKind::Data => "Data",
-        ScriptKind::TooMany => "TooMany",
-        ScriptKind::Budget => "Budget",
-        ScriptKind::Unended => "Unended",
-        ScriptKind::OutOfMemory => "OutOfMemory",
+    let place = match fault {
+        AsmFault::TooManyInstructions(actor) => Place::Section(actor),
+        _ => Place::Whole,
+    };
+    Refusal {
+        what: "asm",
+        number: fault.number(),
+        name: fault.name(),
+        place,
     }
 }
 
 /// The exit status of an answer.
-pub fn status_of(answer: &Assembly) -> u8
+pub fn status_of(answer: &Assembly) -> Status
     ensures { result ≡ answers.status_of answer.now }
 {
     match answer {
-        Assembly::Assembled(_) => 0,
-        Assembly::NoScript(_) | Assembly::TooManyTemplates | Assembly::TooManyInstructions(_) => 3,
+        Assembly::Assembled(_) => Status::Success,
+        Assembly::NoScript(_) | Assembly::TooLarge(_) => Status::Refused,
     }
 }

@@ -1,7 +1,10 @@
 //! What `judge` answers to a text.
-ghost use Rattle.std.specs.Prelude.{◌≡◌, ◌++◌, codes, decimal, string_bytes, IfOk};
+ghost use Rattle.std.specs.Prelude.{◌≡◌, IfOk};
 ghost use Rattle.mcrace.specs.JudgeAnswers as answers;
+ghost use Rattle.mcrace.specs.Refusals as refusals;
 
+use crate::refusal::{Place, Refusal, refusal_text};
+use crate::status::Status;
 use mc_explain::{
     Explanation, HistoryFault, Verdict, confirms, judge, parse_history, print_explanation,
 };
@@ -70,7 +73,7 @@ pub fn text_of(alloc: Global, answer: &Judgement) -> Result<Vec<u8>, AllocError>
         Judgement::Confirmed => Vec::from_slice(alloc, b"confirmed\n"),
         Judgement::NotConfirmed => Vec::from_slice(alloc, b"not confirmed\n"),
         Judgement::Judged(verdict, _) => verdict_text(alloc, verdict),
-        Judgement::Refused(fault) => Ok(refusal_text(alloc, *fault)?.into_bytes()),
+        Judgement::Refused(fault) => refusal_text(alloc, refusal_of(*fault)),
     }
 }
 
@@ -93,57 +96,25 @@ fn explained_text(alloc: Global, explanation: &Explanation) -> Result<Vec<u8>, A
     Ok(text)
 }
 
-fn refusal_text(alloc: Global, fault: HistoryFault) -> Result<String, AllocError>
-    ensures { IfOk result (λ text. string_bytes text ≡ answers.refusal_text fault) }
+fn refusal_of(fault: HistoryFault) -> Refusal
+    ensures { refusals.text_of result ≡ answers.history_refusal fault }
 {
-    let number = kind_number(fault.kind);
-    let name = kind_name(fault.kind);
-    let line = fault.line;
-    format!(in alloc; "refused history {number} {name} line {line}\n")
-}
-
-fn kind_number(kind: HistoryKind) -> u32
-    ensures { result ≡ answers.kind_number kind }
-{
-    match kind {
-        HistoryKind::Header => 1,
-        HistoryKind::Line => 2,
-        HistoryKind::Number => 3,
-        HistoryKind::Order => 4,
-        HistoryKind::WrongReply => 5,
-        HistoryKind::NotCleared => 6,
-        HistoryKind::UnseenNumber => 7,
-        HistoryKind::TooMany => 8,
-        HistoryKind::Unended => 9,
-        HistoryKind::OutOfMemory => 10,
-    }
-}
-
-fn kind_name(kind: HistoryKind) -> &'static str
-    ensures { result.now ≡ answers.kind_name kind }
-{
-    match kind {
-        HistoryKind::Header => "Header",
-        HistoryKind::Line => "Line",
-        HistoryKind::Number => "Number",
-        HistoryKind::Order => "Order",
-        HistoryKind::WrongReply => "WrongReply",
-        HistoryKind::NotCleared => "NotCleared",
-        HistoryKind::UnseenNumber => "UnseenNumber",
-        HistoryKind::TooMany => "TooMany",
-        HistoryKind::Unended => "Unended",
-        HistoryKind::OutOfMemory => "OutOfMemory",
+    Refusal {
+        what: "history",
+        number: fault.kind.number(),
+        name: fault.kind.name(),
+        place: Place::Line(fault.line),
     }
 }
 
 /// The exit status of an answer.
-pub fn status_of(answer: &Judgement) -> u8
+pub fn status_of(answer: &Judgement) -> Status
     ensures { result ≡ answers.status_of answer.now }
 {
     match answer {
-        Judgement::Confirmed | Judgement::Judged(Verdict::Explained(_), _) => 0,
-        Judgement::NotConfirmed | Judgement::Judged(Verdict::Unexplained, _) => 1,
-        Judgement::Refused(_) => 3,
-        Judgement::Judged(Verdict::Undecided, _) => 4,
+        Judgement::Confirmed | Judgement::Judged(Verdict::Explained(_), _) => Status::Success,
+        Judgement::NotConfirmed | Judgement::Judged(Verdict::Unexplained, _) => Status::Unexplained,
+        Judgement::Refused(_) => Status::Refused,
+        Judgement::Judged(Verdict::Undecided, _) => Status::NoAnswer,
     }
 }

@@ -7,6 +7,8 @@ mod asm;
 mod command;
 mod input;
 mod judge;
+mod refusal;
+mod status;
 mod streams;
 
 use std::process::ExitCode;
