@@ -1,8 +1,7 @@
 //! The whole program, over any streams.
 ghost use Rattle.std.specs.Prelude.{◌≡◌, ◌≢◌, ◌⊎◌, ℕ, List, [], ◌+◌, ◌<◌, ◌≤◌, true, false, map, string_bytes, length, IfOk, IfErr};
 ghost use Rattle.mcrace.specs.Answers.{IsAnswer, out_of_memory_text};
-ghost use Rattle.mcrace.specs.CommandLine.{line_faults};
-ghost use Rattle.mcrace.specs.Command.{AsksFor, Answers, IsReadAs, IsWhole};
+ghost use Rattle.mcrace.specs.Command.{AsksFor, Answers, IsFaulty, IsWhole, MayShow};
 ghost use Rattle.mcrace.specs.Input as input_rule;
 ghost use Rattle.mcrace.specs.Statuses.{status_number};
 ghost use Rattle.mcrace.specs.Streams.{Grows, TakesAtMost};
@@ -22,7 +21,8 @@ const NOT_UTF8: &[u8] = b"error: the command line is not UTF-8\n";
 
 /// Does what the line asks for, and answers the exit status. The line's first word is the program's name.
 ///
-/// At most 1,048,577 bytes of the input are read, and they are read whole before a byte is written.
+/// At most 1,048,577 bytes of the input are read, and they are read whole before a byte is written. Of a line with a fault
+/// nothing is read. The fault goes to the faults, and help, the version and want of memory go to the output.
 pub fn command<I: Source, O: Sink, F: Sink>(
     alloc: Global,
     line: &[String],
@@ -35,14 +35,18 @@ pub fn command<I: Source, O: Sink, F: Sink>(
         → O.has_failed output.old ≡ false → O.has_failed output.new ≡ false
         → (ended : Status) × (result ≡ status_number ended)
         × Answers asked (I.left input.old) (O.written output.old) (O.written output.new) ended }
-    ensures any_line { line_faults (map string_bytes line.now) ≡ []
-        → I.has_failed input.old ≡ false → I.has_failed input.new ≡ false
-        → O.has_failed output.old ≡ false → O.has_failed output.new ≡ false
-        → (asked : Asked) × IsReadAs (map string_bytes line.now) asked
-        × (ended : Status) × (result ≡ status_number ended)
-        × Answers asked (I.left input.old) (O.written output.old) (O.written output.new) ended }
     ensures no_fault { (asked : Asked) → AsksFor (map string_bytes line.now) asked → faults.new ≡ faults.old }
-    ensures unread { line_faults (map string_bytes line.now) ≢ [] → input.new ≡ input.old }
+
+    ensures fault { IsFaulty (map string_bytes line.now)
+        → O.has_failed output.old ≡ false → O.has_failed output.new ≡ false
+        → F.has_failed faults.old ≡ false → F.has_failed faults.new ≡ false
+        → ((result ≡ 2) × (output.new ≡ output.old))
+        ⊎ (((result ≡ 0) × (faults.new ≡ faults.old) × MayShow (map string_bytes line.now))
+        ⊎ ((result ≡ 4) × (faults.new ≡ faults.old)
+        × Grows (O.written output.old) (O.written output.new) out_of_memory_text)) }
+    ensures apart { IsFaulty (map string_bytes line.now) → (output.new ≡ output.old) ⊎ (faults.new ≡ faults.old) }
+    ensures unread { IsFaulty (map string_bytes line.now) → input.new ≡ input.old }
+
     ensures broken_input { I.has_failed input.old ≡ false → I.has_failed input.new ≡ true
         → (result ≡ 4) × (output.new ≡ output.old) }
     ensures broken_output { O.has_failed output.old ≡ false → O.has_failed output.new ≡ true → result ≡ 4 }
@@ -96,24 +100,34 @@ fn read_answer<I: Source>(alloc: Global, asked: Asked, input: &mut I) -> Result<
     Ok(answer_to(alloc, asked, text.as_slice())?)
 }
 
-// Writes clap's text: help to the output, and a fault of the line to the faults.
+// Writes clap's text: help and the version to the output, and a fault of the line to the faults.
 fn explain<O: Sink, F: Sink>(alloc: Global, error: &Error, output: &mut O, faults: &mut F) -> Status
     ensures memory { kind_of error.now ≡ ErrorKind.OutOfMemory
         → O.has_failed output.old ≡ false → O.has_failed output.new ≡ false
         → Grows (O.written output.old) (O.written output.new) out_of_memory_text × (result ≡ Status.NoAnswer) }
     ensures no_fault { kind_of error.now ≡ ErrorKind.OutOfMemory → faults.new ≡ faults.old }
+    ensures fault { O.has_failed output.old ≡ false → O.has_failed output.new ≡ false
+        → F.has_failed faults.old ≡ false → F.has_failed faults.new ≡ false
+        → ((result ≡ Status.WrongLine) × (output.new ≡ output.old))
+        ⊎ (((result ≡ Status.Success) × (faults.new ≡ faults.old)
+        × ((kind_of error.now ≡ ErrorKind.DisplayHelp) ⊎ (kind_of error.now ≡ ErrorKind.DisplayVersion)))
+        ⊎ ((result ≡ Status.NoAnswer) × (faults.new ≡ faults.old)
+        × Grows (O.written output.old) (O.written output.new) out_of_memory_text)) }
+    ensures apart { (output.new ≡ output.old) ⊎ (faults.new ≡ faults.old) }
     ensures broken_output { O.has_failed output.old ≡ false → O.has_failed output.new ≡ true → result ≡ Status.NoAnswer }
     ensures broken_faults { F.has_failed faults.old ≡ false → F.has_failed faults.new ≡ true → result ≡ Status.NoAnswer }
-    ensures fault { kind_of error.now ≢ ErrorKind.DisplayHelp → kind_of error.now ≢ ErrorKind.DisplayVersion
-        → (result ≡ Status.WrongLine) ⊎ (result ≡ Status.NoAnswer) }
 {
     if error.kind() == ErrorKind::OutOfMemory {
         return write_text(OUT_OF_MEMORY, Status::NoAnswer, output);
     }
-    match error.to_string(alloc) {
-        Ok(text) if error.use_stderr() => write_text(text.as_bytes(), Status::WrongLine, faults),
-        Ok(text) => write_text(text.as_bytes(), Status::Success, output),
-        Err(_) => write_text(OUT_OF_MEMORY, Status::NoAnswer, output),
+    let Ok(text) = error.to_string(alloc) else {
+        return write_text(OUT_OF_MEMORY, Status::NoAnswer, output);
+    };
+    match error.kind() {
+        ErrorKind::DisplayHelp | ErrorKind::DisplayVersion => {
+            write_text(text.as_bytes(), Status::Success, output)
+        }
+        _ => write_text(text.as_bytes(), Status::WrongLine, faults),
     }
 }
 

@@ -1,15 +1,65 @@
 //! What `judge` answers to a text.
 ghost use Rattle.std.specs.Prelude.{◌≡◌, IfOk};
+ghost use Rattle.clap.specs.Words.{app_of};
+ghost use Rattle.mcrace.specs.CommandLine.{judge_app};
 ghost use Rattle.mcrace.specs.JudgeAnswers as answers;
 ghost use Rattle.mcrace.specs.Refusals as refusals;
 
 use crate::refusal::{Place, Refusal, refusal_text};
+use crate::limit;
 use crate::status::Status;
+use clap::Command;
 use mc_explain::{
     Explanation, HistoryFault, Verdict, confirms, judge, parse_history, print_explanation,
 };
 use mc_model::{History, HistoryKind};
 use std::alloc::{AllocError, Global};
+
+const ABOUT: &str = "Judges the history on standard input";
+
+const LONG_ABOUT: &str =
+    "Judges the history on standard input: whether one cache can have given every reply in it.
+
+A history is what three clients of one server sent and received: P, which ran alone first, and then
+A and B, which ran side by side. A line names the client, its request, and behind `->` the reply, or
+`?` where none came. P deletes each key before any other request of it.
+
+An explanation is an order in which the server may have acted on the requests. A line names the
+client whose next request acts, and the number of the version that it makes, or any number where it
+makes none. It explains the history where a cache that acts in that order gives every reply that was
+received. In front may stand `start` lines, each with a key that held something before and the number
+of it; behind a move `pad` and `refuse`, what the server chose where the protocol leaves it a choice.
+
+An explanation is searched for, and the answer is written:
+  explained    one was found; its lines follow, and `end`
+  unexplained  the search came to its end, and found none
+  undecided    the turns of the search were used up before either was known
+A turn tries one request at one place in the order.
+
+An example:
+
+  history 1
+  P delete a -> NOT_FOUND
+  P set a 0 =5 -> STORED
+  A set a 0 =6 -> STORED
+  B get a -> HIT 0 =6
+  end
+
+Its answer, in which A's `set` acts before B's `get`:
+
+  explained
+  P 0
+  P 1
+  A 2
+  B 0
+  end
+
+Where the history has an explanation already, `explain` and its lines in front of `end`, that one is
+judged and none is searched for:
+  confirmed      it explains the history
+  not confirmed  it does not
+
+A text that is no history is `refused`, with the reason.";
 
 /// What is answered to a text.
 #[derive(Debug, Drop)]
@@ -117,4 +167,15 @@ pub fn status_of(answer: &Judgement) -> Status
         Judgement::Refused(_) => Status::Refused,
         Judgement::Judged(Verdict::Undecided, _) => Status::NoAnswer,
     }
+}
+
+/// The subcommand.
+pub fn subcommand<'a>(alloc: Global) -> Result<Command<'a>, AllocError>
+    ensures { IfOk result (λ command. app_of command ≡ judge_app) }
+{
+    Command::new(alloc, "judge")
+        .about(ABOUT)
+        .long_about(LONG_ABOUT)
+        .after_help(crate::arguments::STATUSES)
+        .arg(limit::option(alloc))
 }

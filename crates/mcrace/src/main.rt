@@ -7,6 +7,8 @@ mod asm;
 mod command;
 mod input;
 mod judge;
+mod limit;
+mod line_laws;
 mod refusal;
 mod status;
 mod streams;
