@@ -31,6 +31,7 @@ bare_app = record {
   top = record (new_shape (codes "mcrace")) {
     subcommand_required = true;
     arg_required_else_help = true;
+    has_version = true;
   };
   subs = [];
 }
@@ -39,7 +40,7 @@ bare_app = record {
 abbrev pub program_app : App
 program_app = with_subcommand (with_subcommand bare_app judge_app.top) asm_app.top
 
--- the kinds of the first fault that clap finds in the words, of which it gives one; a call for help is one too
+-- the kinds of the first fault that clap finds in the words, of which it gives one; a call for help or for the version is one too
 unfoldable pub line_faults : List (List ℕ) → Kinds
 line_faults words = fault_of program_app words
 

@@ -11,13 +11,15 @@ use std::alloc::{AllocError, Global};
 
 const ABOUT: &str = "Tests servers that speak memcached's text protocol";
 
-pub const STATUSES: &str = "Exit status:
-  0  confirmed, explained or assembled
-  1  not confirmed or unexplained
+const VERSION: &str = "0.1.0";
+
+const STATUSES: &str = "Exit status:
+  0  explained, confirmed or assembled; or help or the version
+  1  unexplained, or not confirmed
   2  the command line is wrong
-  3  refused: the input is no history, no script or too large a script, or has more than
-     1,048,576 bytes
-  4  undecided; out of memory; or input or output failed";
+  3  refused: the input is no history, no script, a script that is too large, or
+     has more than 1,048,576 bytes
+  4  undecided; or out of memory; or input or output failed";
 
 /// What a line asks for.
 #[derive(Clone, Copy, Debug, Drop, PartialEq, Eq)]
@@ -70,6 +72,7 @@ fn program<'a>(alloc: Global) -> Result<Command<'a>, AllocError>
 {
     Command::new(alloc, "mcrace")
         .about(ABOUT)
+        .version(VERSION)
         .after_help(STATUSES)
         .subcommand_required(true)
         .arg_required_else_help(true)

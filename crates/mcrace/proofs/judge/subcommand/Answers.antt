@@ -7,5 +7,5 @@ use Rattle.mcrace.proofs.judge.subcommand.Goals as goal
 pub returns : goal.returns
 returns c =
     let new_is : app_of c.after_help.result ≡ new_app (codes "judge") = ap app_of_fields c.after_help.ensures
-    ∙ (ap app_of_fields c.long_about.ensures ∙ (ap app_of_fields c.about.ensures ∙ c.new.ensures.app)) in
+    ∙ (ap app_of_fields c.override_usage.ensures ∙ (ap app_of_fields c.long_about.ensures ∙ (ap app_of_fields c.about.ensures ∙ c.new.ensures.app))) in
     IfOk-weaker c.arg.result _ _ (λ command adds. adds.shape c.option.ensures.local ∙ ap₂ with_rule new_is c.option.ensures.rule) c.arg.ensures
