@@ -12,7 +12,7 @@ use Rattle.mcrace.proofs.OptionValue.{IsNoFlag, no_flag, value_walked, value_has
 use Rattle.mcrace.specs.declared.arguments.Asked.TheVariants as asked
 use Rattle.mcrace.specs.Command.{AsksFor, IsLimit}
 use Rattle.mcrace.specs.CommandLine.{GREATEST_LIMIT, judge_app, line_command, line_faults, line_limit, program_app}
-use Rattle.mcrace.specs.LineLaws.{NamesLimit, LinesAskOnce, PlainLinesAsk}
+use Rattle.mcrace.specs.LineLaws.{NamesLimit, LinesAskOnce, PlainLinesAsk, SignedLimitsAreFaulty}
 use Rattle.std.proofs.lemmas.Bool.{ne_eqb}
 use Rattle.std.proofs.lemmas.Grind.{common_steps}
 
@@ -100,12 +100,12 @@ asm_is_named program = refl
 no_hyphen : (d : ℕ) → is_digit d ≡ true → (d == 45) ≡ false
 no_hyphen d digit = ne_eqb _ _ (λ e. absurd (cc (ap is_digit e)))
 
+first_digit : (d : ℕ) (ds : List ℕ) → are_digits (d ∷ ds) ≡ true → is_digit d ≡ true
+first_digit d ds digits = grind (arith, common_steps)
+
 decimal_is_no_flag : (number : List ℕ) (limit : ℕ) → SpellsNumber GREATEST_LIMIT number limit → IsNoFlag number
 decimal_is_no_flag [] limit spells = absurd (cc (spells.some))
 decimal_is_no_flag (d ∷ ds) limit spells = no_flag d ds (no_hyphen d (first_digit d ds spells.digits))
-  where
-    first_digit : (d : ℕ) (ds : List ℕ) → are_digits (d ∷ ds) ≡ true → is_digit d ≡ true
-    first_digit d ds digits = grind (arith, common_steps)
 
 judge_asks : (program : List ℕ) (others : List (List ℕ)) (limit : ℕ) → NamesLimit others limit
     → AsksFor (program ∷ codes "judge" ∷ others) (asked.Judge limit)
@@ -120,6 +120,12 @@ judge_asks program others limit (inr (number, spells, inr joined)) =
 pub plain_lines_ask : PlainLinesAsk
 plain_lines_ask words (asked.Judge limit) (program, others, is, names) = rw is (judge_asks program others limit names)
 plain_lines_ask words asked.Asm (program, is) = rw is (asm_has_no_faults program, asm_is_named program)
+
+pub signed_limits_are_faulty : SignedLimitsAreFaulty
+signed_limits_are_faulty program sign number other (asked.Judge limit) asks =
+    let spells = rw (joined_is_found program (sign ∷ number)) at asks.1.1 in
+    absurd (cc (first_digit sign number spells.digits, other))
+signed_limits_are_faulty program sign number other asked.Asm asks = absurd (cc (sym (joined_is_named program (sign ∷ number)) ∙ asks.1))
 
 -- a word names one limit at most
 one_limit : (word : _) (one : ℕ) (other : ℕ) → IsLimit word one → IsLimit word other → one ≡ other

@@ -1,7 +1,7 @@
 -- What the definition of a line says of the lines that are mostly written, and of any line.
-use Rattle.std.specs.Prelude.{◌≡◌, ◌⊎◌, ℕ, List, [], ◌∷◌, ◌++◌, codes}
-use Rattle.mc_model.specs.Words.{SpellsNumber}
-use Rattle.mcrace.specs.Command.{AsksFor}
+use Rattle.std.specs.Prelude.{◌≡◌, ◌⊎◌, ℕ, false, List, [], ◌∷◌, ◌++◌, codes}
+use Rattle.mc_model.specs.Words.{SpellsNumber, is_digit}
+use Rattle.mcrace.specs.Command.{AsksFor, IsFaulty}
 use Rattle.mcrace.specs.CommandLine.{DEFAULT_LIMIT, GREATEST_LIMIT}
 use Rattle.mcrace.specs.declared.arguments.Asked.{Asked}
 use Rattle.mcrace.specs.declared.arguments.Asked.TheVariants as asked
@@ -20,6 +20,10 @@ IsPlainLine words asked.Asm = (program : List ℕ) × (words ≡ program ∷ cod
 
 abbrev pub PlainLinesAsk : Type 0
 PlainLinesAsk = (words : List (List ℕ)) (wanted : Asked) → IsPlainLine words wanted → AsksFor words wanted
+
+abbrev pub SignedLimitsAreFaulty : Type 0
+SignedLimitsAreFaulty = (program : List ℕ) (sign : ℕ) (number : List ℕ) → is_digit sign ≡ false
+    → IsFaulty (program ∷ codes "judge" ∷ (codes "--limit=" ++ sign ∷ number) ∷ [])
 
 abbrev pub LinesAskOnce : Type 0
 LinesAskOnce = (words : List (List ℕ)) (one : Asked) (other : Asked) → AsksFor words one → AsksFor words other → one ≡ other
