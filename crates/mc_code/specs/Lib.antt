@@ -22,6 +22,8 @@ pub mod StandingLaws
 pub mod NumberLaws
 pub mod LayoutLaws
 pub mod Examples
+pub mod AsmKinds
+pub mod ImageKinds
 -- What private contracts cite.
 pub mod Assembling
 pub mod ImageReading

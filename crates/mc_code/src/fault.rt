@@ -1,5 +1,7 @@
 //! Why a script has no code, and why bytes are no image.
 ghost use Rattle.std.specs.Prelude.{◌≡◌};
+ghost use Rattle.mc_code.specs.AsmKinds as asm_kinds;
+ghost use Rattle.mc_code.specs.ImageKinds as image_kinds;
 
 use mc_protocol::Actor;
 use std::alloc::{AllocError, AllocFailed};
@@ -18,6 +20,30 @@ pub enum AsmFault {
     /// There is no memory for the code.
     #[error("out of memory")]
     OutOfMemory,
+}
+
+impl AsmFault {
+    /// The number of the fault, as a refusal tells it.
+    pub fn number(self) -> u32
+        ensures { result ≡ asm_kinds.kind_number self }
+    {
+        match self {
+            AsmFault::TooManyTemplates => 1,
+            AsmFault::TooManyInstructions(_) => 2,
+            AsmFault::OutOfMemory => 3,
+        }
+    }
+
+    /// The name of the fault, as a refusal tells it.
+    pub fn name(self) -> &'static str
+        ensures { result.now ≡ asm_kinds.kind_name self }
+    {
+        match self {
+            AsmFault::TooManyTemplates => "TooManyTemplates",
+            AsmFault::TooManyInstructions(_) => "TooManyInstructions",
+            AsmFault::OutOfMemory => "OutOfMemory",
+        }
+    }
 }
 
 impl From<AllocError> for AsmFault {
@@ -61,6 +87,36 @@ pub enum ImageKind {
     /// There is no memory for the code.
     #[error("out of memory")]
     OutOfMemory,
+}
+
+impl ImageKind {
+    /// The number of the kind, as a refusal tells it.
+    pub fn number(self) -> u32
+        ensures { result ≡ image_kinds.kind_number self }
+    {
+        match self {
+            ImageKind::Magic => 1,
+            ImageKind::Short => 2,
+            ImageKind::Range => 3,
+            ImageKind::Template => 4,
+            ImageKind::Extra => 5,
+            ImageKind::OutOfMemory => 6,
+        }
+    }
+
+    /// The name of the kind, as a refusal tells it.
+    pub fn name(self) -> &'static str
+        ensures { result.now ≡ image_kinds.kind_name self }
+    {
+        match self {
+            ImageKind::Magic => "Magic",
+            ImageKind::Short => "Short",
+            ImageKind::Range => "Range",
+            ImageKind::Template => "Template",
+            ImageKind::Extra => "Extra",
+            ImageKind::OutOfMemory => "OutOfMemory",
+        }
+    }
 }
 
 /// Why bytes are no image, and where: the offset of the first faulty field, of a whole template that may not stand, or of

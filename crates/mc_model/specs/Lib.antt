@@ -12,6 +12,7 @@ pub mod Words
 pub mod Sections
 pub mod History
 pub mod HistoryLaws
+pub mod Kinds
 pub mod WordLaws
 -- What private contracts cite.
 pub mod Reading

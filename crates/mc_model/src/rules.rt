@@ -2,6 +2,7 @@ ghost use Rattle.std.specs.Prelude.{◌≡◌, ◌↔◌, IsTrue};
 ghost use Rattle.std.specs.List.{list_any};
 ghost use Rattle.mc_model.specs.History as rule;
 ghost use Rattle.mc_model.specs.Next as next;
+ghost use Rattle.mc_model.specs.Kinds as kinds;
 
 use crate::{Sent, is_key};
 use mc_protocol::{BODY_LIMIT, Fields, Reply, Request, Verb, fits};
@@ -40,6 +41,44 @@ pub enum HistoryKind {
     Unended,
     #[error("out of memory")]
     OutOfMemory,
+}
+
+impl HistoryKind {
+    /// The number of the kind, as a refusal tells it.
+    pub fn number(self) -> u32
+        ensures { result ≡ kinds.kind_number self }
+    {
+        match self {
+            HistoryKind::Header => 1,
+            HistoryKind::Line => 2,
+            HistoryKind::Number => 3,
+            HistoryKind::Order => 4,
+            HistoryKind::WrongReply => 5,
+            HistoryKind::NotCleared => 6,
+            HistoryKind::UnseenNumber => 7,
+            HistoryKind::TooMany => 8,
+            HistoryKind::Unended => 9,
+            HistoryKind::OutOfMemory => 10,
+        }
+    }
+
+    /// The name of the kind, as a refusal tells it.
+    pub fn name(self) -> &'static str
+        ensures { result.now ≡ kinds.kind_name self }
+    {
+        match self {
+            HistoryKind::Header => "Header",
+            HistoryKind::Line => "Line",
+            HistoryKind::Number => "Number",
+            HistoryKind::Order => "Order",
+            HistoryKind::WrongReply => "WrongReply",
+            HistoryKind::NotCleared => "NotCleared",
+            HistoryKind::UnseenNumber => "UnseenNumber",
+            HistoryKind::TooMany => "TooMany",
+            HistoryKind::Unended => "Unended",
+            HistoryKind::OutOfMemory => "OutOfMemory",
+        }
+    }
 }
 
 impl From<AllocError> for HistoryKind {

@@ -12,6 +12,7 @@ pub mod ScriptText
 pub mod Templates
 pub mod WellFormed
 pub mod PrintedScript
+pub mod Kinds
 -- What private contracts cite.
 pub mod Reading
 pub mod TextReading

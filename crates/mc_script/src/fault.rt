@@ -1,4 +1,5 @@
 ghost use Rattle.std.specs.Prelude.{◌≡◌};
+ghost use Rattle.mc_script.specs.Kinds as kinds;
 
 use std::alloc::{AllocError, AllocFailed};
 use thiserror::Error;
@@ -36,6 +37,54 @@ pub enum ScriptKind {
     Unended,
     #[error("out of memory")]
     OutOfMemory,
+}
+
+impl ScriptKind {
+    /// The number of the kind, as a refusal tells it.
+    pub fn number(self) -> u32
+        ensures { result ≡ kinds.kind_number self }
+    {
+        match self {
+            ScriptKind::Header => 1,
+            ScriptKind::Line => 2,
+            ScriptKind::Name => 3,
+            ScriptKind::Duplicate => 4,
+            ScriptKind::UnknownKey => 5,
+            ScriptKind::UnknownFlag => 6,
+            ScriptKind::UnknownVar => 7,
+            ScriptKind::UnknownLabel => 8,
+            ScriptKind::BackwardLabel => 9,
+            ScriptKind::Number => 10,
+            ScriptKind::Data => 11,
+            ScriptKind::TooMany => 12,
+            ScriptKind::Budget => 13,
+            ScriptKind::Unended => 14,
+            ScriptKind::OutOfMemory => 15,
+        }
+    }
+
+    /// The name of the kind, as a refusal tells it.
+    pub fn name(self) -> &'static str
+        ensures { result.now ≡ kinds.kind_name self }
+    {
+        match self {
+            ScriptKind::Header => "Header",
+            ScriptKind::Line => "Line",
+            ScriptKind::Name => "Name",
+            ScriptKind::Duplicate => "Duplicate",
+            ScriptKind::UnknownKey => "UnknownKey",
+            ScriptKind::UnknownFlag => "UnknownFlag",
+            ScriptKind::UnknownVar => "UnknownVar",
+            ScriptKind::UnknownLabel => "UnknownLabel",
+            ScriptKind::BackwardLabel => "BackwardLabel",
+            ScriptKind::Number => "Number",
+            ScriptKind::Data => "Data",
+            ScriptKind::TooMany => "TooMany",
+            ScriptKind::Budget => "Budget",
+            ScriptKind::Unended => "Unended",
+            ScriptKind::OutOfMemory => "OutOfMemory",
+        }
+    }
 }
 
 impl From<AllocError> for ScriptKind {

@@ -1,5 +1,5 @@
-pub mod Limit
 pub mod Line
 pub mod OptionValue
+pub mod PlainLines
 pub mod Right
 pub mod Taken

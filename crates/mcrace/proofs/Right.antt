@@ -4,6 +4,8 @@ use Rattle.mcrace.specs.declared.arguments.Asked.{Asked}
 use Rattle.mcrace.specs.Answers.{Does, IsAnswer, INPUT_LIMIT, out_of_memory_text}
 use Rattle.mcrace.specs.Command.{Answers, IsWhole}
 use Rattle.mcrace.specs.Streams.{Grows, IsAtEnd, Loses}
+use Rattle.mcrace.specs.declared.status.Status.{Status}
+use Rattle.mcrace.specs.declared.status.Status.TheVariants as status
 
 -- a text that was read to the end of the input is the input
 whole_text : (old : List ℕ) (new : List ℕ) (text : List ℕ) → old ≡ text ++ new → new ≡ [] → text ≡ old
@@ -15,22 +17,22 @@ longer old new text n split long =
     let lengths : length old ≡ length (text ++ new) = ap length split in
     omega (arith, lengths, length-append text new)
 
-right_for_old : (asked : Asked) (old : List ℕ) (new : List ℕ) (text : List ℕ) (output : List ℕ) (status : ℕ) → old ≡ text ++ new
-    → (length text ≤ INPUT_LIMIT → new ≡ []) → IsAnswer asked text output status → IsAnswer asked old output status
-right_for_old asked old new text output status split ends (inl does) =
-    inl (subst (λ (t : List ℕ). (length t ≤ INPUT_LIMIT) × Does asked t output status) (whole_text old new text split (ends does.0)) does)
-right_for_old asked old new text output status split ends (inr (inl refused)) =
+right_for_old : (asked : Asked) (old : List ℕ) (new : List ℕ) (text : List ℕ) (output : List ℕ) (ended : Status) → old ≡ text ++ new
+    → (length text ≤ INPUT_LIMIT → new ≡ []) → IsAnswer asked text output ended → IsAnswer asked old output ended
+right_for_old asked old new text output ended split ends (inl does) =
+    inl (subst (λ (t : List ℕ). (length t ≤ INPUT_LIMIT) × Does asked t output ended) (whole_text old new text split (ends does.0)) does)
+right_for_old asked old new text output ended split ends (inr (inl refused)) =
     inr (inl (longer old new text INPUT_LIMIT split refused.0, refused.1, refused.2))
-right_for_old asked old new text output status split ends (inr (inr without)) = inr (inr without)
+right_for_old asked old new text output ended split ends (inr (inr without)) = inr (inr without)
 
 -- an answer that is right for what was read is right for the whole input
-pub right_for_whole : (asked : Asked) (left : Option (List ℕ)) (new : Option (List ℕ)) (text : List ℕ) (output : List ℕ) (status : ℕ)
-    → Loses left new text → (length text ≤ INPUT_LIMIT → IsAtEnd new) → IsAnswer asked text output status
-    → (whole : List ℕ) × IsWhole left whole × IsAnswer asked whole output status
-right_for_whole asked None new text output status lost ends right = (text, tt, right)
-right_for_whole asked (Some old) None text output status lost ends right = absurd lost
-right_for_whole asked (Some old) (Some new) text output status lost ends right =
-    (old, refl, right_for_old asked old new text output status lost ends right)
+pub right_for_whole : (asked : Asked) (left : Option (List ℕ)) (new : Option (List ℕ)) (text : List ℕ) (output : List ℕ) (ended : Status)
+    → Loses left new text → (length text ≤ INPUT_LIMIT → IsAtEnd new) → IsAnswer asked text output ended
+    → (whole : List ℕ) × IsWhole left whole × IsAnswer asked whole output ended
+right_for_whole asked None new text output ended lost ends right = (text, tt, right)
+right_for_whole asked (Some old) None text output ended lost ends right = absurd lost
+right_for_whole asked (Some old) (Some new) text output ended lost ends right =
+    (old, refl, right_for_old asked old new text output ended lost ends right)
 
 -- there is a text that is the whole input, whatever is known of it
 some_whole : (left : Option (List ℕ)) → (whole : List ℕ) × IsWhole left whole
@@ -38,10 +40,10 @@ some_whole None = ([], tt)
 some_whole (Some old) = (old, refl)
 
 -- an answer that is right for the whole input was written
-pub answers_of : (asked : Asked) (left : Option (List ℕ)) (old : Option (List ℕ)) (new : Option (List ℕ)) (status : ℕ) (output : List ℕ)
-    → ((whole : List ℕ) × IsWhole left whole × IsAnswer asked whole output status) → Grows old new output
-    → Answers asked left old new status
-answers_of asked left old new status output found grows = record {
+pub answers_of : (asked : Asked) (left : Option (List ℕ)) (old : Option (List ℕ)) (new : Option (List ℕ)) (ended : Status) (output : List ℕ)
+    → ((whole : List ℕ) × IsWhole left whole × IsAnswer asked whole output ended) → Grows old new output
+    → Answers asked left old new ended
+answers_of asked left old new ended output found grows = record {
   text = found.0;
   whole = found.1;
   output = output;
@@ -50,8 +52,8 @@ answers_of asked left old new status output found grows = record {
 }
 
 -- want of memory is an answer to any input
-pub out_of_memory_answers : (asked : Asked) (left : Option (List ℕ)) (old : Option (List ℕ)) (new : Option (List ℕ)) (status : ℕ)
-    → Grows old new out_of_memory_text → status ≡ 4 → Answers asked left old new status
-out_of_memory_answers asked left old new status grows status_is =
+pub out_of_memory_answers : (asked : Asked) (left : Option (List ℕ)) (old : Option (List ℕ)) (new : Option (List ℕ)) (ended : Status)
+    → Grows old new out_of_memory_text → ended ≡ status.NoAnswer → Answers asked left old new ended
+out_of_memory_answers asked left old new ended grows ended_is =
     let whole = some_whole left in
-    answers_of asked left old new status out_of_memory_text (whole.0, whole.1, inr (inr (refl, status_is))) grows
+    answers_of asked left old new ended out_of_memory_text (whole.0, whole.1, inr (inr (refl, ended_is))) grows

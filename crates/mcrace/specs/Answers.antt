@@ -2,6 +2,8 @@
 use Rattle.std.specs.Prelude.{◌≡◌, ◌⊎◌, ℕ, ◌<◌, ◌≤◌, List, length, codes}
 use Rattle.mcrace.specs.declared.arguments.Asked.{Asked}
 use Rattle.mcrace.specs.declared.arguments.Asked.TheVariants as asked
+use Rattle.mcrace.specs.declared.status.Status.{Status}
+use Rattle.mcrace.specs.declared.status.Status.TheVariants as status
 use Rattle.mcrace.specs.AsmAnswers.{Assembles}
 use Rattle.mcrace.specs.JudgeAnswers.{Judges}
 
@@ -10,9 +12,9 @@ abbrev pub INPUT_LIMIT : ℕ
 INPUT_LIMIT = 1048576
 
 -- doing what is asked for with the text, these bytes may be written, and this is the exit status with them
-abbrev pub Does : Asked → List ℕ → List ℕ → ℕ → Type 0
-Does (asked.Judge limit) text output status = Judges limit text output status
-Does asked.Asm text output status = Assembles text output status
+abbrev pub Does : Asked → List ℕ → List ℕ → Status → Type 0
+Does (asked.Judge limit) text output ended = Judges limit text output ended
+Does asked.Asm text output ended = Assembles text output ended
 
 abbrev pub too_long_text : List ℕ
 too_long_text = codes "refused input too long\n"
@@ -21,7 +23,7 @@ abbrev pub out_of_memory_text : List ℕ
 out_of_memory_text = codes "out of memory\n"
 
 -- the same; or the text is too long, and that is written; or that memory ran out, which it may over any text
-abbrev pub IsAnswer : Asked → List ℕ → List ℕ → ℕ → Type 0
-IsAnswer asked text output status = ((length text ≤ INPUT_LIMIT) × Does asked text output status)
-    ⊎ (((INPUT_LIMIT < length text) × (output ≡ too_long_text) × (status ≡ 3))
-    ⊎ ((output ≡ out_of_memory_text) × (status ≡ 4)))
+abbrev pub IsAnswer : Asked → List ℕ → List ℕ → Status → Type 0
+IsAnswer asked text output ended = ((length text ≤ INPUT_LIMIT) × Does asked text output ended)
+    ⊎ (((INPUT_LIMIT < length text) × (output ≡ too_long_text) × (ended ≡ status.Refused))
+    ⊎ ((output ≡ out_of_memory_text) × (ended ≡ status.NoAnswer)))

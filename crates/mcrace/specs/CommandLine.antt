@@ -1,8 +1,7 @@
--- What the program's command line may be.
+-- What the program's command line may be, and what clap reads in one.
 use Rattle.std.specs.Prelude.{ℕ, Option, Some, List, [], true, codes, option_and_then, option_map}
-use Rattle.clap.specs.Words.{App, Kinds, Row, Rule, Text, fault_of, new_app, new_rule, one_of, subcommand_of, with_rule, with_subcommand}
+use Rattle.clap.specs.Words.{App, Kinds, Row, Rule, Text, fault_of, first_of, new_app, new_rule, subcommand_of, with_rule, with_subcommand}
 use Rattle.clap.specs.Simple.{new_shape}
-use Rattle.clap.specs.declared.builder.value_parser.ValueParser.TheVariants as parser
 
 -- the turns of a search where the line names no limit, and the most that it may name
 abbrev pub DEFAULT_LIMIT : ℕ
@@ -11,12 +10,11 @@ DEFAULT_LIMIT = 1000000
 abbrev pub GREATEST_LIMIT : ℕ
 GREATEST_LIMIT = 1000000000
 
--- the option `--limit`, with a number as its value
+-- the option `--limit`, with a word as its value
 abbrev pub limit_rule : Rule
 limit_rule = record (new_rule (codes "limit")) {
   long = Some (codes "limit");
   value_names = 1;
-  parser = Some (parser.Unsigned 0 GREATEST_LIMIT);
 }
 
 -- the subcommand `judge`
@@ -30,7 +28,11 @@ asm_app = new_app (codes "asm")
 -- the program, without its subcommands
 abbrev pub bare_app : App
 bare_app = record {
-  top = record (new_shape (codes "mcrace")) { subcommand_required = true; arg_required_else_help = true };
+  top = record (new_shape (codes "mcrace")) {
+    subcommand_required = true;
+    arg_required_else_help = true;
+    has_version = true;
+  };
   subs = [];
 }
 
@@ -38,20 +40,21 @@ bare_app = record {
 abbrev pub program_app : App
 program_app = with_subcommand (with_subcommand bare_app judge_app.top) asm_app.top
 
--- the kinds of the first fault that clap finds in the words, of which it gives one; a call for help is one too
+-- the kinds of the first fault that clap finds in the words, of which it gives one; a call for help or for the version is one too
 unfoldable pub line_faults : List (List ℕ) → Kinds
 line_faults words = fault_of program_app words
 
--- the name of a subcommand that was found, if one was
+-- the name of a subcommand that was found, and the first value of its option `--limit`
 abbrev pub given_name : Option (Text × List Row) → Option Text
 given_name entered = option_map (λ found. found.0) entered
+
+abbrev pub given_limit : Option (Text × List Row) → Option Text
+given_limit entered = option_and_then (λ found. first_of (codes "limit") found.1) entered
 
 -- the name of the subcommand that clap finds in the words
 unfoldable pub line_command : List (List ℕ) → Option Text
 line_command words = given_name (subcommand_of program_app words)
 
--- ---- what private clauses cite
-
--- the value of `--limit` that clap found for the subcommand, if it found one
-abbrev pub given_limit : Option (Text × List Row) → Option Text
-given_limit entered = option_and_then (λ found. one_of (codes "limit") found.1) entered
+-- the word that clap finds in the words as the value of `--limit`
+unfoldable pub line_limit : List (List ℕ) → Option Text
+line_limit words = given_limit (subcommand_of program_app words)

@@ -1,7 +1,7 @@
 -- What `judge` answers to a text.
-use Rattle.std.specs.Prelude.{◌≡◌, ◌≢◌, ℕ, Option, Some, None, List, ◌++◌, codes, decimal}
+use Rattle.std.specs.Prelude.{◌≡◌, ◌≢◌, ℕ, Option, Some, None, List, ◌++◌, codes}
 use Rattle.mc_model.specs.Sections.{Sections}
-use Rattle.mc_model.specs.declared.rules.HistoryKind.{HistoryKind}
+use Rattle.mc_model.specs.Kinds.{kind_name, kind_number}
 use Rattle.mc_model.specs.declared.rules.HistoryKind.TheVariants as kind
 use Rattle.mc_explain.specs.declared.fault.HistoryFault.{HistoryFault}
 use Rattle.mc_explain.specs.Claim.{Claim}
@@ -11,6 +11,10 @@ use Rattle.mc_explain.specs.PrintedHistory.{claim_text}
 use Rattle.mc_explain.specs.Verdicts.{IsStated, IsTrueOf, IsWithin}
 use Rattle.mc_explain.specs.declared.verdict.Verdict.{Verdict}
 use Rattle.mc_explain.specs.declared.verdict.Verdict.TheVariants as verdict
+use Rattle.mcrace.specs.Refusals.{refusal_text}
+use Rattle.mcrace.specs.declared.refusal.Place.TheVariants as place
+use Rattle.mcrace.specs.declared.status.Status.{Status}
+use Rattle.mcrace.specs.declared.status.Status.TheVariants as status
 use Rattle.mcrace.specs.declared.judge.Judgement.{Judgement}
 use Rattle.mcrace.specs.declared.judge.Judgement.TheVariants as judgement
 
@@ -27,35 +31,9 @@ IsRight limit text (judgement.Judged found turns) =
     (s : Sections) × SpellsHistory text s None × IsTrueOf s found × IsStated s found × IsWithin limit found turns
 IsRight limit text (judgement.Refused fault) = (fault.kind ≢ kind.OutOfMemory) × SpellsNone text
 
--- the number and the name of a kind
-abbrev pub kind_number : HistoryKind → ℕ
-kind_number kind.Header = 1
-kind_number kind.Line = 2
-kind_number kind.Number = 3
-kind_number kind.Order = 4
-kind_number kind.WrongReply = 5
-kind_number kind.NotCleared = 6
-kind_number kind.UnseenNumber = 7
-kind_number kind.TooMany = 8
-kind_number kind.Unended = 9
-kind_number kind.OutOfMemory = 10
-
-abbrev pub kind_name : HistoryKind → List ℕ
-kind_name kind.Header = codes "Header"
-kind_name kind.Line = codes "Line"
-kind_name kind.Number = codes "Number"
-kind_name kind.Order = codes "Order"
-kind_name kind.WrongReply = codes "WrongReply"
-kind_name kind.NotCleared = codes "NotCleared"
-kind_name kind.UnseenNumber = codes "UnseenNumber"
-kind_name kind.TooMany = codes "TooMany"
-kind_name kind.Unended = codes "Unended"
-kind_name kind.OutOfMemory = codes "OutOfMemory"
-
 -- what is written for a history that is refused
-abbrev pub refusal_text : HistoryFault → List ℕ
-refusal_text fault =
-    codes "refused history " ++ (decimal (kind_number fault.kind) ++ (codes " " ++ (kind_name fault.kind ++ (codes " line " ++ (decimal fault.line ++ codes "\n")))))
+abbrev pub history_refusal : HistoryFault → List ℕ
+history_refusal fault = refusal_text (codes "history") (kind_number fault.kind) (kind_name fault.kind) (place.Line fault.line)
 
 -- what is written where an explanation was found
 abbrev pub explained_text : Claim → List ℕ
@@ -68,29 +46,29 @@ verdict_text verdict.Unexplained = codes "unexplained\n"
 verdict_text verdict.Undecided = codes "undecided\n"
 
 -- the exit status of a verdict
-abbrev pub verdict_status : Verdict → ℕ
-verdict_status (verdict.Explained claim) = 0
-verdict_status verdict.Unexplained = 1
-verdict_status verdict.Undecided = 4
+abbrev pub verdict_status : Verdict → Status
+verdict_status (verdict.Explained claim) = status.Success
+verdict_status verdict.Unexplained = status.Unexplained
+verdict_status verdict.Undecided = status.NoAnswer
 
 -- what is written for an answer
 abbrev pub text_of : Judgement → List ℕ
 text_of judgement.Confirmed = codes "confirmed\n"
 text_of judgement.NotConfirmed = codes "not confirmed\n"
 text_of (judgement.Judged found turns) = verdict_text found
-text_of (judgement.Refused fault) = refusal_text fault
+text_of (judgement.Refused fault) = history_refusal fault
 
 -- the exit status of an answer
-abbrev pub status_of : Judgement → ℕ
-status_of judgement.Confirmed = 0
-status_of judgement.NotConfirmed = 1
+abbrev pub status_of : Judgement → Status
+status_of judgement.Confirmed = status.Success
+status_of judgement.NotConfirmed = status.Unexplained
 status_of (judgement.Judged found turns) = verdict_status found
-status_of (judgement.Refused fault) = 3
+status_of (judgement.Refused fault) = status.Refused
 
 -- an answer that is right for the text is what is written, with its status
-abbrev pub Judges : ℕ → List ℕ → List ℕ → ℕ → Type 0
-Judges limit text output status =
-    (given : Judgement) × IsRight limit text given × (output ≡ text_of given) × (status ≡ status_of given)
+abbrev pub Judges : ℕ → List ℕ → List ℕ → Status → Type 0
+Judges limit text output ended =
+    (given : Judgement) × IsRight limit text given × (output ≡ text_of given) × (ended ≡ status_of given)
 
 -- ---- parts that private clauses cite
 

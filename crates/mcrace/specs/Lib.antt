@@ -4,4 +4,7 @@ pub mod Command
 pub mod CommandLine
 pub mod Input
 pub mod JudgeAnswers
+pub mod LineLaws
+pub mod Refusals
+pub mod Statuses
 pub mod Streams

@@ -5,6 +5,7 @@ ghost use Rattle.mcrace.specs.AsmAnswers.{Assembles};
 ghost use Rattle.mcrace.specs.JudgeAnswers.{Judges};
 
 use crate::arguments::Asked;
+use crate::status::Status;
 use crate::{asm, judge};
 use std::alloc::{AllocError, Global};
 
@@ -14,19 +15,13 @@ pub const INPUT_LIMIT: usize = 1_048_576;
 /// What is written where memory runs out.
 pub const OUT_OF_MEMORY: &[u8] = b"out of memory\n";
 
-/// The status where input or output failed, or memory ran out.
-pub const NO_ANSWER: u8 = 4;
-
 const TOO_LONG: &[u8] = b"refused input too long\n";
-
-// The status of a refusal.
-const REFUSED: u8 = 3;
 
 /// What is written for a text, and the exit status with it.
 #[derive(Debug, Drop)]
 pub struct Answer {
     pub output: Vec<u8>,
-    pub status: u8,
+    pub status: Status,
 }
 
 /// Does what is asked for with the text, which has been read to its end or to one byte more than the limit.
@@ -37,7 +32,7 @@ pub fn answer_to(alloc: Global, asked: Asked, text: &[u8]) -> Result<Answer, All
         let output = Vec::from_slice(alloc, TOO_LONG)?;
         return Ok(Answer {
             output,
-            status: REFUSED,
+            status: Status::Refused,
         });
     }
     match asked {

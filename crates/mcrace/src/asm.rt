@@ -1,11 +1,15 @@
 //! What `asm` answers to a text.
-ghost use Rattle.std.specs.Prelude.{◌≡◌, ◌++◌, codes, decimal, string_bytes, IfOk};
+ghost use Rattle.std.specs.Prelude.{◌≡◌, IfOk};
 ghost use Rattle.mc_code.specs.Image.{image_of};
-ghost use Rattle.mc_script.specs.ScriptText as spells;
+ghost use Rattle.clap.specs.Words.{app_of};
 ghost use Rattle.mcrace.specs.AsmAnswers as answers;
+ghost use Rattle.mcrace.specs.CommandLine.{asm_app};
+ghost use Rattle.mcrace.specs.Refusals as refusals;
 
+use crate::refusal::{Place, Refusal, refusal_text};
+use crate::status::Status;
+use clap::Command;
 use mc_code::{AsmFault, Code, assemble, encode};
-use mc_protocol::Actor;
 use mc_script::{Script, ScriptFault, ScriptKind, parse};
 use std::alloc::{AllocError, Global};
 
@@ -16,10 +20,8 @@ pub enum Assembly {
     Assembled(Code),
     /// The text is no script.
     NoScript(ScriptFault),
-    /// The script needs more than 64 templates.
-    TooManyTemplates,
-    /// This section of the script, the first such, needs more than 64 instructions, and the templates suffice.
-    TooManyInstructions(Actor),
+    /// The script is too large, by this limit.
+    TooLarge(AsmFault),
 }
 
 /// Reads the text, and assembles the script that it spells.
@@ -41,9 +43,11 @@ fn assembled(alloc: Global, script: &Script) -> Result<Assembly, AllocError>
 {
     match assemble(alloc, script) {
         Ok(code) => Ok(Assembly::Assembled(code)),
-        Err(AsmFault::TooManyTemplates) => Ok(Assembly::TooManyTemplates),
-        Err(AsmFault::TooManyInstructions(actor)) => Ok(Assembly::TooManyInstructions(actor)),
-        Err(AsmFault::OutOfMemory) => Err(AllocError),
+        // Want of memory is no fault of the script.
+        Err(fault) => match fault {
+            AsmFault::OutOfMemory => Err(AllocError),
+            _ => Ok(Assembly::TooLarge(fault)),
+        },
     }
 }
 
@@ -53,11 +57,8 @@ pub fn text_of(alloc: Global, answer: &Assembly) -> Result<Vec<u8>, AllocError>
 {
     match answer {
         Assembly::Assembled(code) => image(alloc, code),
-        Assembly::NoScript(fault) => Ok(refusal_text(alloc, *fault)?.into_bytes()),
-        Assembly::TooManyTemplates => Vec::from_slice(alloc, b"refused asm 1 TooManyTemplates\n"),
-        Assembly::TooManyInstructions(actor) => {
-            Ok(long_section_text(alloc, *actor)?.into_bytes())
-        }
+        Assembly::NoScript(fault) => refusal_text(alloc, refusal_of_script(*fault)),
+        Assembly::TooLarge(fault) => refusal_text(alloc, refusal_of_size(*fault)),
     }
 }
 
@@ -69,82 +70,144 @@ fn image(alloc: Global, code: &Code) -> Result<Vec<u8>, AllocError>
     Ok(image)
 }
 
-fn refusal_text(alloc: Global, fault: ScriptFault) -> Result<String, AllocError>
-    ensures { IfOk result (λ text. string_bytes text ≡ answers.refusal_text fault) }
+fn refusal_of_script(fault: ScriptFault) -> Refusal
+    ensures { refusals.text_of result ≡ answers.script_refusal fault }
 {
-    let number = kind_number(fault.kind);
-    let name = kind_name(fault.kind);
-    let line = fault.line;
-    format!(in alloc; "refused script {number} {name} line {line}\n")
-}
-
-fn long_section_text(alloc: Global, actor: Actor) -> Result<String, AllocError>
-    ensures { IfOk result (λ text. string_bytes text ≡ answers.long_section_text actor) }
-{
-    let name = actor_name(actor);
-    format!(in alloc; "refused asm 2 TooManyInstructions {name}\n")
-}
-
-fn actor_name(actor: Actor) -> &'static str
-    ensures { result.now ≡ spells.actor_word actor }
-{
-    match actor {
-        Actor::P => "P",
-        Actor::A => "A",
-        Actor::B => "B",
+    Refusal {
+        what: "script",
+        number: fault.kind.number(),
+        name: fault.kind.name(),
+        place: Place::Line(fault.line),
     }
 }
 
-fn kind_number(kind: ScriptKind) -> u32
-    ensures { result ≡ answers.kind_number kind }
+fn refusal_of_size(fault: AsmFault) -> Refusal
+    ensures { refusals.text_of result ≡ answers.size_refusal fault }
 {
-    match kind {
-        ScriptKind::Header => 1,
-        ScriptKind::Line => 2,
-        ScriptKind::Name => 3,
-        ScriptKind::Duplicate => 4,
-        ScriptKind::UnknownKey => 5,
-        ScriptKind::UnknownFlag => 6,
-        ScriptKind::UnknownVar => 7,
-        ScriptKind::UnknownLabel => 8,
-        ScriptKind::BackwardLabel => 9,
-        ScriptKind::Number => 10,
-        ScriptKind::Data => 11,
-        ScriptKind::TooMany => 12,
-        ScriptKind::Budget => 13,
-        ScriptKind::Unended => 14,
-        ScriptKind::OutOfMemory => 15,
-    }
-}
-
-fn kind_name(kind: ScriptKind) -> &'static str
-    ensures { result.now ≡ answers.kind_name kind }
-{
-    match kind {
-        ScriptKind::Header => "Header",
-        ScriptKind::Line => "Line",
-        ScriptKind::Name => "Name",
-        ScriptKind::Duplicate => "Duplicate",
-        ScriptKind::UnknownKey => "UnknownKey",
-        ScriptKind::UnknownFlag => "UnknownFlag",
-        ScriptKind::UnknownVar => "UnknownVar",
-        ScriptKind::UnknownLabel => "UnknownLabel",
-        ScriptKind::BackwardLabel => "BackwardLabel",
-        ScriptKind::Number => "Number",
-        ScriptKind::Data => "Data",
-        ScriptKind::TooMany => "TooMany",
-        ScriptKind::Budget => "Budget",
-        ScriptKind::Unended => "Unended",
-        ScriptKind::OutOfMemory => "OutOfMemory",
+    let place = match fault {
+        AsmFault::TooManyInstructions(actor) => Place::Section(actor),
+        _ => Place::Whole,
+    };
+    Refusal {
+        what: "asm",
+        number: fault.number(),
+        name: fault.name(),
+        place,
     }
 }
 
 /// The exit status of an answer.
-pub fn status_of(answer: &Assembly) -> u8
+pub fn status_of(answer: &Assembly) -> Status
     ensures { result ≡ answers.status_of answer.now }
 {
     match answer {
-        Assembly::Assembled(_) => 0,
-        Assembly::NoScript(_) | Assembly::TooManyTemplates | Assembly::TooManyInstructions(_) => 3,
+        Assembly::Assembled(_) => Status::Success,
+        Assembly::NoScript(_) | Assembly::TooLarge(_) => Status::Refused,
     }
+}
+
+const ABOUT: &str = "Assembles the script on standard input";
+
+const USAGE: &str = "mcrace asm < FILE > IMAGE";
+
+const LONG_ABOUT: &str = "Assembles the script on standard input, and writes its image.
+
+A script says what three clients of one server are to send: P, which runs alone
+first, and then A and B, which run side by side.
+
+An example, in which A stores only where nobody else did after its `gets`:
+
+  script 1
+  keys item
+  flags ready
+  vars unique
+  budget P 2 100
+  budget A 2 100
+  budget B 1 100
+  P
+  set item 0 =5 +ready
+  A
+  gets item ?ready miss:gone >unique
+  cas item 0 =7 $unique
+  gone:
+  B
+  incr item 1
+  end
+
+The lines, in this order:
+  script 1
+  keys KEY ..                      1 to 8 keys
+  flags FLAG ..                    at most 32; no line where there are none
+  vars VAR ..                      at most 16; no line where there are none
+  budget CLIENT REQUESTS BYTES     for P, A and B: the most that the client may
+                                   send, 0 to 24 requests and 0 to 8,192 bytes
+  P, A and B                       each on a line, then the client's steps
+  end
+Blank lines are skipped, and so are lines that begin with `#`.
+
+A step:
+  set KEY FLAGS =BODY              sends it; also add, replace, append, prepend
+  cas KEY FLAGS =BODY $VAR         sends it, with VAR's number as its cas unique
+  get KEY                          sends it; also gets, delete, touch
+  incr KEY NUMBER, incr KEY $VAR   sends it; also decr
+  bind VAR                         VAR takes the number of the last reply
+  goto LABEL                       goes to the label
+  halt                             ends the section, which is the client's steps
+A line `LABEL:` is the place of the next step, or the end of the section. A
+label is used in its own section, above its line: a script has no loops.
+
+After a request may stand marks, in any order:
+  ?FLAG, !FLAG   the flag must be set, or clear, when the request is sent
+  +FLAG, -FLAG   the request sets the flag, or clears it, whatever its reply
+  CLASS:LABEL    after a reply of this class goes to the label: stored,
+                 notstored, exists, notfound, hit, miss, deleted, touched,
+                 number, notnumber
+  >VAR           after gets, incr and decr: VAR takes the number of the reply
+
+  KEY            1 to 40 of a-z, 0-9 and `-`; FLAG, VAR and LABEL 1 to 20
+  FLAGS          a decimal below 2^32; NUMBER below 2^64
+  BODY           at most 64 letters and digits
+
+The image begins with `MCR1`. Its templates are first a `delete` of each key,
+with which P begins, and which P's budget pays for, and then the requests.
+Whether the code keeps its budgets and its flags isn't looked at.
+
+A text that is no script is refused, as `refused script 5 UnknownKey line 9`:
+  1 Header         `script 1` or a declaration is missing, or out of its place
+  2 Line           the line or one of its words may not stand there
+  3 Name           a name that is declared has other bytes, or too many
+  4 Duplicate      a name, a label or a mark stands there already
+  5 UnknownKey     no such key is declared
+  6 UnknownFlag    no such flag is declared
+  7 UnknownVar     no such variable is declared
+  8 UnknownLabel   the section has no such label
+  9 BackwardLabel  the label stands above its use
+  10 Number        a word is no decimal, or its number is too large
+  11 Data          a body has other bytes than letters and digits, or too many
+  12 TooMany       too many names, or more than 64 steps in a section
+  13 Budget        a budget is above its limit
+  14 Unended       the text ends before P, A, B or `end`
+
+A script that is too large is refused, as `refused asm 2 TooManyInstructions A`:
+  1 TooManyTemplates     more than 64 templates
+  2 TooManyInstructions  more than 64 instructions in a section: one for each
+                         step and each `>VAR`, one at the section's end, and in
+                         P one for each key";
+
+const STATUSES: &str = "Exit status:
+  0  assembled
+  2  the command line is wrong
+  3  refused: the input is no script, a script that is too large, or has more
+     than 1,048,576 bytes
+  4  out of memory; or input or output failed";
+
+/// The subcommand.
+pub fn subcommand<'a>(alloc: Global) -> Command<'a>
+    ensures { app_of result ≡ asm_app }
+{
+    Command::new(alloc, "asm")
+        .about(ABOUT)
+        .long_about(LONG_ABOUT)
+        .override_usage(USAGE)
+        .after_help(STATUSES)
 }

@@ -1,15 +1,16 @@
 //! The whole program, over any streams.
 ghost use Rattle.std.specs.Prelude.{◌≡◌, ◌≢◌, ◌⊎◌, ℕ, List, [], ◌+◌, ◌<◌, ◌≤◌, true, false, map, string_bytes, length, IfOk, IfErr};
 ghost use Rattle.mcrace.specs.Answers.{IsAnswer, out_of_memory_text};
-ghost use Rattle.mcrace.specs.CommandLine.{line_faults};
-ghost use Rattle.mcrace.specs.Command.{AsksFor, Answers, IsReadAs, IsWhole};
+ghost use Rattle.mcrace.specs.Command.{AsksFor, Answers, IsFaulty, IsWhole, MayShow};
 ghost use Rattle.mcrace.specs.Input as input_rule;
+ghost use Rattle.mcrace.specs.Statuses.{status_number};
 ghost use Rattle.mcrace.specs.Streams.{Grows, TakesAtMost};
 ghost use Rattle.clap.specs.Words.{kind_of};
 
-use crate::answer::{Answer, INPUT_LIMIT, NO_ANSWER, OUT_OF_MEMORY, answer_to};
+use crate::answer::{Answer, INPUT_LIMIT, OUT_OF_MEMORY, answer_to};
 use crate::arguments::{Asked, parsed};
 use crate::input::{InputFault, read_input};
+use crate::status::Status;
 use crate::streams::{Sink, Source};
 use clap::Error;
 use clap::error::ErrorKind;
@@ -18,11 +19,10 @@ use std::io;
 
 const NOT_UTF8: &[u8] = b"error: the command line is not UTF-8\n";
 
-const WRONG_LINE: u8 = 2;
-
 /// Does what the line asks for, and answers the exit status. The line's first word is the program's name.
 ///
-/// At most 1,048,577 bytes of the input are read, and they are read whole before a byte is written.
+/// At most 1,048,577 bytes of the input are read, and they are read whole before a byte is written. Of a line with a fault
+/// nothing is read. The fault goes to the faults, and help, the version and want of memory go to the output.
 pub fn command<I: Source, O: Sink, F: Sink>(
     alloc: Global,
     line: &[String],
@@ -33,14 +33,20 @@ pub fn command<I: Source, O: Sink, F: Sink>(
     ensures answered { (asked : Asked) → AsksFor (map string_bytes line.now) asked
         → I.has_failed input.old ≡ false → I.has_failed input.new ≡ false
         → O.has_failed output.old ≡ false → O.has_failed output.new ≡ false
-        → Answers asked (I.left input.old) (O.written output.old) (O.written output.new) result }
-    ensures any_line { line_faults (map string_bytes line.now) ≡ []
-        → I.has_failed input.old ≡ false → I.has_failed input.new ≡ false
-        → O.has_failed output.old ≡ false → O.has_failed output.new ≡ false
-        → (asked : Asked) × IsReadAs (map string_bytes line.now) asked
-        × Answers asked (I.left input.old) (O.written output.old) (O.written output.new) result }
+        → (ended : Status) × (result ≡ status_number ended)
+        × Answers asked (I.left input.old) (O.written output.old) (O.written output.new) ended }
     ensures no_fault { (asked : Asked) → AsksFor (map string_bytes line.now) asked → faults.new ≡ faults.old }
-    ensures unread { line_faults (map string_bytes line.now) ≢ [] → input.new ≡ input.old }
+
+    ensures fault { IsFaulty (map string_bytes line.now)
+        → O.has_failed output.old ≡ false → O.has_failed output.new ≡ false
+        → F.has_failed faults.old ≡ false → F.has_failed faults.new ≡ false
+        → ((result ≡ 2) × (output.new ≡ output.old))
+        ⊎ (((result ≡ 0) × (faults.new ≡ faults.old) × MayShow (map string_bytes line.now))
+        ⊎ ((result ≡ 4) × (faults.new ≡ faults.old)
+        × Grows (O.written output.old) (O.written output.new) out_of_memory_text)) }
+    ensures apart { IsFaulty (map string_bytes line.now) → (output.new ≡ output.old) ⊎ (faults.new ≡ faults.old) }
+    ensures unread { IsFaulty (map string_bytes line.now) → input.new ≡ input.old }
+
     ensures broken_input { I.has_failed input.old ≡ false → I.has_failed input.new ≡ true
         → (result ≡ 4) × (output.new ≡ output.old) }
     ensures broken_output { O.has_failed output.old ≡ false → O.has_failed output.new ≡ true → result ≡ 4 }
@@ -48,8 +54,8 @@ pub fn command<I: Source, O: Sink, F: Sink>(
     ensures taken { TakesAtMost 1048577 (I.left input.old) (I.left input.new) }
 {
     match parsed(alloc, line) {
-        Ok(asked) => answer(alloc, asked, input, output),
-        Err(error) => explain(alloc, &error, output, faults),
+        Ok(asked) => answer(alloc, asked, input, output).number(),
+        Err(error) => explain(alloc, &error, output, faults).number(),
     }
 }
 
@@ -59,26 +65,27 @@ pub fn unread_line<O: Sink, F: Sink>(error: &io::Error, output: &mut O, faults: 
     ensures broken_faults { F.has_failed faults.old ≡ false → F.has_failed faults.new ≡ true → result ≡ 4 }
     ensures fails { (result ≡ 2) ⊎ (result ≡ 4) }
 {
-    match error.kind() {
-        io::ErrorKind::OutOfMemory => write_text(OUT_OF_MEMORY, NO_ANSWER, output),
-        _ => write_text(NOT_UTF8, WRONG_LINE, faults),
-    }
+    let status = match error.kind() {
+        io::ErrorKind::OutOfMemory => write_text(OUT_OF_MEMORY, Status::NoAnswer, output),
+        _ => write_text(NOT_UTF8, Status::WrongLine, faults),
+    };
+    status.number()
 }
 
 // Reads the input, and writes what is answered to it.
-fn answer<I: Source, O: Sink>(alloc: Global, asked: Asked, input: &mut I, output: &mut O) -> u8
+fn answer<I: Source, O: Sink>(alloc: Global, asked: Asked, input: &mut I, output: &mut O) -> Status
     ensures answered { I.has_failed input.old ≡ false → I.has_failed input.new ≡ false
         → O.has_failed output.old ≡ false → O.has_failed output.new ≡ false
         → Answers asked (I.left input.old) (O.written output.old) (O.written output.new) result }
     ensures broken_input { I.has_failed input.old ≡ false → I.has_failed input.new ≡ true
-        → (result ≡ 4) × (output.new ≡ output.old) }
-    ensures broken_output { O.has_failed output.old ≡ false → O.has_failed output.new ≡ true → result ≡ 4 }
+        → (result ≡ Status.NoAnswer) × (output.new ≡ output.old) }
+    ensures broken_output { O.has_failed output.old ≡ false → O.has_failed output.new ≡ true → result ≡ Status.NoAnswer }
     ensures taken { TakesAtMost 1048577 (I.left input.old) (I.left input.new) }
 {
     match read_answer(alloc, asked, input) {
         Ok(answer) => write_text(answer.output.as_slice(), answer.status, output),
-        Err(InputFault::Broken) => NO_ANSWER,
-        Err(InputFault::OutOfMemory) => write_text(OUT_OF_MEMORY, NO_ANSWER, output),
+        Err(InputFault::Broken) => Status::NoAnswer,
+        Err(InputFault::OutOfMemory) => write_text(OUT_OF_MEMORY, Status::NoAnswer, output),
     }
 }
 
@@ -93,36 +100,46 @@ fn read_answer<I: Source>(alloc: Global, asked: Asked, input: &mut I) -> Result<
     Ok(answer_to(alloc, asked, text.as_slice())?)
 }
 
-// Writes clap's text: help to the output, and a fault of the line to the faults.
-fn explain<O: Sink, F: Sink>(alloc: Global, error: &Error, output: &mut O, faults: &mut F) -> u8
+// Writes clap's text: help and the version to the output, and a fault of the line to the faults.
+fn explain<O: Sink, F: Sink>(alloc: Global, error: &Error, output: &mut O, faults: &mut F) -> Status
     ensures memory { kind_of error.now ≡ ErrorKind.OutOfMemory
         → O.has_failed output.old ≡ false → O.has_failed output.new ≡ false
-        → Grows (O.written output.old) (O.written output.new) out_of_memory_text × (result ≡ 4) }
+        → Grows (O.written output.old) (O.written output.new) out_of_memory_text × (result ≡ Status.NoAnswer) }
     ensures no_fault { kind_of error.now ≡ ErrorKind.OutOfMemory → faults.new ≡ faults.old }
-    ensures broken_output { O.has_failed output.old ≡ false → O.has_failed output.new ≡ true → result ≡ 4 }
-    ensures broken_faults { F.has_failed faults.old ≡ false → F.has_failed faults.new ≡ true → result ≡ 4 }
-    ensures fault { kind_of error.now ≢ ErrorKind.DisplayHelp → kind_of error.now ≢ ErrorKind.DisplayVersion
-        → (result ≡ 2) ⊎ (result ≡ 4) }
+    ensures fault { O.has_failed output.old ≡ false → O.has_failed output.new ≡ false
+        → F.has_failed faults.old ≡ false → F.has_failed faults.new ≡ false
+        → ((result ≡ Status.WrongLine) × (output.new ≡ output.old))
+        ⊎ (((result ≡ Status.Success) × (faults.new ≡ faults.old)
+        × ((kind_of error.now ≡ ErrorKind.DisplayHelp) ⊎ (kind_of error.now ≡ ErrorKind.DisplayVersion)))
+        ⊎ ((result ≡ Status.NoAnswer) × (faults.new ≡ faults.old)
+        × Grows (O.written output.old) (O.written output.new) out_of_memory_text)) }
+    ensures apart { (output.new ≡ output.old) ⊎ (faults.new ≡ faults.old) }
+    ensures broken_output { O.has_failed output.old ≡ false → O.has_failed output.new ≡ true → result ≡ Status.NoAnswer }
+    ensures broken_faults { F.has_failed faults.old ≡ false → F.has_failed faults.new ≡ true → result ≡ Status.NoAnswer }
 {
     if error.kind() == ErrorKind::OutOfMemory {
-        return write_text(OUT_OF_MEMORY, NO_ANSWER, output);
+        return write_text(OUT_OF_MEMORY, Status::NoAnswer, output);
     }
-    match error.to_string(alloc) {
-        Ok(text) if error.use_stderr() => write_text(text.as_bytes(), WRONG_LINE, faults),
-        Ok(text) => write_text(text.as_bytes(), 0, output),
-        Err(_) => write_text(OUT_OF_MEMORY, NO_ANSWER, output),
+    let Ok(text) = error.to_string(alloc) else {
+        return write_text(OUT_OF_MEMORY, Status::NoAnswer, output);
+    };
+    match error.kind() {
+        ErrorKind::DisplayHelp | ErrorKind::DisplayVersion => {
+            write_text(text.as_bytes(), Status::Success, output)
+        }
+        _ => write_text(text.as_bytes(), Status::WrongLine, faults),
     }
 }
 
 // Writes the text by one call, and answers the status, or that of a failure.
-fn write_text<S: Sink>(text: &[u8], status: u8, sink: &mut S) -> u8
+fn write_text<S: Sink>(text: &[u8], status: Status, sink: &mut S) -> Status
     ensures written { S.has_failed sink.old ≡ false → S.has_failed sink.new ≡ false
         → Grows (S.written sink.old) (S.written sink.new) text.now × (result ≡ status) }
-    ensures broken { S.has_failed sink.old ≡ false → S.has_failed sink.new ≡ true → result ≡ 4 }
-    ensures status { (result ≡ status) ⊎ (result ≡ 4) }
+    ensures broken { S.has_failed sink.old ≡ false → S.has_failed sink.new ≡ true → result ≡ Status.NoAnswer }
+    ensures status { (result ≡ status) ⊎ (result ≡ Status.NoAnswer) }
 {
     match sink.write_all(text) {
         Ok(()) => status,
-        Err(_) => NO_ANSWER,
+        Err(_) => Status::NoAnswer,
     }
 }

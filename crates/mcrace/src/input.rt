@@ -59,7 +59,7 @@ pub fn read_input<I: Source>(
     Ok(text)
 }
 
-// Reads some bytes, and no more than `most`, behind the text; 0 only at the end.
+// Reads some bytes, and no more than `most`, to the end of the text; 0 only at the end.
 fn read_piece<I: Source>(
     input: &mut I,
     text: &mut Vec<u8>,

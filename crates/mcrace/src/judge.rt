@@ -1,7 +1,14 @@
 //! What `judge` answers to a text.
-ghost use Rattle.std.specs.Prelude.{◌≡◌, ◌++◌, codes, decimal, string_bytes, IfOk};
+ghost use Rattle.std.specs.Prelude.{◌≡◌, IfOk};
+ghost use Rattle.clap.specs.Words.{app_of};
+ghost use Rattle.mcrace.specs.CommandLine.{judge_app};
 ghost use Rattle.mcrace.specs.JudgeAnswers as answers;
+ghost use Rattle.mcrace.specs.Refusals as refusals;
 
+use crate::limit;
+use crate::refusal::{Place, Refusal, refusal_text};
+use crate::status::Status;
+use clap::Command;
 use mc_explain::{
     Explanation, HistoryFault, Verdict, confirms, judge, parse_history, print_explanation,
 };
@@ -70,7 +77,7 @@ pub fn text_of(alloc: Global, answer: &Judgement) -> Result<Vec<u8>, AllocError>
         Judgement::Confirmed => Vec::from_slice(alloc, b"confirmed\n"),
         Judgement::NotConfirmed => Vec::from_slice(alloc, b"not confirmed\n"),
         Judgement::Judged(verdict, _) => verdict_text(alloc, verdict),
-        Judgement::Refused(fault) => Ok(refusal_text(alloc, *fault)?.into_bytes()),
+        Judgement::Refused(fault) => refusal_text(alloc, refusal_of(*fault)),
     }
 }
 
@@ -93,57 +100,142 @@ fn explained_text(alloc: Global, explanation: &Explanation) -> Result<Vec<u8>, A
     Ok(text)
 }
 
-fn refusal_text(alloc: Global, fault: HistoryFault) -> Result<String, AllocError>
-    ensures { IfOk result (λ text. string_bytes text ≡ answers.refusal_text fault) }
+fn refusal_of(fault: HistoryFault) -> Refusal
+    ensures { refusals.text_of result ≡ answers.history_refusal fault }
 {
-    let number = kind_number(fault.kind);
-    let name = kind_name(fault.kind);
-    let line = fault.line;
-    format!(in alloc; "refused history {number} {name} line {line}\n")
-}
-
-fn kind_number(kind: HistoryKind) -> u32
-    ensures { result ≡ answers.kind_number kind }
-{
-    match kind {
-        HistoryKind::Header => 1,
-        HistoryKind::Line => 2,
-        HistoryKind::Number => 3,
-        HistoryKind::Order => 4,
-        HistoryKind::WrongReply => 5,
-        HistoryKind::NotCleared => 6,
-        HistoryKind::UnseenNumber => 7,
-        HistoryKind::TooMany => 8,
-        HistoryKind::Unended => 9,
-        HistoryKind::OutOfMemory => 10,
-    }
-}
-
-fn kind_name(kind: HistoryKind) -> &'static str
-    ensures { result.now ≡ answers.kind_name kind }
-{
-    match kind {
-        HistoryKind::Header => "Header",
-        HistoryKind::Line => "Line",
-        HistoryKind::Number => "Number",
-        HistoryKind::Order => "Order",
-        HistoryKind::WrongReply => "WrongReply",
-        HistoryKind::NotCleared => "NotCleared",
-        HistoryKind::UnseenNumber => "UnseenNumber",
-        HistoryKind::TooMany => "TooMany",
-        HistoryKind::Unended => "Unended",
-        HistoryKind::OutOfMemory => "OutOfMemory",
+    Refusal {
+        what: "history",
+        number: fault.kind.number(),
+        name: fault.kind.name(),
+        place: Place::Line(fault.line),
     }
 }
 
 /// The exit status of an answer.
-pub fn status_of(answer: &Judgement) -> u8
+pub fn status_of(answer: &Judgement) -> Status
     ensures { result ≡ answers.status_of answer.now }
 {
     match answer {
-        Judgement::Confirmed | Judgement::Judged(Verdict::Explained(_), _) => 0,
-        Judgement::NotConfirmed | Judgement::Judged(Verdict::Unexplained, _) => 1,
-        Judgement::Refused(_) => 3,
-        Judgement::Judged(Verdict::Undecided, _) => 4,
+        Judgement::Confirmed | Judgement::Judged(Verdict::Explained(_), _) => Status::Success,
+        Judgement::NotConfirmed | Judgement::Judged(Verdict::Unexplained, _) => Status::Unexplained,
+        Judgement::Refused(_) => Status::Refused,
+        Judgement::Judged(Verdict::Undecided, _) => Status::NoAnswer,
     }
+}
+
+const ABOUT: &str = "Judges the history on standard input";
+
+const USAGE: &str = "mcrace judge [--limit N] < FILE";
+
+const LONG_ABOUT: &str =
+    "Judges the history on standard input: whether one cache can have given every
+reply in it.
+
+A history is what three clients of one server sent and received: P, which ran
+alone first, and then A and B, which ran side by side. P comes before A and B,
+the requests of each client keep their order, and no order in time between A and
+B counts. So what is judged is sequential consistency of one cache, and not
+linearizability.
+
+An example, in which A stores only because nobody else did after its `gets`:
+
+  history 1
+  P delete a -> NOT_FOUND
+  P set a 0 =5 -> STORED
+  A gets a -> HIT 0 =5 7
+  A cas a 0 =two%20words 7 -> STORED
+  B get a -> HIT 0 =two%20words
+  end
+
+The first line is `history 1`, and the last one `end`. Between them stands a
+line for each request: the client, the request, `->`, and the reply; or `?` for
+a reply that was lost or was an error line, after which the client sent nothing
+more. P's lines come first, and those of A and B may be mixed. Blank lines are
+skipped, and so are lines that begin with `#`.
+
+  request                     replies
+  set KEY FLAGS BODY          STORED, NOT_STORED, EXISTS, NOT_FOUND
+  add KEY FLAGS BODY          the same
+  replace KEY FLAGS BODY      the same
+  append KEY FLAGS BODY       the same
+  prepend KEY FLAGS BODY      the same
+  cas KEY FLAGS BODY NUMBER   the same
+  get KEY                     HIT FLAGS BODY, MISS
+  gets KEY                    HIT FLAGS BODY CAS, MISS
+  incr KEY NUMBER             NUMBER N, NOT_FOUND, NOT_A_NUMBER
+  decr KEY NUMBER             the same
+  delete KEY                  DELETED, NOT_FOUND
+  touch KEY                   TOUCHED, NOT_FOUND; its time of expiry is 0
+
+  KEY     1 to 40 of a-z, 0-9 and `-`; a history has at most 8 keys
+  FLAGS   a decimal below 2^32
+  BODY    `=` and the bytes, at most 65,536; `%` and two hexadecimal digits
+          stand for any byte: `=` is empty, `%20` a space, `%25` a `%`
+  NUMBER  a decimal below 2^64, and so are N and CAS; that of `cas` is a CAS
+          that a `gets` of the key showed before, to the same client or to P
+
+P deletes each key before any other request of it, so that it is known what the
+key held. A client sends at most 24 requests.
+
+An explanation is an order in which the server may have acted. It explains the
+history where a cache that acts in that order gives every reply that was
+received. A line names the client whose next request acts, and the number of the
+version of the item that the request makes, or any number where it makes none.
+The number of a version is its cas unique, as `gets` shows it. This one explains
+the history above:
+
+  explained
+  P 0
+  P 7
+  A 0
+  A 1
+  B 0
+  end
+
+Before the order may stand lines `start KEY NUMBER`, each for a key that held
+something before the run, and the number of that version. After a number may
+stand `pad`, and then `refuse`: what the server chose where the protocol leaves
+it a choice. With `pad` an `incr` or a `decr` fills up the new body with spaces
+to the length of the old one; with `refuse` it answers NOT_A_NUMBER to a body
+that another server may read as a number.
+
+What is answered:
+  explained    an explanation was found; its lines follow, and `end`
+  unexplained  the search came to its end, and there is none
+  undecided    the turns of the search were used up before either was known
+A turn tries one request at one place of the order.
+
+Where a line `explain` and the lines of an explanation stand before `end`, that
+one is judged, and none is searched for:
+  confirmed      it explains the history
+  not confirmed  it does not
+
+A text that is no history is refused, as `refused history 5 WrongReply line 4`:
+  1 Header        the first line is not `history 1`
+  2 Line          the line or one of its words may not stand there
+  3 Number        a number is too large, or has more than 20 digits
+  4 Order         a line of P after one of A or B, or a request after a `?`
+  5 WrongReply    the protocol has no such reply to the request
+  6 NotCleared    the key's first request is not a `delete` of P
+  7 UnseenNumber  no `gets` of the key showed the number of this `cas` before
+  8 TooMany       more than 24 requests of a client, or more than 8 keys
+  9 Unended       the line `end` is missing";
+
+const STATUSES: &str = "Exit status:
+  0  explained, or confirmed
+  1  unexplained, or not confirmed
+  2  the command line is wrong
+  3  refused: the input is no history, or has more than 1,048,576 bytes
+  4  undecided; or out of memory; or input or output failed";
+
+/// The subcommand.
+pub fn subcommand<'a>(alloc: Global) -> Result<Command<'a>, AllocError>
+    ensures { IfOk result (λ command. app_of command ≡ judge_app) }
+{
+    Command::new(alloc, "judge")
+        .about(ABOUT)
+        .long_about(LONG_ABOUT)
+        .override_usage(USAGE)
+        .after_help(STATUSES)
+        .arg(limit::option(alloc))
 }

@@ -7,6 +7,10 @@ mod asm;
 mod command;
 mod input;
 mod judge;
+mod limit;
+mod line_laws;
+mod refusal;
+mod status;
 mod streams;
 
 use std::process::ExitCode;

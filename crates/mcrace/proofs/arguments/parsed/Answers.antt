@@ -1,32 +1,52 @@
-use Rattle.std.proofs.Common.{ap, sym, map, string_bytes, ◌∙◌}
-use Rattle.std.proofs.lemmas.Result.{err_from_is_err_and}
-use Rattle.mcrace.proofs.Line.{asked_is_found, line_command-is, line_faults-is, program_is_simple, subcommand-is}
-use Rattle.mcrace.specs.CommandLine.{given_limit, given_name}
+use Rattle.std.proofs.Common.{inl, inr, map, rules, string_bytes, sym, Some, ◌≡◌, ◌∙◌}
+use Rattle.std.proofs.lemmas.Result.{IfOk-weaker, IfErr-weaker, err_from_is_err_and}
+use Rattle.clap.specs.Words.{kind_of}
+use Rattle.mcrace.proofs.Line.{command_is, fault_by_clap, limit_is, line_faults-is, no_limit, no_subcommand, program_is_simple}
 use Rattle.mcrace.proofs.arguments.parsed.Goals as goal
 
-pub returns-in_err-matches-clause-fails : goal.returns-in_err-matches-clause-fails
-returns-in_err-matches-clause-fails c =
-    let p = err_from_is_err_and c.from_residual-in_err-matches.result c.from_residual-in_err-matches.ensures.1 in
-    rw (p.1, p.2, ← line_faults-is _ (map string_bytes c.args.line.now) c.in_ok-program.ensures)
-    (c.in_err-matches.ensures.kinds (program_is_simple _ c.in_ok-program.ensures))
-
-pub returns-clause-fails : goal.returns-clause-fails
-returns-clause-fails c =
-    sym (line_faults-is _ (map string_bytes c.args.line.now) c.in_ok-program.ensures)
-    ∙ c.in_ok-matches.ensures.kinds (program_is_simple _ c.in_ok-program.ensures)
-
-pub returns-clause-asked : goal.returns-clause-asked
-returns-clause-asked c wanted asks =
+pub returns-in_err-matches-clause-fault : goal.returns-in_err-matches-clause-fault
+returns-in_err-matches-clause-fault c =
     let words = map string_bytes c.args.line.now in
-    let rows = subcommand-is _ words c.in_ok-matches.matches c.in_ok-program.ensures c.in_ok-matches.ensures.matches in
-    let name = ap given_name rows in
-    let limit = ap given_limit rows in
-    asked_is_found words wanted c.asked_by.result asks
-    (λ is. c.asked_by.ensures.asm (name ∙ is))
-    (λ word n judge is. c.asked_by.ensures.given word n (name ∙ judge) (limit ∙ is))
-    (λ judge none. c.asked_by.ensures.none (name ∙ judge) (limit ∙ none))
+    let p = err_from_is_err_and c.from_residual-in_err-matches.result c.from_residual-in_err-matches.ensures.1 in
+    rw (p.1, p.2) (fault_by_clap words c.in_err-matches.field-0.0 (rw (line_faults-is _ words c.in_ok-program.ensures)
+    at (c.in_err-matches.ensures.kinds (program_is_simple _ c.in_ok-program.ensures))))
 
-pub returns-clause-read : goal.returns-clause-read
-returns-clause-read c =
-    rw (line_command-is _ (map string_bytes c.args.line.now) c.in_ok-matches.matches c.in_ok-program.ensures c.in_ok-matches.ensures.matches)
-    at c.asked_by.ensures.named
+pub returns-in-judge-clause-asked : goal.returns-in-judge-clause-asked
+returns-in-judge-clause-asked c =
+    let words = map string_bytes c.args.line.now in
+    let program = c.in_ok-program.ensures in
+    let matches = c.in_ok-matches.ensures.matches in
+    let none = sym (line_faults-is _ words program) ∙ c.in_ok-matches.ensures.kinds (program_is_simple _ program) in
+    let command = command_is _ words _ program matches _ c.in-Some.ensures.name in
+    let limit = limit_is _ words _ program matches _ c.in-Some.ensures.rows in
+    IfOk-weaker c.judge_asked.result _ _ (λ asked is. rw is.1 (none, (command ∙ search rules, rw limit is.2))) c.judge_asked.ensures.asked
+
+pub returns-in-judge-clause-fault : goal.returns-in-judge-clause-fault
+returns-in-judge-clause-fault c =
+    let words = map string_bytes c.args.line.now in
+    let program = c.in_ok-program.ensures in
+    let matches = c.in_ok-matches.ensures.matches in
+    let command = command_is _ words _ program matches _ c.in-Some.ensures.name in
+    let limit = limit_is _ words _ program matches _ c.in-Some.ensures.rows in
+    IfErr-weaker c.judge_asked.result _ _ (λ error fails. elim fails [
+      | inl memory ↦ inl memory
+      | inr none ↦ inr (no_limit words (kind_of error) none.0 (command ∙ search rules) (rw limit none.1))
+    ]) c.judge_asked.ensures.fault
+
+pub returns-in-asm-clause-asked : goal.returns-in-asm-clause-asked
+returns-in-asm-clause-asked c =
+    let words = map string_bytes c.args.line.now in
+    let program = c.in_ok-program.ensures in
+    let matches = c.in_ok-matches.ensures.matches in
+    let none = sym (line_faults-is _ words program) ∙ c.in_ok-matches.ensures.kinds (program_is_simple _ program) in
+    (none, command_is _ words _ program matches _ c.in-Some.ensures.name ∙ search rules)
+
+pub returns-in-Some-clause-fault : goal.returns-in-Some-clause-fault
+returns-in-Some-clause-fault c =
+    let words = map string_bytes c.args.line.now in
+    let command = command_is _ words _ c.in_ok-program.ensures c.in_ok-matches.ensures.matches _ c.in-Some.ensures.name in
+    inr (no_subcommand words _ c.in_ok-no_subcommand-in_default.ensures
+    (λ is. c.in_default.not-judge (other (sym command ∙ is))) (λ is. c.in_default.not-asm (other (sym command ∙ is))))
+  where
+    other : {X : Type 0} {x y : X} → Some x ≡ Some y → x ≡ y
+    other is = cc

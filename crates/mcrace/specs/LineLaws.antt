@@ -1,0 +1,29 @@
+-- What the definition of a line says of the lines that are mostly written, and of any line.
+use Rattle.std.specs.Prelude.{◌≡◌, ◌⊎◌, ℕ, false, List, [], ◌∷◌, ◌++◌, codes}
+use Rattle.mc_model.specs.Words.{SpellsNumber, is_digit}
+use Rattle.mcrace.specs.Command.{AsksFor, IsFaulty}
+use Rattle.mcrace.specs.CommandLine.{DEFAULT_LIMIT, GREATEST_LIMIT}
+use Rattle.mcrace.specs.declared.arguments.Asked.{Asked}
+use Rattle.mcrace.specs.declared.arguments.Asked.TheVariants as asked
+
+-- the words after `judge` name the limit: there are none, or `--limit` and a decimal, as two words or joined by `=`
+abbrev pub NamesLimit : List (List ℕ) → ℕ → Type 0
+NamesLimit words limit = ((words ≡ []) × (limit ≡ DEFAULT_LIMIT))
+    ⊎ ((number : List ℕ) × SpellsNumber GREATEST_LIMIT number limit
+    × ((words ≡ codes "--limit" ∷ number ∷ []) ⊎ (words ≡ (codes "--limit=" ++ number) ∷ [])))
+
+-- the words are the program's name, a subcommand, and words that name the limit of `judge`
+abbrev pub IsPlainLine : List (List ℕ) → Asked → Type 0
+IsPlainLine words (asked.Judge limit) =
+    (program : List ℕ) × (others : List (List ℕ)) × (words ≡ program ∷ codes "judge" ∷ others) × NamesLimit others limit
+IsPlainLine words asked.Asm = (program : List ℕ) × (words ≡ program ∷ codes "asm" ∷ [])
+
+abbrev pub PlainLinesAsk : Type 0
+PlainLinesAsk = (words : List (List ℕ)) (wanted : Asked) → IsPlainLine words wanted → AsksFor words wanted
+
+abbrev pub SignedLimitsAreFaulty : Type 0
+SignedLimitsAreFaulty = (program : List ℕ) (sign : ℕ) (number : List ℕ) → is_digit sign ≡ false
+    → IsFaulty (program ∷ codes "judge" ∷ (codes "--limit=" ++ sign ∷ number) ∷ [])
+
+abbrev pub LinesAskOnce : Type 0
+LinesAskOnce = (words : List (List ℕ)) (one : Asked) (other : Asked) → AsksFor words one → AsksFor words other → one ≡ other

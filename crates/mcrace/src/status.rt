@@ -1,0 +1,33 @@
+//! The exit statuses.
+ghost use Rattle.std.specs.Prelude.{◌≡◌};
+ghost use Rattle.mcrace.specs.Statuses.{status_number};
+
+/// How a run of the program ended.
+#[derive(Clone, Copy, Debug, Drop, PartialEq, Eq)]
+pub enum Status {
+    /// What was asked for was done, and what was asked about is so.
+    Success,
+    /// There is no explanation, or the one that was given explains nothing.
+    Unexplained,
+    /// The command line has a fault.
+    WrongLine,
+    /// The input was refused.
+    Refused,
+    /// There is no answer: the turns were used up, memory ran out, or input or output failed.
+    NoAnswer,
+}
+
+impl Status {
+    /// What the program exits with.
+    pub fn number(self) -> u8
+        ensures { result ≡ status_number self }
+    {
+        match self {
+            Status::Success => 0,
+            Status::Unexplained => 1,
+            Status::WrongLine => 2,
+            Status::Refused => 3,
+            Status::NoAnswer => 4,
+        }
+    }
+}
