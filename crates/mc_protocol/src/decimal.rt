@@ -30,7 +30,7 @@ pub fn read_decimal(greatest: u64, word: &[u8]) -> Result<u64, DecimalFault>
     if word.len() > DIGITS_LIMIT {
         return Err(DecimalFault::TooLarge);
     }
-    match value_of(word) {
+    match value_of_digits(word) {
         Some(value) if value <= greatest => Ok(value),
         _ => Err(DecimalFault::TooLarge),
     }
@@ -42,14 +42,15 @@ fn are_digits(word: &[u8]) -> bool
     word.iter().all(|byte| is_digit(*byte))
 }
 
-fn is_digit(byte: u8) -> bool
+/// Whether the byte is a decimal digit.
+pub fn is_digit(byte: u8) -> bool
     ensures { result ≡ spec.is_digit byte }
 {
     byte.is_ascii_digit()
 }
 
-// The number that these digits stand for, where 64 bits hold it.
-fn value_of(digits: &[u8]) -> Option<u64>
+/// The number that these digits stand for, where 64 bits hold it.
+pub fn value_of_digits(digits: &[u8]) -> Option<u64>
     requires some { 0 < length digits.now }
     requires digits { spec.are_digits digits.now ≡ true }
     ensures { MatchOption result (spec.MAX_64 < digits_value 10 digits.now) (λ n. n ≡ digits_value 10 digits.now) }

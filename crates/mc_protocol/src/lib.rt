@@ -23,7 +23,7 @@ mod word_lines;
 
 pub use actor::Actor;
 pub use bytes::Bytes;
-pub use decimal::{DecimalFault, read_decimal};
+pub use decimal::{DecimalFault, is_digit, read_decimal, value_of_digits};
 pub use fault::Fault;
 pub use legal::{fits, is_legal, may_answer};
 pub use limits::{
