@@ -1,3 +1,4 @@
+pub mod HelpLines
 pub mod Line
 pub mod OptionValue
 pub mod PlainLines

@@ -1,5 +1,5 @@
 -- What clap finds in the program's command line, and what it says of a fault.
-use Rattle.std.proofs.Common.{refl, sym, ap, inl, inr, codes, true, Option, ℕ, List, ◌≡◌, ◌≢◌, ◌⊎◌, ◌∙◌, Some, None, option_map}
+use Rattle.std.proofs.Common.{[], refl, sym, ap, inl, inr, codes, true, Option, ℕ, List, ◌≡◌, ◌≢◌, ◌⊎◌, ◌∙◌, Some, None, option_map}
 use Rattle.std.specs.Prelude.{option_and_then}
 use Rattle.clap.specs.Words.{App, HasKind, IsAmong, Row, Text, fault_of, first_of, first_value, found_of, is_simple_and_free, kind_of, rows_of, subcommand_name_of, subcommand_of, subcommand_rows_of, HasMatchesOf, is_simple}
 use Rattle.clap.specs.declared.parser.matches.ArgMatches.{ArgMatches}
@@ -10,7 +10,7 @@ use Rattle.clap.proofs.OnLiterals.{clap_on_literals}
 use Rattle.clap.proofs.WalkLemmas.{first_value-rows}
 use Rattle.mcrace.specs.declared.arguments.Asked.{Asked}
 use Rattle.mcrace.specs.declared.arguments.Asked.TheVariants as asked
-use Rattle.mcrace.specs.Command.{AsksFor, IsAskedBy, IsFaultOf, IsLimit}
+use Rattle.mcrace.specs.Command.{AsksFor, IsAskedBy, IsFaultOf, IsLimit, IsShown}
 use Rattle.mcrace.specs.CommandLine.{given_limit, given_name, line_command, line_faults, line_limit, program_app}
 
 -- the faults of the command that the program makes
@@ -66,10 +66,7 @@ module _ (app : App) (words : List (List ℕ)) (m : ArgMatches) (is : app ≡ pr
 found_by_clap : (words : List (List ℕ)) (found : ErrorKind) → IsAmong found (line_faults words) → IsFaultOf words found
 found_by_clap words found among = record {
   faulty = λ wanted asks. rw asks.0 at among;
-  shows = λ shown. elim shown [
-    | inl help ↦ inl (rw help at among)
-    | inr version ↦ inr (rw version at among)
-  ];
+  which = inl among;
 }
 
 pub fault_by_clap : (words : List (List ℕ)) (e : Error) → HasKind (line_faults words) e → (kind_of e ≡ kind.OutOfMemory) ⊎ IsFaultOf words (kind_of e)
@@ -77,15 +74,16 @@ fault_by_clap words e (inl memory) = inl memory
 fault_by_clap words e (inr among) = inr (found_by_clap words (kind_of e) among)
 
 -- a fault that the program finds
-found_by_program : (words : List (List ℕ)) (found : ErrorKind) → ((wanted : Asked) → IsAskedBy (line_command words) (line_limit words) wanted → ⊥)
-    → found ≢ kind.DisplayHelp → found ≢ kind.DisplayVersion → IsFaultOf words found
-found_by_program words found none help version = record {
+found_by_program : (words : List (List ℕ)) (found : ErrorKind) → line_faults words ≡ []
+    → ((wanted : Asked) → IsAskedBy (line_command words) (line_limit words) wanted → ⊥) → (IsShown found → ⊥) → IsFaultOf words found
+found_by_program words found clear none told = record {
   faulty = λ wanted asks. none wanted asks.1;
-  shows = λ shown. elim shown [
-    | inl is ↦ absurd (help is)
-    | inr is ↦ absurd (version is)
-  ];
+  which = inr (clear, told);
 }
+
+is_told : (found : ErrorKind) → found ≢ kind.DisplayHelp → found ≢ kind.DisplayVersion → IsShown found → ⊥
+is_told found help version (inl is) = help is
+is_told found help version (inr is) = version is
 
 -- the limit's word is none
 nothing_judged : (command : Option Text) (word : Option Text) → command ≡ Some (codes "judge") → ((limit : ℕ) → IsLimit word limit → ⊥)
@@ -93,9 +91,10 @@ nothing_judged : (command : Option Text) (word : Option Text) → command ≡ So
 nothing_judged command word judge none (asked.Judge limit) asks = none limit asks.1
 nothing_judged command word judge none asked.Asm asks = absurd (cc)
 
-pub no_limit : (words : List (List ℕ)) (found : ErrorKind) → found ≡ kind.ValueValidation → line_command words ≡ Some (codes "judge")
+pub no_limit : (words : List (List ℕ)) (found : ErrorKind) → found ≡ kind.ValueValidation → line_faults words ≡ [] → line_command words ≡ Some (codes "judge")
     → ((limit : ℕ) → IsLimit (line_limit words) limit → ⊥) → IsFaultOf words found
-no_limit words found is judge none = found_by_program words found (nothing_judged _ _ judge none) (λ help. absurd (cc)) (λ version. absurd (cc))
+no_limit words found is clear judge none =
+    found_by_program words found clear (nothing_judged _ _ judge none) (is_told found (λ help. absurd (cc)) (λ version. absurd (cc)))
 
 -- the subcommand is another one
 nothing_asked : (command : Option Text) (word : Option Text) → command ≢ Some (codes "judge") → command ≢ Some (codes "asm")
@@ -103,9 +102,10 @@ nothing_asked : (command : Option Text) (word : Option Text) → command ≢ Som
 nothing_asked command word judge asm (asked.Judge limit) asks = judge asks.0
 nothing_asked command word judge asm asked.Asm asks = asm asks
 
-pub no_subcommand : (words : List (List ℕ)) (found : ErrorKind) → found ≡ kind.MissingSubcommand → line_command words ≢ Some (codes "judge")
+pub no_subcommand : (words : List (List ℕ)) (found : ErrorKind) → found ≡ kind.MissingSubcommand → line_faults words ≡ [] → line_command words ≢ Some (codes "judge")
     → line_command words ≢ Some (codes "asm") → IsFaultOf words found
-no_subcommand words found is judge asm = found_by_program words found (nothing_asked _ _ judge asm) (λ help. absurd (cc)) (λ version. absurd (cc))
+no_subcommand words found is clear judge asm =
+    found_by_program words found clear (nothing_asked _ _ judge asm) (is_told found (λ help. absurd (cc)) (λ version. absurd (cc)))
 
 -- a line that asks for something fails only where memory runs out
 pub asking_lacks_memory : (words : List (List ℕ)) (wanted : Asked) (found : ErrorKind) → AsksFor words wanted

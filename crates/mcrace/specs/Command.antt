@@ -29,14 +29,22 @@ AsksFor words wanted = (line_faults words ≡ []) × IsAskedBy (line_command wor
 abbrev pub IsFaulty : List (List ℕ) → Type 0
 IsFaulty words = (wanted : Asked) → AsksFor words wanted → ⊥
 
--- clap may answer the words with help or the version
-abbrev pub MayShow : List (List ℕ) → Type 0
-MayShow words = IsAmong kind.DisplayHelp (line_faults words) ⊎ IsAmong kind.DisplayVersion (line_faults words)
+-- help or the version, for which a line may call, and which clap has among its faults
+abbrev pub IsShown : ErrorKind → Type 0
+IsShown found = (found ≡ kind.DisplayHelp) ⊎ (found ≡ kind.DisplayVersion)
 
--- the words have a fault of this kind, which shows help or the version only where clap may
+-- the words have a fault of this kind: one that clap finds; or, where it finds none, another that is no call for help
 pub record IsFaultOf (words : List (List ℕ)) (found : ErrorKind) : Type 0 where
   pub faulty : IsFaulty words
-  pub shows : (found ≡ kind.DisplayHelp) ⊎ (found ≡ kind.DisplayVersion) → MayShow words
+  pub which : IsAmong found (line_faults words) ⊎ ((line_faults words ≡ []) × (IsShown found → ⊥))
+
+-- the words call for help or the version
+abbrev pub MayShow : List (List ℕ) → Type 0
+MayShow words = (found : ErrorKind) × IsFaultOf words found × IsShown found
+
+-- the words have a fault that is told
+abbrev pub MayTell : List (List ℕ) → Type 0
+MayTell words = (found : ErrorKind) × IsFaultOf words found × (IsShown found → ⊥)
 
 -- the text is all that was left, where that is known
 abbrev pub IsWhole : Option (List ℕ) → List ℕ → Type 0

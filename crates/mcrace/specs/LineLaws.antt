@@ -1,7 +1,7 @@
 -- What the definition of a line says of the lines that are mostly written, and of any line.
 use Rattle.std.specs.Prelude.{◌≡◌, ◌⊎◌, ℕ, false, List, [], ◌∷◌, ◌++◌, codes}
 use Rattle.mc_model.specs.Words.{SpellsNumber, is_digit}
-use Rattle.mcrace.specs.Command.{AsksFor, IsFaulty}
+use Rattle.mcrace.specs.Command.{AsksFor, IsFaulty, MayTell}
 use Rattle.mcrace.specs.CommandLine.{DEFAULT_LIMIT, GREATEST_LIMIT}
 use Rattle.mcrace.specs.declared.arguments.Asked.{Asked}
 use Rattle.mcrace.specs.declared.arguments.Asked.TheVariants as asked
@@ -24,6 +24,15 @@ PlainLinesAsk = (words : List (List ℕ)) (wanted : Asked) → IsPlainLine words
 abbrev pub SignedLimitsAreFaulty : Type 0
 SignedLimitsAreFaulty = (program : List ℕ) (sign : ℕ) (number : List ℕ) → is_digit sign ≡ false
     → IsFaulty (program ∷ codes "judge" ∷ (codes "--limit=" ++ sign ∷ number) ∷ [])
+
+-- the words are the program's name, and `--help`, perhaps after a subcommand, or `--version`
+abbrev pub IsHelpLine : List (List ℕ) → Type 0
+IsHelpLine words = (program : List ℕ)
+    × ((words ≡ program ∷ codes "--help" ∷ []) ⊎ ((words ≡ program ∷ codes "judge" ∷ codes "--help" ∷ [])
+    ⊎ ((words ≡ program ∷ codes "asm" ∷ codes "--help" ∷ []) ⊎ (words ≡ program ∷ codes "--version" ∷ []))))
+
+abbrev pub HelpIsShown : Type 0
+HelpIsShown = (words : List (List ℕ)) → IsHelpLine words → IsFaulty words × (MayTell words → ⊥)
 
 abbrev pub LinesAskOnce : Type 0
 LinesAskOnce = (words : List (List ℕ)) (one : Asked) (other : Asked) → AsksFor words one → AsksFor words other → one ≡ other

@@ -1,7 +1,7 @@
 //! The whole program, over any streams.
 ghost use Rattle.std.specs.Prelude.{◌≡◌, ◌≢◌, ◌⊎◌, ℕ, List, [], ◌+◌, ◌<◌, ◌≤◌, true, false, map, string_bytes, length, IfOk, IfErr};
 ghost use Rattle.mcrace.specs.Answers.{IsAnswer, out_of_memory_text};
-ghost use Rattle.mcrace.specs.Command.{AsksFor, Answers, IsFaulty, IsWhole, MayShow};
+ghost use Rattle.mcrace.specs.Command.{AsksFor, Answers, IsFaulty, IsShown, IsWhole, MayShow, MayTell};
 ghost use Rattle.mcrace.specs.Input as input_rule;
 ghost use Rattle.mcrace.specs.Statuses.{status_number};
 ghost use Rattle.mcrace.specs.Streams.{Grows, TakesAtMost};
@@ -40,7 +40,7 @@ pub fn command<I: Source, O: Sink, F: Sink>(
     ensures fault { IsFaulty (map string_bytes line.now)
         → O.has_failed output.old ≡ false → O.has_failed output.new ≡ false
         → F.has_failed faults.old ≡ false → F.has_failed faults.new ≡ false
-        → ((result ≡ 2) × (output.new ≡ output.old))
+        → ((result ≡ 2) × (output.new ≡ output.old) × MayTell (map string_bytes line.now))
         ⊎ (((result ≡ 0) × (faults.new ≡ faults.old) × MayShow (map string_bytes line.now))
         ⊎ ((result ≡ 4) × (faults.new ≡ faults.old)
         × Grows (O.written output.old) (O.written output.new) out_of_memory_text)) }
@@ -108,9 +108,8 @@ fn explain<O: Sink, F: Sink>(alloc: Global, error: &Error, output: &mut O, fault
     ensures no_fault { kind_of error.now ≡ ErrorKind.OutOfMemory → faults.new ≡ faults.old }
     ensures fault { O.has_failed output.old ≡ false → O.has_failed output.new ≡ false
         → F.has_failed faults.old ≡ false → F.has_failed faults.new ≡ false
-        → ((result ≡ Status.WrongLine) × (output.new ≡ output.old))
-        ⊎ (((result ≡ Status.Success) × (faults.new ≡ faults.old)
-        × ((kind_of error.now ≡ ErrorKind.DisplayHelp) ⊎ (kind_of error.now ≡ ErrorKind.DisplayVersion)))
+        → ((result ≡ Status.WrongLine) × (output.new ≡ output.old) × (IsShown (kind_of error.now) → ⊥))
+        ⊎ (((result ≡ Status.Success) × (faults.new ≡ faults.old) × IsShown (kind_of error.now))
         ⊎ ((result ≡ Status.NoAnswer) × (faults.new ≡ faults.old)
         × Grows (O.written output.old) (O.written output.new) out_of_memory_text)) }
     ensures apart { (output.new ≡ output.old) ⊎ (faults.new ≡ faults.old) }

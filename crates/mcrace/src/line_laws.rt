@@ -1,5 +1,5 @@
 //! What the definition of a line says of the lines that are mostly written, and of any line.
-ghost use Rattle.mcrace.specs.LineLaws.{LinesAskOnce, PlainLinesAsk, SignedLimitsAreFaulty};
+ghost use Rattle.mcrace.specs.LineLaws.{HelpIsShown, LinesAskOnce, PlainLinesAsk, SignedLimitsAreFaulty};
 
 /// `mcrace judge`, `mcrace judge --limit N`, `mcrace judge --limit=N` and `mcrace asm` have no fault, and ask for what they
 /// say.
@@ -11,6 +11,12 @@ pub fn plain_lines_ask()
 /// byte than a digit.
 pub fn signed_limits_are_faulty()
     ensures { SignedLimitsAreFaulty }
+{}
+
+/// `mcrace --help`, `mcrace judge --help`, `mcrace asm --help` and `mcrace --version` ask for nothing, and no fault is told of
+/// them.
+pub fn help_is_shown()
+    ensures { HelpIsShown }
 {}
 
 /// A line asks for one thing at most.

@@ -26,11 +26,12 @@ returns-in-judge-clause-fault c =
     let words = map string_bytes c.args.line.now in
     let program = c.in_ok-program.ensures in
     let matches = c.in_ok-matches.ensures.matches in
+    let clear = sym (line_faults-is _ words program) ∙ c.in_ok-matches.ensures.kinds (program_is_simple _ program) in
     let command = command_is _ words _ program matches _ c.in-Some.ensures.name in
     let limit = limit_is _ words _ program matches _ c.in-Some.ensures.rows in
     IfErr-weaker c.judge_asked.result _ _ (λ error fails. elim fails [
       | inl memory ↦ inl memory
-      | inr none ↦ inr (no_limit words (kind_of error) none.0 (command ∙ search rules) (rw limit none.1))
+      | inr none ↦ inr (no_limit words (kind_of error) none.0 clear (command ∙ search rules) (rw limit none.1))
     ]) c.judge_asked.ensures.fault
 
 pub returns-in-asm-clause-asked : goal.returns-in-asm-clause-asked
@@ -44,8 +45,10 @@ returns-in-asm-clause-asked c =
 pub returns-in-Some-clause-fault : goal.returns-in-Some-clause-fault
 returns-in-Some-clause-fault c =
     let words = map string_bytes c.args.line.now in
-    let command = command_is _ words _ c.in_ok-program.ensures c.in_ok-matches.ensures.matches _ c.in-Some.ensures.name in
-    inr (no_subcommand words _ c.in_ok-no_subcommand-in_default.ensures
+    let program = c.in_ok-program.ensures in
+    let clear = sym (line_faults-is _ words program) ∙ c.in_ok-matches.ensures.kinds (program_is_simple _ program) in
+    let command = command_is _ words _ program c.in_ok-matches.ensures.matches _ c.in-Some.ensures.name in
+    inr (no_subcommand words _ c.in_ok-no_subcommand-in_default.ensures clear
     (λ is. c.in_default.not-judge (other (sym command ∙ is))) (λ is. c.in_default.not-asm (other (sym command ∙ is))))
   where
     other : {X : Type 0} {x y : X} → Some x ≡ Some y → x ≡ y
