@@ -52,16 +52,3 @@ pub use run_laws::{
     runs_are_paths, sections_stop_once,
 };
 pub use standing_laws::{calls_once, calls_open, leaves_once};
-
-#[cfg(test)]
-mod assembler_tests;
-#[cfg(test)]
-mod image_fault_tests;
-#[cfg(test)]
-mod image_tests;
-#[cfg(test)]
-mod jump_tests;
-#[cfg(test)]
-mod limit_tests;
-#[cfg(test)]
-mod test_codes;

@@ -49,12 +49,3 @@ pub use word_laws::{
     words_spell_one_request,
 };
 pub use words::{WordsFault, read_reply_words, read_request_words};
-
-#[cfg(test)]
-mod act_tests;
-#[cfg(test)]
-mod history_tests;
-#[cfg(test)]
-mod tests;
-#[cfg(test)]
-mod word_tests;

@@ -25,6 +25,3 @@ use std::alloc::AllocError;
 
 /// The error of a call that found no memory. Nothing has changed then, unless the call says otherwise.
 pub type OutOfMemory = AllocError;
-
-#[cfg(test)]
-mod tests;

@@ -39,26 +39,3 @@ pub use section::{Budget, Label};
 pub use step::{Argument, Jumps, Step, Template};
 pub use text::parse;
 pub use text_laws::texts_spell_one_script;
-
-#[cfg(test)]
-mod example_tests;
-#[cfg(test)]
-mod fault_tests;
-#[cfg(test)]
-mod jump_tests;
-#[cfg(test)]
-mod label_tests;
-#[cfg(test)]
-mod limit_tests;
-#[cfg(test)]
-mod mark_tests;
-#[cfg(test)]
-mod number_tests;
-#[cfg(test)]
-mod print_tests;
-#[cfg(test)]
-mod step_tests;
-#[cfg(test)]
-mod test_texts;
-#[cfg(test)]
-mod tests;

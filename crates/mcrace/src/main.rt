@@ -39,6 +39,4 @@ fn line_of<R: Env + AllocGlobal>(rt: &R) -> io::Result<Vec<String>> {
 #[cfg(test)]
 mod asm_tests;
 #[cfg(test)]
-mod judge_tests;
-#[cfg(test)]
 mod tests;

@@ -1,0 +1,240 @@
+//! The parts of the code of two images, and whether code has them.
+
+use crate::images::LONGEST_BODY;
+use mc_code::{Code, Instr, NO_ENTRY};
+use mc_protocol::{Actor, Bytes, Verb};
+use mc_script::{Argument, Budget, Template};
+
+/// All parts of a code, its sections those of P, A and B.
+pub(crate) struct Parts {
+    pub(crate) keys: &'static [&'static [u8]],
+    pub(crate) flags: usize,
+    pub(crate) vars: usize,
+    pub(crate) templates: &'static [Fields],
+    pub(crate) p: Section,
+    pub(crate) a: Section,
+    pub(crate) b: Section,
+}
+
+/// What a section may send, and its instructions.
+pub(crate) struct Section {
+    pub(crate) budget: Budget,
+    pub(crate) instructions: &'static [Instr],
+}
+
+/// A template; the masks are those of the flags that must be set, must be clear, are set, and are cleared.
+pub(crate) struct Fields {
+    pub(crate) verb: Verb,
+    pub(crate) key: u8,
+    pub(crate) flags: u32,
+    pub(crate) argument: Argument,
+    pub(crate) body: &'static [u8],
+    pub(crate) masks: [u32; 4],
+}
+
+const NO: u8 = NO_ENTRY;
+
+/// Two increments of one counter.
+pub(crate) static COUNTER: Parts = Parts {
+    keys: &[b"a"],
+    flags: 0,
+    vars: 0,
+    templates: &[
+        Fields {
+            verb: Verb::Delete,
+            key: 0,
+            flags: 0,
+            argument: Argument::Nothing,
+            body: b"",
+            masks: [0, 0, 0, 0],
+        },
+        Fields {
+            verb: Verb::Set,
+            key: 0,
+            flags: 0,
+            argument: Argument::Nothing,
+            body: b"5",
+            masks: [0, 0, 0, 0],
+        },
+        Fields {
+            verb: Verb::Incr,
+            key: 0,
+            flags: 0,
+            argument: Argument::Number(1),
+            body: b"",
+            masks: [0, 0, 0, 0],
+        },
+        Fields {
+            verb: Verb::Incr,
+            key: 0,
+            flags: 0,
+            argument: Argument::Number(1),
+            body: b"",
+            masks: [0, 0, 0, 0],
+        },
+    ],
+    p: Section {
+        budget: Budget {
+            requests: 2,
+            bytes: 26,
+        },
+        instructions: &[
+            Instr::Send {
+                template: 0,
+                next: [NO, NO, NO, 1, NO, NO, 1, NO, NO, NO],
+            },
+            Instr::Send {
+                template: 1,
+                next: [2, 2, 2, 2, NO, NO, NO, NO, NO, NO],
+            },
+            Instr::Halt,
+        ],
+    },
+    a: Section {
+        budget: Budget {
+            requests: 1,
+            bytes: 10,
+        },
+        instructions: &[
+            Instr::Send {
+                template: 2,
+                next: [NO, NO, NO, 1, NO, NO, NO, NO, 1, 1],
+            },
+            Instr::Halt,
+        ],
+    },
+    b: Section {
+        budget: Budget {
+            requests: 1,
+            bytes: 10,
+        },
+        instructions: &[
+            Instr::Send {
+                template: 3,
+                next: [NO, NO, NO, 1, NO, NO, NO, NO, 1, 1],
+            },
+            Instr::Halt,
+        ],
+    },
+};
+
+/// Each kind of instruction and of argument, and the largest of what there may be.
+pub(crate) static EVERYTHING: Parts = Parts {
+    keys: &[b"a", b"b-1"],
+    flags: 32,
+    vars: 16,
+    templates: &[
+        Fields {
+            verb: Verb::Add,
+            key: 1,
+            flags: 4_294_967_295,
+            argument: Argument::Nothing,
+            body: LONGEST_BODY,
+            masks: [0x0000_0001, 0x8000_0000, 0x0102_0304, 0x8040_0000],
+        },
+        Fields {
+            verb: Verb::Cas,
+            key: 0,
+            flags: 0,
+            argument: Argument::Variable(15),
+            body: b"x",
+            masks: [0, 0, 0, 0],
+        },
+        Fields {
+            verb: Verb::Incr,
+            key: 0,
+            flags: 0,
+            argument: Argument::Number(18_446_744_073_709_551_615),
+            body: b"",
+            masks: [0, 0, 0, 0],
+        },
+        Fields {
+            verb: Verb::Decr,
+            key: 0,
+            flags: 0,
+            argument: Argument::Variable(0),
+            body: b"",
+            masks: [0, 0, 0, 0],
+        },
+        Fields {
+            verb: Verb::Gets,
+            key: 0,
+            flags: 0,
+            argument: Argument::Nothing,
+            body: b"",
+            masks: [0, 0, 0, 0],
+        },
+    ],
+    p: Section {
+        budget: Budget {
+            requests: 24,
+            bytes: 8_192,
+        },
+        instructions: &[
+            Instr::Send {
+                template: 4,
+                next: [NO, NO, NO, NO, 1, 2, NO, NO, NO, NO],
+            },
+            Instr::Bind(15),
+            Instr::Goto(3),
+            Instr::Halt,
+        ],
+    },
+    a: Section {
+        budget: Budget {
+            requests: 5,
+            bytes: 200,
+        },
+        instructions: &[Instr::Halt],
+    },
+    b: Section {
+        budget: Budget {
+            requests: 0,
+            bytes: 0,
+        },
+        instructions: &[],
+    },
+};
+
+/// Whether the code's parts are these.
+pub(crate) fn has_parts(code: &Code, parts: &Parts) -> bool {
+    are_keys(code.keys(), parts.keys)
+        && code.flags() == parts.flags
+        && code.vars() == parts.vars
+        && are_templates(code.templates(), parts.templates)
+        && is_section(code, Actor::P, &parts.p)
+        && is_section(code, Actor::A, &parts.a)
+        && is_section(code, Actor::B, &parts.b)
+}
+
+fn are_keys(keys: &[Bytes], expected: &[&'static [u8]]) -> bool {
+    keys.len() == expected.len()
+        && keys
+            .iter()
+            .zip(expected)
+            .all(|(key, expected)| key.as_slice() == *expected)
+}
+
+fn are_templates(templates: &[Template], expected: &[Fields]) -> bool {
+    templates.len() == expected.len()
+        && templates
+            .iter()
+            .zip(expected)
+            .all(|(template, expected)| is_template(template, expected))
+}
+
+fn is_template(template: &Template, expected: &Fields) -> bool {
+    template.verb == expected.verb
+        && template.key == expected.key
+        && template.flags == expected.flags
+        && template.argument == expected.argument
+        && template.body.as_slice() == expected.body
+        && template.require_set == expected.masks[0]
+        && template.require_clear == expected.masks[1]
+        && template.sets == expected.masks[2]
+        && template.clears == expected.masks[3]
+}
+
+fn is_section(code: &Code, actor: Actor, expected: &Section) -> bool {
+    code.budget(actor) == expected.budget && code.section(actor) == expected.instructions
+}

@@ -1,0 +1,193 @@
+//! The words of requests and replies, as they are read and as they are printed.
+use crate::lines::{reply_in, request_in};
+use mc_model::{
+    WordsFault, is_key, print_reply_words, print_request_words, read_body, read_number,
+};
+use mc_protocol::{Class, OutOfMemory, Reply, Request, Verb};
+use std::alloc::Global;
+use std::test::Fail;
+
+// A request's line, and its parts behind the key `k-1`: flags, body and number.
+static REQUESTS: &[(&str, Verb, u32, &[u8], u64)] = &[
+    ("set k-1 0 =5", Verb::Set, 0, b"5", 0),
+    ("add k-1 7 =a%20b", Verb::Add, 7, b"a b", 0),
+    ("replace k-1 4294967295 =", Verb::Replace, u32::MAX, b"", 0),
+    ("append k-1 10 =%25%0d%0a", Verb::Append, 10, b"%\r\n", 0),
+    ("prepend k-1 0 =!~", Verb::Prepend, 0, b"!~", 0),
+    ("cas k-1 1 =x 20", Verb::Cas, 1, b"x", 20),
+    ("get k-1", Verb::Get, 0, b"", 0),
+    ("gets k-1", Verb::Gets, 0, b"", 0),
+    (
+        "incr k-1 18446744073709551615",
+        Verb::Incr,
+        0,
+        b"",
+        u64::MAX,
+    ),
+    ("decr k-1 0", Verb::Decr, 0, b"", 0),
+    ("delete k-1", Verb::Delete, 0, b"", 0),
+    ("touch k-1", Verb::Touch, 0, b"", 0),
+];
+
+fn has_parts(request: &Request, verb: Verb, flags: u32, body: &[u8], number: u64) -> bool {
+    request.verb == verb
+        && request.key.as_slice() == b"k-1".as_slice()
+        && request.flags == flags
+        && request.body.as_slice() == body
+        && request.number == number
+}
+
+// Whether the line was appended to the two bytes that were there. Without memory nothing was.
+fn appended(answer: Result<(), OutOfMemory>, out: &[u8], line: &str) -> Result<bool, WordsFault> {
+    let after = out.strip_prefix(b"> ");
+    match answer {
+        Ok(()) => Ok(after == Some(line.as_bytes())),
+        Err(fault) if after == Some(b"") => Err(WordsFault::from(fault)),
+        Err(_) => Ok(false),
+    }
+}
+
+fn prints_request(alloc: Global, request: &Request, line: &str) -> Result<bool, WordsFault> {
+    let mut out = Vec::from_slice(alloc, b"> ")?;
+    let answer = print_request_words(request, &mut out);
+    appended(answer, out.as_slice(), line)
+}
+
+#[test]
+fn reads_and_prints_each_verb(rt: HostRuntime) -> Result<(), Fail> {
+    for (line, verb, flags, body, number) in REQUESTS {
+        let request = request_in(rt.alloc(), line)?;
+        assert!(rt;
+            has_parts(&request, *verb, *flags, body, *number)
+                && prints_request(rt.alloc(), &request, line)?,
+            "{line}"
+        );
+    }
+    Ok(())
+}
+
+// A reply's line and its class. For most classes there is one reply.
+static REPLIES: &[(&str, Class)] = &[
+    ("STORED", Class::Stored),
+    ("NOT_STORED", Class::NotStored),
+    ("EXISTS", Class::Exists),
+    ("NOT_FOUND", Class::NotFound),
+    ("HIT 3 =%00a%25", Class::Hit),
+    ("HIT 0 = 12", Class::Hit),
+    ("MISS", Class::Miss),
+    ("DELETED", Class::Deleted),
+    ("TOUCHED", Class::Touched),
+    ("NUMBER 10", Class::Number),
+    ("NOT_A_NUMBER", Class::NotNumber),
+];
+
+fn prints_reply(alloc: Global, reply: &Reply, line: &str) -> Result<bool, WordsFault> {
+    let mut out = Vec::from_slice(alloc, b"> ")?;
+    let answer = print_reply_words(reply, &mut out);
+    appended(answer, out.as_slice(), line)
+}
+
+#[test]
+fn reads_and_prints_each_reply(rt: HostRuntime) -> Result<(), Fail> {
+    for (line, class) in REPLIES {
+        let reply = reply_in(rt.alloc(), line)?;
+        assert!(rt;
+            reply.class() == *class && prints_reply(rt.alloc(), &reply, line)?,
+            "{line}"
+        );
+    }
+    Ok(())
+}
+
+// The line of a hit, and its flags, body and cas number.
+static HITS: &[(&str, u32, &[u8], Option<u64>)] = &[
+    ("HIT 3 =%00a%25", 3, b"\0a%", None),
+    ("HIT 0 = 12", 0, b"", Some(12)),
+];
+
+fn is_hit(reply: &Reply, flags: u32, body: &[u8], cas: Option<u64>) -> bool {
+    match reply {
+        Reply::Hit {
+            flags: shown,
+            body: bytes,
+            cas: number,
+        } => { *shown == flags && bytes.as_slice() == body && *number == cas }
+        _ => false,
+    }
+}
+
+#[test]
+fn reads_the_parts_of_replies(rt: HostRuntime) -> Result<(), Fail> {
+    for (line, flags, body, cas) in HITS {
+        assert!(rt;
+            is_hit(&reply_in(rt.alloc(), line)?, *flags, body, *cas),
+            "{line}"
+        );
+    }
+    assert!(rt; reply_in(rt.alloc(), "NUMBER 10")? == Reply::Number(10));
+    Ok(())
+}
+
+// A word, the body that it says, and the reply that is printed of it.
+static BODIES: &[(&str, &[u8], &str)] = &[
+    ("=", b"", "HIT 0 ="),
+    ("=%00", b"\0", "HIT 0 =%00"),
+    ("=%25", b"%", "HIT 0 =%25"),
+    ("=%7F", b"\x7f", "HIT 0 =%7f"),
+    ("=%7F%7f", b"\x7f\x7f", "HIT 0 =%7f%7f"),
+    ("=%20", b" ", "HIT 0 =%20"),
+    ("=9%20", b"9 ", "HIT 0 =9%20"),
+    ("=%61", b"a", "HIT 0 =a"),
+    ("=%fF", b"\xff", "HIT 0 =%ff"),
+];
+
+fn reads_body(alloc: Global, word: &str, body: &[u8], line: &str) -> Result<bool, WordsFault> {
+    let read = read_body(alloc, word.as_bytes())?;
+    let is_read = read.as_slice() == body;
+    let reply = Reply::Hit {
+        flags: 0,
+        body: read,
+        cas: None,
+    };
+    Ok(is_read && prints_reply(alloc, &reply, line)?)
+}
+
+#[test]
+fn reads_and_prints_bodies(rt: HostRuntime) -> Result<(), Fail> {
+    for (word, body, line) in BODIES {
+        assert!(rt; reads_body(rt.alloc(), word, body, line)?, "{word}");
+    }
+    Ok(())
+}
+
+// A word, and the number below 2^64 that it says.
+static NUMBERS: &[(&str, Result<u64, WordsFault>)] = &[
+    ("18446744073709551615", Ok(u64::MAX)),
+    ("00000000000000000001", Ok(1)),
+    ("18446744073709551616", Err(WordsFault::Number)),
+    ("000000000000000000001", Err(WordsFault::Number)),
+    ("+1", Err(WordsFault::Form)),
+];
+
+#[test]
+fn reads_numbers(rt: HostRuntime) {
+    for (word, expected) in NUMBERS {
+        assert!(rt;
+            read_number(u64::MAX, word.as_bytes()) == *expected,
+            "{word}"
+        );
+    }
+}
+
+static KEYS: &[(&str, bool)] = &[
+    ("aaaaaaaaaaaaaaaaaaaaaaaaaaaaaaaaaaaaaaaa", true),
+    ("aaaaaaaaaaaaaaaaaaaaaaaaaaaaaaaaaaaaaaaaa", false),
+    ("", false),
+];
+
+#[test]
+fn knows_keys(rt: HostRuntime) {
+    for (word, expected) in KEYS {
+        assert!(rt; is_key(word.as_bytes()) == *expected, "{word}");
+    }
+}

@@ -1,0 +1,8 @@
+//! Tests of `mc_script` by its public calls: what the program's answers don't show of them. Which texts are scripts, which
+//! fault another text has, and what the steps of a script are, is shown by `cases/asm`.
+#![tactic(auto)]
+
+#[cfg(test)]
+mod part_tests;
+#[cfg(test)]
+mod print_tests;

@@ -1,0 +1,104 @@
+"""Which functions an edit stands in, and whether the answer of a check refuses it there."""
+
+import re
+
+import checks
+import items
+from edits import BadEdit
+
+GAVE_UP = "`search` gave up at one of its limits"
+
+
+def place(edit, crate, found):
+    """Notes of an edit the functions that it stands in, and of one that changes a type or a constant those that use it."""
+    changed = [(file, at) for file, lines in edit.changed.items() for at in lines]
+    for file, at in changed:
+        line = (crate.folder / file).read_text(encoding="utf-8").split("\n")[at]
+        item = next((it for it in found if it.file == file and it.holds(at)), None)
+        if items.CLAUSE.match(line) or item and item.kind == "fn" and is_clause(crate, item, at):
+            raise BadEdit(f"{file}, line {at + 1}: this is part of a contract, and an edit changes what a body does")
+        if item and item not in edit.items:
+            edit.items.append(item)
+        elif not item and not line.lstrip().startswith(("use ", "//")):
+            raise BadEdit(f"{file}, line {at + 1}: no function, type or constant stands there")
+    edit.is_alone = any(it.kind != "fn" for it in edit.items)
+    stands_in = users(edit, crate, found) if edit.is_alone else edit.items
+    edit.functions = [name_of(crate, it) for it in stands_in]
+    if not edit.functions:
+        raise BadEdit("it stands in no function, and no function uses what it changes")
+
+
+def name_of(crate, item):
+    return "::".join((crate.name, *item.path))
+
+
+def is_clause(crate, item, at):
+    """Whether the line is one of the function's clauses, above its body."""
+    lines = (crate.folder / item.file).read_text(encoding="utf-8").split("\n")
+    return at < item.body and any(items.CLAUSE.match(it) for it in lines[item.first : at + 1])
+
+
+def users(edit, crate, found):
+    """The functions that name what the edit changes, or a type or constant that does so."""
+    texts = {file: (crate.folder / file).read_text(encoding="utf-8").split("\n") for file in {it.file for it in found}}
+    names, using = {it.name for it in edit.items}, []
+    while True:
+        pattern = re.compile(rf"\b(?:{'|'.join(sorted(map(re.escape, names)))})\b")
+        using = [it for it in found if pattern.search("\n".join([it.owner, *texts[it.file][it.first : it.last + 1]]))]
+        more = names | {it.name for it in using if it.kind != "fn"}
+        if more == names:
+            return [it for it in using if it.kind == "fn" and it.has_body]
+        names = more
+
+
+def lines_of(answer, function):
+    """The functions of the answer that are this one, or a closure in it."""
+    crate, _, path = function.partition("::")
+    parts = path.split("::")
+    # Whether a type or a module stands before the name, a closure's path has `fn` after the modules.
+    inner = tuple(f"{'::'.join([crate, *parts[:at], 'fn', *parts[at:]])}::" for at in range(len(parts)))
+    return [it for it in answer.words if it == function or it.startswith((f"{function}+", *inner))]
+
+
+def refusal(edit, answer):
+    """How the answer refuses the edit in a function of its own, and what it says: by a 'goal', by a goal at which the search met
+    a 'limit', or by a 'proof file' alone. None where it doesn't refuse it."""
+    weaker = None
+    for function in edit.functions:
+        for name in lines_of(answer, function):
+            words = answer.words[name]
+            if checks.NOT_PROVED in words:
+                goals = [it for it in answer.goals[name] if GAVE_UP not in it[2]]
+                if goals or not answer.goals[name]:
+                    said = f"`{goals[0][1]}`: {goals[0][0]}" if goals else words
+                    return "goal", f"{name}: {said}"
+                weaker = "limit", f"{name}: `{answer.goals[name][0][1]}`: {answer.goals[name][0][0]}"
+            path = name.partition("::")[2]
+            if not words.startswith("proved") and path in answer.of_proof_files:
+                weaker = weaker or ("proof file", f"{name}: {answer.of_proof_files[path]}")
+    return weaker
+
+
+def is_proved(edit, answer):
+    """Whether the answer proves each function of the edit."""
+    lines = [it for function in edit.functions for it in lines_of(answer, function)]
+    return set(edit.functions) <= set(lines) and all(answer.words[it] == "proved" for it in lines)
+
+
+def why_not(edit, answer):
+    """What the answer says of an edit that it doesn't refuse."""
+    if is_proved(edit, answer):
+        return f"NOT REFUSED: {', '.join(edit.functions)} still proved"
+    lines = [it for function in edit.functions for it in lines_of(answer, function)]
+    return "; ".join(f"{it}: {answer.words[it]}" for it in lines if answer.words[it] != "proved") or "no message of its function"
+
+
+def fault_of(edit, answer):
+    """Why the edit isn't taken by the compiler, or None where the answer doesn't lay that to it."""
+    for file, at, said in answer.of_sources:
+        if at in edit.changed.get(file, {}) or any(it.file == file and it.holds(at) for it in edit.items):
+            return f"it does not compile: {file}, line {at + 1}: {said}"
+    for it in edit.functions:
+        if f"has no function `{it}`" in answer.said:
+            return f"rattle knows no function {it}"
+    return None
