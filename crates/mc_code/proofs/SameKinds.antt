@@ -187,7 +187,7 @@ AlsoLeads templates section p other ys q end = (end' : State) × IsRun templates
 sent_alike : (templates : List Template) (section : List Instr) (i : Instr) (p q s : ℕ) (st other end : State) (t : Template) (r : Reply) (xs : List Exchange)
     → slice_get section p ≡ Some i → Sends templates i t (class_of r) q → is_fit_for t.verb r ≡ true → HaveSameKinds st other
     → ((other : State) (ys : List Exchange) → HaveSameKinds (answered t r st) other → edges_of xs ≡ edges_of ys → All IsFit ys
-        → AlsoLeads templates section q other ys s end)
+    → AlsoLeads templates section q other ys s end)
     → (ys : List Exchange) → (t, class_of r) ∷ edges_of xs ≡ edges_of ys → All IsFit ys → AlsoLeads templates section p other ys s end
 sent_alike templates section i p q s st other end t r xs at leads fit same others [] edges fits = absurd (cc)
 sent_alike templates section i p q s st other end t r xs at leads fit same others ((t', r') ∷ ys) edges fits =
@@ -199,7 +199,7 @@ sent_alike templates section i p q s st other end t r xs at leads fit same other
     let here : Sends templates i t' (class_of r') q = subst (λ (e : Edge). Sends templates i e.0 e.1 q) first leads in
     let kinds = answered_alike t' r r' st other (subst (λ (t : Template). is_fit_for t.verb r ≡ true) sent fit) fit' classes same in
     let more = others (answered t' r' other) ys (subst (λ t. HaveSameKinds (answered t r st) (answered t' r' other)) (sym sent) kinds) rest
-        (All-tail IsFit (t', r') ys fits) in
+    (All-tail IsFit (t', r') ys fits) in
     (more.0, sends i at here fit' more.1, more.2)
 
 lead_alike : (templates : List Template) (section : List Instr) → {p q : ℕ} {st end : State} {xs : List Exchange}

@@ -66,10 +66,8 @@ fn copies(alloc: Global, keys: &[Bytes]) -> Result<Vec<Bytes>, OutOfMemory>
     ensures { IfOk result (λ copies. copies.items ≡ keys.now) }
 {
     let mut copies = Vec::new(alloc);
-    let mut rest = keys;
-    'keys: while let [key, others @ ..] = rest {
+    'keys: for key in keys {
         copies.push(key.copy(alloc)?)?;
-        rest = others;
     }
     Ok(copies)
 }
