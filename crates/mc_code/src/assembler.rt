@@ -1,6 +1,7 @@
 //! The code of a script.
 ghost use Rattle.std.specs.Prelude.{◌≡◌, ◌≤◌, IfOk, IfErr};
 ghost use Rattle.mc_code.specs.Agreement.{Agrees};
+ghost use Rattle.mc_code.specs.Code as spec;
 ghost use Rattle.mc_code.specs.Layout as layout;
 
 use crate::code::Section;
@@ -19,6 +20,7 @@ use std::alloc::Global;
 /// many instructions, the first such section.
 pub fn assemble(alloc: Global, script: &Script) -> Result<Code, AsmFault>
     ensures layout { IfOk result (λ code. code ≡ layout.code_of script.now) }
+    ensures kept { IfOk result spec.IsCode }
     ensures agrees { IfOk result (Agrees script.now) }
     ensures exceeded { IfErr result (layout.IsExceeded script.now) }
     ensures first { IfErr result (layout.IsFirst script.now) }
