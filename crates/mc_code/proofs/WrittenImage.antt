@@ -1,5 +1,5 @@
 -- Images that are written: the pieces that make a template, and those that make an image.
-use Rattle.std.proofs.Common.{◌≡◌, ℕ, List, [], ◌∷◌, ◌++◌, length, sym, ap, ◌∙◌, append-nil, append_assoc, false, Result, Ok, Err, is_err, OnOk}
+use Rattle.std.proofs.Common.{◌≡◌, ℕ, List, [], ◌∷◌, ◌++◌, length, sym, ap, ◌∙◌, append-nil, append_assoc}
 use Rattle.std.specs.Int.{w32, w64, to_be_bytes}
 use Rattle.mc_script.specs.declared.step.Template.{Template}
 use Rattle.mc_code.specs.Code.{Code}
@@ -42,16 +42,11 @@ image-pieces front c =
     (counted template_bytes c.templates) (section_bytes c.p) (section_bytes c.a) (section_bytes c.b)
 
 -- what was written, piece by piece, is the image
-pub image-written : (c : Code) (front first second third fourth fifth last : List ℕ) → first ≡ front ++ magic → second ≡ first ++ counted sized c.keys
-    → third ≡ second ++ (c.flags ∷ c.vars ∷ [])
+pub image-written : (c : Code) (start first second third fourth fifth sixth seventh last : List ℕ) → start ≡ [] → first ≡ start ++ magic
+    → second ≡ first ++ counted sized c.keys → third ≡ second ++ (c.flags ∷ c.vars ∷ [])
     → fourth ≡ ((third ++ budget_bytes c.p.budget) ++ budget_bytes c.a.budget) ++ budget_bytes c.b.budget
     → fifth ≡ fourth ++ counted template_bytes c.templates
-    → last ≡ ((fifth ++ section_bytes c.p) ++ section_bytes c.a) ++ section_bytes c.b
-    → last ≡ front ++ image_of c
-image-written c front first second third fourth fifth last e0 e1 e2 e3 e4 e5 =
-    rw (e5, e4, e3, e2, e1, e0) (image-pieces front c)
-
--- what a call ensures that did not fail
-pub at_ok : {T E P : Type 0} (r : Result T E) → is_err r ≡ false → OnOk r P → P
-at_ok (Ok x) e h = h
-at_ok (Err y) e h = absurd (cc)
+    → sixth ≡ fifth ++ section_bytes c.p → seventh ≡ sixth ++ section_bytes c.a → last ≡ seventh ++ section_bytes c.b
+    → last ≡ image_of c
+image-written c start first second third fourth fifth sixth seventh last none e0 e1 e2 e3 e4 e5 e6 e7 =
+    rw (e7, e6, e5, e4, e3, e2, e1, e0, none) (image-pieces [] c)

@@ -25,10 +25,15 @@ use Rattle.mc_code.specs.declared.limits.TheConstants.{TEMPLATES_LIMIT, INSTRUCT
 use Rattle.mc_code.specs.Code.{Section, Code}
 use Rattle.mc_code.specs.Image.{magic, verb_index}
 
--- what was returned, so seen, is what reading gives, unless memory ran out
+-- what was returned, so seen, is what reading gives; no memory is taken
+abbrev pub Reads : {X Y : Type 0} → (X → Y) → Result X ImageFault → Option Y → Type 0
+Reads view (Ok x) read = read ≡ Some (view x)
+Reads view (Err fault) read = (read ≡ None) × (fault.kind ≢ kind.OutOfMemory)
+
+-- the same, unless memory ran out, whose fault has the offset 0
 abbrev pub Says : {X Y : Type 0} → (X → Y) → Result X ImageFault → Option Y → Type 0
 Says view (Ok x) read = read ≡ Some (view x)
-Says view (Err fault) read = fault.kind ≢ kind.OutOfMemory → read ≡ None
+Says view (Err fault) read = (fault.kind ≢ kind.OutOfMemory → read ≡ None) × (fault.kind ≡ kind.OutOfMemory → fault.offset ≡ 0)
 
 -- a value, and the bytes after it
 abbrev pub Field : Type 0 → Type 0

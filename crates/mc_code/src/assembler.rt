@@ -1,6 +1,7 @@
 //! The code of a script.
 ghost use Rattle.std.specs.Prelude.{◌≡◌, ◌≤◌, IfOk, IfErr};
 ghost use Rattle.mc_code.specs.Agreement.{Agrees};
+ghost use Rattle.mc_code.specs.Code as spec;
 ghost use Rattle.mc_code.specs.Layout as layout;
 
 use crate::code::Section;
@@ -19,6 +20,7 @@ use std::alloc::Global;
 /// many instructions, the first such section.
 pub fn assemble(alloc: Global, script: &Script) -> Result<Code, AsmFault>
     ensures layout { IfOk result (λ code. code ≡ layout.code_of script.now) }
+    ensures kept { IfOk result spec.IsCode }
     ensures agrees { IfOk result (Agrees script.now) }
     ensures exceeded { IfErr result (layout.IsExceeded script.now) }
     ensures first { IfErr result (layout.IsFirst script.now) }
@@ -66,10 +68,8 @@ fn copies(alloc: Global, keys: &[Bytes]) -> Result<Vec<Bytes>, OutOfMemory>
     ensures { IfOk result (λ copies. copies.items ≡ keys.now) }
 {
     let mut copies = Vec::new(alloc);
-    let mut rest = keys;
-    'keys: while let [key, others @ ..] = rest {
+    'keys: for key in keys {
         copies.push(key.copy(alloc)?)?;
-        rest = others;
     }
     Ok(copies)
 }

@@ -1,6 +1,5 @@
 //! The instructions of a section.
 ghost use Rattle.std.specs.Prelude.{◌≡◌, ◌+◌, ◌++◌, ◌<◌, [], ◌∷◌, None, ◌≤◌, length, OnOk};
-ghost use Rattle.mc_script.specs.Marks as marks;
 ghost use Rattle.mc_code.specs.Layout as layout;
 ghost use Rattle.mc_code.specs.ScriptRuns as runs;
 ghost use Rattle.mc_code.specs.Assembling as spec;
@@ -30,12 +29,8 @@ pub(crate) fn add_clearing(
     requires { length keys.now ≤ TEMPLATES_LIMIT }
     ensures { OnOk result (out.new.items ≡ out.old.items ++ spec.clearing_code places.now.labels 0 keys.now) }
 {
-    let mut key = 0;
-    let mut rest = keys;
-    'keys: while let [_, others @ ..] = rest {
-        push(clearing_send(places, key), out)?;
-        key += 1;
-        rest = others;
+    'keys: for key in 0..keys.len() as u8 {
+        out.push(clearing_send(places, key))?;
     }
     Ok(())
 }
@@ -67,13 +62,9 @@ pub(crate) fn add_steps(
     ensures { OnOk result (out.new.items ≡ out.old.items ++ spec.instructions_from places.now first 0 steps.now) }
 {
     let mut template = first;
-    let mut index = 0;
-    let mut rest = steps;
-    'steps: while let [step, others @ ..] = rest {
+    'steps: for (index, step) in steps.iter().enumerate() {
         add_step(places, template, index, step, out)?;
         template += request_count_of(step);
-        index += 1;
-        rest = others;
     }
     out.push(Instr::Halt)?;
     Ok(())
@@ -98,29 +89,16 @@ fn add_step(
         } => {
             let onward = onward_from(places, index, *bind);
             let next = entries(places, request.verb, jumps.as_slice(), onward);
-            push(Instr::Send { template, next }, out)?;
-            add_bind(*bind, out)
+            out.push(Instr::Send { template, next })?;
+            if let Some(variable) = bind {
+                out.push(Instr::Bind(*variable))?;
+            }
         }
-        Step::Bind(variable) => push(Instr::Bind(*variable), out),
-        Step::Goto(label) => push(Instr::Goto(places.of_label(*label)), out),
-        Step::Halt => push(Instr::Halt, out),
+        Step::Bind(variable) => out.push(Instr::Bind(*variable))?,
+        Step::Goto(label) => out.push(Instr::Goto(places.of_label(*label)))?,
+        Step::Halt => out.push(Instr::Halt)?,
     }
-}
-
-fn push(instr: Instr, out: &mut Vec<Instr>) -> Result<(), OutOfMemory>
-    ensures { OnOk result (out.new.items ≡ out.old.items ++ instr ∷ []) }
-{
-    out.push(instr)?;
     Ok(())
-}
-
-fn add_bind(bind: Option<u8>, out: &mut Vec<Instr>) -> Result<(), OutOfMemory>
-    ensures { OnOk result (out.new.items ≡ out.old.items ++ layout.bind_code bind) }
-{
-    match bind {
-        Some(variable) => push(Instr::Bind(variable), out),
-        None => Ok(()),
-    }
 }
 
 // Where the replies to the request with this index lead that have no jump.
@@ -180,34 +158,14 @@ fn without_jump(onward: Onward, class: Class) -> u8
     }
 }
 
-// The position of a class in their order.
-fn class_index(class: Class) -> u8
-    ensures { result ≡ marks.class_index class }
-{
-    match class {
-        Class::Stored => 0,
-        Class::NotStored => 1,
-        Class::Exists => 2,
-        Class::NotFound => 3,
-        Class::Hit => 4,
-        Class::Miss => 5,
-        Class::Deleted => 6,
-        Class::Touched => 7,
-        Class::Number => 8,
-        Class::NotNumber => 9,
-    }
-}
-
 // The label to which a reply of the class goes, if it goes to one.
 fn jump_on(class: Class, jumps: &[(Class, usize)]) -> Option<usize>
     ensures { result ≡ runs.jump_on class jumps.now }
 {
-    let mut rest = jumps;
-    'jumps: while let [(other, label), others @ ..] = rest {
-        if class_index(class) == class_index(*other) {
+    'jumps: for (other, label) in jumps {
+        if *other == class {
             return Some(*label);
         }
-        rest = others;
     }
     None
 }

@@ -130,13 +130,13 @@ pub struct ImageFault {
 
 impl ImageFault {
     pub(crate) fn at(kind: ImageKind, offset: usize) -> Self
-        ensures { result.kind ≡ kind }
+        ensures { result ≡ record { kind = kind; offset = offset } }
     {
         ImageFault { kind, offset }
     }
 
     pub(crate) fn out_of_memory() -> Self
-        ensures { result.kind ≡ ImageKind.OutOfMemory }
+        ensures { result ≡ record { kind = ImageKind.OutOfMemory; offset = 0 } }
     {
         ImageFault {
             kind: ImageKind::OutOfMemory,
@@ -149,7 +149,7 @@ impl From<AllocError> for ImageFault {
     ghost use Rattle.std.specs.Prelude.{◌≡◌};
     ghost use Rattle.mc_code.specs.declared.fault.ImageKind.TheVariants.{OutOfMemory};
 
-    ghost from_gives = { λ _ e. e.kind ≡ OutOfMemory };
+    ghost from_gives = { λ _ e. e ≡ record { kind = OutOfMemory; offset = 0 } };
 
     fn from(_e: AllocError) -> ImageFault {
         ImageFault::out_of_memory()
@@ -160,7 +160,7 @@ impl<T: Drop> From<AllocFailed<T>> for ImageFault {
     ghost use Rattle.std.specs.Prelude.{◌≡◌};
     ghost use Rattle.mc_code.specs.declared.fault.ImageKind.TheVariants.{OutOfMemory};
 
-    ghost from_gives = { λ _ e. e.kind ≡ OutOfMemory };
+    ghost from_gives = { λ _ e. e ≡ record { kind = OutOfMemory; offset = 0 } };
 
     fn from(_e: AllocFailed<T>) -> ImageFault {
         ImageFault::out_of_memory()

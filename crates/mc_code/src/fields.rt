@@ -1,4 +1,4 @@
-ghost use Rattle.std.specs.Prelude.{◌≡◌, ◌≢◌, ◌≤◌, [], length, IfOk, IfErr, OnOk};
+ghost use Rattle.std.specs.Prelude.{◌≡◌, ◌≢◌, ◌≤◌, [], length, IfOk, IfErr, OnOk, OnErr};
 ghost use Rattle.std.specs.Int.{w16, w32, w64};
 ghost use Rattle.mc_code.specs.ImageReading as reading;
 
@@ -42,11 +42,11 @@ impl<'a> Fields<'a> {
     /// Takes so many bytes.
     #[tactic(auto, unfolding(crate::specs::ImageReading::bytes_in))]
     pub(crate) fn bytes(&mut self, count: usize) -> Result<&'a [u8], ImageFault>
-        ensures read { reading.Says (λ bytes. (bytes.now, self.new)) result (reading.bytes_in count self.old) }
+        ensures read { reading.Reads (λ bytes. (bytes.now, self.new)) result (reading.bytes_in count self.old) }
         ensures whole { IfOk result (λ bytes. length bytes.now ≡ count) }
     {
         if self.rest.len() < count {
-            return Err(self.short());
+            return Err(self.short_fault());
         }
         let (bytes, rest) = self.rest.split_at(count);
         self.rest = rest;
@@ -56,10 +56,10 @@ impl<'a> Fields<'a> {
     /// Takes a byte.
     #[tactic(auto, unfolding(crate::specs::ImageReading::byte_in))]
     pub(crate) fn byte(&mut self) -> Result<u8, ImageFault>
-        ensures { reading.Says (λ byte. (byte, self.new)) result (reading.byte_in self.old) }
+        ensures { reading.Reads (λ byte. (byte, self.new)) result (reading.byte_in self.old) }
     {
         let [byte, rest @ ..] = self.rest else {
-            return Err(self.short());
+            return Err(self.short_fault());
         };
         self.rest = rest;
         Ok(*byte)
@@ -68,7 +68,7 @@ impl<'a> Fields<'a> {
     /// Takes a number of 16 bits.
     #[tactic(auto, unfolding(crate::specs::ImageReading::number_in))]
     pub(crate) fn number_16(&mut self) -> Result<u16, ImageFault>
-        ensures { reading.Says (λ number. (number, self.new)) result (reading.number_in w16 self.old) }
+        ensures { reading.Reads (λ number. (number, self.new)) result (reading.number_in w16 self.old) }
     {
         let bytes = self.bytes(2)?;
         Ok(u16::from_be_bytes([bytes[0], bytes[1]]))
@@ -77,7 +77,7 @@ impl<'a> Fields<'a> {
     /// Takes a number of 32 bits.
     #[tactic(auto, unfolding(crate::specs::ImageReading::number_in))]
     pub(crate) fn number_32(&mut self) -> Result<u32, ImageFault>
-        ensures { reading.Says (λ number. (number, self.new)) result (reading.number_in w32 self.old) }
+        ensures { reading.Reads (λ number. (number, self.new)) result (reading.number_in w32 self.old) }
     {
         let bytes = self.bytes(4)?;
         Ok(u32::from_be_bytes([bytes[0], bytes[1], bytes[2], bytes[3]]))
@@ -86,7 +86,7 @@ impl<'a> Fields<'a> {
     /// Takes a number of 64 bits.
     #[tactic(auto, unfolding(crate::specs::ImageReading::number_in))]
     pub(crate) fn number_64(&mut self) -> Result<u64, ImageFault>
-        ensures { reading.Says (λ number. (number, self.new)) result (reading.number_in w64 self.old) }
+        ensures { reading.Reads (λ number. (number, self.new)) result (reading.number_in w64 self.old) }
     {
         let bytes = self.bytes(8)?;
         Ok(u64::from_be_bytes([
@@ -96,8 +96,8 @@ impl<'a> Fields<'a> {
 
     /// Takes a byte that is a number from `least` to `greatest`.
     #[tactic(auto, unfolding(crate::specs::ImageReading::small_in))]
-    pub(crate) fn small(&mut self, least: usize, greatest: usize) -> Result<u8, ImageFault>
-        ensures read { reading.Says (λ number. (number, self.new)) result (reading.small_in least greatest self.old) }
+    pub(crate) fn byte_within(&mut self, least: usize, greatest: usize) -> Result<u8, ImageFault>
+        ensures read { reading.Reads (λ number. (number, self.new)) result (reading.small_in least greatest self.old) }
         ensures within { IfOk result (λ number. number ≤ greatest) }
     {
         let offset = self.offset();
@@ -110,17 +110,22 @@ impl<'a> Fields<'a> {
 
     /// Takes a number of bytes, from `least` to `greatest`, and so many bytes.
     #[tactic(auto, unfolding(crate::specs::ImageReading::sized_in))]
-    pub(crate) fn sized(&mut self, least: usize, greatest: usize) -> Result<&'a [u8], ImageFault>
-        ensures { reading.Says (λ bytes. (bytes.now, self.new)) result (reading.sized_in least greatest self.old) }
+    pub(crate) fn counted_bytes(
+        &mut self,
+        least: usize,
+        greatest: usize,
+    ) -> Result<&'a [u8], ImageFault>
+        ensures { reading.Reads (λ bytes. (bytes.now, self.new)) result (reading.sized_in least greatest self.old) }
     {
-        let count = self.small(least, greatest)?;
+        let count = self.byte_within(least, greatest)?;
         self.bytes(count as usize)
     }
 
     /// Sees that no byte is left.
     pub(crate) fn finish(&self) -> Result<(), ImageFault>
         ensures end { OnOk result (self.now ≡ []) }
-        ensures more { IfErr result (λ fault. fault.kind ≢ ImageKind.OutOfMemory → self.now ≢ []) }
+        ensures more { OnErr result (self.now ≢ []) }
+        ensures kind { IfErr result (λ fault. fault.kind ≡ ImageKind.Extra) }
     {
         if self.rest.is_empty() {
             Ok(())
@@ -130,7 +135,7 @@ impl<'a> Fields<'a> {
     }
 
     // The next field isn't whole.
-    fn short(&self) -> ImageFault
+    fn short_fault(&self) -> ImageFault
         ensures { result.kind ≡ ImageKind.Short }
     {
         ImageFault::at(ImageKind::Short, self.offset())

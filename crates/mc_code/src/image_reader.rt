@@ -20,8 +20,11 @@ use std::marker::Model;
 /// behind its last field, of the template's first byte.
 pub fn decode(alloc: Global, bytes: &[u8]) -> Result<Code, ImageFault>
     ensures found { IfOk result (λ code. image_of code ≡ bytes.now) }
+    ensures kept { IfOk result spec.IsCode }
+    ensures read { (code : spec.Code) → spec.IsCode code → image_of code ≡ bytes.now → IfOk result (λ read. read ≡ code) }
     ensures none { IfErr result (λ fault. fault.kind ≢ ImageKind.OutOfMemory
         → (code : spec.Code) → spec.IsCode code → image_of code ≡ bytes.now → ⊥) }
+    ensures memory { IfErr result (λ fault. fault.kind ≡ ImageKind.OutOfMemory → fault.offset ≡ 0) }
 {
     let parts = read_parts(alloc, bytes)?;
     Ok(Code {
@@ -94,7 +97,7 @@ fn section_of(budget: Budget, instructions: Vec<Instr>) -> Section
 // Takes the first bytes of each image.
 #[tactic(auto, unfolding(crate::specs::ImageReading::magic_in))]
 fn read_magic(fields: &mut Fields) -> Result<(), ImageFault>
-    ensures { reading.Says (λ _. fields.new) result (reading.magic_in fields.old) }
+    ensures { reading.Reads (λ _. fields.new) result (reading.magic_in fields.old) }
 {
     let offset = fields.offset();
     let magic = fields.bytes(4)?;
@@ -114,7 +117,7 @@ struct Budgets {
 
 #[tactic(auto, unfolding(crate::specs::ImageReading::each_in))]
 fn read_budgets(fields: &mut Fields) -> Result<Budgets, ImageFault>
-    ensures { reading.Says (λ budgets. ((budgets.p, budgets.a, budgets.b), fields.new)) result
+    ensures { reading.Reads (λ budgets. ((budgets.p, budgets.a, budgets.b), fields.new)) result
         (reading.each_in reading.budget_in fields.old) }
 {
     let p = read_budget(fields)?;

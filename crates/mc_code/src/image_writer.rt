@@ -11,24 +11,22 @@ use crate::code::Section;
 use crate::{Code, Instr};
 use mc_protocol::{Bytes, OutOfMemory, Verb, append_all};
 use mc_script::{Argument, Budget, Template};
-use std::alloc::AllocError;
 
-/// Appends the image of code. Want of memory leaves `out` as it was.
+/// Appends the image of code. Where memory runs out, `out` stays as it was.
 pub fn encode(code: &Code, out: &mut Vec<u8>) -> Result<(), OutOfMemory>
     ensures ok { OnOk result (out.new.items ≡ out.old.items ++ image_of code.now) }
     ensures err { OnErr result (out.new.items ≡ out.old.items) }
 {
-    let start = out.len();
-    out.extend_from_slice(b"MCR1")?;
-    if push_keys(code.keys.as_slice(), out).is_err()
-        || out.extend_from_slice(&[code.flags, code.vars]).is_err()
-        || push_budgets(code, out).is_err()
-        || push_templates(code.templates.as_slice(), out).is_err()
-        || push_sections(code, out).is_err()
-    {
-        out.truncate(start);
-        return Err(AllocError);
-    }
+    let mut image = Vec::new(*out.allocator());
+    image.extend_from_slice(b"MCR1")?;
+    push_keys(code.keys.as_slice(), &mut image)?;
+    image.extend_from_slice(&[code.flags, code.vars])?;
+    push_budgets(code, &mut image)?;
+    push_templates(code.templates.as_slice(), &mut image)?;
+    push_section(&code.p, &mut image)?;
+    push_section(&code.a, &mut image)?;
+    push_section(&code.b, &mut image)?;
+    out.extend_from_slice(image.as_slice())?;
     Ok(())
 }
 
@@ -36,16 +34,11 @@ pub fn encode(code: &Code, out: &mut Vec<u8>) -> Result<(), OutOfMemory>
 fn push_keys(keys: &[Bytes], out: &mut Vec<u8>) -> Result<(), OutOfMemory>
     requires few { length keys.now ≤ 255 }
     requires short { All (λ key. length key ≤ 255) keys.now }
-    ensures ok { OnOk result (out.new.items ≡ out.old.items ++ image.counted image.sized keys.now) }
-    ensures err { OnErr result (out.new.items ≡ out.old.items) }
+    ensures { OnOk result (out.new.items ≡ out.old.items ++ image.counted image.sized keys.now) }
 {
-    let start = out.len();
     out.push(keys.len() as u8)?;
     'keys: for key in keys {
-        if push_sized(key.as_slice(), out).is_err() {
-            out.truncate(start);
-            return Err(AllocError);
-        }
+        push_sized(key.as_slice(), out)?;
     }
     Ok(())
 }
@@ -53,17 +46,15 @@ fn push_keys(keys: &[Bytes], out: &mut Vec<u8>) -> Result<(), OutOfMemory>
 // Appends how many bytes there are, and the bytes.
 fn push_sized(bytes: &[u8], out: &mut Vec<u8>) -> Result<(), OutOfMemory>
     requires { length bytes.now ≤ 255 }
-    ensures ok { OnOk result (out.new.items ≡ out.old.items ++ image.sized bytes.now) }
-    ensures err { OnErr result (out.new.items ≡ out.old.items) }
+    ensures { OnOk result (out.new.items ≡ out.old.items ++ image.sized bytes.now) }
 {
     append_all(out, &[&[bytes.len() as u8], bytes])
 }
 
 // Appends what each section may send.
 fn push_budgets(code: &Code, out: &mut Vec<u8>) -> Result<(), OutOfMemory>
-    ensures ok { OnOk result (out.new.items ≡ out.old.items ++ image.budget_bytes code.now.p.budget
+    ensures { OnOk result (out.new.items ≡ out.old.items ++ image.budget_bytes code.now.p.budget
         ++ image.budget_bytes code.now.a.budget ++ image.budget_bytes code.now.b.budget) }
-    ensures err { OnErr result (out.new.items ≡ out.old.items) }
 {
     append_all(
         out,
@@ -89,16 +80,11 @@ fn budget_bytes(budget: Budget) -> [u8; 3]
 fn push_templates(templates: &[Template], out: &mut Vec<u8>) -> Result<(), OutOfMemory>
     requires few { length templates.now ≤ TEMPLATES_LIMIT }
     requires short { All (λ t. length t.body ≤ BODY_LIMIT) templates.now }
-    ensures ok { OnOk result (out.new.items ≡ out.old.items ++ image.counted image.template_bytes templates.now) }
-    ensures err { OnErr result (out.new.items ≡ out.old.items) }
+    ensures { OnOk result (out.new.items ≡ out.old.items ++ image.counted image.template_bytes templates.now) }
 {
-    let start = out.len();
     out.push(templates.len() as u8)?;
     'templates: for template in templates {
-        if push_template(template, out).is_err() {
-            out.truncate(start);
-            return Err(AllocError);
-        }
+        push_template(template, out)?;
     }
     Ok(())
 }
@@ -106,8 +92,7 @@ fn push_templates(templates: &[Template], out: &mut Vec<u8>) -> Result<(), OutOf
 // Appends the fields of a template.
 fn push_template(template: &Template, out: &mut Vec<u8>) -> Result<(), OutOfMemory>
     requires { length template.now.body ≤ BODY_LIMIT }
-    ensures ok { OnOk result (out.new.items ≡ out.old.items ++ image.template_bytes template.now) }
-    ensures err { OnErr result (out.new.items ≡ out.old.items) }
+    ensures { OnOk result (out.new.items ≡ out.old.items ++ image.template_bytes template.now) }
 {
     let body = template.body.as_slice();
     let (sort, argument) = argument_fields(template.argument);
@@ -146,44 +131,21 @@ fn argument_fields(argument: Argument) -> (u8, u64)
     }
 }
 
-// Appends the instructions of each section.
-fn push_sections(code: &Code, out: &mut Vec<u8>) -> Result<(), OutOfMemory>
-    ensures ok { OnOk result (out.new.items ≡ out.old.items ++ image.section_bytes code.now.p
-        ++ image.section_bytes code.now.a ++ image.section_bytes code.now.b) }
-    ensures err { OnErr result (out.new.items ≡ out.old.items) }
-{
-    let start = out.len();
-    if push_section(&code.p, out).is_err()
-        || push_section(&code.a, out).is_err()
-        || push_section(&code.b, out).is_err()
-    {
-        out.truncate(start);
-        return Err(AllocError);
-    }
-    Ok(())
-}
-
 // Appends how many instructions a section has, and each of them.
 fn push_section(section: &Section, out: &mut Vec<u8>) -> Result<(), OutOfMemory>
     requires { length section.now.instructions ≤ INSTRUCTIONS_LIMIT }
-    ensures ok { OnOk result (out.new.items ≡ out.old.items ++ image.section_bytes section.now) }
-    ensures err { OnErr result (out.new.items ≡ out.old.items) }
+    ensures { OnOk result (out.new.items ≡ out.old.items ++ image.section_bytes section.now) }
 {
-    let start = out.len();
     out.push(section.instructions.len() as u8)?;
     'instructions: for instr in section.instructions.as_slice() {
-        if push_instr(*instr, out).is_err() {
-            out.truncate(start);
-            return Err(AllocError);
-        }
+        push_instr(*instr, out)?;
     }
     Ok(())
 }
 
 // Appends an instruction.
 fn push_instr(instr: Instr, out: &mut Vec<u8>) -> Result<(), OutOfMemory>
-    ensures ok { OnOk result (out.new.items ≡ out.old.items ++ image.instr_bytes instr) }
-    ensures err { OnErr result (out.new.items ≡ out.old.items) }
+    ensures { OnOk result (out.new.items ≡ out.old.items ++ image.instr_bytes instr) }
 {
     match instr {
         Instr::Send { template, next } => append_all(out, &[&[0, template], &next]),

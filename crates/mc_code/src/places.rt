@@ -67,10 +67,7 @@ impl Places {
 fn place_in(places: &[u8], index: usize) -> u8
     ensures { result ≡ spec.place_in places.now index }
 {
-    match places.get(index) {
-        Some(place) => *place,
-        None => 0,
-    }
+    places.get(index).copied().unwrap_or(0)
 }
 
 fn step_places(alloc: Global, first: u8, steps: &[Step]) -> Result<Vec<u8>, OutOfMemory>
@@ -80,11 +77,9 @@ fn step_places(alloc: Global, first: u8, steps: &[Step]) -> Result<Vec<u8>, OutO
 {
     let mut places = Vec::new(alloc);
     let mut place = first;
-    let mut rest = steps;
-    'steps: while let [step, others @ ..] = rest {
+    'steps: for step in steps {
         places.push(place)?;
         place += size_of(step);
-        rest = others;
     }
     places.push(place)?;
     Ok(places)
@@ -94,10 +89,8 @@ fn label_places(alloc: Global, places: &[u8], labels: &[Label]) -> Result<Vec<u8
     ensures { IfOk result (λ found. found.items ≡ spec.label_places places.now labels.now) }
 {
     let mut found = Vec::new(alloc);
-    let mut rest = labels;
-    'labels: while let [label, others @ ..] = rest {
+    'labels: for label in labels {
         found.push(place_in(places, label.place))?;
-        rest = others;
     }
     Ok(found)
 }

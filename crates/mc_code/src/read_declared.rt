@@ -33,8 +33,8 @@ pub(crate) fn read_declared(alloc: Global, fields: &mut Fields) -> Result<Declar
     ensures within { IfOk result (λ declared. declared.flags ≤ FLAGS_LIMIT) }
 {
     let keys = read_keys(alloc, fields)?;
-    let flags = fields.small(0, FLAGS_LIMIT)?;
-    let vars = fields.small(0, VARIABLES_LIMIT)?;
+    let flags = fields.byte_within(0, FLAGS_LIMIT)?;
+    let vars = fields.byte_within(0, VARIABLES_LIMIT)?;
     Ok(Declared { keys, flags, vars })
 }
 
@@ -42,7 +42,7 @@ pub(crate) fn read_declared(alloc: Global, fields: &mut Fields) -> Result<Declar
 fn read_keys(alloc: Global, fields: &mut Fields) -> Result<Vec<Bytes>, ImageFault>
     ensures { reading.Says (λ keys. (keys.items, fields.new)) result (reading.keys_in fields.old) }
 {
-    let count = fields.small(1, KEYS_LIMIT)?;
+    let count = fields.byte_within(1, KEYS_LIMIT)?;
     take_keys(alloc, fields, count)
 }
 
@@ -61,9 +61,9 @@ fn take_keys(alloc: Global, fields: &mut Fields, count: u8) -> Result<Vec<Bytes>
 // Takes a key behind these.
 #[tactic(auto, unfolding(crate::specs::ImageReading::key_in))]
 fn read_key<'a>(fields: &mut Fields<'a>, keys: &[Bytes]) -> Result<&'a [u8], ImageFault>
-    ensures { reading.Says (λ key. (key.now, fields.new)) result (reading.key_in keys.now fields.old) }
+    ensures { reading.Reads (λ key. (key.now, fields.new)) result (reading.key_in keys.now fields.old) }
 {
-    let count = fields.small(1, KEY_BYTES_LIMIT)?;
+    let count = fields.byte_within(1, KEY_BYTES_LIMIT)?;
     let offset = fields.offset();
     let key = fields.bytes(count as usize)?;
     if !is_named(KEY_BYTES_LIMIT, key) || !is_new(keys, key) {

@@ -9,9 +9,9 @@ use std::alloc::Global;
 /// Takes what a section may send at most.
 #[tactic(auto, unfolding(crate::specs::ImageReading::budget_in))]
 pub(crate) fn read_budget(fields: &mut Fields) -> Result<Budget, ImageFault>
-    ensures { reading.Says (λ budget. (budget, fields.new)) result (reading.budget_in fields.old) }
+    ensures { reading.Reads (λ budget. (budget, fields.new)) result (reading.budget_in fields.old) }
 {
-    let requests = fields.small(0, REQUESTS_LIMIT as usize)?;
+    let requests = fields.byte_within(0, REQUESTS_LIMIT as usize)?;
     let offset = fields.offset();
     let bytes = fields.number_16()?;
     if bytes as u64 > BYTES_LIMIT {
@@ -32,7 +32,7 @@ pub(crate) fn read_instructions(
     ensures { reading.Says (λ instructions. (instructions.items, fields.new)) result
         (reading.instructions_in fields.old) }
 {
-    let count = fields.small(0, INSTRUCTIONS_LIMIT)?;
+    let count = fields.byte_within(0, INSTRUCTIONS_LIMIT)?;
     take_instructions(alloc, fields, count)
 }
 
@@ -55,9 +55,9 @@ fn take_instructions(
 // Takes an instruction.
 #[tactic(auto, unfolding(crate::specs::ImageReading::instr_in, crate::specs::ImageReading::behind_sort))]
 fn read_instr(fields: &mut Fields) -> Result<Instr, ImageFault>
-    ensures { reading.Says (λ instr. (instr, fields.new)) result (reading.instr_in fields.old) }
+    ensures { reading.Reads (λ instr. (instr, fields.new)) result (reading.instr_in fields.old) }
 {
-    match fields.small(0, 3)? {
+    match fields.byte_within(0, 3)? {
         0 => read_send(fields),
         1 => read_bind(fields),
         2 => read_goto(fields),
@@ -67,7 +67,7 @@ fn read_instr(fields: &mut Fields) -> Result<Instr, ImageFault>
 
 #[tactic(auto, unfolding(crate::specs::ImageReading::send_in))]
 fn read_send(fields: &mut Fields) -> Result<Instr, ImageFault>
-    ensures { reading.Says (λ instr. (instr, fields.new)) result (reading.send_in fields.old) }
+    ensures { reading.Reads (λ instr. (instr, fields.new)) result (reading.send_in fields.old) }
 {
     let template = fields.byte()?;
     let entries = fields.bytes(CLASS_COUNT)?;
@@ -78,7 +78,7 @@ fn read_send(fields: &mut Fields) -> Result<Instr, ImageFault>
 
 #[tactic(auto, unfolding(crate::specs::ImageReading::bind_in))]
 fn read_bind(fields: &mut Fields) -> Result<Instr, ImageFault>
-    ensures { reading.Says (λ instr. (instr, fields.new)) result (reading.bind_in fields.old) }
+    ensures { reading.Reads (λ instr. (instr, fields.new)) result (reading.bind_in fields.old) }
 {
     let variable = fields.byte()?;
     Ok(Instr::Bind(variable))
@@ -86,7 +86,7 @@ fn read_bind(fields: &mut Fields) -> Result<Instr, ImageFault>
 
 #[tactic(auto, unfolding(crate::specs::ImageReading::goto_in))]
 fn read_goto(fields: &mut Fields) -> Result<Instr, ImageFault>
-    ensures { reading.Says (λ instr. (instr, fields.new)) result (reading.goto_in fields.old) }
+    ensures { reading.Reads (λ instr. (instr, fields.new)) result (reading.goto_in fields.old) }
 {
     let place = fields.byte()?;
     Ok(Instr::Goto(place))

@@ -20,7 +20,7 @@ pub(crate) fn read_templates(
     ensures { reading.Says (λ templates. (templates.items, fields.new)) result
         (reading.templates_in counts.keys counts.flags counts.vars fields.old) }
 {
-    let count = fields.small(0, TEMPLATES_LIMIT)?;
+    let count = fields.byte_within(0, TEMPLATES_LIMIT)?;
     take_templates(alloc, fields, counts, count)
 }
 
@@ -54,7 +54,7 @@ fn read_template(alloc: Global, fields: &mut Fields, counts: Counts) -> Result<T
     let key = fields.byte()?;
     let flags = fields.number_32()?;
     let argument = read_argument(fields, counts.vars)?;
-    let body = fields.sized(0, BODY_LIMIT)?;
+    let body = fields.counted_bytes(0, BODY_LIMIT)?;
     let masks = read_masks(fields)?;
     let Some(argument) = argument else {
         return Err(ImageFault::at(ImageKind::Template, offset));
@@ -78,7 +78,7 @@ fn read_template(alloc: Global, fields: &mut Fields, counts: Counts) -> Result<T
 
 #[tactic(auto, unfolding(crate::specs::ImageReading::verb_in))]
 fn read_verb(fields: &mut Fields) -> Result<Verb, ImageFault>
-    ensures { reading.Says (λ verb. (verb, fields.new)) result (reading.verb_in fields.old) }
+    ensures { reading.Reads (λ verb. (verb, fields.new)) result (reading.verb_in fields.old) }
 {
     let offset = fields.offset();
     let index = fields.byte()?;
@@ -113,9 +113,9 @@ fn verb_at(index: u8) -> Option<Verb>
 // Takes what stands behind the key. There is `None` where its number doesn't suit its sort.
 #[tactic(auto, unfolding(crate::specs::ImageReading::argument_in))]
 fn read_argument(fields: &mut Fields, vars: u8) -> Result<Option<Argument>, ImageFault>
-    ensures { reading.Says (λ argument. (argument, fields.new)) result (reading.argument_in vars fields.old) }
+    ensures { reading.Reads (λ argument. (argument, fields.new)) result (reading.argument_in vars fields.old) }
 {
-    let sort = fields.small(0, 2)?;
+    let sort = fields.byte_within(0, 2)?;
     let number = fields.number_64()?;
     Ok(argument_of(vars, sort, number))
 }
@@ -144,7 +144,7 @@ struct Masks {
 
 #[tactic(auto, unfolding(crate::specs::ImageReading::masks_in))]
 fn read_masks(fields: &mut Fields) -> Result<Masks, ImageFault>
-    ensures { reading.Says (λ masks. (masks, fields.new)) result (reading.masks_in fields.old) }
+    ensures { reading.Reads (λ masks. (masks, fields.new)) result (reading.masks_in fields.old) }
 {
     let require_set = fields.number_32()?;
     let require_clear = fields.number_32()?;

@@ -64,10 +64,8 @@ fn request_count_in(steps: &[Step]) -> usize
     ensures few { result ≤ length steps.now }
 {
     let mut count = 0;
-    let mut rest = steps;
-    'steps: while let [step, others @ ..] = rest {
-        count += request_count_of(step) as usize;
-        rest = others;
+    'steps: for step in steps {
+        count += usize::from(request_count_of(step));
     }
     count
 }
@@ -77,10 +75,8 @@ fn size_of_all(steps: &[Step]) -> usize
     ensures few { result ≤ 2 * length steps.now }
 {
     let mut size = 0;
-    let mut rest = steps;
-    'steps: while let [step, others @ ..] = rest {
-        size += size_of(step) as usize;
-        rest = others;
+    'steps: for step in steps {
+        size += usize::from(size_of(step));
     }
     size
 }

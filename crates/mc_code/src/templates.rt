@@ -40,18 +40,14 @@ fn add_clearing(alloc: Global, keys: &[Bytes], out: &mut Vec<Template>) -> Resul
     requires { length keys.now ≤ TEMPLATES_LIMIT }
     ensures { OnOk result (out.new.items ≡ out.old.items ++ layout.requests_of (runs.clearing_steps 0 keys.now)) }
 {
-    let mut key = 0;
-    let mut rest = keys;
-    'keys: while let [_, others @ ..] = rest {
-        out.push(clearing(alloc, key))?;
-        key += 1;
-        rest = others;
+    'keys: for key in 0..keys.len() as u8 {
+        out.push(delete_of(alloc, key))?;
     }
     Ok(())
 }
 
 // A delete of the key, without marks.
-fn clearing(alloc: Global, key: u8) -> Template
+fn delete_of(alloc: Global, key: u8) -> Template
     ensures { result ≡ runs.clearing key }
 {
     Template {
@@ -71,10 +67,8 @@ fn clearing(alloc: Global, key: u8) -> Template
 fn add_requests(alloc: Global, steps: &[Step], out: &mut Vec<Template>) -> Result<(), OutOfMemory>
     ensures { OnOk result (out.new.items ≡ out.old.items ++ layout.requests_of steps.now) }
 {
-    let mut rest = steps;
-    'steps: while let [step, others @ ..] = rest {
+    'steps: for step in steps {
         add_request(alloc, step, out)?;
-        rest = others;
     }
     Ok(())
 }

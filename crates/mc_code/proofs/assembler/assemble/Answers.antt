@@ -15,6 +15,12 @@ invariant_of-result c =
     c.in_ok-templates.ensures c.in_ok-p.ensures c.in_ok-a.ensures c.in_ok-b.ensures c.keys.ensures.kept
     c.in_ok-check_limits.ensures.templates c.in_ok-check_limits.ensures.instructions
 
+pub returns-clause-kept : goal.returns-clause-kept
+returns-clause-kept c =
+    parts-kept c.args.script.now _ _ _ _ _ _ _ (c.in_ok-keys.ensures ∙ c.keys.ensures.keys) (ap length c.flags.ensures) (ap length c.vars.ensures)
+    c.in_ok-templates.ensures c.in_ok-p.ensures c.in_ok-a.ensures c.in_ok-b.ensures c.keys.ensures.kept
+    c.in_ok-check_limits.ensures.templates c.in_ok-check_limits.ensures.instructions
+
 pub returns-clause-agrees : goal.returns-clause-agrees
 returns-clause-agrees c =
     parts-agree c.args.script.now _ _ _ _ _ _ _ (c.in_ok-keys.ensures ∙ c.keys.ensures.keys) (ap length c.flags.ensures) (ap length c.vars.ensures)

@@ -1,8 +1,5 @@
-use Rattle.std.proofs.Common.{◌≡◌, ◌++◌, length}
+use Rattle.std.proofs.Common.{◌≡◌, take}
 use Rattle.mc_code.proofs.assembler.copies.Given as goal
 
 abbrev pub invariant-keys : goal.invariant-keys
-invariant-keys l = l.copies.items ++ l.rest ≡ l.fn.keys
-
-abbrev pub decreases-keys : goal.decreases-keys
-decreases-keys l = length l.rest
+invariant-keys l = l.copies.items ≡ take l.key-index l.keys

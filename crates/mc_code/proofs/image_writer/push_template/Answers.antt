@@ -1,8 +1,8 @@
 use Rattle.mc_code.proofs.WrittenImage.{template-pieces}
 use Rattle.mc_code.proofs.image_writer.push_template.Goals as goal
 
-pub returns-clause-ok : goal.returns-clause-ok
-returns-clause-ok c =
+pub returns : goal.returns
+returns c =
     let pieces = template-pieces c.args.template.now c.argument_fields-sort.result.0 c.argument_fields-sort.result.1 c.argument_fields-sort.ensures in
     rw (← pieces) (
     rw (

@@ -7,7 +7,7 @@ use Rattle.mc_code.proofs.read_declared.take_keys.Goals as goal
 pub returns-in_err-key : goal.returns-in_err-key
 returns-in_err-key c =
     let p = err_from_is_err_and c.from_residual.result c.from_residual.ensures.1 in
-    rw (p.1, p.2) (λ real. ends key_in c.args.count c.loop.counter c.loop.keys.items c.loop.fields _ c.loop-test.true (ap (λ keys. key_in keys c.loop.fields) (sym c.as_slice.ensures.value) ∙ c.in_err-key.ensures real) c.loop.invariant)
+    rw (p.1, p.2) ((λ _. ends key_in c.args.count c.loop.counter c.loop.keys.items c.loop.fields _ c.loop-test.true (ap (λ keys. key_in keys c.loop.fields) (sym c.as_slice.ensures.value) ∙ c.in_err-key.ensures.0) c.loop.invariant), (λ memory. absurd (c.in_err-key.ensures.1 memory)))
 
 pub loop-preserved : goal.loop-preserved
 loop-preserved c =

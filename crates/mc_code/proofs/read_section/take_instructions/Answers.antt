@@ -6,7 +6,7 @@ use Rattle.mc_code.proofs.read_section.take_instructions.Goals as goal
 pub returns-in_err-instr : goal.returns-in_err-instr
 returns-in_err-instr c =
     let p = err_from_is_err_and c.from_residual.result c.from_residual.ensures.1 in
-    rw (p.1, p.2) (λ real. ends (λ _. instr_in) c.args.count c.loop.counter c.loop.instructions.items c.loop.fields _ c.loop-test.true (c.in_err-instr.ensures real) c.loop.invariant)
+    rw (p.1, p.2) ((λ _. ends (λ _. instr_in) c.args.count c.loop.counter c.loop.instructions.items c.loop.fields _ c.loop-test.true c.in_err-instr.ensures.0 c.loop.invariant), (λ memory. absurd (c.in_err-instr.ensures.1 memory)))
 
 pub loop-preserved : goal.loop-preserved
 loop-preserved c =

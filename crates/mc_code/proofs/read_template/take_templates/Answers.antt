@@ -6,7 +6,7 @@ use Rattle.mc_code.proofs.read_template.take_templates.Goals as goal
 pub returns-in_err-template : goal.returns-in_err-template
 returns-in_err-template c =
     let p = err_from_is_err_and c.from_residual.result c.from_residual.ensures.1 in
-    rw (p.1, p.2) (λ real. ends (λ _. template_in c.args.counts.keys c.args.counts.flags c.args.counts.vars) c.args.count c.loop.counter c.loop.templates.items c.loop.fields _ c.loop-test.true (c.in_err-template.ensures real) c.loop.invariant)
+    rw (p.1, p.2) ((λ real. ends (λ _. template_in c.args.counts.keys c.args.counts.flags c.args.counts.vars) c.args.count c.loop.counter c.loop.templates.items c.loop.fields _ c.loop-test.true (c.in_err-template.ensures.0 real) c.loop.invariant), c.in_err-template.ensures.1)
 
 pub loop-preserved : goal.loop-preserved
 loop-preserved c =
