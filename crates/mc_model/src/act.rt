@@ -1,3 +1,4 @@
+//! What a server does with each verb, and the verbs that store nothing.
 ghost use Rattle.std.specs.Prelude.{◌≡◌, IfOk, OnErr};
 ghost use Rattle.std.specs.FinMap as finite_map;
 ghost use Rattle.mc_model.specs.Act.{act, acted, read, read_with_number, deleted, touched};
@@ -9,18 +10,17 @@ use std::alloc::Global;
 /// What `protocol.txt` leaves to the server in one act.
 #[derive(Clone, Copy, Debug, PartialEq, Eq)]
 pub struct Choice {
-    /// A decremented number that is shorter than the old body is followed by spaces to the old length.
+    /// Whether a decremented number that is shorter than the old body is followed by spaces to the old length.
     pub pad: bool,
-    /// A body that may be read as a number or not is read.
+    /// Whether a body that one server reads as a number and another refuses is read.
     pub read: bool,
 }
 
 impl Cache {
-    /// Acts on a request as a server does: changes the cache and answers. A version that is made has the number
-    /// given. Want of memory leaves the cache as it was.
+    /// Acts on a request as a server does: changes the cache and answers. If a version is made, it has this `number`.
+    /// Want of memory leaves the cache as it was.
     pub fn act(
         &mut self,
-        alloc: Global,
         request: &Request,
         choice: Choice,
         number: u64,
@@ -30,16 +30,16 @@ impl Cache {
         ensures err { OnErr result (self.new ≡ self.old) }
     {
         match request.verb {
-            Verb::Set => self.store(alloc, request, number),
-            Verb::Add => self.add(alloc, request, number),
-            Verb::Replace => self.replace(alloc, request, number),
-            Verb::Append => self.append(alloc, request, number),
-            Verb::Prepend => self.prepend(alloc, request, number),
-            Verb::Cas => self.swap(alloc, request, number),
-            Verb::Get => self.get(alloc, request),
-            Verb::Gets => self.gets(alloc, request),
-            Verb::Incr => self.incr(alloc, request, choice, number),
-            Verb::Decr => self.decr(alloc, request, choice, number),
+            Verb::Set => self.store(request, number),
+            Verb::Add => self.add(request, number),
+            Verb::Replace => self.replace(request, number),
+            Verb::Append => self.append(request, number),
+            Verb::Prepend => self.prepend(request, number),
+            Verb::Cas => self.swap(request, number),
+            Verb::Get => self.get(request),
+            Verb::Gets => self.gets(request),
+            Verb::Incr => self.incr(request, choice, number),
+            Verb::Decr => self.decr(request, choice, number),
             Verb::Delete => Ok(self.delete(request)),
             Verb::Touch => Ok(self.touch(request)),
         }
@@ -47,20 +47,20 @@ impl Cache {
 }
 
 impl Cache {
-    fn get(&self, alloc: Global, request: &Request) -> Result<Reply, OutOfMemory>
+    fn get(&self, request: &Request) -> Result<Reply, OutOfMemory>
         ensures { IfOk result (λ reply. reply ≡ (read (finite_map.get self.now request.now.key)).reply) }
     {
         match self.find(request.key.as_slice()) {
-            Some(item) => hit(alloc, item, None),
+            Some(item) => hit(self.allocator(), item, None),
             None => Ok(Reply::Miss),
         }
     }
 
-    fn gets(&self, alloc: Global, request: &Request) -> Result<Reply, OutOfMemory>
+    fn gets(&self, request: &Request) -> Result<Reply, OutOfMemory>
         ensures { IfOk result (λ reply. reply ≡ (read_with_number (finite_map.get self.now request.now.key)).reply) }
     {
         match self.find(request.key.as_slice()) {
-            Some(item) => hit(alloc, item, Some(item.number)),
+            Some(item) => hit(self.allocator(), item, Some(item.number)),
             None => Ok(Reply::Miss),
         }
     }
@@ -77,7 +77,7 @@ impl Cache {
         Reply::Deleted
     }
 
-    // The time of expiry is always 0, so nothing changes.
+    /// The time of expiry is always 0, so nothing changes.
     fn touch(&self, request: &Request) -> Reply
         ensures { result ≡ (touched (finite_map.get self.now request.now.key)).reply }
     {
@@ -88,6 +88,7 @@ impl Cache {
     }
 }
 
+/// The reply that shows an item, with its cas unique if that is given.
 fn hit(alloc: Global, item: &Item, cas: Option<u64>) -> Result<Reply, OutOfMemory>
     ensures { IfOk result (λ reply. reply ≡ Reply.Hit item.now.flags item.now.body cas) }
 {

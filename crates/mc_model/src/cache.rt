@@ -1,3 +1,4 @@
+//! What a cache holds: a finite map from keys to items.
 ghost use Rattle.std.specs.Prelude.{◌≡◌, ◌≤◌, IfOk, OnOk, OnErr, vec_len};
 ghost use Rattle.std.specs.Vec.{vec_capacity};
 ghost use Rattle.std.specs.FinMap as finite_map;
@@ -71,10 +72,14 @@ impl Cache {
     pub fn copy(&self) -> Result<Cache, OutOfMemory>
         ensures { IfOk result (λ copy. copy ≡ self.now) }
     {
-        let alloc = *self.entries.allocator();
         Ok(Cache {
-            entries: copied_entries(alloc, self.entries.as_slice())?,
+            entries: copied_entries(self.allocator(), self.entries.as_slice())?,
         })
+    }
+
+    /// Where the cache has its memory from.
+    pub(crate) fn allocator(&self) -> Global {
+        *self.entries.allocator()
     }
 
     /// What the cache holds at the key.

@@ -1,3 +1,4 @@
+//! The verbs that count: `incr` and `decr`.
 ghost use Rattle.std.specs.Prelude.{◌≡◌, IfOk, OnErr};
 ghost use Rattle.std.specs.FinMap as finite_map;
 ghost use Rattle.mc_model.specs.Act.{acted, counted, counted_body, incremented, decremented};
@@ -10,7 +11,7 @@ use itoa::Buffer;
 use mc_protocol::{Bytes, OutOfMemory, Reply, Request};
 use std::alloc::Global;
 
-// Whether an amount is added or taken.
+/// Whether an amount is added or taken.
 #[derive(Clone, Copy, Debug, PartialEq, Eq)]
 pub(crate) enum Direction {
     Up,
@@ -18,7 +19,7 @@ pub(crate) enum Direction {
 }
 
 impl Direction {
-    // Up wraps at 2^64, and down stops at 0.
+    /// What the old number becomes: up wraps at 2^64, and down stops at 0.
     fn count(self, old: u64, amount: u64) -> u64
         ensures { result ≡ counted_by self old amount }
     {
@@ -32,7 +33,6 @@ impl Direction {
 impl Cache {
     pub(crate) fn incr(
         &mut self,
-        alloc: Global,
         request: &Request,
         choice: Choice,
         number: u64,
@@ -41,12 +41,11 @@ impl Cache {
         ensures contents { IfOk result (λ _. self.new ≡ (acted self.old request.now (counted incremented request.now choice number (finite_map.get self.old request.now.key))).contents) }
         ensures err { OnErr result (self.new ≡ self.old) }
     {
-        self.count(alloc, request, choice, number, Direction::Up)
+        self.count(request, choice, number, Direction::Up)
     }
 
     pub(crate) fn decr(
         &mut self,
-        alloc: Global,
         request: &Request,
         choice: Choice,
         number: u64,
@@ -55,12 +54,11 @@ impl Cache {
         ensures contents { IfOk result (λ _. self.new ≡ (acted self.old request.now (counted decremented request.now choice number (finite_map.get self.old request.now.key))).contents) }
         ensures err { OnErr result (self.new ≡ self.old) }
     {
-        self.count(alloc, request, choice, number, Direction::Down)
+        self.count(request, choice, number, Direction::Down)
     }
 
     fn count(
         &mut self,
-        alloc: Global,
         request: &Request,
         choice: Choice,
         number: u64,
@@ -79,15 +77,15 @@ impl Cache {
         let new = direction.count(old, request.number);
         let counted = Item {
             flags: item.flags,
-            body: counted_body(alloc, choice.pad, item.body.as_slice(), new)?,
+            body: counted_body(self.allocator(), choice.pad, item.body.as_slice(), new)?,
             number,
         };
-        self.put_item(alloc, request, counted)?;
+        self.put_item(request, counted)?;
         Ok(Reply::Number(new))
     }
 }
 
-// The decimal of a number, and where that is asked for spaces behind it to the length of the old body.
+/// The decimal of a number, and after it spaces to the length of the old body if `pad` asks for them.
 fn counted_body(alloc: Global, pad: bool, old: &[u8], number: u64) -> Result<Bytes, OutOfMemory>
     ensures { IfOk result (λ body. body ≡ counted_body pad old.now number) }
 {

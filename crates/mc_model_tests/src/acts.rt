@@ -124,7 +124,7 @@ fn acts(
     let request = request_in(alloc, line)?;
     let expected = reply_in(alloc, expected)?;
     let mut cache = cache_of(alloc, body)?;
-    match cache.act(alloc, &request, choice, 9) {
+    match cache.act(&request, choice, 9) {
         Ok(reply) => Ok(reply == expected && has(&cache, after)),
         Err(fault) if has(&cache, Some((5, body, 4))) => Err(WordsFault::from(fault)),
         Err(_) => Ok(false),
@@ -145,7 +145,7 @@ fn acts_as_the_protocol_says(rt: HostRuntime) -> Result<(), Fail> {
 fn copies(alloc: Global) -> Result<bool, WordsFault> {
     let mut cache = cache_of(alloc, "old")?;
     let copy = cache.copy()?;
-    cache.act(alloc, &request_in(alloc, "set k 7 =new")?, PLAIN, 9)?;
+    cache.act(&request_in(alloc, "set k 7 =new")?, PLAIN, 9)?;
     Ok(has(&cache, Some((7, "new", 9))) && has(&copy, Some((5, "old", 4))))
 }
 

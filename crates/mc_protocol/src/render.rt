@@ -1,5 +1,4 @@
-//! The texts of requests and replies.
-
+//! The bytes of requests and replies as they go over the wire (`protocol.txt`).
 ghost use Rattle.std.specs.Prelude.{◌≡◌, ◌++◌, ◌+◌, ◌^◌, ◌<◌, ◌≤◌, length, map, codes, decimal, OnOk, OnErr};
 ghost use Rattle.std.specs.List.{concat};
 ghost use Rattle.mc_protocol.specs.Words.{verb_word};
@@ -7,7 +6,6 @@ ghost use Rattle.mc_protocol.specs.Texts as text;
 
 use crate::{Fields, OutOfMemory, Reply, Request};
 use itoa::Buffer;
-use std::alloc::AllocError;
 
 /// Appends a request as it goes over the wire (`protocol.txt`), with the time of expiry 0. Want of memory leaves `out`
 /// as it was.
@@ -18,7 +16,7 @@ pub fn render_request(request: &Request, out: &mut Vec<u8>) -> Result<(), OutOfM
     render_as(request.verb.word().as_bytes(), request, out)
 }
 
-// The same, given the verb's word.
+/// Appends a request under the word of its verb.
 fn render_as(verb: &[u8], request: &Request, out: &mut Vec<u8>) -> Result<(), OutOfMemory>
     requires { verb.now ≡ verb_word request.now.verb }
     ensures ok { OnOk result (out.new.items ≡ out.old.items ++ text.request_text request.now) }
@@ -38,6 +36,7 @@ fn render_as(verb: &[u8], request: &Request, out: &mut Vec<u8>) -> Result<(), Ou
     }
 }
 
+/// Appends a request that stores an item under the verb's word: its line, and the data.
 fn render_item(verb: &[u8], request: &Request, out: &mut Vec<u8>) -> Result<(), OutOfMemory>
     ensures ok { OnOk result (out.new.items ≡ out.old.items ++ text.text_as verb.now Fields.Item request.now) }
     ensures err { OnErr result (out.new.items ≡ out.old.items) }
@@ -56,6 +55,7 @@ fn render_item(verb: &[u8], request: &Request, out: &mut Vec<u8>) -> Result<(), 
     )
 }
 
+/// The same with the cas unique after the length of the data.
 fn render_swap(verb: &[u8], request: &Request, out: &mut Vec<u8>) -> Result<(), OutOfMemory>
     ensures ok { OnOk result (out.new.items ≡ out.old.items ++ text.text_as verb.now Fields.Swap request.now) }
     ensures err { OnErr result (out.new.items ≡ out.old.items) }
@@ -76,7 +76,7 @@ fn render_swap(verb: &[u8], request: &Request, out: &mut Vec<u8>) -> Result<(), 
     )
 }
 
-/// Appends one VALUE block: its line, which shows the cas unique where it is given, and its data. Want of memory leaves
+/// Appends one VALUE block: its line, which has the cas unique if `cas` gives it, and its data. Want of memory leaves
 /// `out` as it was.
 pub fn render_value(
     key: &[u8],
@@ -137,6 +137,7 @@ pub fn render_reply(key: &[u8], reply: &Reply, out: &mut Vec<u8>) -> Result<(), 
     }
 }
 
+/// Appends what is answered where an item is found: its VALUE block, and the line that ends a retrieval.
 fn render_hit(
     key: &[u8],
     flags: u32,
@@ -147,28 +148,19 @@ fn render_hit(
     ensures ok { OnOk result (out.new.items ≡ out.old.items ++ (text.value_text key.now flags body.now cas ++ codes "END\r\n")) }
     ensures err { OnErr result (out.new.items ≡ out.old.items) }
 {
-    let start = out.len();
-    render_value(key, flags, body, cas, out)?;
-    if out.extend_from_slice(b"END\r\n").is_err() {
-        out.truncate(start);
-        return Err(AllocError);
-    }
-    Ok(())
+    let mut text = Vec::new(*out.allocator());
+    render_value(key, flags, body, cas, &mut text)?;
+    text.extend_from_slice(b"END\r\n")?;
+    out.extend_from_slice(text.as_slice())
 }
 
-/// Appends the pieces, one after another. Want of memory leaves `out` as it was.
+/// Appends the pieces, one after the other. Want of memory leaves `out` as it was.
 pub fn append_all(out: &mut Vec<u8>, pieces: &[&[u8]]) -> Result<(), OutOfMemory>
     ensures ok { OnOk result (out.new.items ≡ out.old.items ++ concat (map (λ p. p.now) pieces.now)) }
     ensures err { OnErr result (out.new.items ≡ out.old.items) }
 {
-    let start = out.len();
-    'pieces: for piece in pieces {
-        if out.extend_from_slice(piece).is_err() {
-            out.truncate(start);
-            return Err(AllocError);
-        }
-    }
-    Ok(())
+    let text = pieces.concat(*out.allocator())?;
+    out.extend_from_slice(text.as_slice())
 }
 
 /// How many bytes the text of a request has. The key has at most 250 bytes.
@@ -187,7 +179,7 @@ pub fn request_len(request: &Request) -> usize
         }
 }
 
-// How many bytes stand after the key of a request that stores an item.
+/// How many bytes come after the key of a request that stores an item.
 fn item_len(request: &Request) -> usize
     ensures len { result ≡ length (concat (text.behind_key Fields.Item request.now)) }
     ensures small { result < 2 ^ 63 + 64 }
@@ -196,6 +188,7 @@ fn item_len(request: &Request) -> usize
     1 + decimal_len(u64::from(request.flags)) + 3 + decimal_len(body as u64) + 2 + body + 2
 }
 
+/// How many digits a number has.
 fn decimal_len(number: u64) -> usize
     ensures len { result ≡ length (decimal number) }
     ensures short { result ≤ 20 }

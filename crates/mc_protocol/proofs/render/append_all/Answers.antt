@@ -1,19 +1,14 @@
-use Rattle.std.proofs.Common.{◌≡◌, ℕ, ◌+◌, ◌<◌, ◌++◌, [], ◌∷◌, List, length, map, take, get_or, ap, ◌∙◌, sym, append_assoc, append-nil}
-use Rattle.std.specs.List.{concat}
-use Rattle.std.proofs.lemmas.List.{take_more, map-append}
-use Rattle.std.proofs.lemmas.List.Folds.{concat-append}
+-- What is appended is the pieces, which were joined by cloning each byte.
+use Rattle.std.proofs.Common.{◌≡◌, ℕ, List, map, sym, ◌∙◌, rules}
+use Rattle.std.specs.List.{concat, flat_map}
+use Rattle.std.proofs.lemmas.Result.{on_ok_weaker}
+use Rattle.std.proofs.lemmas.List.Concat.{concat_is}
+use Rattle.std.proofs.lemmas.List.Folds.{flat_map-map}
+use Rattle.std.proofs.lemmas.List.Elements.{same_from_all_zip}
 use Rattle.mc_protocol.proofs.render.append_all.Goals as goal
 
--- the lists joined, with one more
-concat-map_more : {X : Type 0} (f : X → List ℕ) (front : List ℕ) (xs : List X) (i : ℕ) (d : X) → i < length xs
-    → front ++ concat (map f (take (i + 1) xs)) ≡ (front ++ concat (map f (take i xs))) ++ f (get_or xs i d)
-concat-map_more f front xs i d lt =
-    ap (λ ys. front ++ concat (map f ys)) (take_more xs i d lt)
-    ∙ ap (λ ys. front ++ concat ys) (map-append f (take i xs) (get_or xs i d ∷ []))
-    ∙ ap (λ ys. front ++ ys) (concat-append (map f (take i xs)) (f (get_or xs i d) ∷ []) ∙ ap (λ ys. concat (map f (take i xs)) ++ ys) (append-nil _))
-    ∙ sym (append_assoc front (concat (map f (take i xs))) (f (get_or xs i d)))
-
-pub pieces-preserved : goal.pieces-preserved
-pieces-preserved c =
-    rw (c.extend_from_slice.ensures.items, c.is_err.ensures.negation, c.if-is_err.false, c.pieces.invariant)
-    (sym (concat-map_more (λ p. p.now) c.args.out.now.items c.args.pieces.now c.pieces.piece-index (record { ref_ptr = (0, 0); now = [] }) c.pieces-test.true))
+pub returns-clause-ok : goal.returns-clause-ok
+returns-clause-ok c =
+    let same : c.in_ok-text.text.items ≡ flat_map (λ p. p.now) c.args.pieces.now = same_from_all_zip _ _ c.in_ok-text.text.items c.in_ok-text.ensures.ok (λ x y e. e) in
+    let whole = concat_is (map (λ p. p.now) c.args.pieces.now) ∙ flat_map-map (λ x. x) (λ p. p.now) c.args.pieces.now in
+    rw (whole, ← same, ← c.as_slice.ensures.value) (search rules)
