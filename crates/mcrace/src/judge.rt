@@ -201,7 +201,7 @@ that another server may read as a number.
 
 What is answered:
   explained    an explanation was found; its lines follow, and `end`
-  unexplained  the search came to its end, and there is none
+  unexplained  the search came to its end, and found none
   undecided    the turns of the search were used up before either was known
 A turn tries one request at one place of the order.
 
