@@ -15,9 +15,11 @@ use mc_protocol::{Actor, Bytes, OutOfMemory};
 use mc_script::Script;
 use std::alloc::Global;
 
-/// The code of a script, which does the same as the script, whatever is answered: behind a delete of each key P does what
-/// its steps say, and A and B do so. It is refused where it needs too many templates, and then where a section needs too
-/// many instructions, the first such section.
+/// Assembles a script. Whatever the replies are, its code does what the script does: P first deletes each key, and then
+/// each section does its steps.
+///
+/// A script that needs too many templates is refused, and so is one with a section that needs too many instructions; the
+/// fault then names the first such section.
 pub fn assemble(alloc: Global, script: &Script) -> Result<Code, AsmFault>
     ensures layout { IfOk result (λ code. code ≡ layout.code_of script.now) }
     ensures kept { IfOk result spec.IsCode }
@@ -44,7 +46,7 @@ pub fn assemble(alloc: Global, script: &Script) -> Result<Code, AsmFault>
     })
 }
 
-// A section's code, whose templates stand from this one on.
+/// The code of a section. Its first template has the index `first`.
 fn section(alloc: Global, script: &Script, actor: Actor, first: u8) -> Result<Section, OutOfMemory>
     requires first { first ≡ layout.first_template script.now actor }
     requires templates { layout.template_count script.now ≤ TEMPLATES_LIMIT }
@@ -64,6 +66,7 @@ fn section(alloc: Global, script: &Script, actor: Actor, first: u8) -> Result<Se
     })
 }
 
+/// A copy of each key.
 fn copies(alloc: Global, keys: &[Bytes]) -> Result<Vec<Bytes>, OutOfMemory>
     ensures { IfOk result (λ copies. copies.items ≡ keys.now) }
 {

@@ -1,3 +1,4 @@
+//! Code, and the requests that it makes.
 ghost use Rattle.std.specs.Prelude.{◌≡◌, ◌<◌, length, IfOk};
 ghost use Rattle.mc_code.specs.Code as spec;
 ghost use Rattle.mc_code.specs.Requests as requests;
@@ -8,9 +9,10 @@ use mc_script::{Budget, Template};
 use std::alloc::Global;
 use std::marker::Model;
 
-/// One section: what it may send at most, and its instructions. Contracts see the vector as a list.
+/// A section of code. Contracts see the vector as a list.
 #[derive(Debug, Drop)]
 pub(crate) struct Section {
+    /// The most that it may send.
     pub(crate) budget: Budget,
     pub(crate) instructions: Vec<Instr>,
 }
@@ -23,9 +25,9 @@ impl Model for Section {
     ghost view = { λ s. record { budget = s.budget; instructions = s.instructions.items } };
 }
 
-/// Code: 1 to 8 keys, how many flags and variables there are (at most 32 and 16), at most 64 templates, and three
-/// sections of at most 64 instructions each. A template's key, flags and variable are there. Where the instructions lead,
-/// and which templates and variables they name, isn't looked at. Contracts see its parts as lists.
+/// Code: 1 to 8 keys, at most 32 flags and 16 variables, at most 64 templates, and three sections of at most 64
+/// instructions each. Each template names a key, flags and a variable that are declared. An instruction may name a template,
+/// a variable or a place that isn't there. Contracts see the vectors as lists.
 #[derive(Debug, Drop)]
 pub struct Code {
     pub(crate) keys: Vec<Bytes>,
@@ -48,7 +50,7 @@ impl Model for Code {
 }
 
 impl Code {
-    /// The keys, in the order of their declaration.
+    /// The keys, in the order in which they were declared.
     pub fn keys(&self) -> &[Bytes]
         ensures keys { result.now ≡ self.now.keys }
         ensures kept { spec.IsCode self.now }
@@ -70,14 +72,14 @@ impl Code {
         self.vars as usize
     }
 
-    /// What a section may send at most.
+    /// The most that a section may send.
     pub fn budget(&self, actor: Actor) -> Budget
         ensures { result ≡ (spec.section_of self.now actor).budget }
     {
         self.part(actor).budget
     }
 
-    /// The templates of the requests. Instructions and calls name them by index.
+    /// The templates of the requests. An instruction or a call names one by its index.
     pub fn templates(&self) -> &[Template]
         ensures templates { result.now ≡ self.now.templates }
         ensures kept { spec.IsCode self.now }
@@ -85,15 +87,15 @@ impl Code {
         self.templates.as_slice()
     }
 
-    /// A section's instructions. The first is where it begins.
+    /// The instructions of a section, which begins with the first.
     pub fn section(&self, actor: Actor) -> &[Instr]
         ensures { result.now ≡ (spec.section_of self.now actor).instructions }
     {
         self.part(actor).instructions.as_slice()
     }
 
-    /// The request of a call: its template's, with the call's number. The template must be there. Its key and its body are
-    /// copied, and `OutOfMemory` comes where there is no memory for them.
+    /// The request of a call: that of its template, with the call's number. The key and the body are copied, so memory may
+    /// run out.
     pub fn request(&self, alloc: Global, call: Call) -> Result<Request, OutOfMemory>
         requires { call.template < length self.now.templates }
         ensures { IfOk result (requests.IsRequest self.now call) }
@@ -108,6 +110,7 @@ impl Code {
         })
     }
 
+    /// The section of an actor.
     fn part(&self, actor: Actor) -> &Section
         ensures { result.now ≡ spec.section_of self.now actor }
     {

@@ -11,16 +11,16 @@ use crate::size::request_count_of;
 use mc_protocol::{Bytes, Class, OutOfMemory, Verb, is_legal};
 use mc_script::{STEPS_LIMIT, Step};
 
-/// Where a reply leads that has no jump.
+/// Where a reply leads if no jump is made on its class.
 #[derive(Clone, Copy)]
 pub(crate) struct Onward {
-    /// A hit or a number.
+    /// Where a hit or a number leads.
     pub(crate) number: u8,
-    /// What is left.
+    /// Where any other reply leads.
     pub(crate) other: u8,
 }
 
-/// Appends a delete of each of these keys. Its place and its template's index are the key's index.
+/// Appends a delete of each key. The delete's place, and the index of its template, are the index of the key.
 pub(crate) fn add_clearing(
     places: &Places,
     keys: &[Bytes],
@@ -35,7 +35,7 @@ pub(crate) fn add_clearing(
     Ok(())
 }
 
-// A delete of the key, whose replies lead to the next instruction.
+/// A delete of the key with this index. Each of its replies leads to the next instruction.
 fn clearing_send(places: &Places, key: u8) -> Instr
     requires { key < TEMPLATES_LIMIT }
     ensures { result ≡ spec.clearing_send places.now.labels key }
@@ -50,7 +50,8 @@ fn clearing_send(places: &Places, key: u8) -> Instr
     }
 }
 
-/// Appends the instructions of a section's steps, whose templates stand from this one on, and the halt behind them.
+/// Appends the instructions of a section's steps, and a halt after them. The first template of the steps has the index
+/// `first`.
 pub(crate) fn add_steps(
     places: &Places,
     first: u8,
@@ -70,7 +71,7 @@ pub(crate) fn add_steps(
     Ok(())
 }
 
-// Appends the instructions of the step with this index, whose request has this template.
+/// Appends the instructions of the step with this index. If it is a request, `template` is the index of its template.
 fn add_step(
     places: &Places,
     template: u8,
@@ -101,7 +102,7 @@ fn add_step(
     Ok(())
 }
 
-// Where the replies to the request with this index lead that have no jump.
+/// Where a reply to the request at this index leads if no jump is made on its class.
 fn onward_from(places: &Places, index: usize, bind: Option<u8>) -> Onward
     requires { index < STEPS_LIMIT }
     ensures { result ≡ spec.onward_from places.now.steps index bind }
@@ -114,6 +115,7 @@ fn onward_from(places: &Places, index: usize, bind: Option<u8>) -> Onward
     Onward { number, other }
 }
 
+/// Where a reply of each class leads, in the order of the classes.
 #[tactic(auto, unfolding(crate::specs::Assembling::legal_entries))]
 fn entries(
     places: &Places,
@@ -137,6 +139,7 @@ fn entries(
     ]
 }
 
+/// Where a reply of the class leads; `NO_ENTRY` if the verb has no such reply.
 fn entry(places: &Places, verb: Verb, jumps: &[(Class, usize)], onward: Onward, class: Class) -> u8
     ensures { result ≡ spec.legal_entry places.now.labels verb jumps.now onward class }
 {
@@ -145,11 +148,12 @@ fn entry(places: &Places, verb: Verb, jumps: &[(Class, usize)], onward: Onward, 
     }
     match jump_on(class, jumps) {
         Some(label) => places.of_label(label),
-        None => without_jump(onward, class),
+        None => place_onward(onward, class),
     }
 }
 
-fn without_jump(onward: Onward, class: Class) -> u8
+/// Where a reply of the class leads if no jump is made on it.
+fn place_onward(onward: Onward, class: Class) -> u8
     ensures { result ≡ spec.entry_by [] onward class None }
 {
     match class {
@@ -158,7 +162,7 @@ fn without_jump(onward: Onward, class: Class) -> u8
     }
 }
 
-// The label to which a reply of the class goes, if it goes to one.
+/// The label to which a reply of the class jumps, if it does.
 fn jump_on(class: Class, jumps: &[(Class, usize)]) -> Option<usize>
     ensures { result ≡ runs.jump_on class jumps.now }
 {

@@ -7,23 +7,22 @@ use mc_protocol::Actor;
 use std::alloc::{AllocError, AllocFailed};
 use thiserror::Error;
 
-/// Why a script isn't assembled.
+/// Why a script is not assembled.
 #[derive(Clone, Copy, Debug, Drop, PartialEq, Eq, Error)]
 pub enum AsmFault {
-    /// The keys and the requests of all sections need more than 64 templates.
+    /// The script needs more than 64 templates: one for each key, and one for each request of its sections.
     #[error("expected at most 64 templates: one for each key, and one for each request")]
     TooManyTemplates,
-    /// This section, the first such of P, A and B, needs more than 64 instructions. Where there are too many templates
-    /// too, those are told.
+    /// This section needs more than 64 instructions. It is the first such of P, A and B, and the templates are not too many.
     #[error("expected at most 64 instructions in a section")]
     TooManyInstructions(Actor),
-    /// There is no memory for the code.
+    /// Memory ran out.
     #[error("out of memory")]
     OutOfMemory,
 }
 
 impl AsmFault {
-    /// The number of the fault, as a refusal tells it.
+    /// The number of the fault, as a refusal shows it.
     pub fn number(self) -> u32
         ensures { result ≡ asm_kinds.kind_number self }
     {
@@ -34,7 +33,7 @@ impl AsmFault {
         }
     }
 
-    /// The name of the fault, as a refusal tells it.
+    /// The name of the fault, as a refusal shows it.
     pub fn name(self) -> &'static str
         ensures { result.now ≡ asm_kinds.kind_name self }
     {
@@ -66,31 +65,31 @@ impl<T: Drop> From<AllocFailed<T>> for AsmFault {
     }
 }
 
-/// Why bytes are no image.
+/// What is wrong with bytes that are no image.
 #[derive(Clone, Copy, Debug, Drop, PartialEq, Eq, Error)]
 pub enum ImageKind {
-    /// The first four bytes are others than `MCR1`.
+    /// The first four bytes are not `MCR1`.
     #[error("expected the bytes `MCR1`")]
     Magic,
-    /// The bytes end before or inside a field.
+    /// The bytes end before a field does.
     #[error("expected more bytes")]
     Short,
-    /// A number that is too small or too large; a key with other bytes, or one that stands twice.
+    /// A number is too small or too large, or a key has a byte that no key has, or a key stands twice.
     #[error("expected a number within its limits, or a key that is new and has 1 to 40 bytes `a` to `z`, `0` to `9`, `-`")]
     Range,
-    /// A whole template whose verb, key, flags, argument and body don't suit each other, or name what isn't declared.
+    /// The fields of a template don't suit its verb, or name a key, a flag or a variable that is not declared.
     #[error("expected a template whose verb has these fields, and whose key, variable and flags are there")]
     Template,
-    /// Bytes behind the last instruction.
+    /// More bytes follow the last instruction.
     #[error("expected no more bytes")]
     Extra,
-    /// There is no memory for the code.
+    /// Memory ran out.
     #[error("out of memory")]
     OutOfMemory,
 }
 
 impl ImageKind {
-    /// The number of the kind, as a refusal tells it.
+    /// The number of the kind, as a refusal shows it.
     pub fn number(self) -> u32
         ensures { result ≡ image_kinds.kind_number self }
     {
@@ -104,7 +103,7 @@ impl ImageKind {
         }
     }
 
-    /// The name of the kind, as a refusal tells it.
+    /// The name of the kind, as a refusal shows it.
     pub fn name(self) -> &'static str
         ensures { result.now ≡ image_kinds.kind_name self }
     {
@@ -119,22 +118,26 @@ impl ImageKind {
     }
 }
 
-/// Why bytes are no image, and where: the offset of the first faulty field, of a whole template that may not stand, or of
-/// the first byte too many; 0 where memory ran out.
+/// Why bytes are no image.
 #[derive(Clone, Copy, Debug, Drop, PartialEq, Eq, Error)]
 #[error("byte {offset}: {kind}")]
 pub struct ImageFault {
+    /// What is wrong.
     pub kind: ImageKind,
+    /// Where: the offset of the first field that is wrong, or of a template whose fields don't suit each other, or of the
+    /// first byte after the last instruction; 0 if memory ran out.
     pub offset: usize,
 }
 
 impl ImageFault {
+    /// The fault of this kind at this offset.
     pub(crate) fn at(kind: ImageKind, offset: usize) -> Self
         ensures { result ≡ record { kind = kind; offset = offset } }
     {
         ImageFault { kind, offset }
     }
 
+    /// The fault that memory ran out.
     pub(crate) fn out_of_memory() -> Self
         ensures { result ≡ record { kind = ImageKind.OutOfMemory; offset = 0 } }
     {

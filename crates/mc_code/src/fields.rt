@@ -1,3 +1,4 @@
+//! The fields of an image: bytes and numbers.
 ghost use Rattle.std.specs.Prelude.{◌≡◌, ◌≢◌, ◌≤◌, [], length, IfOk, IfErr, OnOk, OnErr};
 ghost use Rattle.std.specs.Int.{w16, w32, w64};
 ghost use Rattle.mc_code.specs.ImageReading as reading;
@@ -5,11 +6,11 @@ ghost use Rattle.mc_code.specs.ImageReading as reading;
 use crate::{ImageFault, ImageKind};
 use std::marker::Model;
 
-/// The fields of an image, one after another. Contracts see the bytes that are left.
+/// Takes the fields of an image, one after another. Contracts see the bytes that are left.
 #[derive(Drop)]
 pub(crate) struct Fields<'a> {
     rest: &'a [u8],
-    // how many bytes the image has
+    /// How many bytes the image has.
     size: usize,
 }
 
@@ -39,7 +40,7 @@ impl<'a> Fields<'a> {
         self.size - self.rest.len()
     }
 
-    /// Takes so many bytes.
+    /// Takes `count` bytes.
     #[tactic(auto, unfolding(crate::specs::ImageReading::bytes_in))]
     pub(crate) fn bytes(&mut self, count: usize) -> Result<&'a [u8], ImageFault>
         ensures read { reading.Reads (λ bytes. (bytes.now, self.new)) result (reading.bytes_in count self.old) }
@@ -108,7 +109,7 @@ impl<'a> Fields<'a> {
         Ok(number)
     }
 
-    /// Takes a number of bytes, from `least` to `greatest`, and so many bytes.
+    /// Takes a byte that is a number from `least` to `greatest`, and then that number of bytes.
     #[tactic(auto, unfolding(crate::specs::ImageReading::sized_in))]
     pub(crate) fn counted_bytes(
         &mut self,
@@ -121,7 +122,7 @@ impl<'a> Fields<'a> {
         self.bytes(count as usize)
     }
 
-    /// Sees that no byte is left.
+    /// Checks that no byte is left.
     pub(crate) fn finish(&self) -> Result<(), ImageFault>
         ensures end { OnOk result (self.now ≡ []) }
         ensures more { OnErr result (self.now ≢ []) }
@@ -134,7 +135,7 @@ impl<'a> Fields<'a> {
         }
     }
 
-    // The next field isn't whole.
+    /// The fault that the next field isn't whole.
     fn short_fault(&self) -> ImageFault
         ensures { result.kind ≡ ImageKind.Short }
     {

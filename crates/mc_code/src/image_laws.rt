@@ -1,3 +1,4 @@
+//! What follows from the definition of images.
 ghost use Rattle.mc_code.specs.Image.{ImagesAreOfOneCode};
 
 /// No two codes have the same image.

@@ -1,4 +1,4 @@
-//! Code of its image.
+//! Reads the code that an image has.
 ghost use Rattle.std.specs.Prelude.{◌≡◌, ◌≢◌, IfOk, IfErr};
 ghost use Rattle.mc_code.specs.Code as spec;
 ghost use Rattle.mc_code.specs.Image.{image_of};
@@ -16,8 +16,8 @@ use mc_script::{Budget, Template};
 use std::alloc::Global;
 use std::marker::Model;
 
-/// Reads an image. The fault is that of the first faulty field; that a template's fields don't suit each other is told
-/// behind its last field, of the template's first byte.
+/// Reads an image. The fault is that of the first field that is wrong. That the fields of a template don't suit each other
+/// is reported once all of them are read, at the offset of the template.
 pub fn decode(alloc: Global, bytes: &[u8]) -> Result<Code, ImageFault>
     ensures found { IfOk result (λ code. image_of code ≡ bytes.now) }
     ensures kept { IfOk result spec.IsCode }
@@ -38,7 +38,7 @@ pub fn decode(alloc: Global, bytes: &[u8]) -> Result<Code, ImageFault>
     })
 }
 
-/// The parts of a code. Contracts see the code.
+/// What was read of an image. Contracts see it as code.
 #[derive(Drop)]
 struct Parts {
     keys: Vec<Bytes>,
@@ -58,6 +58,7 @@ impl Model for Parts {
     ghost view = { λ c. record { keys = c.keys.items; flags = c.flags; vars = c.vars; templates = c.templates.items; p = c.p; a = c.a; b = c.b } };
 }
 
+/// Reads the whole image.
 #[tactic(auto, unfolding(crate::specs::ImageReading::code_in))]
 fn read_parts(alloc: Global, bytes: &[u8]) -> Result<Parts, ImageFault>
     ensures { reading.Says (λ parts. parts) result (reading.code_in bytes.now) }
@@ -85,6 +86,7 @@ fn read_parts(alloc: Global, bytes: &[u8]) -> Result<Parts, ImageFault>
     })
 }
 
+/// A section with this budget and these instructions.
 fn section_of(budget: Budget, instructions: Vec<Instr>) -> Section
     ensures { result ≡ reading.section_of budget instructions.items }
 {
@@ -94,7 +96,7 @@ fn section_of(budget: Budget, instructions: Vec<Instr>) -> Section
     }
 }
 
-// Takes the first bytes of each image.
+/// Takes the bytes with which each image begins.
 #[tactic(auto, unfolding(crate::specs::ImageReading::magic_in))]
 fn read_magic(fields: &mut Fields) -> Result<(), ImageFault>
     ensures { reading.Reads (λ _. fields.new) result (reading.magic_in fields.old) }
@@ -115,6 +117,7 @@ struct Budgets {
     b: Budget,
 }
 
+/// Takes the budget of each section.
 #[tactic(auto, unfolding(crate::specs::ImageReading::each_in))]
 fn read_budgets(fields: &mut Fields) -> Result<Budgets, ImageFault>
     ensures { reading.Reads (λ budgets. ((budgets.p, budgets.a, budgets.b), fields.new)) result
@@ -134,6 +137,7 @@ struct Instructions {
     b: Vec<Instr>,
 }
 
+/// Takes the instructions of each section.
 #[tactic(auto, unfolding(crate::specs::ImageReading::each_in))]
 fn read_all_instructions(alloc: Global, fields: &mut Fields) -> Result<Instructions, ImageFault>
     ensures { reading.Says (λ all. ((all.p.items, all.a.items, all.b.items), fields.new)) result

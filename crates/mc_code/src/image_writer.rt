@@ -1,4 +1,4 @@
-//! Code as bytes.
+//! Writes the image of code.
 ghost use Rattle.std.specs.Prelude.{◌≡◌, ◌≤◌, ◌∷◌, ◌++◌, length, OnOk, OnErr};
 ghost use Rattle.std.specs.List.{All};
 ghost use Rattle.std.specs.Int.{w64, to_be_bytes};
@@ -30,7 +30,7 @@ pub fn encode(code: &Code, out: &mut Vec<u8>) -> Result<(), OutOfMemory>
     Ok(())
 }
 
-// Appends how many keys there are, and each with its length.
+/// Appends the number of the keys, and each key with its length before it.
 fn push_keys(keys: &[Bytes], out: &mut Vec<u8>) -> Result<(), OutOfMemory>
     requires few { length keys.now ≤ 255 }
     requires short { All (λ key. length key ≤ 255) keys.now }
@@ -43,7 +43,7 @@ fn push_keys(keys: &[Bytes], out: &mut Vec<u8>) -> Result<(), OutOfMemory>
     Ok(())
 }
 
-// Appends how many bytes there are, and the bytes.
+/// Appends the number of the bytes, and the bytes.
 fn push_sized(bytes: &[u8], out: &mut Vec<u8>) -> Result<(), OutOfMemory>
     requires { length bytes.now ≤ 255 }
     ensures { OnOk result (out.new.items ≡ out.old.items ++ image.sized bytes.now) }
@@ -51,7 +51,7 @@ fn push_sized(bytes: &[u8], out: &mut Vec<u8>) -> Result<(), OutOfMemory>
     append_all(out, &[&[bytes.len() as u8], bytes])
 }
 
-// Appends what each section may send.
+/// Appends the budget of each section.
 fn push_budgets(code: &Code, out: &mut Vec<u8>) -> Result<(), OutOfMemory>
     ensures { OnOk result (out.new.items ≡ out.old.items ++ image.budget_bytes code.now.p.budget
         ++ image.budget_bytes code.now.a.budget ++ image.budget_bytes code.now.b.budget) }
@@ -66,7 +66,7 @@ fn push_budgets(code: &Code, out: &mut Vec<u8>) -> Result<(), OutOfMemory>
     )
 }
 
-// The bytes of a budget.
+/// The bytes of a budget.
 fn budget_bytes(budget: Budget) -> [u8; 3]
     requires requests { budget.requests ≤ REQUESTS_LIMIT }
     requires bytes { budget.bytes ≤ BYTES_LIMIT }
@@ -76,7 +76,7 @@ fn budget_bytes(budget: Budget) -> [u8; 3]
     [budget.requests as u8, high, low]
 }
 
-// Appends how many templates there are, and each of them.
+/// Appends the number of the templates, and each template.
 fn push_templates(templates: &[Template], out: &mut Vec<u8>) -> Result<(), OutOfMemory>
     requires few { length templates.now ≤ TEMPLATES_LIMIT }
     requires short { All (λ t. length t.body ≤ BODY_LIMIT) templates.now }
@@ -89,7 +89,7 @@ fn push_templates(templates: &[Template], out: &mut Vec<u8>) -> Result<(), OutOf
     Ok(())
 }
 
-// Appends the fields of a template.
+/// Appends the fields of a template.
 fn push_template(template: &Template, out: &mut Vec<u8>) -> Result<(), OutOfMemory>
     requires { length template.now.body ≤ BODY_LIMIT }
     ensures { OnOk result (out.new.items ≡ out.old.items ++ image.template_bytes template.now) }
@@ -113,14 +113,14 @@ fn push_template(template: &Template, out: &mut Vec<u8>) -> Result<(), OutOfMemo
     )
 }
 
-// The position of a verb in the order of the verbs.
+/// The position of a verb in the order of the verbs.
 fn verb_index(verb: Verb) -> u8
     ensures { result ≡ image.verb_index verb }
 {
     verb as u8
 }
 
-// What an argument is, and its number or that of its variable, or 0.
+/// What sort an argument is of, and its number: the number that it gives, the index of its variable, or 0.
 fn argument_fields(argument: Argument) -> (u8, u64)
     ensures { result.0 ∷ to_be_bytes w64 result.1 ≡ image.argument_bytes argument }
 {
@@ -131,7 +131,7 @@ fn argument_fields(argument: Argument) -> (u8, u64)
     }
 }
 
-// Appends how many instructions a section has, and each of them.
+/// Appends the number of a section's instructions, and each instruction.
 fn push_section(section: &Section, out: &mut Vec<u8>) -> Result<(), OutOfMemory>
     requires { length section.now.instructions ≤ INSTRUCTIONS_LIMIT }
     ensures { OnOk result (out.new.items ≡ out.old.items ++ image.section_bytes section.now) }
@@ -143,7 +143,7 @@ fn push_section(section: &Section, out: &mut Vec<u8>) -> Result<(), OutOfMemory>
     Ok(())
 }
 
-// Appends an instruction.
+/// Appends an instruction.
 fn push_instr(instr: Instr, out: &mut Vec<u8>) -> Result<(), OutOfMemory>
     ensures { OnOk result (out.new.items ≡ out.old.items ++ image.instr_bytes instr) }
 {

@@ -1,17 +1,17 @@
+//! Instructions, and the calls that they make.
 use crate::CLASS_COUNT;
 
-/// One instruction of a section. A place is counted in instructions, from 0.
+/// An instruction of a section. A place in a section is the index of an instruction.
 #[derive(Clone, Copy, Debug, PartialEq, Eq)]
 pub enum Instr {
     /// Sends a request, and waits for its reply.
     Send {
         /// The index of the request's template.
         template: u8,
-        /// The place to which each class of reply leads, in the order of the classes: `Stored` first, `NotNumber` last.
+        /// The place to which a reply of each class leads, in the order of the classes, `Stored` first and `NotNumber` last.
         next: [u8; CLASS_COUNT],
     },
-    /// The variable with this index takes the number that the section's last reply showed, and the next instruction
-    /// follows.
+    /// Gives the variable with this index the number that the section's last reply showed.
     Bind(u8),
     /// Goes to this place.
     Goto(u8),
@@ -19,11 +19,11 @@ pub enum Instr {
     Halt,
 }
 
-/// A request that a section sends: its template, and the number of its `cas`, `incr` or `decr`.
+/// A request that a section sends.
 #[derive(Clone, Copy, Debug, PartialEq, Eq)]
 pub struct Call {
     /// The index of the template.
     pub template: u8,
-    /// The template's own number, or that of its variable; 0 where it has neither.
+    /// The number of a `cas`, an `incr` or a `decr`: the template's own, or that of its variable. Otherwise 0.
     pub number: u64,
 }

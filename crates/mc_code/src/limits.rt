@@ -1,11 +1,12 @@
+//! How large code may be.
 /// The most templates of a code.
 pub const TEMPLATES_LIMIT: usize = 64;
 
 /// The most instructions of a section.
 pub const INSTRUCTIONS_LIMIT: usize = 64;
 
-/// How many classes of replies there are: a send has an entry for each.
+/// How many classes of replies there are. A send has an entry for each.
 pub const CLASS_COUNT: usize = 10;
 
-/// The entry of a send for a class that its verb is never answered with.
+/// The entry of a send for a class of which its verb has no reply.
 pub const NO_ENTRY: u8 = 255;

@@ -1,4 +1,4 @@
-//! Where the code of each step begins.
+//! Where the code of each step and of each label begins.
 ghost use Rattle.std.specs.Prelude.{◌≡◌, ◌+◌, ◌<◌, IfOk};
 ghost use Rattle.std.specs.List.{All};
 ghost use Rattle.mc_code.specs.Layout as layout;
@@ -11,7 +11,8 @@ use mc_script::{Label, Step};
 use std::alloc::Global;
 use std::marker::Model;
 
-/// Where the code of each of a section's steps begins, and of its end; and where it begins behind each label.
+/// The places of a section: where the code of each step begins, where the section ends, and where the code after each label
+/// begins.
 #[derive(Drop)]
 pub(crate) struct Places {
     steps: Vec<u8>,
@@ -32,7 +33,7 @@ impl Model for Places {
 }
 
 impl Places {
-    /// The places of a section's steps and labels, where the code of the first step begins at this place.
+    /// The places of a section whose first step's code begins at `first`.
     pub(crate) fn new(
         alloc: Global,
         first: u8,
@@ -47,7 +48,7 @@ impl Places {
         Ok(Places { steps, labels })
     }
 
-    /// Where the code of the step with this index begins; the end stands behind the last step.
+    /// Where the code of the step with this index begins. The index after the last step's is that of the section's end.
     pub(crate) fn of_step(&self, index: usize) -> u8
         ensures place { result ≡ spec.place_in self.now.steps index }
         ensures below { result < INSTRUCTIONS_LIMIT }
@@ -55,7 +56,7 @@ impl Places {
         place_in(self.steps.as_slice(), index)
     }
 
-    /// Where the code begins behind the label with this index.
+    /// Where the code after the label with this index begins.
     pub(crate) fn of_label(&self, index: usize) -> u8
         ensures { result ≡ spec.place_in self.now.labels index }
     {
@@ -63,13 +64,14 @@ impl Places {
     }
 }
 
-// The place with this index; 0 where there is none.
+/// The place with this index, or 0 if there is none.
 fn place_in(places: &[u8], index: usize) -> u8
     ensures { result ≡ spec.place_in places.now index }
 {
     places.get(index).copied().unwrap_or(0)
 }
 
+/// Where the code of each step begins, and then where the section ends.
 fn step_places(alloc: Global, first: u8, steps: &[Step]) -> Result<Vec<u8>, OutOfMemory>
     requires { first + layout.size_of_all steps.now < INSTRUCTIONS_LIMIT }
     ensures places { IfOk result (λ places. places.items ≡ spec.places_from first steps.now) }
@@ -85,6 +87,7 @@ fn step_places(alloc: Global, first: u8, steps: &[Step]) -> Result<Vec<u8>, OutO
     Ok(places)
 }
 
+/// Where the code after each label begins. `places` are those of the steps.
 fn label_places(alloc: Global, places: &[u8], labels: &[Label]) -> Result<Vec<u8>, OutOfMemory>
     ensures { IfOk result (λ found. found.items ≡ spec.label_places places.now labels.now) }
 {

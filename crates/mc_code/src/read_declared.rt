@@ -1,3 +1,4 @@
+//! Reads what an image declares: its keys, and how many flags and variables there are.
 ghost use Rattle.std.specs.Prelude.{◌≡◌, ◌≤◌, [], IfOk};
 ghost use Rattle.mc_script.specs.declared.limits.TheConstants.{FLAGS_LIMIT};
 ghost use Rattle.mc_code.specs.ImageReading as reading;
@@ -10,11 +11,13 @@ use mc_script::{FLAGS_LIMIT, KEY_BYTES_LIMIT, KEYS_LIMIT, VARIABLES_LIMIT};
 use std::alloc::Global;
 use std::marker::Model;
 
-/// The keys, and how many flags and variables there are. Contracts see the keys as a list.
+/// What an image declares. Contracts see the keys as a list.
 #[derive(Drop)]
 pub(crate) struct Declared {
     pub(crate) keys: Vec<Bytes>,
+    /// How many flags there are.
     pub(crate) flags: u8,
+    /// How many variables there are.
     pub(crate) vars: u8,
 }
 
@@ -26,7 +29,7 @@ impl Model for Declared {
     ghost view = { λ d. record { keys = d.keys.items; flags = d.flags; vars = d.vars } };
 }
 
-/// Takes what stands before the budgets.
+/// Takes the keys, and the numbers of flags and variables.
 #[tactic(auto, unfolding(crate::specs::ImageReading::declared_in))]
 pub(crate) fn read_declared(alloc: Global, fields: &mut Fields) -> Result<Declared, ImageFault>
     ensures read { reading.Says (λ declared. (declared, fields.new)) result (reading.declared_in fields.old) }
@@ -38,6 +41,7 @@ pub(crate) fn read_declared(alloc: Global, fields: &mut Fields) -> Result<Declar
     Ok(Declared { keys, flags, vars })
 }
 
+/// Takes the number of the keys, and each key.
 #[tactic(auto, unfolding(crate::specs::ImageReading::keys_in))]
 fn read_keys(alloc: Global, fields: &mut Fields) -> Result<Vec<Bytes>, ImageFault>
     ensures { reading.Says (λ keys. (keys.items, fields.new)) result (reading.keys_in fields.old) }
@@ -46,6 +50,7 @@ fn read_keys(alloc: Global, fields: &mut Fields) -> Result<Vec<Bytes>, ImageFaul
     take_keys(alloc, fields, count)
 }
 
+/// Takes `count` keys.
 fn take_keys(alloc: Global, fields: &mut Fields, count: u8) -> Result<Vec<Bytes>, ImageFault>
     ensures { reading.Says (λ keys. (keys.items, fields.new)) result
         (reading.items_in reading.key_in count [] fields.old) }
@@ -58,7 +63,7 @@ fn take_keys(alloc: Global, fields: &mut Fields, count: u8) -> Result<Vec<Bytes>
     Ok(keys)
 }
 
-// Takes a key behind these.
+/// Takes a key that is none of `keys`.
 #[tactic(auto, unfolding(crate::specs::ImageReading::key_in))]
 fn read_key<'a>(fields: &mut Fields<'a>, keys: &[Bytes]) -> Result<&'a [u8], ImageFault>
     ensures { reading.Reads (λ key. (key.now, fields.new)) result (reading.key_in keys.now fields.old) }

@@ -1,3 +1,4 @@
+//! Reads the budgets and the instructions of an image.
 ghost use Rattle.std.specs.Prelude.{◌≡◌, []};
 ghost use Rattle.mc_code.specs.ImageReading as reading;
 
@@ -6,7 +7,7 @@ use crate::{CLASS_COUNT, INSTRUCTIONS_LIMIT, ImageFault, ImageKind, Instr};
 use mc_script::{BYTES_LIMIT, Budget, REQUESTS_LIMIT};
 use std::alloc::Global;
 
-/// Takes what a section may send at most.
+/// Takes the budget of a section.
 #[tactic(auto, unfolding(crate::specs::ImageReading::budget_in))]
 pub(crate) fn read_budget(fields: &mut Fields) -> Result<Budget, ImageFault>
     ensures { reading.Reads (λ budget. (budget, fields.new)) result (reading.budget_in fields.old) }
@@ -23,7 +24,7 @@ pub(crate) fn read_budget(fields: &mut Fields) -> Result<Budget, ImageFault>
     })
 }
 
-/// Takes the instructions of a section.
+/// Takes the number of a section's instructions, and each instruction.
 #[tactic(auto, unfolding(crate::specs::ImageReading::instructions_in))]
 pub(crate) fn read_instructions(
     alloc: Global,
@@ -36,6 +37,7 @@ pub(crate) fn read_instructions(
     take_instructions(alloc, fields, count)
 }
 
+/// Takes `count` instructions.
 fn take_instructions(
     alloc: Global,
     fields: &mut Fields,
@@ -52,7 +54,7 @@ fn take_instructions(
     Ok(instructions)
 }
 
-// Takes an instruction.
+/// Takes an instruction.
 #[tactic(auto, unfolding(crate::specs::ImageReading::instr_in, crate::specs::ImageReading::behind_sort))]
 fn read_instr(fields: &mut Fields) -> Result<Instr, ImageFault>
     ensures { reading.Reads (λ instr. (instr, fields.new)) result (reading.instr_in fields.old) }
@@ -65,6 +67,7 @@ fn read_instr(fields: &mut Fields) -> Result<Instr, ImageFault>
     }
 }
 
+/// Takes what a send has after its sort.
 #[tactic(auto, unfolding(crate::specs::ImageReading::send_in))]
 fn read_send(fields: &mut Fields) -> Result<Instr, ImageFault>
     ensures { reading.Reads (λ instr. (instr, fields.new)) result (reading.send_in fields.old) }
@@ -76,6 +79,7 @@ fn read_send(fields: &mut Fields) -> Result<Instr, ImageFault>
     Ok(Instr::Send { template, next })
 }
 
+/// Takes what a bind has after its sort.
 #[tactic(auto, unfolding(crate::specs::ImageReading::bind_in))]
 fn read_bind(fields: &mut Fields) -> Result<Instr, ImageFault>
     ensures { reading.Reads (λ instr. (instr, fields.new)) result (reading.bind_in fields.old) }
@@ -84,6 +88,7 @@ fn read_bind(fields: &mut Fields) -> Result<Instr, ImageFault>
     Ok(Instr::Bind(variable))
 }
 
+/// Takes what a goto has after its sort.
 #[tactic(auto, unfolding(crate::specs::ImageReading::goto_in))]
 fn read_goto(fields: &mut Fields) -> Result<Instr, ImageFault>
     ensures { reading.Reads (λ instr. (instr, fields.new)) result (reading.goto_in fields.old) }

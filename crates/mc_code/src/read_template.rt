@@ -1,3 +1,4 @@
+//! Reads the templates of an image.
 ghost use Rattle.std.specs.Prelude.{◌≡◌, ◌≤◌, []};
 ghost use Rattle.mc_script.specs.declared.limits.TheConstants.{FLAGS_LIMIT};
 ghost use Rattle.mc_code.specs.ImageReading as reading;
@@ -9,7 +10,7 @@ use mc_protocol::{Bytes, Verb};
 use mc_script::{Argument, BODY_LIMIT, Mask, Template};
 use std::alloc::Global;
 
-/// Takes the templates, where so many keys, flags and variables are declared.
+/// Takes the number of the templates, and each template. `counts` says what is declared.
 #[tactic(auto, unfolding(crate::specs::ImageReading::templates_in))]
 pub(crate) fn read_templates(
     alloc: Global,
@@ -24,6 +25,7 @@ pub(crate) fn read_templates(
     take_templates(alloc, fields, counts, count)
 }
 
+/// Takes `count` templates.
 fn take_templates(
     alloc: Global,
     fields: &mut Fields,
@@ -42,7 +44,7 @@ fn take_templates(
     Ok(templates)
 }
 
-// Takes a template.
+/// Takes a template. Whether its fields suit each other is decided once all of them are read.
 #[tactic(auto, unfolding(crate::specs::ImageReading::template_in, crate::specs::ImageReading::allowed))]
 fn read_template(alloc: Global, fields: &mut Fields, counts: Counts) -> Result<Template, ImageFault>
     requires { counts.flags ≤ FLAGS_LIMIT }
@@ -76,6 +78,7 @@ fn read_template(alloc: Global, fields: &mut Fields, counts: Counts) -> Result<T
     Ok(template)
 }
 
+/// Takes a verb.
 #[tactic(auto, unfolding(crate::specs::ImageReading::verb_in))]
 fn read_verb(fields: &mut Fields) -> Result<Verb, ImageFault>
     ensures { reading.Reads (λ verb. (verb, fields.new)) result (reading.verb_in fields.old) }
@@ -88,7 +91,7 @@ fn read_verb(fields: &mut Fields) -> Result<Verb, ImageFault>
     }
 }
 
-// The verb with this index, in the order of the verbs.
+/// The verb with this index, in the order of the verbs.
 #[tactic(auto, unfolding(crate::specs::ImageReading::verb_at))]
 fn verb_at(index: u8) -> Option<Verb>
     ensures { result ≡ reading.verb_at index }
@@ -110,7 +113,7 @@ fn verb_at(index: u8) -> Option<Verb>
     }
 }
 
-// Takes what stands behind the key. There is `None` where its number doesn't suit its sort.
+/// Takes the sort of an argument, and its number. `None` says that the number doesn't suit the sort.
 #[tactic(auto, unfolding(crate::specs::ImageReading::argument_in))]
 fn read_argument(fields: &mut Fields, vars: u8) -> Result<Option<Argument>, ImageFault>
     ensures { reading.Reads (λ argument. (argument, fields.new)) result (reading.argument_in vars fields.old) }
@@ -120,6 +123,7 @@ fn read_argument(fields: &mut Fields, vars: u8) -> Result<Option<Argument>, Imag
     Ok(argument_of(vars, sort, number))
 }
 
+/// The argument of this sort with this number, if there is one. `vars` is how many variables there are.
 #[tactic(auto, unfolding(crate::specs::ImageReading::argument_of))]
 fn argument_of(vars: u8, sort: u8, number: u64) -> Option<Argument>
     ensures { result ≡ reading.argument_of vars sort number }
@@ -133,7 +137,7 @@ fn argument_of(vars: u8, sort: u8, number: u64) -> Option<Argument>
     }
 }
 
-/// The flags that a request needs and changes.
+/// Which flags a request needs, and which it changes.
 #[derive(Clone, Copy)]
 struct Masks {
     require_set: Mask,
@@ -142,6 +146,7 @@ struct Masks {
     clears: Mask,
 }
 
+/// Takes the masks of a template.
 #[tactic(auto, unfolding(crate::specs::ImageReading::masks_in))]
 fn read_masks(fields: &mut Fields) -> Result<Masks, ImageFault>
     ensures { reading.Reads (λ masks. (masks, fields.new)) result (reading.masks_in fields.old) }

@@ -1,4 +1,4 @@
-//! How many templates and instructions a script needs.
+//! How many templates and instructions a script needs, and whether those are too many.
 ghost use Rattle.std.specs.Prelude.{◌≡◌, ◌+◌, ◌*◌, ◌≤◌, length, IfErr, OnOk};
 ghost use Rattle.mc_protocol.specs.declared.actor.Actor as actor;
 ghost use Rattle.mc_code.specs.Layout as layout;
@@ -10,7 +10,7 @@ use crate::limits::{INSTRUCTIONS_LIMIT, TEMPLATES_LIMIT};
 use mc_protocol::{Actor, Bytes};
 use mc_script::{KEYS_LIMIT, STEPS_LIMIT, Script, Step};
 
-/// How many instructions a step is: a request that binds a variable is two.
+/// How many instructions a step needs: two if it is a request that binds a variable, and otherwise one.
 pub(crate) fn size_of(step: &Step) -> u8
     ensures size { result ≡ layout.size_of step.now }
     ensures few { result ≤ 2 }
@@ -21,7 +21,7 @@ pub(crate) fn size_of(step: &Step) -> u8
     }
 }
 
-/// How many templates a step is: one where it is a request.
+/// How many templates a step needs: one if it is a request.
 pub(crate) fn request_count_of(step: &Step) -> u8
     ensures count { result ≡ length (layout.request_of step.now) }
     ensures few { result ≤ 1 }
@@ -32,7 +32,7 @@ pub(crate) fn request_count_of(step: &Step) -> u8
     }
 }
 
-/// The keys that a section clears before its steps.
+/// The keys that a section deletes before its steps: P deletes each of them.
 pub(crate) fn cleared_keys(script: &Script, actor: Actor) -> &[Bytes]
     ensures { result.now ≡ assembling.cleared_keys script.now actor }
 {
@@ -42,7 +42,7 @@ pub(crate) fn cleared_keys(script: &Script, actor: Actor) -> &[Bytes]
     }
 }
 
-/// How many templates a section's requests have.
+/// How many templates a section needs: one for each key that it deletes, and one for each request of its steps.
 #[tactic(auto, using(crate::proofs::Fronts::request_count_is, crate::proofs::Bounds::few_keys, crate::proofs::Bounds::few_steps))]
 pub(crate) fn request_count(script: &Script, actor: Actor) -> usize
     ensures few { result ≤ KEYS_LIMIT + STEPS_LIMIT }
@@ -51,7 +51,7 @@ pub(crate) fn request_count(script: &Script, actor: Actor) -> usize
     cleared_keys(script, actor).len() + request_count_in(script.steps(actor))
 }
 
-/// How many instructions a section has, the last halt among them.
+/// How many instructions a section needs, with the halt that ends it.
 #[tactic(auto, using(crate::proofs::Fronts::all_size))]
 pub(crate) fn instruction_count(script: &Script, actor: Actor) -> usize
     ensures { result ≡ layout.instruction_count script.now actor }
@@ -59,6 +59,7 @@ pub(crate) fn instruction_count(script: &Script, actor: Actor) -> usize
     cleared_keys(script, actor).len() + size_of_all(script.steps(actor)) + 1
 }
 
+/// How many templates these steps need.
 fn request_count_in(steps: &[Step]) -> usize
     ensures count { result ≡ length (layout.requests_of steps.now) }
     ensures few { result ≤ length steps.now }
@@ -70,6 +71,7 @@ fn request_count_in(steps: &[Step]) -> usize
     count
 }
 
+/// How many instructions these steps need.
 fn size_of_all(steps: &[Step]) -> usize
     ensures size { result ≡ layout.size_of_all steps.now }
     ensures few { result ≤ 2 * length steps.now }
@@ -81,7 +83,7 @@ fn size_of_all(steps: &[Step]) -> usize
     size
 }
 
-/// Whether the script's templates and instructions are few enough.
+/// Checks that the script doesn't need too many templates, and then that no section needs too many instructions.
 pub(crate) fn check_limits(script: &Script) -> Result<(), AsmFault>
     ensures templates { OnOk result (layout.template_count script.now ≤ TEMPLATES_LIMIT) }
     ensures instructions { OnOk result ((actor : actor.Actor) → layout.instruction_count script.now actor ≤ INSTRUCTIONS_LIMIT) }
@@ -99,6 +101,7 @@ pub(crate) fn check_limits(script: &Script) -> Result<(), AsmFault>
     check_section(script, Actor::B)
 }
 
+/// Checks that the section doesn't need too many instructions.
 fn check_section(script: &Script, actor: Actor) -> Result<(), AsmFault>
     ensures few { OnOk result (layout.instruction_count script.now actor ≤ INSTRUCTIONS_LIMIT) }
     ensures exceeded { IfErr result (layout.IsExceeded script.now) }

@@ -21,7 +21,7 @@ pub(crate) fn templates_of(alloc: Global, script: &Script) -> Result<Vec<Templat
     Ok(templates)
 }
 
-// Appends the templates of a section.
+/// Appends the templates of a section.
 fn add_section(
     alloc: Global,
     script: &Script,
@@ -35,7 +35,7 @@ fn add_section(
     add_requests(alloc, script.steps(actor), out)
 }
 
-// Appends a delete of each of these keys.
+/// Appends a delete of each of these keys.
 fn add_clearing(alloc: Global, keys: &[Bytes], out: &mut Vec<Template>) -> Result<(), OutOfMemory>
     requires { length keys.now ≤ TEMPLATES_LIMIT }
     ensures { OnOk result (out.new.items ≡ out.old.items ++ layout.requests_of (runs.clearing_steps 0 keys.now)) }
@@ -46,7 +46,7 @@ fn add_clearing(alloc: Global, keys: &[Bytes], out: &mut Vec<Template>) -> Resul
     Ok(())
 }
 
-// A delete of the key, without marks.
+/// A delete of the key with this index. It needs no flag and changes none.
 fn delete_of(alloc: Global, key: u8) -> Template
     ensures { result ≡ runs.clearing key }
 {
@@ -63,22 +63,14 @@ fn delete_of(alloc: Global, key: u8) -> Template
     }
 }
 
-// Appends the templates of these steps.
+/// Appends the templates of these steps.
 fn add_requests(alloc: Global, steps: &[Step], out: &mut Vec<Template>) -> Result<(), OutOfMemory>
     ensures { OnOk result (out.new.items ≡ out.old.items ++ layout.requests_of steps.now) }
 {
     'steps: for step in steps {
-        add_request(alloc, step, out)?;
-    }
-    Ok(())
-}
-
-fn add_request(alloc: Global, step: &Step, out: &mut Vec<Template>) -> Result<(), OutOfMemory>
-    ensures { OnOk result (out.new.items ≡ out.old.items ++ layout.request_of step.now) }
-{
-    match step {
-        Step::Send { template, .. } => out.push(copy(alloc, template)?)?,
-        _ => (),
+        if let Step::Send { template, .. } = step {
+            out.push(copy(alloc, template)?)?;
+        }
     }
     Ok(())
 }

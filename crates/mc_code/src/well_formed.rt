@@ -1,3 +1,4 @@
+//! Whether a template may stand in code.
 ghost use Rattle.std.specs.Prelude.{◌≡◌, ◌≤◌, ◌^◌, nat_lt};
 ghost use Rattle.mc_script.specs.declared.limits.TheConstants.{FLAGS_LIMIT};
 ghost use Rattle.mc_script.specs.Templates as spec;
@@ -7,7 +8,7 @@ use crate::names::is_body;
 use mc_protocol::Fields;
 use mc_script::{Argument, Mask, Template};
 
-/// How many keys, flags and variables are declared.
+/// How many keys, flags and variables an image declares.
 #[derive(Clone, Copy)]
 pub(crate) struct Counts {
     pub(crate) keys: usize,
@@ -15,7 +16,7 @@ pub(crate) struct Counts {
     pub(crate) vars: u8,
 }
 
-/// Whether the template may stand where so many are declared.
+/// Whether the template's fields suit its verb, and its key, flags and variable are declared.
 #[tactic(auto, unfolding(crate::specs::ImageReading::is_template))]
 pub(crate) fn is_template(counts: Counts, template: &Template) -> bool
     requires { counts.flags ≤ FLAGS_LIMIT }
@@ -32,29 +33,21 @@ pub(crate) fn is_template(counts: Counts, template: &Template) -> bool
         && are_masks(counts.flags, template)
 }
 
-// Whether the flags, the argument and the body are what the verb has.
+/// Whether the flags, the argument and the body suit a verb with these fields. `vars` is how many variables there are.
 fn has_fields(vars: u8, fields: Fields, flags: u32, argument: Argument, body: &[u8]) -> bool
     ensures { result ≡ spec.has_fields vars fields flags argument body.now }
 {
     match fields {
         Fields::KeyAlone | Fields::Expiry => {
-            flags == 0 && is_nothing(argument) && body.is_empty()
+            flags == 0 && argument == Argument::Nothing && body.is_empty()
         }
-        Fields::Item => is_nothing(argument) && is_body(body),
+        Fields::Item => argument == Argument::Nothing && is_body(body),
         Fields::Swap => is_variable(vars, argument) && is_body(body),
         Fields::Amount => flags == 0 && is_amount(vars, argument) && body.is_empty(),
     }
 }
 
-fn is_nothing(argument: Argument) -> bool
-    ensures { result ≡ spec.is_nothing argument }
-{
-    match argument {
-        Argument::Nothing => true,
-        Argument::Number(_) | Argument::Variable(_) => false,
-    }
-}
-
+/// Whether the argument is a variable that is declared.
 fn is_variable(vars: u8, argument: Argument) -> bool
     ensures { result ≡ spec.is_variable vars argument }
 {
@@ -64,6 +57,7 @@ fn is_variable(vars: u8, argument: Argument) -> bool
     }
 }
 
+/// Whether the argument is a number, or a variable that is declared.
 fn is_amount(vars: u8, argument: Argument) -> bool
     ensures { result ≡ spec.is_amount vars argument }
 {
@@ -74,7 +68,8 @@ fn is_amount(vars: u8, argument: Argument) -> bool
     }
 }
 
-// Whether the masks have declared flags alone, and none needed or changed both ways.
+/// Whether the template's masks name declared flags alone, and it neither needs a flag both set and clear, nor sets and
+/// clears one.
 fn are_masks(flags: u8, template: &Template) -> bool
     requires { flags ≤ FLAGS_LIMIT }
     ensures { result ≡ reading.are_masks flags template.now }
@@ -87,7 +82,7 @@ fn are_masks(flags: u8, template: &Template) -> bool
         && template.sets & template.clears == 0
 }
 
-// Whether each bit of the mask is one of so many flags.
+/// Whether each bit of the mask is that of a declared flag. `flags` is how many there are.
 fn is_mask(flags: u8, mask: Mask) -> bool
     requires { flags ≤ FLAGS_LIMIT }
     ensures { result ≡ nat_lt mask (2 ^ flags) }

@@ -35,7 +35,7 @@ pub enum HistoryKind {
 }
 
 impl HistoryKind {
-    /// The number of the kind, as a refusal tells it.
+    /// The number of the kind, as a refusal shows it.
     pub fn number(self) -> u32
         ensures { result ≡ kinds.kind_number self }
     {
@@ -53,7 +53,7 @@ impl HistoryKind {
         }
     }
 
-    /// The name of the kind, as a refusal tells it.
+    /// The name of the kind, as a refusal shows it.
     pub fn name(self) -> &'static str
         ensures { result.now ≡ kinds.kind_name self }
     {

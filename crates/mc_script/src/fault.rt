@@ -40,7 +40,7 @@ pub enum ScriptKind {
 }
 
 impl ScriptKind {
-    /// The number of the kind, as a refusal tells it.
+    /// The number of the kind, as a refusal shows it.
     pub fn number(self) -> u32
         ensures { result ≡ kinds.kind_number self }
     {
@@ -63,7 +63,7 @@ impl ScriptKind {
         }
     }
 
-    /// The name of the kind, as a refusal tells it.
+    /// The name of the kind, as a refusal shows it.
     pub fn name(self) -> &'static str
         ensures { result.now ≡ kinds.kind_name self }
     {
