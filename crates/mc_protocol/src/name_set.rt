@@ -1,6 +1,6 @@
 //! A set of names, which finds one that stood before.
 
-ghost use Rattle.std.specs.Prelude.{◌≡◌, [], ◌∷◌, ◌++◌, OnOk};
+ghost use Rattle.std.specs.Prelude.{◌≡◌, [], ◌∷◌, ◌++◌, OnOk, OnErr};
 ghost use Rattle.std.specs.List.{list_any};
 ghost use Rattle.std.specs.Str.{bytes_eq};
 
@@ -52,9 +52,10 @@ impl<'a> NameSet<'a> {
         self.set.contains(name)
     }
 
-    /// Adds a name.
+    /// Adds a name. Want of memory leaves the set as it was.
     pub fn push(&mut self, name: &'a [u8]) -> Result<(), OutOfMemory>
-        ensures { OnOk result (self.new ≡ self.old ++ name.now ∷ []) }
+        ensures ok { OnOk result (self.new ≡ self.old ++ name.now ∷ []) }
+        ensures err { OnErr result (self.new ≡ self.old) }
     {
         self.names.reserve(1)?;
         self.set.insert(name)?;

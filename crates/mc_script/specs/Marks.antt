@@ -3,7 +3,8 @@ use Rattle.std.specs.Prelude.{◌≡◌, ℕ, ◌==◌, Bool, true, false, not, 
 use Rattle.std.specs.Int.Bits.{bit_or}
 use Rattle.std.specs.List.{list_all, list_any, fold}
 use Rattle.mc_protocol.specs.Legal.{is_legal, same}
-use Rattle.mc_protocol.specs.Words.{class_word, class_index}
+use Rattle.mc_protocol.specs.Words.{class_word}
+pub use Rattle.mc_protocol.specs.Words.{class_index}
 use Rattle.mc_protocol.specs.declared.request.Verb.{Verb}
 use Rattle.mc_protocol.specs.declared.request.Verb.TheVariants as verb
 use Rattle.mc_protocol.specs.declared.reply.Class.{Class}

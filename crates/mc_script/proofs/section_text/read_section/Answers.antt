@@ -25,7 +25,7 @@ lines-preserved c =
       | in-Some+else-has+in_ok-push-in-Some w ↦ record {
         reads = step (Some w.in-Some.name.now) _ c.lines.invariant.reads c.in_ok-line.ensures.line (sym c.is_only.ensures.test ∙ c.if-is_only.false)
             c.words.ensures c.in-Ok.ensures w.in-Some.ensures (ap not (sym w.has.ensures ∙ w.if-has.false))
-            c.in_ok-push.ensures.items w.count-is (w.labels-is ∙ w.in_ok-push-in-Some.ensures);
+            c.in_ok-push.ensures.items w.count-is (w.labels-is ∙ w.in_ok-push-in-Some.ensures.ok);
         few = omega (arith, w.count-is, c.lines.invariant.few);
       }
       | in-None+else-not-has_room w ↦ record {
