@@ -17,7 +17,6 @@ mod image_writer;
 mod instr;
 mod kind;
 mod limits;
-mod names;
 mod places;
 mod read_declared;
 mod read_section;

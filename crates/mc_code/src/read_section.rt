@@ -3,7 +3,8 @@ ghost use Rattle.mc_code.specs.ImageReading as reading;
 
 use crate::fields::Fields;
 use crate::{CLASS_COUNT, INSTRUCTIONS_LIMIT, ImageFault, ImageKind, Instr};
-use mc_script::{BYTES_LIMIT, Budget, REQUESTS_LIMIT};
+use mc_protocol::{REQUEST_BYTES_LIMIT, REQUESTS_LIMIT};
+use mc_script::Budget;
 use std::alloc::Global;
 
 /// Takes what a section may send at most.
@@ -11,10 +12,10 @@ use std::alloc::Global;
 pub(crate) fn read_budget(fields: &mut Fields) -> Result<Budget, ImageFault>
     ensures { reading.Says (λ budget. (budget, fields.new)) result (reading.budget_in fields.old) }
 {
-    let requests = fields.small(0, REQUESTS_LIMIT as usize)?;
+    let requests = fields.small(0, REQUESTS_LIMIT)?;
     let offset = fields.offset();
     let bytes = fields.number_16()?;
-    if bytes as u64 > BYTES_LIMIT {
+    if bytes as usize > REQUEST_BYTES_LIMIT {
         return Err(ImageFault::at(ImageKind::Range, offset));
     }
     Ok(Budget {

@@ -7,8 +7,8 @@ ghost use Rattle.mc_code.specs.Assembling as assembling;
 
 use crate::AsmFault;
 use crate::limits::{INSTRUCTIONS_LIMIT, TEMPLATES_LIMIT};
-use mc_protocol::{Actor, Bytes};
-use mc_script::{KEYS_LIMIT, STEPS_LIMIT, Script, Step};
+use mc_protocol::{Actor, Bytes, KEYS_LIMIT};
+use mc_script::{STEPS_LIMIT, Script, Step};
 
 /// How many instructions a step is: a request that binds a variable is two.
 pub(crate) fn size_of(step: &Step) -> u8

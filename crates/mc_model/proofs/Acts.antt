@@ -6,7 +6,7 @@ use Rattle.mc_protocol.specs.Legal.{class_of, is_fit}
 use Rattle.mc_protocol.specs.declared.request.Request.{Request}
 use Rattle.mc_protocol.specs.declared.request.Verb.TheVariants as verb
 use Rattle.mc_protocol.specs.declared.reply.Reply.TheVariants as reply
-use Rattle.mc_protocol.specs.declared.legal.TheConstants.{BODY_LIMIT}
+use Rattle.mc_protocol.specs.declared.limits.TheConstants.{REPLY_BODY_LIMIT}
 use Rattle.mc_model.specs.declared.cache.Item.{Item}
 use Rattle.mc_model.specs.declared.numeral.Numeral.TheVariants.{Is}
 use Rattle.mc_model.specs.declared.act.Choice.{Choice}
@@ -46,19 +46,19 @@ replies_fit contents request choice number short =
     fits request number (at contents request) (effect_of contents request choice number) (does_here contents request choice number) short
 
 -- what is at most as long as 20 bytes or an old body within the limit is within the limit
-no_longer : (found : Option Item) (n : ℕ) → n ≤ max 20 (body_length found) → is_short found ≡ true → leb n BODY_LIMIT ≡ true
-no_longer None n few short = le-leb n BODY_LIMIT (omega arith)
-no_longer (Some item) n few short = let below = leb-true (length item.body) BODY_LIMIT short in le-leb n BODY_LIMIT (omega arith)
+no_longer : (found : Option Item) (n : ℕ) → n ≤ max 20 (body_length found) → is_short found ≡ true → leb n REPLY_BODY_LIMIT ≡ true
+no_longer None n few short = le-leb n REPLY_BODY_LIMIT (omega arith)
+no_longer (Some item) n few short = let below = leb-true (length item.body) REPLY_BODY_LIMIT short in le-leb n REPLY_BODY_LIMIT (omega arith)
 
 -- a new body that isn't joined is within the limit
-new_short : (request : Request) (found : Option Item) (body : List ℕ) → NewBody request found body → joins request.verb ≡ false → leb (length request.body) BODY_LIMIT ≡ true → is_short found ≡ true
-    → leb (length body) BODY_LIMIT ≡ true
+new_short : (request : Request) (found : Option Item) (body : List ℕ) → NewBody request found body → joins request.verb ≡ false → leb (length request.body) REPLY_BODY_LIMIT ≡ true → is_short found ≡ true
+    → leb (length body) REPLY_BODY_LIMIT ≡ true
 new_short request found body (own alone) not_joined given short = given
 new_short request found body (joining _ both is) not_joined given short = absurd (both_ways (joins request.verb) not_joined both)
 new_short request found body (counting _ alone few) not_joined given short = no_longer found (length body) few short
 
 -- and so is what is at the key after an effect
-stays_short : (request : Request) (number : ℕ) (found : Option Item) (effect : Effect) → Does request number found effect → joins request.verb ≡ false → leb (length request.body) BODY_LIMIT ≡ true → is_short found ≡ true
+stays_short : (request : Request) (number : ℕ) (found : Option Item) (effect : Effect) → Does request number found effect → joins request.verb ≡ false → leb (length request.body) REPLY_BODY_LIMIT ≡ true → is_short found ≡ true
     → is_short (after effect.change found) ≡ true
 stays_short request number found effect (answering r told fit) alone given short = short
 stays_short request number found effect (removing fit) alone given short = refl

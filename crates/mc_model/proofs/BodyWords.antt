@@ -2,10 +2,11 @@
 use Rattle.std.proofs.Common.{◌≡◌, ◌≢◌, ℕ, ◌+◌, ◌*◌, ◌==◌, nat_le, Bool, true, false, not, ◌&&◌, cond, Option, Some, None, Result, Ok, Err, List, [], ◌∷◌, length, refl, sym, ap, ◌∙◌, inl, inr}
 use Rattle.std.specs.Result.{IfErr}
 use Rattle.std.proofs.lemmas.Bool.{eqb-true, leb-true, le-leb}
-use Rattle.mc_protocol.specs.declared.legal.TheConstants.{BODY_LIMIT}
+use Rattle.mc_protocol.specs.declared.limits.TheConstants.{REPLY_BODY_LIMIT}
+use Rattle.mc_protocol.specs.Lines.{Word}
 use Rattle.mc_model.specs.declared.words.WordsFault.{WordsFault}
 use Rattle.mc_model.specs.declared.words.WordsFault.TheVariants as fault
-use Rattle.mc_model.specs.Words.{Word, SpellsByte, SpellsBytes, SpellsBody, is_plain, hex_value}
+use Rattle.mc_model.specs.Words.{SpellsByte, SpellsBytes, SpellsBody, is_plain, hex_value}
 use Rattle.mc_model.specs.Reading.{◌>>=◌, first_byte_in, bytes_in, body_in, in_front, plain_before, hex_before, if_plain, if_hex, within_limit}
 use Rattle.mc_model.proofs.Outcomes.{then-ok, steps-ok, ok-same}
 use Rattle.mc_model.proofs.Escaped.{read_on, bytes_in-first}
@@ -122,13 +123,13 @@ body-spelled [] body h = absurd (cc)
 body-spelled (first ∷ text) body h =
     let p = then-ok (first == 61) (bytes_in text >>= within_limit) fault.Form body h in
     let q = steps-ok (bytes_in text) within_limit body p.1 in
-    let s = then-ok (nat_le (length q.0) BODY_LIMIT) (Ok q.0) fault.Form body q.2 in
+    let s = then-ok (nat_le (length q.0) REPLY_BODY_LIMIT) (Ok q.0) fault.Form body q.2 in
     let same = ok-same q.0 body s.1 in
-    (text, ap (λ x. x ∷ text) (eqb-true first 61 p.0), bytes-spelled text body (q.1 ∙ s.1), leb-true (length body) BODY_LIMIT (rw same at s.0))
+    (text, ap (λ x. x ∷ text) (eqb-true first 61 p.0), bytes-spelled text body (q.1 ∙ s.1), leb-true (length body) REPLY_BODY_LIMIT (rw same at s.0))
 
 pub body-read : (word : Word) (body : List ℕ) → SpellsBody word body → body_in word ≡ Ok body
 unfolding body_in
-body-read word body (text, e, spelled, small) = rw (e, bytes-read text body spelled, le-leb (length body) BODY_LIMIT small) refl
+body-read word body (text, e, spelled, small) = rw (e, bytes-read text body spelled, le-leb (length body) REPLY_BODY_LIMIT small) refl
 
 -- a word spells one body
 pub one_body : (word : Word) (a b : List ℕ) → SpellsBody word a → SpellsBody word b → a ≡ b
@@ -169,7 +170,7 @@ form-bytes (a ∷ b ∷ []) = form-plain a (bytes_in (b ∷ [])) (form-bytes (b 
 form-bytes (a ∷ b ∷ c ∷ xs) = form-either (a == 37) (hex_value b) (hex_value c) (bytes_in xs) (bytes_in (b ∷ c ∷ xs)) a (form-bytes xs) (form-bytes (b ∷ c ∷ xs))
 
 form-limit : (read : Result (List ℕ) WordsFault) → IsNoNumber read → IsNoNumber (read >>= within_limit)
-form-limit (Ok bytes) h = form-then (nat_le (length bytes) BODY_LIMIT) (Ok bytes) tt
+form-limit (Ok bytes) h = form-then (nat_le (length bytes) REPLY_BODY_LIMIT) (Ok bytes) tt
 form-limit (Err e) h = h
 
 pub body-form : (word : Word) → IsNoNumber (body_in word)

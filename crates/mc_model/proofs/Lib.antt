@@ -1,5 +1,4 @@
 pub mod Entries
-pub mod Numbers
 pub mod Changes
 pub mod Effects
 pub mod Acts

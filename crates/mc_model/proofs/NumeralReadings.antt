@@ -9,11 +9,11 @@ use Rattle.std.proofs.lemmas.List.Sums.{take_while-cons}
 use Rattle.std.proofs.lemmas.List.Folds.{length-prefix_len}
 use Rattle.std.proofs.lemmas.Bool.{ltb-true, leb-true, eqb-true, eqb-false, not-true, and_parts, and_from, not_from_false, ne_eqb, lt-ltb, le-leb}
 use Rattle.std.proofs.lemmas.Fmt.{digits_decimal, digits_value-decimal, length-decimal-le, decimal_nonempty}
+use Rattle.mc_protocol.specs.Decimals.{are_digits, is_digit}
+use Rattle.mc_protocol.proofs.Digits.{digits as own}
 use Rattle.mc_model.specs.declared.numeral.Numeral.{Numeral}
 use Rattle.mc_model.specs.declared.numeral.Numeral.TheVariants.{NoNumber, Is, MayBe}
-use Rattle.mc_model.specs.Words.{are_digits, is_digit}
 use Rattle.mc_model.specs.Numeral.{numeral_of, numeral_of_parts, leading_digits, behind_digits, ends_or_has_space, are_spaces, is_space, is_readable, is_plain_numeral, read_as}
-use Rattle.mc_model.proofs.Numbers.{digits as own}
 use Rattle.mc_model.specs.NumeralLaws.{BeginsWithNumber, IsPlainNumber, WillingReads, StrictReads}
 
 -- one more element before those that pass, where it passes

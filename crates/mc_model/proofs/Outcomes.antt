@@ -1,6 +1,5 @@
 -- What a reading that succeeded went through.
-use Rattle.std.proofs.Common.{◌≡◌, Bool, true, false, cond, Some, List, [], ◌∷◌, Result, Ok, Err, refl}
-use Rattle.std.specs.List.{find}
+use Rattle.std.proofs.Common.{◌≡◌, Bool, true, false, cond, Result, Ok, Err, refl}
 use Rattle.mc_model.specs.declared.words.WordsFault.{WordsFault}
 use Rattle.mc_model.specs.Reading.{◌>>=◌}
 
@@ -18,15 +17,6 @@ else-ok false r e x h = (refl, h)
 pub steps-ok : {A B : Type 0} (r : Result A WordsFault) (f : A → Result B WordsFault) (y : B) → (r >>= f) ≡ Ok y → (x : A) × (r ≡ Ok x) × (f x ≡ Ok y)
 steps-ok (Ok x) f y h = (x, refl, h)
 steps-ok (Err e) f y h = absurd (cc)
-
-find-here : {X : Type 0} (passes : X → Bool) (b : Bool) (x y : X) (xs : List X) → passes x ≡ b → cond b (Some x) (find passes xs) ≡ Some y → (find passes xs ≡ Some y → passes y ≡ true) → passes y ≡ true
-find-here passes true x y xs p h rest = let e : x ≡ y = cc in rw (← e) p
-find-here passes false x y xs p h rest = rest h
-
--- what is found passes
-pub find-passes : {X : Type 0} (passes : X → Bool) (xs : List X) (y : X) → find passes xs ≡ Some y → passes y ≡ true
-find-passes passes [] y h = absurd (cc)
-find-passes passes (x ∷ xs) y h = find-here passes (passes x) x y xs refl h (find-passes passes xs y)
 
 pub ok-same : {A E : Type 0} (x y : A) → ◌≡◌ {A = Result A E} (Ok x) (Ok y) → x ≡ y
 ok-same x y h = cc

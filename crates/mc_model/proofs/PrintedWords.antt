@@ -1,40 +1,24 @@
 -- What is printed spells the value.
-use Rattle.std.proofs.Common.{◌≡◌, ℕ, ◌/◌, ◌%◌, ◌^◌, ◌<◌, ◌≤◌, ◌==◌, ◌++◌, nat_le, Bool, true, false, not, ◌&&◌, cond, Option, Some, None, List, [], ◌∷◌, length, decimal, refl, sym, subst, inl, inr, arith}
+use Rattle.std.proofs.Common.{◌≡◌, ℕ, ◌/◌, ◌%◌, ◌<◌, ◌≤◌, ◌==◌, ◌++◌, nat_le, Bool, true, false, ◌&&◌, cond, Option, Some, None, List, [], ◌∷◌, length, decimal, refl, sym, subst, inl, inr, arith}
 use Rattle.std.specs.List.{flat_map}
 use Rattle.std.specs.Fmt.{digit_glyph}
 use Rattle.std.specs.Option.{IfSome}
 use Rattle.std.proofs.lemmas.Bool.{and_parts, eqb-true, leb-true}
 use Rattle.std.proofs.lemmas.Bool.Decides.{nat_tests}
-use Rattle.std.proofs.lemmas.Fmt.{decimal_nonempty, digits_decimal, digits_value-decimal, length-decimal-le}
 use Rattle.std.proofs.lemmas.List.Elements.{All-nil, All-head, All-tail}
 use Rattle.mc_protocol.specs.Fields.{fields_of}
-use Rattle.mc_protocol.specs.declared.legal.TheConstants.{BODY_LIMIT}
+use Rattle.mc_protocol.specs.declared.limits.TheConstants.{REPLY_BODY_LIMIT}
 use Rattle.mc_protocol.specs.declared.request.Fields.{Fields}
 use Rattle.mc_protocol.specs.declared.request.Fields.TheVariants as fields
 use Rattle.mc_protocol.specs.declared.request.Request.{Request}
 use Rattle.mc_protocol.specs.declared.reply.Reply.{Reply}
 use Rattle.mc_protocol.specs.declared.reply.Reply.TheVariants as reply
-use Rattle.mc_model.specs.Words.{SpellsNumber, SpellsByte, SpellsBytes, SpellsBody, SpellsFields, SpellsRequest, SpellsShown, SpellsReply, is_key, is_plain, hex_value, escaped_byte, printed_byte, body_word, field_words, request_words, shown_words, reply_words, MAX_32, MAX_64}
+use Rattle.mc_protocol.specs.Decimals.{MAX_32, MAX_64}
+use Rattle.mc_protocol.specs.Names.{is_key}
+use Rattle.mc_protocol.proofs.Decimals.{decimal-spells}
+use Rattle.mc_model.specs.Words.{SpellsByte, SpellsBytes, SpellsBody, SpellsFields, SpellsRequest, SpellsShown, SpellsReply, is_plain, hex_value, escaped_byte, printed_byte, body_word, field_words, request_words, shown_words, reply_words}
 use Rattle.mc_model.specs.History.{has_words, has_its_fields, lacks_the_others, is_empty}
 use Rattle.mc_model.specs.WordLaws.{AreBytes, FitsRequest, FitsReply, has_short_body, PrintedWordsSpellTheRequest, PrintedWordsSpellTheReply}
-use Rattle.mc_model.proofs.Numbers.{digits}
-
--- ---- numbers
-
-not_empty : (n : ℕ) → 0 < n → not (n == 0) ≡ true
-not_empty n some = grind (arith, nat_tests)
-
--- a decimal spells its number
-pub decimal-spells : (greatest n : ℕ) → greatest ≤ MAX_64 → n ≤ greatest → SpellsNumber greatest (decimal n) n
-decimal-spells greatest n large small =
-    let below : n < 2 ^ 64 = omega arith in
-    record {
-      some = not_empty (length (decimal n)) (decimal_nonempty n below);
-      digits = digits_decimal digits n below;
-      short = length-decimal-le 20 n (omega arith) (omega arith) below;
-      value = digits_value-decimal digits n below;
-      small = small;
-    }
 
 -- ---- bodies
 
@@ -53,7 +37,7 @@ bytes-spelled [] all = refl
 bytes-spelled (byte ∷ body) all =
     (flat_map printed_byte body, byte-spelled (is_plain byte) byte (flat_map printed_byte body) (All-head (λ b. b < 256) byte body all) refl, bytes-spelled body (All-tail (λ b. b < 256) byte body all))
 
-pub body-spells : (body : List ℕ) → AreBytes body → length body ≤ BODY_LIMIT → SpellsBody (body_word body) body
+pub body-spells : (body : List ℕ) → AreBytes body → length body ≤ REPLY_BODY_LIMIT → SpellsBody (body_word body) body
 body-spells body all small = (flat_map printed_byte body, refl, bytes-spelled body all, small)
 
 -- ---- requests
@@ -73,7 +57,7 @@ lacks_item r lacks =
     let q = and_parts (r.flags == 0) (is_empty r.body) lacks in
     (eqb-true r.flags 0 q.0, empty-is r.body q.1)
 
-fields-spell : (shape : Fields) (r : Request) → lacks_the_others shape r ≡ true → length r.body ≤ BODY_LIMIT → FitsRequest r → SpellsFields shape (field_words shape r) r
+fields-spell : (shape : Fields) (r : Request) → lacks_the_others shape r ≡ true → length r.body ≤ REPLY_BODY_LIMIT → FitsRequest r → SpellsFields shape (field_words shape r) r
 fields-spell fields.KeyAlone r lacks short fits = let p = lacks_all r lacks in (refl, p.0, p.1, p.2)
 fields-spell fields.Expiry r lacks short fits = let p = lacks_all r lacks in (refl, p.0, p.1, p.2)
 fields-spell fields.Item r lacks short fits =
@@ -86,9 +70,9 @@ fields-spell fields.Amount r lacks short fits =
 
 pub printed_request : PrintedWordsSpellTheRequest
 printed_request r has fits =
-    let p = and_parts (is_key r.key && nat_le (length r.body) BODY_LIMIT) (has_its_fields r) has in
-    let q = and_parts (is_key r.key) (nat_le (length r.body) BODY_LIMIT) p.0 in
-    (field_words (fields_of r.verb) r, refl, q.0, fields-spell (fields_of r.verb) r p.1 (leb-true (length r.body) BODY_LIMIT q.1) fits)
+    let p = and_parts (is_key r.key && nat_le (length r.body) REPLY_BODY_LIMIT) (has_its_fields r) has in
+    let q = and_parts (is_key r.key) (nat_le (length r.body) REPLY_BODY_LIMIT) p.0 in
+    (field_words (fields_of r.verb) r, refl, q.0, fields-spell (fields_of r.verb) r p.1 (leb-true (length r.body) REPLY_BODY_LIMIT q.1) fits)
 
 -- ---- replies
 
@@ -102,7 +86,7 @@ printed_reply reply.NotStored short fits = refl
 printed_reply reply.Exists short fits = refl
 printed_reply reply.NotFound short fits = refl
 printed_reply (reply.Hit flags body cas) short (f, b, n) =
-    let spelled = body-spells body b (leb-true (length body) BODY_LIMIT short) in
+    let spelled = body-spells body b (leb-true (length body) REPLY_BODY_LIMIT short) in
     (decimal flags, body_word body, shown_words cas, refl, decimal-spells MAX_32 flags (omega arith) f, spelled, shown-spells cas n)
 printed_reply reply.Miss short fits = refl
 printed_reply reply.Deleted short fits = refl
@@ -146,5 +130,5 @@ fits_fields-all fields.Amount r lacks known =
 -- so what is printed spells the request
 pub printed_shape : (shape : Fields) (r : Request) → fields_of r.verb ≡ shape → FitsFields shape r → has_words r ≡ true → SpellsRequest (request_words r) r
 printed_shape shape r e known has =
-    let p = and_parts (is_key r.key && nat_le (length r.body) BODY_LIMIT) (has_its_fields r) has in
+    let p = and_parts (is_key r.key && nat_le (length r.body) REPLY_BODY_LIMIT) (has_its_fields r) has in
     printed_request r has (fits_fields-all shape r (rw e at p.1) known)

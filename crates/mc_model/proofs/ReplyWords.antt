@@ -6,10 +6,14 @@ use Rattle.mc_protocol.specs.declared.reply.Reply.{Reply}
 use Rattle.mc_protocol.specs.declared.reply.Reply.TheVariants as reply
 use Rattle.mc_protocol.specs.declared.reply.Class.{Class}
 use Rattle.mc_protocol.specs.declared.reply.Class.TheVariants as class
+use Rattle.mc_protocol.specs.Lines.{Word}
+use Rattle.mc_protocol.specs.Decimals.{SpellsNumber, MAX_32, MAX_64}
+use Rattle.mc_protocol.specs.Words.{all_classes}
+use Rattle.mc_protocol.proofs.Found.{find-passes}
 use Rattle.mc_model.specs.declared.words.WordsFault.TheVariants as fault
-use Rattle.mc_model.specs.Words.{Word, SpellsNumber, SpellsShown, SpellsReply, class_word, MAX_32, MAX_64}
-use Rattle.mc_model.specs.Reading.{◌>>=◌, all_classes, class_of_word, number_in, flags_in, body_in, bare_in, shown_number_in, hit_in, count_in, behind_class, reply_in}
-use Rattle.mc_model.proofs.Outcomes.{steps-ok, ok-same, find-passes}
+use Rattle.mc_model.specs.Words.{SpellsShown, SpellsReply, class_word}
+use Rattle.mc_model.specs.Reading.{◌>>=◌, class_of_word, number_in, flags_in, body_in, bare_in, shown_number_in, hit_in, count_in, behind_class, reply_in}
+use Rattle.mc_model.proofs.Outcomes.{steps-ok, ok-same}
 use Rattle.mc_model.proofs.NumberWords.{number-spelled, number-read}
 use Rattle.mc_model.proofs.BodyWords.{body-spelled, body-read}
 

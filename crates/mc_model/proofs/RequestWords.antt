@@ -1,43 +1,22 @@
 -- Words are read as a request exactly where they spell it.
 use Rattle.std.proofs.Common.{◌≡◌, ◌≢◌, ℕ, ◌==◌, Bool, true, false, Option, Some, None, is_some, Ok, Err, List, [], ◌∷◌, codes, refl, sym, ap, ◌∙◌, subst}
-use Rattle.std.specs.Str.{bytes_eq}
 use Rattle.std.proofs.lemmas.Bool.{false≢true}
-use Rattle.std.proofs.lemmas.Slice.Eq.{bytes_eq-Decides}
-use Rattle.mc_protocol.specs.Words.{verb_word}
+use Rattle.mc_protocol.specs.Words.{verb_word, verb_of}
 use Rattle.mc_protocol.specs.Fields.{fields_of}
 use Rattle.mc_protocol.specs.declared.request.Verb.{Verb}
-use Rattle.mc_protocol.specs.declared.request.Verb.TheVariants.{Set, Add, Replace, Append, Prepend, Cas, Get, Gets, Incr, Decr, Delete, Touch}
 use Rattle.mc_protocol.specs.declared.request.Fields.{Fields}
 use Rattle.mc_protocol.specs.declared.request.Fields.TheVariants as fields
 use Rattle.mc_protocol.specs.declared.request.Request.{Request}
+use Rattle.mc_protocol.specs.Lines.{Word}
+use Rattle.mc_protocol.specs.Names.{is_key}
+use Rattle.mc_protocol.specs.Decimals.{are_digits, MAX_32, MAX_64}
+use Rattle.mc_protocol.proofs.OfWords.{verb_of-word, word-of_verb}
 use Rattle.mc_model.specs.declared.words.WordsFault.TheVariants as fault
-use Rattle.mc_model.specs.Words.{Word, SpellsBody, SpellsFields, SpellsRequest, is_key, are_digits, MAX_32, MAX_64}
-use Rattle.mc_model.specs.Reading.{◌>>=◌, all_verbs, verb_of, body_in, flags_in, fields_in, key_alone_in, item_in, behind_verb, request_in, number_in, swap_in, amount_in}
-use Rattle.mc_model.proofs.Outcomes.{then-ok, steps-ok, ok-same, find-passes}
+use Rattle.mc_model.specs.Words.{SpellsBody, SpellsFields, SpellsRequest}
+use Rattle.mc_model.specs.Reading.{◌>>=◌, body_in, flags_in, fields_in, key_alone_in, item_in, behind_verb, request_in, number_in, swap_in, amount_in}
+use Rattle.mc_model.proofs.Outcomes.{then-ok, steps-ok, ok-same}
 use Rattle.mc_model.proofs.NumberWords.{number-spelled, number-read}
 use Rattle.mc_model.proofs.BodyWords.{body-spelled, body-read}
-
--- ---- verbs
-
--- the verb with a verb's word is that verb
-pub verb_of-word : (verb : Verb) → verb_of (verb_word verb) ≡ Some verb
-unfolding verb_of
-verb_of-word Set = refl
-verb_of-word Add = refl
-verb_of-word Replace = refl
-verb_of-word Append = refl
-verb_of-word Prepend = refl
-verb_of-word Cas = refl
-verb_of-word Get = refl
-verb_of-word Gets = refl
-verb_of-word Incr = refl
-verb_of-word Decr = refl
-verb_of-word Delete = refl
-verb_of-word Touch = refl
-
-pub word-of_verb : (word : Word) (verb : Verb) → verb_of word ≡ Some verb → verb_word verb ≡ word
-unfolding verb_of
-word-of_verb word verb h = (bytes_eq-Decides (verb_word verb) word).0 (find-passes (λ v. bytes_eq (verb_word v) word) all_verbs verb h)
 
 -- ---- what stands behind the key, by its shape
 

@@ -9,7 +9,7 @@ use Rattle.std.proofs.lemmas.List.Splits.{slice_split_none, slice_split_at}
 use Rattle.std.proofs.lemmas.List.Sums.{AllPass-from_list_all, list_all-from_AllPass}
 use Rattle.mc_protocol.specs.Words.{verb_word}
 use Rattle.mc_protocol.specs.Fields.{fields_of}
-use Rattle.mc_protocol.specs.Lines.{separates}
+use Rattle.mc_protocol.specs.Lines.{separates, Word}
 use Rattle.mc_protocol.specs.declared.lines.Separator.{Separator}
 use Rattle.mc_protocol.specs.declared.lines.Separator.TheVariants as separator
 use Rattle.mc_protocol.specs.declared.request.Verb.{Verb}
@@ -18,8 +18,10 @@ use Rattle.mc_protocol.specs.declared.request.Fields.{Fields}
 use Rattle.mc_protocol.specs.declared.request.Fields.TheVariants as fields
 use Rattle.mc_protocol.specs.declared.request.Request.{Request}
 use Rattle.mc_protocol.specs.declared.reply.Reply.TheVariants as reply
-use Rattle.mc_model.specs.declared.rules.TheConstants.{KEY_BYTES_LIMIT}
-use Rattle.mc_model.specs.Words.{Word, SpellsNumber, SpellsBytes, SpellsBody, SpellsFields, SpellsRequest, SpellsShown, SpellsReply, is_key, is_key_byte, are_key_bytes, is_digit, is_plain, hex_value, joined, MAX_32, MAX_64}
+use Rattle.mc_protocol.specs.declared.limits.TheConstants.{KEY_BYTES_LIMIT}
+use Rattle.mc_protocol.specs.Decimals.{SpellsNumber, is_digit, MAX_32, MAX_64}
+use Rattle.mc_protocol.specs.Names.{is_key, is_name_byte, are_name_bytes}
+use Rattle.mc_model.specs.Words.{SpellsBytes, SpellsBody, SpellsFields, SpellsRequest, SpellsShown, SpellsReply, is_plain, hex_value, joined}
 use Rattle.mc_model.specs.WordLaws.{is_visible, is_whole, are_whole, is_in_line, SpellingWordsAreWhole, JoinedWordsFallApart, JoinedWordsEndNoLine}
 
 -- ---- bytes
@@ -31,7 +33,7 @@ list_all-weaker p q weaker xs all =
 digit-visible : (byte : ℕ) → is_digit byte ≡ true → is_visible byte ≡ true
 digit-visible byte h = grind (arith, nat_tests)
 
-key-visible : (byte : ℕ) → is_key_byte byte ≡ true → is_visible byte ≡ true
+key-visible : (byte : ℕ) → is_name_byte byte ≡ true → is_visible byte ≡ true
 key-visible byte h = grind (arith, nat_tests)
 
 plain-visible : (byte : ℕ) → is_plain byte ≡ true → is_visible byte ≡ true
@@ -64,9 +66,9 @@ number-whole greatest word n s = whole word s.some (list_all-weaker is_digit is_
 
 key-whole : (key : Word) → is_key key ≡ true → is_whole key ≡ true
 key-whole key h =
-    let p = and_parts (not (length key == 0) && nat_le (length key) KEY_BYTES_LIMIT) (are_key_bytes key) h in
+    let p = and_parts (not (length key == 0) && nat_le (length key) KEY_BYTES_LIMIT) (are_name_bytes key) h in
     let q = and_parts (not (length key == 0)) (nat_le (length key) KEY_BYTES_LIMIT) p.0 in
-    whole key q.0 (list_all-weaker is_key_byte is_visible key-visible key p.1)
+    whole key q.0 (list_all-weaker is_name_byte is_visible key-visible key p.1)
 
 bytes-visible : (text body : List ℕ) → SpellsBytes text body → list_all is_visible text ≡ true
 bytes-visible text [] e = rw e refl

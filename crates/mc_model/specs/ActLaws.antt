@@ -8,7 +8,7 @@ use Rattle.mc_protocol.specs.declared.request.Verb.TheVariants as verb
 use Rattle.mc_protocol.specs.declared.reply.Class.{Class}
 use Rattle.mc_protocol.specs.declared.reply.Class.TheVariants as class
 use Rattle.mc_protocol.specs.declared.reply.Reply.TheVariants as reply
-use Rattle.mc_protocol.specs.declared.legal.TheConstants.{BODY_LIMIT}
+use Rattle.mc_protocol.specs.declared.limits.TheConstants.{REPLY_BODY_LIMIT}
 use Rattle.mc_model.specs.declared.cache.Item.{Item}
 use Rattle.mc_model.specs.declared.numeral.Numeral.{Numeral}
 use Rattle.mc_model.specs.declared.numeral.Numeral.TheVariants.{NoNumber, Is, MayBe}
@@ -28,7 +28,7 @@ OtherKeysStay =
 -- there is no item, or its body is within the limit
 abbrev pub is_short : Option Item → Bool
 is_short None = true
-is_short (Some item) = nat_le (length item.body) BODY_LIMIT
+is_short (Some item) = nat_le (length item.body) REPLY_BODY_LIMIT
 
 -- the reply is one that the request may have, where the item at its key has a body within the limit
 abbrev pub RepliesFit : Type 0
@@ -46,7 +46,7 @@ joins _ = false
 abbrev pub BodiesStayShort : Type 0
 BodiesStayShort =
     (contents : Contents) (request : Request) (choice : Choice) (number : ℕ) → joins request.verb ≡ false
-    → nat_le (length request.body) BODY_LIMIT ≡ true → is_short (finite_map.get contents request.key) ≡ true
+    → nat_le (length request.body) REPLY_BODY_LIMIT ≡ true → is_short (finite_map.get contents request.key) ≡ true
     → is_short (finite_map.get (act contents request choice number).contents request.key) ≡ true
 
 abbrev pub body_length : Option Item → ℕ

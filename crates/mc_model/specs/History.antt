@@ -16,13 +16,12 @@ use Rattle.mc_protocol.specs.declared.reply.Reply.{Reply}
 use Rattle.mc_protocol.specs.declared.reply.Reply.TheVariants as replies
 use Rattle.mc_protocol.specs.declared.actor.Actor.{Actor}
 use Rattle.mc_protocol.specs.declared.actor.Actor.TheVariants as actor
-use Rattle.mc_protocol.specs.declared.legal.TheConstants.{BODY_LIMIT}
+use Rattle.mc_protocol.specs.declared.limits.TheConstants.{REPLY_BODY_LIMIT, KEYS_LIMIT, REQUESTS_LIMIT}
+use Rattle.mc_protocol.specs.Names.{is_key}
 use Rattle.mc_model.specs.declared.sent.Sent.{Sent}
-use Rattle.mc_model.specs.declared.rules.TheConstants.{KEYS_LIMIT, REQUESTS_LIMIT}
 use Rattle.mc_model.specs.declared.rules.HistoryKind.{HistoryKind}
 use Rattle.mc_model.specs.declared.rules.HistoryKind.TheVariants as kind
 use Rattle.mc_model.specs.Sections.{Sections, section_of, added, before}
-use Rattle.mc_model.specs.Words.{is_key}
 
 -- every request of the sections passes the test
 abbrev pub every : (Sent → Bool) → Sections → Bool
@@ -45,7 +44,7 @@ abbrev pub has_its_fields : Request → Bool
 has_its_fields r = lacks_the_others (fields_of r.verb) r
 
 abbrev pub has_words : Request → Bool
-has_words r = is_key r.key && nat_le (length r.body) BODY_LIMIT && has_its_fields r
+has_words r = is_key r.key && nat_le (length r.body) REPLY_BODY_LIMIT && has_its_fields r
 
 abbrev pub all_have_words : Sections → Bool
 all_have_words s = every (λ sent. has_words sent.request) s

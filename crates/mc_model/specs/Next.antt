@@ -3,8 +3,8 @@
 use Rattle.std.specs.Prelude.{◌≡◌, ℕ, ◌+◌, nat_le, Bool, true, false, not, ◌&&◌, ◌||◌, Some, List, length, take, if◌then◌else◌, slice_get}
 use Rattle.mc_protocol.specs.declared.actor.Actor.{Actor}
 use Rattle.mc_protocol.specs.declared.actor.Actor.TheVariants as actor
+use Rattle.mc_protocol.specs.declared.limits.TheConstants.{KEYS_LIMIT, REQUESTS_LIMIT}
 use Rattle.mc_model.specs.declared.sent.Sent.{Sent}
-use Rattle.mc_model.specs.declared.rules.TheConstants.{KEYS_LIMIT, REQUESTS_LIMIT}
 use Rattle.mc_model.specs.Sections.{Sections, section_of}
 use Rattle.mc_model.specs.declared.rules.HistoryKind.{HistoryKind}
 use Rattle.mc_model.specs.History.{is_history, fault_at, key_count, has_key, are_answered, is_none_sent, is_delete, is_seen}

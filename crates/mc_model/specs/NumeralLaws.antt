@@ -1,7 +1,7 @@
 -- Which bodies say a number, by how they are written.
 use Rattle.std.specs.Prelude.{◌≡◌, ◌↔◌, ℕ, ◌<◌, ◌≤◌, ◌^◌, true, false, Some, List, ◌++◌, length, replicate}
 use Rattle.std.specs.Str.Parse.{digits_value}
-use Rattle.mc_model.specs.Words.{are_digits}
+use Rattle.mc_protocol.specs.Decimals.{are_digits}
 use Rattle.mc_model.specs.Numeral.{numeral_of, read_as, ends_or_has_space}
 
 -- digits, and behind them nothing, or a space and what follows it

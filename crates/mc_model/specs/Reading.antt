@@ -1,14 +1,12 @@
 -- What the readers of words answer, fault by fault. Of public contracts only those of `read_number` and `read_body`
 -- cite it, which say by it which fault comes: `Words.antt` says what words
 -- spell, and the proofs join the two.
-use Rattle.std.specs.Prelude.{◌≡◌, ℕ, ◌+◌, ◌*◌, ◌==◌, nat_le, nat_lt, not, ◌||◌, Option, Some, None, Result, Ok, Err, List, [], ◌∷◌, length, if◌then◌else◌}
+use Rattle.std.specs.Prelude.{◌≡◌, ℕ, ◌+◌, ◌*◌, ◌==◌, nat_le, Option, Some, None, Result, Ok, Err, List, [], ◌∷◌, length, if◌then◌else◌}
 use Rattle.std.specs.List.{find}
 use Rattle.std.specs.Str.{bytes_eq}
-use Rattle.std.specs.Str.Parse.{digits_value}
-use Rattle.mc_protocol.specs.Words.{verb_word}
+use Rattle.mc_protocol.specs.Words.{verb_of, all_classes}
 use Rattle.mc_protocol.specs.Fields.{fields_of}
 use Rattle.mc_protocol.specs.declared.request.Verb.{Verb}
-use Rattle.mc_protocol.specs.declared.request.Verb.TheVariants as verb
 use Rattle.mc_protocol.specs.declared.request.Fields.{Fields}
 use Rattle.mc_protocol.specs.declared.request.Fields.TheVariants as fields
 use Rattle.mc_protocol.specs.declared.request.Request.{Request}
@@ -16,11 +14,15 @@ use Rattle.mc_protocol.specs.declared.reply.Reply.{Reply}
 use Rattle.mc_protocol.specs.declared.reply.Reply.TheVariants as reply
 use Rattle.mc_protocol.specs.declared.reply.Class.{Class}
 use Rattle.mc_protocol.specs.declared.reply.Class.TheVariants as class
-use Rattle.mc_protocol.specs.declared.legal.TheConstants.{BODY_LIMIT}
-use Rattle.mc_model.specs.declared.number.TheConstants.{DIGITS_LIMIT}
+use Rattle.mc_protocol.specs.declared.limits.TheConstants.{REPLY_BODY_LIMIT}
+use Rattle.mc_protocol.specs.declared.decimal.DecimalFault.{DecimalFault}
+use Rattle.mc_protocol.specs.declared.decimal.DecimalFault.TheVariants as decimal
+use Rattle.mc_protocol.specs.Decimals.{decimal_in, MAX_32, MAX_64}
+use Rattle.mc_protocol.specs.Lines.{Word}
+use Rattle.mc_protocol.specs.Names.{is_key}
 use Rattle.mc_model.specs.declared.words.WordsFault.{WordsFault}
 use Rattle.mc_model.specs.declared.words.WordsFault.TheVariants as fault
-use Rattle.mc_model.specs.Words.{Word, is_key, are_digits, is_plain, hex_value, class_word, MAX_32, MAX_64}
+use Rattle.mc_model.specs.Words.{is_plain, hex_value, class_word}
 
 infixl 10 ◌>>=◌
 abbrev pub ◌>>=◌ : {A B : Type 0} → Result A WordsFault → (A → Result B WordsFault) → Result B WordsFault
@@ -37,11 +39,14 @@ abbrev pub Gives : {X Y : Type 0} → (X → Y) → Result X WordsFault → Resu
 Gives view (Ok x) read = read ≡ Ok (view x)
 Gives view (Err e) read = Fails e read
 
-unfoldable pub number_in : ℕ → Word → Result ℕ WordsFault
-number_in greatest word =
-    if (length word == 0) || not (are_digits word) then Err fault.Form
-    else (if nat_lt DIGITS_LIMIT (length word) then Err fault.Number
-    else (if nat_le (digits_value 10 word) greatest then Ok (digits_value 10 word) else Err fault.Number))
+-- a number, or why a word is none
+abbrev pub number_or_fault : Result ℕ DecimalFault → Result ℕ WordsFault
+number_or_fault (Ok n) = Ok n
+number_or_fault (Err decimal.NotDigits) = Err fault.Form
+number_or_fault (Err decimal.TooLarge) = Err fault.Number
+
+abbrev pub number_in : ℕ → Word → Result ℕ WordsFault
+number_in greatest word = number_or_fault (decimal_in greatest word)
 
 abbrev pub flags_in : Word → Result ℕ WordsFault
 flags_in word = number_in MAX_32 word
@@ -80,18 +85,11 @@ bytes_in (a ∷ b ∷ []) = plain_before a (bytes_in (b ∷ []))
 bytes_in (a ∷ b ∷ c ∷ rest) = if a == 37 then hex_before (hex_value b) (hex_value c) (bytes_in rest) else plain_before a (bytes_in (b ∷ c ∷ rest))
 
 abbrev pub within_limit : List ℕ → Result (List ℕ) WordsFault
-within_limit bytes = if nat_le (length bytes) BODY_LIMIT then Ok bytes else Err fault.Form
+within_limit bytes = if nat_le (length bytes) REPLY_BODY_LIMIT then Ok bytes else Err fault.Form
 
 unfoldable pub body_in : Word → Result (List ℕ) WordsFault
 body_in [] = Err fault.Form
 body_in (first ∷ text) = if first == 61 then (bytes_in text >>= within_limit) else Err fault.Form
-
-abbrev pub all_verbs : List Verb
-all_verbs =
-    verb.Set ∷ verb.Add ∷ verb.Replace ∷ verb.Append ∷ verb.Prepend ∷ verb.Cas ∷ verb.Get ∷ verb.Gets ∷ verb.Incr ∷ verb.Decr ∷ verb.Delete ∷ verb.Touch ∷ []
-
-unfoldable pub verb_of : Word → Option Verb
-verb_of word = find (λ v. bytes_eq (verb_word v) word) all_verbs
 
 abbrev pub key_alone_in : Verb → List ℕ → List Word → Result Request WordsFault
 key_alone_in verb key [] = Ok (record { verb = verb; key = key; flags = 0; body = []; number = 0 })
@@ -130,10 +128,6 @@ behind_verb (Some verb) (key ∷ others) = if is_key key then fields_in (fields_
 unfoldable pub request_in : List Word → Result Request WordsFault
 request_in [] = Err fault.Form
 request_in (word ∷ words) = behind_verb (verb_of word) words
-
-abbrev pub all_classes : List Class
-all_classes =
-    class.Stored ∷ class.NotStored ∷ class.Exists ∷ class.NotFound ∷ class.Hit ∷ class.Miss ∷ class.Deleted ∷ class.Touched ∷ class.Number ∷ class.NotNumber ∷ []
 
 unfoldable pub class_of_word : Word → Option Class
 class_of_word word = find (λ c. bytes_eq (class_word c) word) all_classes

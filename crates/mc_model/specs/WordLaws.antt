@@ -1,13 +1,14 @@
 -- What holds of the words that spell requests and replies, and of the words that are printed.
 use Rattle.std.specs.Prelude.{◌≡◌, ℕ, ◌<◌, ◌≤◌, ◌==◌, nat_le, Bool, true, not, ◌&&◌, IfSome, List, length}
 use Rattle.std.specs.List.{All, list_all}
-use Rattle.mc_protocol.specs.Lines.{words_of}
+use Rattle.mc_protocol.specs.Lines.{words_of, Word}
 use Rattle.mc_protocol.specs.declared.lines.Separator.{Separator}
-use Rattle.mc_protocol.specs.declared.legal.TheConstants.{BODY_LIMIT}
+use Rattle.mc_protocol.specs.declared.limits.TheConstants.{REPLY_BODY_LIMIT}
 use Rattle.mc_protocol.specs.declared.request.Request.{Request}
 use Rattle.mc_protocol.specs.declared.reply.Reply.{Reply}
 use Rattle.mc_protocol.specs.declared.reply.Reply.TheVariants as reply
-use Rattle.mc_model.specs.Words.{Word, SpellsRequest, SpellsReply, request_words, reply_words, joined, MAX_32, MAX_64}
+use Rattle.mc_protocol.specs.Decimals.{MAX_32, MAX_64}
+use Rattle.mc_model.specs.Words.{SpellsRequest, SpellsReply, request_words, reply_words, joined}
 use Rattle.mc_model.specs.History.{has_words}
 
 -- ---- what is printed spells the value
@@ -23,7 +24,7 @@ pub record FitsRequest (r : Request) : Type 0 where
 
 -- the reply has a body within the limit, or none
 abbrev pub has_short_body : Reply → Bool
-has_short_body (reply.Hit flags body cas) = nat_le (length body) BODY_LIMIT
+has_short_body (reply.Hit flags body cas) = nat_le (length body) REPLY_BODY_LIMIT
 has_short_body _ = true
 
 -- what the reply carries has values of its types

@@ -1,8 +1,10 @@
 -- The words of requests and replies, as histories and step lists have them.
-use Rattle.std.specs.Prelude.{◌≡◌, ℕ, ◌+◌, ◌-◌, ◌*◌, ◌≤◌, ◌==◌, nat_le, Bool, true, not, ◌&&◌, ◌||◌, ◌⊎◌, Option, Some, None, List, [], ◌∷◌, length, codes, if◌then◌else◌, ◌/◌, ◌%◌, false, decimal}
-use Rattle.std.specs.List.{list_all, flat_map, join_with_byte}
+use Rattle.std.specs.Prelude.{◌≡◌, ℕ, ◌+◌, ◌-◌, ◌*◌, ◌≤◌, ◌==◌, nat_le, Bool, true, not, ◌&&◌, ◌⊎◌, Option, Some, None, List, [], ◌∷◌, length, codes, if◌then◌else◌, ◌/◌, ◌%◌, false, decimal}
+use Rattle.std.specs.List.{flat_map, join_with_byte}
 use Rattle.std.specs.Fmt.{digit_glyph}
-use Rattle.std.specs.Str.Parse.{digits_value}
+use Rattle.mc_protocol.specs.Lines.{Word}
+use Rattle.mc_protocol.specs.Names.{is_key}
+use Rattle.mc_protocol.specs.Decimals.{SpellsNumber, MAX_32, MAX_64}
 use Rattle.mc_protocol.specs.Words.{verb_word}
 use Rattle.mc_protocol.specs.Fields.{fields_of}
 use Rattle.mc_protocol.specs.declared.request.Fields.{Fields}
@@ -12,49 +14,7 @@ use Rattle.mc_protocol.specs.declared.reply.Reply.{Reply}
 use Rattle.mc_protocol.specs.declared.reply.Reply.TheVariants as reply
 use Rattle.mc_protocol.specs.declared.reply.Class.{Class}
 use Rattle.mc_protocol.specs.declared.reply.Class.TheVariants as class
-use Rattle.mc_protocol.specs.declared.legal.TheConstants.{BODY_LIMIT}
-use Rattle.mc_model.specs.declared.rules.TheConstants.{KEY_BYTES_LIMIT}
-use Rattle.mc_model.specs.declared.number.TheConstants.{DIGITS_LIMIT}
-
--- a word: its bytes
-abbrev pub Word : Type 0
-Word = List ℕ
-
--- ---- keys
-
--- a lower case letter, a digit or a dash
-abbrev pub is_key_byte : ℕ → Bool
-is_key_byte byte = (nat_le 97 byte && nat_le byte 122) || (nat_le 48 byte && nat_le byte 57) || byte == 45
-
-abbrev pub are_key_bytes : List ℕ → Bool
-are_key_bytes bytes = list_all is_key_byte bytes
-
--- a key that a text may have: 1 to 40 bytes, each a lower case letter, a digit or a dash
-abbrev pub is_key : List ℕ → Bool
-is_key bytes = not (length bytes == 0) && nat_le (length bytes) KEY_BYTES_LIMIT && are_key_bytes bytes
-
--- ---- numbers
-
-abbrev pub is_digit : ℕ → Bool
-is_digit byte = nat_le 48 byte && nat_le byte 57
-
-abbrev pub are_digits : Word → Bool
-are_digits word = list_all is_digit word
-
--- the word is a decimal of 1 to 20 digits for n, which is at most the greatest; zeros may lead
-pub record SpellsNumber (greatest : ℕ) (word : Word) (n : ℕ) : Type 0 where
-  pub some : not (length word == 0) ≡ true
-  pub digits : are_digits word ≡ true
-  pub short : length word ≤ DIGITS_LIMIT
-  pub value : digits_value 10 word ≡ n
-  pub small : n ≤ greatest
-
--- the greatest numbers of 32 and of 64 bits
-abbrev pub MAX_32 : ℕ
-MAX_32 = 4294967295
-
-abbrev pub MAX_64 : ℕ
-MAX_64 = 18446744073709551615
+use Rattle.mc_protocol.specs.declared.limits.TheConstants.{REPLY_BODY_LIMIT}
 
 -- ---- bodies
 
@@ -83,11 +43,11 @@ SpellsBytes text (byte ∷ bytes) = (rest : List ℕ) × SpellsByte text byte re
 
 -- the word is `=` and a text that stands for the body, which is within the limit
 abbrev pub SpellsBody : Word → List ℕ → Type 0
-SpellsBody word body = (text : List ℕ) × (word ≡ 61 ∷ text) × SpellsBytes text body × (length body ≤ BODY_LIMIT)
+SpellsBody word body = (text : List ℕ) × (word ≡ 61 ∷ text) × SpellsBytes text body × (length body ≤ REPLY_BODY_LIMIT)
 
 -- ---- requests
 
--- the words behind the key, by what the verb has there; a field that it lacks is 0 or empty
+-- the words after the key, by what the verb has there; a field that it lacks is 0 or empty
 abbrev pub SpellsFields : Fields → List Word → Request → Type 0
 SpellsFields fields.KeyAlone words r = (words ≡ []) × (r.flags ≡ 0) × (r.body ≡ []) × (r.number ≡ 0)
 SpellsFields fields.Expiry words r = (words ≡ []) × (r.flags ≡ 0) × (r.body ≡ []) × (r.number ≡ 0)
@@ -121,7 +81,7 @@ class_word class.Touched = codes "TOUCHED"
 class_word class.Number = codes "NUMBER"
 class_word class.NotNumber = codes "NOT_A_NUMBER"
 
--- the words behind a hit's body: the cas number, where it is shown
+-- the words after a hit's body: the cas number, where it is shown
 abbrev pub SpellsShown : List Word → Option ℕ → Type 0
 SpellsShown words None = words ≡ []
 SpellsShown words (Some n) = (word : Word) × (words ≡ word ∷ []) × SpellsNumber MAX_64 word n
@@ -158,7 +118,7 @@ printed_byte byte = if is_plain byte then byte ∷ [] else escaped_byte byte
 abbrev pub body_word : List ℕ → Word
 body_word body = 61 ∷ flat_map printed_byte body
 
--- the words behind the key
+-- the words after the key
 abbrev pub field_words : Fields → Request → List Word
 field_words fields.KeyAlone r = []
 field_words fields.Expiry r = []
@@ -169,7 +129,7 @@ field_words fields.Amount r = decimal r.number ∷ []
 abbrev pub request_words : Request → List Word
 request_words r = verb_word r.verb ∷ r.key ∷ field_words (fields_of r.verb) r
 
--- the word behind a hit's body, where the cas number is shown
+-- the word after a hit's body, where the cas number is shown
 abbrev pub shown_words : Option ℕ → List Word
 shown_words None = []
 shown_words (Some n) = decimal n ∷ []

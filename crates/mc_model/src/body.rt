@@ -6,11 +6,11 @@ ghost use Rattle.mc_model.specs.WordLaws.{AreBytes};
 ghost use Rattle.mc_model.specs.Reading as reading;
 
 use crate::WordsFault;
-use mc_protocol::{BODY_LIMIT, Bytes, OutOfMemory};
+use mc_protocol::{Bytes, OutOfMemory, REPLY_BODY_LIMIT};
 use std::alloc::{AllocError, Global};
 
 /// Reads a body: `=`, and behind it the bytes. A byte from 33 to 126 other than `%` stands for itself, and `%hh` for
-/// the byte with these two hexadecimal digits. A word that is none, or a body of more than [`BODY_LIMIT`] bytes, is
+/// the byte with these two hexadecimal digits. A word that is none, or a body of more than [`REPLY_BODY_LIMIT`] bytes, is
 /// [`WordsFault::Form`].
 pub fn read_body(alloc: Global, word: &[u8]) -> Result<Bytes, WordsFault>
     ensures exact { reading.Gives (λ b. b) result (reading.body_in word.now) }
@@ -33,7 +33,7 @@ fn body_in(alloc: Global, word: &[u8]) -> Result<Bytes, WordsFault>
         return Err(WordsFault::Form);
     }
     let bytes = unescaped(alloc, text)?;
-    if bytes.len() > BODY_LIMIT {
+    if bytes.len() > REPLY_BODY_LIMIT {
         return Err(WordsFault::Form);
     }
     Ok(Bytes::new(bytes))

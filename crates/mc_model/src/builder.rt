@@ -4,11 +4,10 @@ ghost use Rattle.mc_model.specs.History as rule;
 ghost use Rattle.mc_model.specs.Next as next;
 
 use crate::rules::{
-    HistoryKind, KEYS_LIMIT, REQUESTS_LIMIT, are_answered, has_key, has_words, is_answered_rightly,
-    is_delete, is_seen,
+    HistoryKind, are_answered, has_key, has_words, is_answered_rightly, is_delete, is_seen,
 };
 use crate::{History, Sent};
-use mc_protocol::Actor;
+use mc_protocol::{Actor, KEYS_LIMIT, REQUESTS_LIMIT};
 use std::alloc::Global;
 use std::marker::Model;
 

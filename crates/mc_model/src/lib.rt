@@ -36,11 +36,12 @@ pub use laws::{
     answered_numbers_are_there, bodies_stay_short, deleted_is_gone, only_counts_choose,
     other_keys_stay, replies_fit, versions_are_told,
 };
-pub use number::{is_key, read_number};
+pub use mc_protocol::is_key;
+pub use number::read_number;
 pub use numeral::{Numeral, numeral_of};
 pub use numeral_laws::bodies_say_numbers;
 pub use print::{print_reply_words, print_request_words};
-pub use rules::{HistoryKind, KEY_BYTES_LIMIT, KEYS_LIMIT, REQUESTS_LIMIT};
+pub use rules::HistoryKind;
 pub use sent::Sent;
 pub use word_laws::{
     joined_words_end_no_line, joined_words_fall_apart, what_is_printed_spells_the_reply,

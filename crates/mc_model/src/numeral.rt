@@ -1,7 +1,7 @@
 ghost use Rattle.std.specs.Prelude.{◌≡◌, length};
 ghost use Rattle.mc_model.specs.Numeral as spec;
 
-use crate::number::{DIGITS_LIMIT, is_digit, value_of};
+use mc_protocol::{DIGITS_LIMIT, is_digit, value_of_digits};
 
 /// What a body says as a number.
 #[derive(Clone, Copy, Debug, PartialEq, Eq)]
@@ -36,7 +36,7 @@ pub fn numeral_of(body: &[u8]) -> Numeral
     if digits.is_empty() || !ends_or_has_space(rest) {
         return Numeral::NoNumber;
     }
-    let Some(value) = value_of(digits) else {
+    let Some(value) = value_of_digits(digits) else {
         return Numeral::NoNumber;
     };
     if digits.len() <= DIGITS_LIMIT && are_spaces(rest) {

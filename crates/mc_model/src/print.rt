@@ -2,15 +2,8 @@ ghost use Rattle.std.specs.Prelude.{◌≡◌, ◌++◌, ◌≤◌, true, map, I
 ghost use Rattle.std.specs.List.{concat};
 ghost use Rattle.mc_protocol.specs.Words.{verb_word};
 ghost use Rattle.mc_model.specs.History.{has_words};
-ghost use Rattle.mc_model.specs.Words.{
-  SpellsRequest,
-  SpellsReply,
-  joined,
-  request_words,
-  reply_words,
-  MAX_32,
-  MAX_64,
-};
+ghost use Rattle.mc_protocol.specs.Decimals.{MAX_32, MAX_64};
+ghost use Rattle.mc_model.specs.Words.{SpellsRequest, SpellsReply, joined, request_words, reply_words};
 ghost use Rattle.mc_model.specs.WordLaws.{AreBytes, has_short_body};
 ghost use Rattle.mc_model.specs.Printing.{item_text, number_text};
 

@@ -4,19 +4,10 @@ ghost use Rattle.mc_model.specs.History as rule;
 ghost use Rattle.mc_model.specs.Next as next;
 ghost use Rattle.mc_model.specs.Kinds as kinds;
 
-use crate::{Sent, is_key};
-use mc_protocol::{BODY_LIMIT, Fields, Reply, Request, Verb, fits};
+use crate::Sent;
+use mc_protocol::{Fields, REPLY_BODY_LIMIT, Reply, Request, Verb, fits, is_key};
 use std::alloc::{AllocError, AllocFailed};
 use thiserror::Error;
-
-/// The most bytes of a key.
-pub const KEY_BYTES_LIMIT: usize = 40;
-
-/// The most requests of a section.
-pub const REQUESTS_LIMIT: usize = 24;
-
-/// The most keys of a history.
-pub const KEYS_LIMIT: usize = 8;
 
 /// Why a text, or requests with their replies, are no history.
 #[derive(Clone, Copy, Debug, Drop, PartialEq, Eq, Error)]
@@ -107,7 +98,7 @@ pub(crate) fn has_words(request: &Request) -> bool
     ensures { result ≡ rule.has_words request.now }
 {
     is_key(request.key.as_slice())
-        && request.body.as_slice().len() <= BODY_LIMIT
+        && request.body.as_slice().len() <= REPLY_BODY_LIMIT
         && has_its_fields(request)
 }
 

@@ -1,6 +1,7 @@
 //! What holds of the words of requests and replies, whatever reads or writes them.
 ghost use Rattle.std.specs.Prelude.{ℕ};
-ghost use Rattle.mc_model.specs.Words.{SpellAtMostOne, SpellsNumber, SpellsBody, SpellsRequest, SpellsReply};
+ghost use Rattle.mc_model.specs.Words.{SpellAtMostOne, SpellsBody, SpellsRequest, SpellsReply};
+ghost use Rattle.mc_protocol.specs.Decimals.{SpellsNumber};
 ghost use Rattle.mc_model.specs.WordLaws.{
   PrintedWordsSpellTheRequest,
   PrintedWordsSpellTheReply,

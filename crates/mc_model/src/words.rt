@@ -3,8 +3,8 @@ ghost use Rattle.std.specs.Option.{option_copied};
 ghost use Rattle.mc_model.specs.Words as spec;
 ghost use Rattle.mc_model.specs.Reading as reading;
 
-use crate::{is_key, read_body, read_number};
-use mc_protocol::{Bytes, Class, Fields, Reply, Request, Verb};
+use crate::{read_body, read_number};
+use mc_protocol::{Bytes, Class, Fields, Reply, Request, Verb, is_key};
 use std::alloc::{AllocError, AllocFailed, Global};
 use thiserror::Error;
 
@@ -41,34 +41,8 @@ impl<T: Drop> From<AllocFailed<T>> for WordsFault {
     }
 }
 
-static VERBS: [Verb; 12] = [
-    Verb::Set,
-    Verb::Add,
-    Verb::Replace,
-    Verb::Append,
-    Verb::Prepend,
-    Verb::Cas,
-    Verb::Get,
-    Verb::Gets,
-    Verb::Incr,
-    Verb::Decr,
-    Verb::Delete,
-    Verb::Touch,
-];
-
-// The verb with this word.
-#[tactic(auto, unfolding(crate::specs::Reading::verb_of))]
-fn verb_of(word: &[u8]) -> Option<Verb>
-    ensures { result ≡ reading.verb_of word.now }
-{
-    VERBS
-        .iter()
-        .copied()
-        .find(|verb| verb.word().as_bytes() == word)
-}
-
-/// Reads the words of a request: its verb, its key, and what the verb has behind it. The fault is that of the leftmost
-/// faulty word; a missing word stands behind the last.
+/// Reads the words of a request: its verb, its key, and what the verb has after it. The fault is that of the leftmost
+/// faulty word; a missing word stands after the last.
 pub fn read_request_words(alloc: Global, words: &[&[u8]]) -> Result<Request, WordsFault>
     ensures found { IfOk result (spec.SpellsRequest (map (λ w. w.now) words.now)) }
     ensures none { IfErr result (λ fault. fault ≢ WordsFault.OutOfMemory
@@ -84,7 +58,7 @@ fn request_in(alloc: Global, words: &[&[u8]]) -> Result<Request, WordsFault>
     let [verb, rest @ ..] = words else {
         return Err(WordsFault::Form);
     };
-    let Some(verb) = verb_of(verb) else {
+    let Some(verb) = Verb::from_word(verb) else {
         return Err(WordsFault::Form);
     };
     let [key, fields @ ..] = rest else {
@@ -102,7 +76,7 @@ fn request_in(alloc: Global, words: &[&[u8]]) -> Result<Request, WordsFault>
     }
 }
 
-// A request with nothing behind its key.
+// A request with nothing after its key.
 fn key_alone(alloc: Global, verb: Verb, key: Bytes, fields: &[&[u8]]) -> Result<Request, WordsFault>
     ensures exact { reading.Gives (λ r. r) result (reading.key_alone_in verb key (map (λ w. w.now) fields.now)) }
 {
@@ -118,7 +92,7 @@ fn key_alone(alloc: Global, verb: Verb, key: Bytes, fields: &[&[u8]]) -> Result<
     })
 }
 
-// A request with flags and a body behind its key.
+// A request with flags and a body after its key.
 fn item(alloc: Global, verb: Verb, key: Bytes, fields: &[&[u8]]) -> Result<Request, WordsFault>
     ensures exact { reading.Gives (λ r. r) result (reading.item_in verb key (map (λ w. w.now) fields.now)) }
 {
@@ -142,7 +116,7 @@ fn item(alloc: Global, verb: Verb, key: Bytes, fields: &[&[u8]]) -> Result<Reque
     })
 }
 
-// A request with flags, a body and a cas unique behind its key.
+// A request with flags, a body and a cas unique after its key.
 fn swap(alloc: Global, verb: Verb, key: Bytes, fields: &[&[u8]]) -> Result<Request, WordsFault>
     ensures exact { reading.Gives (λ r. r) result (reading.swap_in verb key (map (λ w. w.now) fields.now)) }
 {
@@ -170,7 +144,7 @@ fn swap(alloc: Global, verb: Verb, key: Bytes, fields: &[&[u8]]) -> Result<Reque
     })
 }
 
-// A request with an amount behind its key.
+// A request with an amount after its key.
 fn amount(alloc: Global, verb: Verb, key: Bytes, fields: &[&[u8]]) -> Result<Request, WordsFault>
     ensures exact { reading.Gives (λ r. r) result (reading.amount_in verb key (map (λ w. w.now) fields.now)) }
 {
@@ -197,19 +171,6 @@ fn read_flags(word: &[u8]) -> Result<u32, WordsFault>
     Ok(flags as u32)
 }
 
-static CLASSES: [Class; 10] = [
-    Class::Stored,
-    Class::NotStored,
-    Class::Exists,
-    Class::NotFound,
-    Class::Hit,
-    Class::Miss,
-    Class::Deleted,
-    Class::Touched,
-    Class::Number,
-    Class::NotNumber,
-];
-
 // The word that a reply of the class begins with.
 pub(crate) fn class_word(class: Class) -> &'static str
     ensures { result.now ≡ spec.class_word class }
@@ -233,14 +194,14 @@ pub(crate) fn class_word(class: Class) -> &'static str
 fn class_of_word(word: &[u8]) -> Option<Class>
     ensures { result ≡ reading.class_of_word word.now }
 {
-    CLASSES
+    Class::ALL
         .iter()
         .copied()
         .find(|class| class_word(*class).as_bytes() == word)
 }
 
 /// Reads the words of a reply, without looking at the request that it answers. The fault is that of the leftmost
-/// faulty word; a missing word stands behind the last.
+/// faulty word; a missing word stands after the last.
 pub fn read_reply_words(alloc: Global, words: &[&[u8]]) -> Result<Reply, WordsFault>
     ensures found { IfOk result (spec.SpellsReply (map (λ w. w.now) words.now)) }
     ensures none { IfErr result (λ fault. fault ≢ WordsFault.OutOfMemory
@@ -273,7 +234,7 @@ fn reply_in(alloc: Global, words: &[&[u8]]) -> Result<Reply, WordsFault>
     }
 }
 
-// A reply with nothing behind its word.
+// A reply with nothing after its word.
 fn bare(reply: Reply, fields: &[&[u8]]) -> Result<Reply, WordsFault>
     ensures exact { reading.Gives (λ r. r) result (reading.bare_in reply (map (λ w. w.now) fields.now)) }
 {

@@ -4,7 +4,7 @@ use Rattle.mc_protocol.specs.declared.request.Verb.TheVariants.{Set, Add, Replac
 use Rattle.mc_protocol.specs.declared.request.Fields.{Fields}
 use Rattle.mc_protocol.specs.declared.request.Fields.TheVariants.{KeyAlone, Expiry, Item, Swap, Amount}
 
--- what a verb has behind its key (protocol.txt)
+-- what a verb has after its key (protocol.txt)
 abbrev pub fields_of : Verb → Fields
 fields_of Set = Item
 fields_of Add = Item

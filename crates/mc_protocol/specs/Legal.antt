@@ -7,7 +7,7 @@ use Rattle.mc_protocol.specs.declared.reply.Class.{Class}
 use Rattle.mc_protocol.specs.declared.reply.Class.TheVariants as class
 use Rattle.mc_protocol.specs.declared.reply.Reply.{Reply}
 use Rattle.mc_protocol.specs.declared.reply.Reply.TheVariants as reply
-use Rattle.mc_protocol.specs.declared.legal.TheConstants.{BODY_LIMIT}
+use Rattle.mc_protocol.specs.declared.limits.TheConstants.{REPLY_BODY_LIMIT}
 
 -- a reply without what it carries
 abbrev pub class_of : Reply → Class
@@ -82,9 +82,13 @@ same false b = not b
 
 -- what the reply carries is right for the verb: a hit has a cas number exactly where the verb shows it, and its body is within the limit
 abbrev pub suits : Verb → Reply → Bool
-suits verb (reply.Hit flags body cas) = same (is_some cas) (shows_number verb) && nat_le (length body) BODY_LIMIT
+suits verb (reply.Hit flags body cas) = same (is_some cas) (shows_number verb) && nat_le (length body) REPLY_BODY_LIMIT
 suits verb _ = true
+
+-- a request of this verb may have this reply
+abbrev pub is_fit_for : Verb → Reply → Bool
+is_fit_for verb r = is_legal verb (class_of r) && suits verb r
 
 -- the request may have this reply
 abbrev pub is_fit : Request → Reply → Bool
-is_fit request r = is_legal request.verb (class_of r) && suits request.verb r
+is_fit request r = is_fit_for request.verb r

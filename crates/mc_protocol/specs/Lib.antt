@@ -1,7 +1,12 @@
+pub mod Decimals
+pub mod Faults
 pub mod Fields
+pub mod LeftWords
 pub mod Legal
 pub mod Lines
 pub mod Merge
+pub mod Names
 pub mod Texts
 pub mod TextLines
+pub mod WordLines
 pub mod Words

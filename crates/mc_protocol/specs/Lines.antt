@@ -1,10 +1,19 @@
 -- How a text falls into lines and words.
 use Rattle.std.specs.Prelude.{ℕ, ◌+◌, ◌==◌, Bool, false, not, ◌||◌, List, [], ◌∷◌, length, map, min, filter, if◌then◌else◌}
 use Rattle.std.specs.List.{list_all, slice_split}
+use Rattle.std.specs.Str.{bytes_eq}
 use Rattle.bstr.specs.Text.{lines_of, without_terminator}
 use Rattle.mc_protocol.specs.TextLines.{TextLines}
 use Rattle.mc_protocol.specs.declared.lines.Separator.{Separator}
 use Rattle.mc_protocol.specs.declared.lines.Separator.TheVariants.{Space, SpaceOrTab}
+
+-- a word: its bytes
+abbrev pub Word : Type 0
+Word = List ℕ
+
+-- a line: its words
+abbrev pub Words : Type 0
+Words = List Word
 
 -- the byte ends a word
 abbrev pub separates : Separator → ℕ → Bool
@@ -12,7 +21,7 @@ separates Space byte = byte == 32
 separates SpaceOrTab byte = byte == 32 || byte == 9
 
 -- the words of a line: its bytes between separators
-abbrev pub words_of : Separator → List ℕ → List (List ℕ)
+abbrev pub words_of : Separator → List ℕ → Words
 words_of separator line = filter (λ word. not (length word == 0)) (slice_split (separates separator) line)
 
 -- the first byte is `#`
@@ -32,11 +41,11 @@ pub record Line : Type 0 where
   pub number : ℕ
   pub text : List ℕ
 
--- the greatest line number that is told
+-- the greatest line number that is reported
 abbrev pub LAST_NUMBER : ℕ
 LAST_NUMBER = 4294967295
 
--- the lines that count, of lines that stand behind so many others
+-- the lines that count, of the lines after the first `number` lines of a text
 abbrev pub counted_from : Separator → ℕ → List (List ℕ) → List Line
 counted_from separator number [] = []
 counted_from separator number (line ∷ lines) =
@@ -57,5 +66,16 @@ abbrev pub line_count : TextLines → ℕ
 line_count t = min (t.number + length t.rest) LAST_NUMBER
 
 -- the words of the lines that count
-abbrev pub words_of_text : Separator → List ℕ → List (List (List ℕ))
+abbrev pub words_of_text : Separator → List ℕ → List Words
 words_of_text separator text = map (λ line. words_of separator line.text) (counted (lines_of_text separator text))
+
+-- the words begin with this one
+abbrev pub begins_with : Word → Words → Bool
+begins_with text [] = false
+begins_with text (word ∷ words) = bytes_eq word text
+
+-- there is this word alone
+abbrev pub is_only : Word → Words → Bool
+is_only text [] = false
+is_only text (word ∷ []) = bytes_eq word text
+is_only text (word ∷ _ ∷ _) = false

@@ -18,7 +18,7 @@ line_end = codes "\r\n"
 abbrev pub block : List ℕ → List (List ℕ)
 block body = body ∷ line_end ∷ []
 
--- what stands behind the key, piece by piece
+-- what stands after the key, piece by piece
 abbrev pub behind_key : Fields → Request → List (List ℕ)
 behind_key fields.KeyAlone r = line_end ∷ []
 behind_key fields.Expiry r = codes " 0" ∷ line_end ∷ []
@@ -28,11 +28,11 @@ behind_key fields.Swap r =
     codes " " ∷ decimal r.flags ∷ codes " 0 " ∷ decimal (length r.body) ∷ codes " " ∷ decimal r.number ∷ line_end ∷ block r.body
 behind_key fields.Amount r = codes " " ∷ decimal r.number ∷ line_end ∷ []
 
--- a command's word, the key, and these fields behind the key
+-- a command's word, the key, and these fields after the key
 abbrev pub text_as : List ℕ → Fields → Request → List ℕ
 text_as word fields r = concat (word ∷ codes " " ∷ r.key ∷ behind_key fields r)
 
--- a request: its verb, its key, and what the verb has behind the key
+-- a request: its verb, its key, and what the verb has after the key
 abbrev pub request_text : Request → List ℕ
 request_text r = text_as (verb_word r.verb) (fields_of r.verb) r
 

@@ -1,3 +1,5 @@
+//! Bytes of any value.
+
 ghost use Rattle.std.specs.Prelude.{◌≡◌, ℕ, List, IfOk};
 
 use crate::OutOfMemory;

@@ -1,10 +1,9 @@
+//! Which replies a request may have.
+
 ghost use Rattle.std.specs.Prelude.{◌≡◌};
 ghost use Rattle.mc_protocol.specs.Legal as legal;
 
-use crate::{Class, Reply, Request, Verb};
-
-/// The most bytes of a body that a reply may show.
-pub const BODY_LIMIT: usize = 65_536;
+use crate::{Class, REPLY_BODY_LIMIT, Reply, Request, Verb};
 
 /// Whether the protocol has a reply of this class to the verb (`protocol.txt`).
 pub fn is_legal(verb: Verb, class: Class) -> bool
@@ -32,12 +31,19 @@ fn is_storage_reply(class: Class) -> bool
     )
 }
 
-/// Whether the request may have this reply: its class is legal, a hit shows a cas number exactly to `gets`, and its
-/// body has at most [`BODY_LIMIT`] bytes.
+/// Whether the request may have this reply.
 pub fn fits(request: &Request, reply: &Reply) -> bool
     ensures { result ≡ legal.is_fit request.now reply.now }
 {
-    is_legal(request.verb, reply.class()) && suits(request.verb, reply)
+    may_answer(request.verb, reply)
+}
+
+/// Whether a request of this verb may have this reply: its class is legal, a hit shows a cas number exactly to `gets`,
+/// and its body has at most [`REPLY_BODY_LIMIT`] bytes.
+pub fn may_answer(verb: Verb, reply: &Reply) -> bool
+    ensures { result ≡ legal.is_fit_for verb reply.now }
+{
+    is_legal(verb, reply.class()) && suits(verb, reply)
 }
 
 // Whether what the reply carries is right for the verb.
@@ -46,7 +52,7 @@ fn suits(verb: Verb, reply: &Reply) -> bool
 {
     match reply {
         Reply::Hit { body, cas, .. } => {
-            cas.is_some() == shows_number(verb) && body.as_slice().len() <= BODY_LIMIT
+            cas.is_some() == shows_number(verb) && body.as_slice().len() <= REPLY_BODY_LIMIT
         }
         _ => true,
     }

@@ -1,3 +1,5 @@
+//! Lines of a text, and the words of a line.
+
 ghost use Rattle.std.specs.Prelude.{◌≡◌, ◌+◌, ℕ, List, [], ◌∷◌, length, map, IfOk, MatchOption};
 ghost use Rattle.mc_protocol.specs.Lines as spec;
 
@@ -90,6 +92,13 @@ impl<'a> Lines<'a> {
             number: 0,
             rest: text.lines(),
         }
+    }
+
+    /// What stands between the words of its lines.
+    pub fn separator(&self) -> Separator
+        ensures { result ≡ self.now.separator }
+    {
+        self.separator
     }
 
     /// The number of the last line that was taken, skipped lines counted; once `next` gave `None`, how many lines

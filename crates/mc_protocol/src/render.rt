@@ -1,3 +1,5 @@
+//! The texts of requests and replies.
+
 ghost use Rattle.std.specs.Prelude.{◌≡◌, ◌++◌, ◌+◌, ◌^◌, ◌<◌, ◌≤◌, length, map, codes, decimal, OnOk, OnErr};
 ghost use Rattle.std.specs.List.{concat};
 ghost use Rattle.mc_protocol.specs.Words.{verb_word};
@@ -154,7 +156,7 @@ fn render_hit(
     Ok(())
 }
 
-/// Appends the pieces, one behind the other. Want of memory leaves `out` as it was.
+/// Appends the pieces, one after another. Want of memory leaves `out` as it was.
 pub fn append_all(out: &mut Vec<u8>, pieces: &[&[u8]]) -> Result<(), OutOfMemory>
     ensures ok { OnOk result (out.new.items ≡ out.old.items ++ concat (map (λ p. p.now) pieces.now)) }
     ensures err { OnErr result (out.new.items ≡ out.old.items) }
@@ -185,7 +187,7 @@ pub fn request_len(request: &Request) -> usize
         }
 }
 
-// How many bytes stand behind the key of a request that stores an item.
+// How many bytes stand after the key of a request that stores an item.
 fn item_len(request: &Request) -> usize
     ensures len { result ≡ length (concat (text.behind_key Fields.Item request.now)) }
     ensures small { result < 2 ^ 63 + 64 }

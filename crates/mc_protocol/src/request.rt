@@ -1,6 +1,8 @@
+//! Requests.
+
 ghost use Rattle.std.specs.Prelude.{◌≡◌};
 ghost use Rattle.mc_protocol.specs.Fields.{fields_of};
-ghost use Rattle.mc_protocol.specs.Words.{verb_word};
+ghost use Rattle.mc_protocol.specs.Words.{IsOfWord, verb_word, verb_of};
 
 use crate::Bytes;
 
@@ -13,9 +15,9 @@ pub enum Verb {
     Add,
     /// Stores an item where one is there.
     Replace,
-    /// Joins a body behind the one that is there.
+    /// Joins a body to the end of the one that is there.
     Append,
-    /// Joins a body in front of the one that is there.
+    /// Joins a body to the start of the one that is there.
     Prepend,
     /// Stores an item where the one that is there has this cas unique.
     Cas,
@@ -33,7 +35,7 @@ pub enum Verb {
     Touch,
 }
 
-/// Which fields a verb has behind its key, in this order.
+/// Which fields a verb has after its key, in this order.
 #[derive(Clone, Copy, Debug, PartialEq, Eq)]
 pub enum Fields {
     /// None.
@@ -49,6 +51,22 @@ pub enum Fields {
 }
 
 impl Verb {
+    /// The verbs in their order.
+    pub const ALL: [Verb; 12] = [
+        Verb::Set,
+        Verb::Add,
+        Verb::Replace,
+        Verb::Append,
+        Verb::Prepend,
+        Verb::Cas,
+        Verb::Get,
+        Verb::Gets,
+        Verb::Incr,
+        Verb::Decr,
+        Verb::Delete,
+        Verb::Touch,
+    ];
+
     /// The command's word, as `protocol.txt` has it.
     pub fn word(self) -> &'static str
         ensures { result.now ≡ verb_word self }
@@ -69,7 +87,15 @@ impl Verb {
         }
     }
 
-    /// The fields behind the key.
+    /// The verb with this word.
+    pub fn from_word(word: &[u8]) -> Option<Self>
+        ensures word { IsOfWord verb_word word.now result }
+        ensures exact { result ≡ verb_of word.now }
+    {
+        verb_of(word)
+    }
+
+    /// The fields after the key.
     pub fn fields(self) -> Fields
         ensures { result ≡ fields_of self }
     {
@@ -81,6 +107,16 @@ impl Verb {
             Verb::Touch => Fields::Expiry,
         }
     }
+}
+
+#[tactic(auto, unfolding(crate::specs::Words::verb_of))]
+fn verb_of(word: &[u8]) -> Option<Verb>
+    ensures { result ≡ verb_of word.now }
+{
+    Verb::ALL
+        .iter()
+        .copied()
+        .find(|verb| verb.word().as_bytes() == word)
 }
 
 /// One request of a section. A field that the verb doesn't have is 0 or empty.

@@ -1,10 +1,11 @@
 -- Names that were read may be declared.
-use Rattle.std.proofs.Common.{◌≡◌, ℕ, ◌==◌, true, not, Some, List, [], ◌∷◌, length, codes, ap, subst, arith}
+use Rattle.std.proofs.Common.{◌≡◌, ℕ, ◌==◌, true, not, Some, List, [], ◌∷◌, length, drop, codes, ap, subst, arith}
 use Rattle.std.proofs.lemmas.Bool.Decides.{nat_tests}
-use Rattle.mc_script.specs.declared.limits.TheConstants.{KEYS_LIMIT, KEY_BYTES_LIMIT, NAME_BYTES_LIMIT}
+use Rattle.mc_protocol.specs.declared.limits.TheConstants.{KEYS_LIMIT, KEY_BYTES_LIMIT}
+use Rattle.mc_protocol.specs.Lines.{Word, Words, begins_with}
+use Rattle.mc_script.specs.declared.limits.TheConstants.{NAME_BYTES_LIMIT}
 use Rattle.mc_script.specs.Script.{may_be_declared}
-use Rattle.mc_script.specs.ScriptWords.{Word, Words}
-use Rattle.mc_script.specs.Reading.{names_in, keys_in, optional_in, then_line, begins_with, others_of}
+use Rattle.mc_script.specs.Reading.{names_in, keys_in, optional_in, then_line}
 use Rattle.mc_script.proofs.Outcomes.{then-some, cond-some, some-same, only-then}
 
 some-word : (word : Word) (words : List Word) → not (length (word ∷ words) == 0) ≡ true
@@ -26,8 +27,8 @@ pub keys-declared : (lines : List Words) (keys : List Word) (rest : List Words) 
 keys-declared [] keys rest h = absurd (cc)
 keys-declared (line ∷ lines) keys rest h =
     let p = only-then (begins_with (codes "keys") line) _ (keys, rest) h in
-    let q = then-some (names_in KEYS_LIMIT KEY_BYTES_LIMIT (others_of line)) (λ names. Some (names, lines)) (keys, rest) p.1 in
-    let d = names-declared KEYS_LIMIT KEY_BYTES_LIMIT (others_of line) q.0 q.1 in
+    let q = then-some (names_in KEYS_LIMIT KEY_BYTES_LIMIT (drop 1 line)) (λ names. Some (names, lines)) (keys, rest) p.1 in
+    let d = names-declared KEYS_LIMIT KEY_BYTES_LIMIT (drop 1 line) q.0 q.1 in
     let e : q.0 ≡ keys = ap (λ x. x.0) (some-same (q.0, lines) (keys, rest) q.2) in
     let P : List Word → Type 0 = λ ns. not (length ns == 0) ≡ true in
     let Q : List Word → Type 0 = λ ns. may_be_declared KEYS_LIMIT KEY_BYTES_LIMIT ns ≡ true in
@@ -44,6 +45,6 @@ optional-declared word limit line lines names next rest none h =
     let Q : List Word → Type 0 = λ ns. may_be_declared limit NAME_BYTES_LIMIT ns ≡ true in
     cond-some (begins_with word line) _ _ (names, next, rest) (may_be_declared limit NAME_BYTES_LIMIT names ≡ true) h
     (λ g.
-    let q = then-some (names_in limit NAME_BYTES_LIMIT (others_of line)) (λ ns. then_line ns lines) (names, next, rest) g in
-    subst Q (behind q.0 names lines next rest q.2) (names-declared limit NAME_BYTES_LIMIT (others_of line) q.0 q.1).1)
+    let q = then-some (names_in limit NAME_BYTES_LIMIT (drop 1 line)) (λ ns. then_line ns lines) (names, next, rest) g in
+    subst Q (behind q.0 names lines next rest q.2) (names-declared limit NAME_BYTES_LIMIT (drop 1 line) q.0 q.1).1)
     (λ g. subst Q (ap (λ t. t.0) (some-same ([], line, lines) (names, next, rest) g)) none)

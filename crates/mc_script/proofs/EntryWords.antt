@@ -7,20 +7,23 @@ use Rattle.std.proofs.lemmas.List.{take-append-drop, drop_all}
 use Rattle.std.proofs.lemmas.Slice.Eq.{bytes_eq-Decides}
 use Rattle.std.proofs.lemmas.Bool.Decides.{nat_tests}
 use Rattle.mc_protocol.specs.Fields.{fields_of}
-use Rattle.mc_protocol.specs.Words.{verb_word}
+use Rattle.mc_protocol.specs.Words.{verb_word, verb_of}
 use Rattle.mc_protocol.specs.declared.request.Verb.{Verb}
 use Rattle.mc_protocol.specs.declared.request.Verb.TheVariants.{Set, Add, Replace, Append, Prepend, Cas, Get, Gets, Incr, Decr, Delete, Touch}
+use Rattle.mc_protocol.specs.Lines.{Word, Words}
+use Rattle.mc_protocol.specs.Names.{index_of}
+use Rattle.mc_protocol.proofs.OfWords.{verb_of-word, word-of_verb}
 use Rattle.mc_script.specs.declared.entry.Entry.{Entry}
 use Rattle.mc_script.specs.declared.entry.Entry.TheVariants as entry
 use Rattle.mc_script.specs.declared.entry.Mark.{Mark}
 use Rattle.mc_script.specs.declared.fields.Parts.{Parts}
 use Rattle.mc_script.specs.declared.step.Template.{Template}
 use Rattle.mc_script.specs.Script.{Names}
-use Rattle.mc_script.specs.ScriptWords.{Word, Words, is_name, index_of, label_word}
+use Rattle.mc_script.specs.ScriptWords.{is_label_name, label_word}
 use Rattle.mc_script.specs.SectionText.{SpellsEntry, SpellsRequest}
 use Rattle.mc_script.specs.Steps.{◌>>=◌}
-use Rattle.mc_script.specs.Reading.{entry_in, label_or_halt, before_colon, bind_in, goto_in, behind_verb, request_in, verb_of, all_verbs, fields_in, field_count, marks_in, binds, template_of}
-use Rattle.mc_script.proofs.Outcomes.{then-some, cond-cases, some-same, only-then, only-else, find-passes}
+use Rattle.mc_script.specs.Reading.{entry_in, label_or_halt, before_colon, bind_in, goto_in, behind_verb, request_in, fields_in, field_count, marks_in, binds, template_of}
+use Rattle.mc_script.proofs.Outcomes.{then-some, cond-cases, some-same, only-then, only-else}
 use Rattle.mc_script.proofs.FieldWords.{fields-spelled, fields-read}
 use Rattle.mc_script.proofs.MarkLists.{marks-spelled, marks-read}
 
@@ -28,25 +31,6 @@ bytes-same : (xs ys : Word) → bytes_eq xs ys ≡ true → xs ≡ ys
 bytes-same xs ys = (bytes_eq-Decides xs ys).0
 
 -- ---- verbs
-
-verb_of-word : (v : Verb) → verb_of (verb_word v) ≡ Some v
-unfolding verb_of
-verb_of-word Set = refl
-verb_of-word Add = refl
-verb_of-word Replace = refl
-verb_of-word Append = refl
-verb_of-word Prepend = refl
-verb_of-word Cas = refl
-verb_of-word Get = refl
-verb_of-word Gets = refl
-verb_of-word Incr = refl
-verb_of-word Decr = refl
-verb_of-word Delete = refl
-verb_of-word Touch = refl
-
-word-of_verb : (word : Word) (v : Verb) → verb_of word ≡ Some v → verb_word v ≡ word
-unfolding verb_of
-word-of_verb word v h = bytes-same (verb_word v) word (find-passes (λ w. bytes_eq (verb_word w) word) all_verbs v h)
 
 verb-not-bind : (v : Verb) → bytes_eq (verb_word v) (codes "bind") ≡ false
 verb-not-bind Set = refl
@@ -119,7 +103,7 @@ colon-read name =
 
 lone-spelled : (names : Names) (o : Option Word) (word : Word) (e : Entry) → before_colon word ≡ o → label_or_halt o word ≡ Some e → SpellsEntry names (word ∷ []) e
 lone-spelled names (Some name) word e at h =
-    let p = only-then (is_name name) (Some (entry.Label name)) e h in
+    let p = only-then (is_label_name name) (Some (entry.Label name)) e h in
     subst (SpellsEntry names (word ∷ [])) (some-same (entry.Label name) e p.1) (ap (λ w. w ∷ []) (colon-spelled word name at), p.0)
 lone-spelled names None word e at h =
     let p = only-then (bytes_eq word (codes "halt")) (Some entry.Halt) e h in

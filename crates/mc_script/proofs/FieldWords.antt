@@ -1,52 +1,39 @@
 -- Numbers, bodies and what stands behind a key are read exactly where words spell them.
-use Rattle.std.proofs.Common.{◌≡◌, ℕ, ◌==◌, nat_le, nat_lt, Bool, true, false, not, ◌||◌, Some, List, [], ◌∷◌, ◌++◌, length, drop, refl, sym, ap, subst, ◌∙◌, arith}
-use Rattle.std.specs.Str.Parse.{digits_value}
-use Rattle.std.proofs.lemmas.Bool.{ltb-false, le-ltb, leb-true, le-leb, eqb-true, and_parts}
+use Rattle.std.proofs.Common.{◌≡◌, ℕ, ◌==◌, true, false, Some, Result, Ok, Err, List, [], ◌∷◌, ◌++◌, drop, refl, sym, ap, subst, ◌∙◌, arith}
+use Rattle.std.proofs.lemmas.Bool.{eqb-true, and_parts}
 use Rattle.std.proofs.lemmas.Bool.Decides.{nat_tests}
+use Rattle.std.specs.Result.{result_ok}
 use Rattle.mc_protocol.specs.declared.request.Fields.{Fields}
 use Rattle.mc_protocol.specs.declared.request.Fields.TheVariants as fields
 use Rattle.mc_protocol.specs.declared.request.Verb.{Verb}
+use Rattle.mc_protocol.specs.Lines.{Word, Words}
+use Rattle.mc_protocol.specs.Decimals.{SpellsNumber, decimal_in, are_digits, is_digit, MAX_32, MAX_64}
+use Rattle.mc_protocol.specs.Names.{index_of}
+use Rattle.mc_protocol.specs.declared.decimal.DecimalFault.{DecimalFault}
+use Rattle.mc_protocol.proofs.Decimals.{decimal-spelled, decimal-read}
 use Rattle.mc_script.specs.declared.fields.Parts.{Parts}
-use Rattle.mc_script.specs.declared.limits.TheConstants.{DIGITS_LIMIT}
 use Rattle.mc_script.specs.declared.step.Argument.{Argument}
 use Rattle.mc_script.specs.declared.step.Argument.TheVariants as argument
 use Rattle.mc_script.specs.declared.step.Template.{Template}
 use Rattle.mc_script.specs.Script.{Names}
-use Rattle.mc_script.specs.ScriptWords.{Word, Words, SpellsNumber, are_digits, is_digit, is_body, body_word, index_of, MAX_32, MAX_64}
+use Rattle.mc_script.specs.ScriptWords.{is_body, body_word}
 use Rattle.mc_script.specs.SectionText.{SpellsAmount, SpellsUnique, SpellsFields}
 use Rattle.mc_script.specs.Steps.{◌>>=◌}
 use Rattle.mc_script.specs.Reading.{number_in, body_in, variable_behind, unique_in, plain_amount_in, amount_in, fields_in, field_count, template_of}
-use Rattle.mc_script.proofs.Outcomes.{then-some, some-same, only-then, only-else, cond-cases}
+use Rattle.mc_script.proofs.Outcomes.{then-some, some-same, only-then, cond-cases}
 
 -- ---- numbers
 
-neither : (a b : Bool) → (a || not b) ≡ false → (not a ≡ true) × (b ≡ true)
-neither true b h = absurd (cc)
-neither false true h = (refl, refl)
-neither false false h = absurd (cc)
+-- a reading that gave a number
+read-number : (r : Result ℕ DecimalFault) (n : ℕ) → result_ok r ≡ Some n → r ≡ Ok n
+read-number (Ok m) n h = ap Ok (some-same m n h)
+read-number (Err e) n h = absurd (cc)
 
 pub number-spelled : (greatest : ℕ) (word : Word) (n : ℕ) → number_in greatest word ≡ Some n → SpellsNumber greatest word n
-unfolding number_in
-number-spelled greatest word n h =
-    let p = only-else ((length word == 0) || not (are_digits word)) _ n h in
-    let q = only-else (nat_lt DIGITS_LIMIT (length word)) _ n p.1 in
-    let r = only-then (nat_le (digits_value 10 word) greatest) (Some (digits_value 10 word)) n q.1 in
-    let b = neither (length word == 0) (are_digits word) p.0 in
-    let v = some-same (digits_value 10 word) n r.1 in
-    record { some = b.0; digits = b.1; short = ltb-false DIGITS_LIMIT (length word) q.0; value = v; small = rw v at (leb-true (digits_value 10 word) greatest r.0) }
-
-both : (a b : Bool) → not a ≡ true → b ≡ true → (a || not b) ≡ false
-both true b h k = absurd (cc)
-both false true h k = refl
-both false false h k = absurd (cc)
+number-spelled greatest word n h = decimal-spelled greatest word n (read-number (decimal_in greatest word) n h)
 
 pub number-read : (greatest : ℕ) (word : Word) (n : ℕ) → SpellsNumber greatest word n → number_in greatest word ≡ Some n
-unfolding number_in
-number-read greatest word n s =
-    let a = both (length word == 0) (are_digits word) s.some s.digits in
-    let b = le-ltb DIGITS_LIMIT (length word) s.short in
-    let c : nat_le (digits_value 10 word) greatest ≡ true = rw s.value (le-leb n greatest s.small) in
-    rw (a, b, c) (ap Some s.value)
+number-read greatest word n s = ap result_ok (decimal-read greatest word n s)
 
 -- ---- bodies
 

@@ -12,6 +12,10 @@ use Rattle.mc_protocol.specs.declared.request.Fields.{Fields}
 use Rattle.mc_protocol.specs.declared.request.Fields.TheVariants as fields
 use Rattle.mc_protocol.specs.declared.request.Verb.{Verb}
 use Rattle.mc_protocol.specs.declared.reply.Class.{Class}
+use Rattle.mc_protocol.specs.Lines.{Word, Words}
+use Rattle.mc_protocol.specs.Names.{index_of}
+use Rattle.mc_protocol.specs.Decimals.{MAX_32, MAX_64}
+use Rattle.mc_protocol.specs.Words.{all_classes}
 use Rattle.mc_script.specs.declared.entry.Entry.{Entry}
 use Rattle.mc_script.specs.declared.entry.Entry.TheVariants as entry
 use Rattle.mc_script.specs.declared.entry.Mark.{Mark}
@@ -24,10 +28,9 @@ use Rattle.mc_script.specs.declared.step.Step.{Step}
 use Rattle.mc_script.specs.declared.step.Step.TheVariants as step
 use Rattle.mc_script.specs.declared.step.Template.{Template}
 use Rattle.mc_script.specs.Script.{Names, Section, Script}
-use Rattle.mc_script.specs.ScriptWords.{Word, Words, index_of, MAX_32, MAX_64}
 use Rattle.mc_script.specs.Marks.{SpellsMark, may_stand, may_stand_together, have_no_twins, shows_numbers, is_bind, is_number_jump, bound_by}
 use Rattle.mc_script.specs.SectionText.{SpellEach, SpellsAmount, SpellsUnique, SpellsFields, SpellsRequest, SpellsEntry, SpellsSection}
-use Rattle.mc_script.specs.Steps.{in_front, sends, goes, marked, all_classes, jumps_on, label_behind, labels_from, steps_from}
+use Rattle.mc_script.specs.Steps.{in_front, sends, goes, marked, jumps_on, label_behind, labels_from, steps_from}
 use Rattle.mc_script.specs.ScriptText.{SpellsBudget, SpellsScript}
 use Rattle.mc_script.specs.Templates.{IsTemplate, has_fields, is_variable, is_amount}
 use Rattle.mc_script.specs.WellFormed.{IsStep, AreSteps, AreLabels, IsSection, IsScript, MayBind}

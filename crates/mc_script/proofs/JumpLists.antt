@@ -9,12 +9,13 @@ use Rattle.mc_protocol.specs.Legal.{is_legal}
 use Rattle.mc_protocol.specs.declared.request.Verb.{Verb}
 use Rattle.mc_protocol.specs.declared.reply.Class.{Class}
 use Rattle.mc_protocol.specs.declared.reply.Class.TheVariants as class
+use Rattle.mc_protocol.specs.Lines.{Word}
+use Rattle.mc_protocol.specs.Words.{class_index, all_classes}
 use Rattle.mc_script.specs.declared.entry.Mark.{Mark}
 use Rattle.mc_script.specs.declared.entry.Mark.TheVariants as mark
 use Rattle.mc_script.specs.declared.section.Label.{Label}
-use Rattle.mc_script.specs.ScriptWords.{Word}
-use Rattle.mc_script.specs.Marks.{class_index, may_stand, is_number_jump, target_of}
-use Rattle.mc_script.specs.Steps.{all_classes, label_behind, with_jump, jump_before, jumps_on}
+use Rattle.mc_script.specs.Marks.{may_stand, is_number_jump, target_of}
+use Rattle.mc_script.specs.Steps.{label_behind, with_jump, jump_before, jumps_on}
 use Rattle.mc_script.specs.WellFormed.{IsBehind, AreJumps, is_number_class, jumps_on_number}
 use Rattle.mc_script.proofs.Outcomes.{some-same, cond-cases}
 

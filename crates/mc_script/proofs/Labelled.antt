@@ -4,16 +4,19 @@ use Rattle.std.specs.List.{list_any}
 use Rattle.std.specs.Str.{bytes_eq}
 use Rattle.mc_protocol.specs.Fields.{fields_of}
 use Rattle.mc_protocol.specs.declared.request.Verb.{Verb}
+use Rattle.mc_protocol.specs.Lines.{Word, Words, is_only}
+use Rattle.mc_protocol.specs.Names.{index_of}
+use Rattle.mc_protocol.specs.Words.{verb_of}
 use Rattle.mc_script.specs.declared.entry.Entry.{Entry}
 use Rattle.mc_script.specs.declared.entry.Entry.TheVariants as entry
 use Rattle.mc_script.specs.declared.entry.Mark.{Mark}
 use Rattle.mc_script.specs.declared.fields.Parts.{Parts}
 use Rattle.mc_script.specs.Script.{Names}
-use Rattle.mc_script.specs.ScriptWords.{Word, Words, is_name, index_of}
+use Rattle.mc_script.specs.ScriptWords.{is_label_name}
 use Rattle.mc_script.specs.Steps.{◌>>=◌}
-use Rattle.mc_script.proofs.Outcomes.{then-some, cond-some, some-same, only-then}
-use Rattle.mc_script.specs.Reading.{entry_in, label_or_halt, before_colon, bind_in, goto_in, behind_verb, request_in, verb_of, fields_in, field_count, marks_in, binds, template_of, is_only}
+use Rattle.mc_script.specs.Reading.{entry_in, label_or_halt, before_colon, bind_in, goto_in, behind_verb, request_in, fields_in, field_count, marks_in, binds, template_of}
 use Rattle.mc_script.specs.TextReading.{label_of, label_named_by, entries_in, may_follow, may_follow_as, step_count, with_label, count_with, names_with}
+use Rattle.mc_script.proofs.Outcomes.{then-some, cond-some, some-same, only-then}
 
 no-label : (e f : Entry) → label_named_by e ≡ None → Some e ≡ Some f → label_named_by f ≡ None
 no-label e f n h = ap label_named_by (sym (some-same e f h)) ∙ n
@@ -30,7 +33,7 @@ goto-no-label label (_ ∷ _) e h = absurd (cc)
 
 lone-label : (name : Option Word) (word : Word) (e : Entry) → label_or_halt name word ≡ Some e → label_named_by e ≡ name
 lone-label (Some name) word e h =
-    let p = only-then (is_name name) (Some (entry.Label name)) e h in
+    let p = only-then (is_label_name name) (Some (entry.Label name)) e h in
     ap label_named_by (sym (some-same (entry.Label name) e p.1))
 lone-label None word e h =
     let p = only-then (bytes_eq word (codes "halt")) (Some entry.Halt) e h in

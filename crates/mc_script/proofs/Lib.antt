@@ -1,6 +1,4 @@
 pub mod Lists
-pub mod Numbers
-pub mod LabelSets
 pub mod Outcomes
 pub mod Labelled
 pub mod FieldWords

@@ -1,42 +1,23 @@
 -- Marks are read exactly where words spell them.
 use Rattle.std.proofs.Common.{◌≡◌, ℕ, ◌+◌, ◌<◌, ◌==◌, Bool, true, false, not, Option, Some, None, [], ◌∷◌, ◌++◌, length, take, drop, get_or, refl, sym, ap, subst, ◌∙◌, arith, drop-cons, length-append, suc}
 use Rattle.std.specs.List.{list_all, position, position_or_len}
-use Rattle.std.specs.Str.{bytes_eq}
 use Rattle.std.proofs.lemmas.Bool.{eqb-true, lt-ltb, and_parts}
 use Rattle.std.proofs.lemmas.List.{take-append-drop}
 use Rattle.std.proofs.lemmas.List.Quantifiers.{position-Some}
-use Rattle.std.proofs.lemmas.Slice.Eq.{bytes_eq-Decides}
 use Rattle.mc_protocol.specs.declared.reply.Class.{Class}
 use Rattle.mc_protocol.specs.declared.reply.Class.TheVariants as class
+use Rattle.mc_protocol.specs.Lines.{Word}
+use Rattle.mc_protocol.specs.Names.{index_of}
+use Rattle.mc_protocol.specs.Words.{class_word, class_of_word}
+use Rattle.mc_protocol.proofs.OfWords.{class_of-word, word-of_class}
 use Rattle.mc_script.specs.declared.entry.Mark.{Mark}
 use Rattle.mc_script.specs.declared.entry.Mark.TheVariants as mark
 use Rattle.mc_script.specs.declared.entry.Sign.{Sign}
 use Rattle.mc_script.specs.declared.entry.Sign.TheVariants as sign
 use Rattle.mc_script.specs.Script.{Names}
-use Rattle.mc_script.specs.ScriptWords.{Word, index_of}
-use Rattle.mc_script.specs.Marks.{SpellsMark, sign_byte, class_word}
-use Rattle.mc_script.specs.Steps.{all_classes}
-use Rattle.mc_script.specs.Reading.{mark_in, bind_mark_in, flag_or_jump, flag_in, jump_in, jump_at, sign_of, class_of_word}
-use Rattle.mc_script.proofs.Outcomes.{then-some, some-same, cond-cases, find-passes}
-
--- ---- classes
-
-pub class_of-word : (c : Class) → class_of_word (class_word c) ≡ Some c
-unfolding class_of_word
-class_of-word class.Stored = refl
-class_of-word class.NotStored = refl
-class_of-word class.Exists = refl
-class_of-word class.NotFound = refl
-class_of-word class.Hit = refl
-class_of-word class.Miss = refl
-class_of-word class.Deleted = refl
-class_of-word class.Touched = refl
-class_of-word class.Number = refl
-class_of-word class.NotNumber = refl
-
-word-of_class : (word : Word) (c : Class) → class_of_word word ≡ Some c → class_word c ≡ word
-unfolding class_of_word
-word-of_class word c h = (bytes_eq-Decides (class_word c) word).0 (find-passes (λ d. bytes_eq (class_word d) word) all_classes c h)
+use Rattle.mc_script.specs.Marks.{SpellsMark, sign_byte}
+use Rattle.mc_script.specs.Reading.{mark_in, bind_mark_in, flag_or_jump, flag_in, jump_in, jump_at, sign_of}
+use Rattle.mc_script.proofs.Outcomes.{then-some, some-same, cond-cases}
 
 -- ---- the first colon
 

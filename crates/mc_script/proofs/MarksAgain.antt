@@ -5,16 +5,18 @@ use Rattle.std.proofs.lemmas.Bool.{not-true, eq-eqb, ne_eqb, cond-true, cond-fal
 use Rattle.mc_protocol.specs.declared.request.Verb.{Verb}
 use Rattle.mc_protocol.specs.declared.reply.Class.{Class}
 use Rattle.mc_protocol.specs.declared.reply.Class.TheVariants as class
+use Rattle.mc_protocol.specs.Lines.{Word}
+use Rattle.mc_protocol.specs.Names.{are_distinct}
+use Rattle.mc_protocol.specs.Words.{class_index, all_classes}
 use Rattle.mc_script.specs.declared.entry.Mark.{Mark}
 use Rattle.mc_script.specs.declared.entry.Mark.TheVariants as mark
 use Rattle.mc_script.specs.declared.entry.Sign.{Sign}
 use Rattle.mc_script.specs.declared.entry.Sign.TheVariants as sign
 use Rattle.mc_script.specs.declared.section.Label.{Label}
 use Rattle.mc_script.specs.declared.step.Template.{Template}
-use Rattle.mc_script.specs.ScriptWords.{Word, are_distinct}
-use Rattle.mc_script.specs.Marks.{sign_byte, class_index, says, mask_of, target_of, bound_by}
+use Rattle.mc_script.specs.Marks.{sign_byte, says, mask_of, target_of, bound_by}
 use Rattle.mc_script.specs.SectionText.{label_names}
-use Rattle.mc_script.specs.Steps.{all_classes, with_jump, jump_before, jumps_on}
+use Rattle.mc_script.specs.Steps.{with_jump, jump_before, jumps_on}
 use Rattle.mc_script.specs.WellFormed.{IsBehind, AreJumps}
 use Rattle.mc_script.specs.PrintedScript.{label_at}
 use Rattle.mc_script.proofs.JumpLists.{class-same}

@@ -1,6 +1,5 @@
 -- What a reading that gave a value went through.
-use Rattle.std.proofs.Common.{◌≡◌, Bool, true, false, cond, Option, Some, None, List, [], ◌∷◌, refl}
-use Rattle.std.specs.List.{find}
+use Rattle.std.proofs.Common.{◌≡◌, Bool, true, false, cond, Option, Some, None, refl}
 use Rattle.mc_script.specs.Steps.{◌>>=◌}
 
 -- both steps gave one
@@ -26,12 +25,3 @@ only-then false x a e = absurd (cc)
 pub only-else : {A : Type 0} (b : Bool) (x : Option A) (a : A) → cond b None x ≡ Some a → (b ≡ false) × (x ≡ Some a)
 only-else true x a e = absurd (cc)
 only-else false x a e = (refl, e)
-
-find-here : {X : Type 0} (passes : X → Bool) (b : Bool) (x y : X) (xs : List X) → passes x ≡ b → cond b (Some x) (find passes xs) ≡ Some y → (find passes xs ≡ Some y → passes y ≡ true) → passes y ≡ true
-find-here passes true x y xs p h rest = let e : x ≡ y = cc in rw (← e) p
-find-here passes false x y xs p h rest = rest h
-
--- what is found passes
-pub find-passes : {X : Type 0} (passes : X → Bool) (xs : List X) (y : X) → find passes xs ≡ Some y → passes y ≡ true
-find-passes passes [] y h = absurd (cc)
-find-passes passes (x ∷ xs) y h = find-here passes (passes x) x y xs refl h (find-passes passes xs y)

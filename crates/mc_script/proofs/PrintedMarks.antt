@@ -5,14 +5,16 @@ use Rattle.std.proofs.lemmas.Bool.{and_from, or_from, not_from_false, ne_eqb}
 use Rattle.mc_protocol.specs.Legal.{is_legal}
 use Rattle.mc_protocol.specs.declared.request.Verb.{Verb}
 use Rattle.mc_protocol.specs.declared.reply.Class.{Class}
+use Rattle.mc_protocol.specs.Lines.{Word}
+use Rattle.mc_protocol.specs.Names.{are_distinct}
+use Rattle.mc_protocol.specs.Words.{class_index}
 use Rattle.mc_script.specs.declared.entry.Mark.{Mark}
 use Rattle.mc_script.specs.declared.entry.Mark.TheVariants as mark
 use Rattle.mc_script.specs.declared.entry.Sign.{Sign}
 use Rattle.mc_script.specs.declared.section.Label.{Label}
 use Rattle.mc_script.specs.declared.step.Template.{Template}
 use Rattle.mc_script.specs.Script.{Names}
-use Rattle.mc_script.specs.ScriptWords.{Word, are_distinct}
-use Rattle.mc_script.specs.Marks.{SpellsMark, class_index, are_twins, have_no_twins, may_stand, may_stand_together, shows_numbers, is_bind, is_number_jump}
+use Rattle.mc_script.specs.Marks.{SpellsMark, are_twins, have_no_twins, may_stand, may_stand_together, shows_numbers, is_bind, is_number_jump}
 use Rattle.mc_script.specs.SectionText.{SpellEach}
 use Rattle.mc_script.specs.WellFormed.{AreJumps, MayBind, is_number_class, jumps_on_number}
 use Rattle.mc_script.specs.Templates.{IsTemplate}

@@ -1,35 +1,23 @@
 -- Names, numbers and bodies that are printed: they are whole words, and spell what they were printed of.
-use Rattle.std.proofs.Common.{◌≡◌, ℕ, ◌+◌, ◌<◌, ◌≤◌, ◌==◌, ◌^◌, nat_le, nat_lt, Bool, true, false, not, ◌&&◌, Some, List, [], ◌∷◌, ◌++◌, length, slice_get, decimal, refl, ap, ◌∙◌, arith, suc, zero}
+use Rattle.std.proofs.Common.{◌≡◌, ℕ, ◌+◌, ◌<◌, ◌≤◌, ◌==◌, nat_le, nat_lt, Bool, true, false, not, ◌&&◌, Some, List, [], ◌∷◌, ◌++◌, length, slice_get, decimal, refl, ap, ◌∙◌, arith, suc, zero}
 use Rattle.std.specs.List.{list_all, list_any, position_or_len}
 use Rattle.std.specs.Str.{bytes_eq}
 use Rattle.std.proofs.lemmas.Bool.{and_parts, and_from, or_parts, not-true, lt-ltb}
 use Rattle.std.proofs.lemmas.Bool.Decides.{nat_tests}
-use Rattle.std.proofs.lemmas.Fmt.{decimal_nonempty, digits_decimal, digits_value-decimal, length-decimal-le}
 use Rattle.std.proofs.lemmas.List.Folds.{list_all-append}
+use Rattle.mc_protocol.specs.Lines.{Word}
+use Rattle.mc_protocol.specs.Decimals.{is_digit, MAX_64}
+use Rattle.mc_protocol.specs.Names.{is_name, is_name_byte, is_new, are_distinct, index_of}
+use Rattle.mc_protocol.proofs.Decimals.{decimal-spells}
 use Rattle.mc_script.specs.declared.section.Label.{Label}
-use Rattle.mc_script.specs.ScriptWords.{Word, SpellsNumber, is_named, is_name, is_name_byte, is_body, is_body_byte, is_digit, is_new, are_distinct, index_of, MAX_64, body_word, label_word}
+use Rattle.mc_script.specs.ScriptWords.{is_label_name, is_body, is_body_byte, body_word, label_word}
 use Rattle.mc_script.specs.SectionText.{label_names}
 use Rattle.mc_script.specs.Steps.{label_behind}
 use Rattle.mc_script.specs.PrintedScript.{name_at, label_at}
-use Rattle.mc_script.proofs.Numbers.{digits}
 use Rattle.mc_script.proofs.PrintedLines.{is_plain, are_plain, is_whole, all-weaker}
 use Rattle.mc_script.proofs.SectionLines.{bytes-equal}
 
 -- ---- numbers
-
-not_empty : (n : ℕ) → 0 < n → not (n == 0) ≡ true
-not_empty n some = grind (arith, nat_tests)
-
-pub decimal-spells : (greatest n : ℕ) → greatest ≤ MAX_64 → n ≤ greatest → SpellsNumber greatest (decimal n) n
-decimal-spells greatest n large small =
-    let below : n < 2 ^ 64 = omega arith in
-    record {
-      some = not_empty (length (decimal n)) (decimal_nonempty n below);
-      digits = digits_decimal digits n below;
-      short = length-decimal-le 20 n (omega arith) (omega arith) below;
-      value = digits_value-decimal digits n below;
-      small = small;
-    }
 
 digit-plain : (byte : ℕ) → is_digit byte ≡ true → is_plain byte ≡ true
 digit-plain byte h = grind (arith, nat_tests)
@@ -56,10 +44,10 @@ named-parts true true false h = absurd (cc)
 named-parts true false c h = absurd (cc)
 named-parts false b c h = absurd (cc)
 
-pub named-plain : (limit : ℕ) (name : Word) → is_named limit name ≡ true → are_plain name ≡ true
+pub named-plain : (limit : ℕ) (name : Word) → is_name limit name ≡ true → are_plain name ≡ true
 named-plain limit name h = all-weaker is_name_byte is_plain name-plain name (named-parts (not (length name == 0)) (nat_le (length name) limit) _ h).1
 
-pub named-whole : (limit : ℕ) (name : Word) → is_named limit name ≡ true → is_whole name ≡ true
+pub named-whole : (limit : ℕ) (name : Word) → is_name limit name ≡ true → is_whole name ≡ true
 named-whole limit name h =
     and_from (not (length name == 0)) (are_plain name) (named-parts (not (length name == 0)) (nat_le (length name) limit) _ h).0 (named-plain limit name h)
 
@@ -74,7 +62,7 @@ label-some : (name : Word) → not (length (name ++ 58 ∷ []) == 0) ≡ true
 label-some [] = refl
 label-some (byte ∷ name) = some-byte byte (name ++ 58 ∷ [])
 
-pub label-whole : (name : Word) → is_name name ≡ true → is_whole (label_word name) ≡ true
+pub label-whole : (name : Word) → is_label_name name ≡ true → is_whole (label_word name) ≡ true
 label-whole name h =
     and_from (not (length (label_word name) == 0)) (are_plain (label_word name)) (label-some name)
     (list_all-append is_plain name (58 ∷ []) ∙ and_from (are_plain name) true (named-plain _ name h) refl)

@@ -4,21 +4,26 @@ use Rattle.std.specs.List.{list_all}
 use Rattle.std.proofs.lemmas.Bool.{and_parts, and_from, eqb-true, eq-eqb, ne_eqb, le-leb, lt-leb, cond_both, cases_order}
 use Rattle.mc_protocol.specs.declared.actor.Actor.{Actor}
 use Rattle.mc_protocol.specs.declared.actor.Actor.TheVariants as actor
+use Rattle.mc_protocol.specs.declared.limits.TheConstants.{KEY_BYTES_LIMIT, REQUESTS_LIMIT, REQUEST_BYTES_LIMIT}
+use Rattle.mc_protocol.specs.Lines.{Word, Words}
+use Rattle.mc_protocol.specs.Names.{is_name, are_distinct}
+use Rattle.mc_protocol.specs.Words.{actor_word}
+use Rattle.mc_protocol.proofs.Decimals.{decimal-spells}
 use Rattle.mc_script.specs.declared.entry.Entry.{Entry}
 use Rattle.mc_script.specs.declared.entry.Entry.TheVariants as entry
-use Rattle.mc_script.specs.declared.limits.TheConstants.{NAME_BYTES_LIMIT, KEY_BYTES_LIMIT, REQUESTS_LIMIT, BYTES_LIMIT}
+use Rattle.mc_script.specs.declared.limits.TheConstants.{NAME_BYTES_LIMIT}
 use Rattle.mc_script.specs.declared.section.Label.{Label}
 use Rattle.mc_script.specs.declared.step.Step.{Step}
 use Rattle.mc_script.specs.declared.step.Step.TheVariants as step
 use Rattle.mc_script.specs.Script.{Names, Section, Script}
-use Rattle.mc_script.specs.ScriptWords.{Word, Words, is_named, is_name, are_distinct, label_word}
-use Rattle.mc_script.specs.ScriptText.{SpellsBudget, actor_word, header, names_line, names_lines, section_line, end_line, body_lines}
+use Rattle.mc_script.specs.ScriptWords.{is_label_name, label_word}
+use Rattle.mc_script.specs.ScriptText.{SpellsBudget, header, names_line, names_lines, section_line, end_line, body_lines}
 use Rattle.mc_script.specs.SectionText.{SpellEach, SpellsEntry, SpellsSection, label_names}
 use Rattle.mc_script.specs.Steps.{in_front, labels_from, steps_from}
 use Rattle.mc_script.specs.WellFormed.{AreSteps, AreLabels, IsSection, IsScript}
 use Rattle.mc_script.specs.PrintedScript.{label_lines, step_words, step_lines, section_lines, budget_line, script_lines, script_text, PrintedScriptsAreSpelled, PrintedScriptsAreReadAgain}
 use Rattle.mc_script.proofs.PrintedLines.{is_whole, are_whole, is_line, are_lines, all-weaker, lines_fall_apart}
-use Rattle.mc_script.proofs.PrintedNames.{decimal-spells, decimal-whole, named-whole, label-whole}
+use Rattle.mc_script.proofs.PrintedNames.{decimal-whole, named-whole, label-whole}
 use Rattle.mc_script.proofs.PrintedFlags.{each-append, all-append}
 use Rattle.mc_script.proofs.PrintedSteps.{Known, known, step_entry, step-spells, step-again, step-line, line-from}
 use Rattle.mc_script.proofs.ScriptRead.{one_script}
@@ -29,16 +34,16 @@ abbrev label_entries : ℕ → List Label → List Entry
 label_entries place [] = []
 label_entries place (label ∷ labels) = cond (label.place == place) (entry.Label label.name ∷ label_entries place labels) (label_entries place labels)
 
-label-names : (steps place : ℕ) (labels : List Label) → AreLabels steps place labels → list_all is_name (label_names labels) ≡ true
+label-names : (steps place : ℕ) (labels : List Label) → AreLabels steps place labels → list_all is_label_name (label_names labels) ≡ true
 label-names steps place [] h = refl
 label-names steps place (label ∷ labels) h =
-    and_from (is_name label.name) (list_all is_name (label_names labels)) h.0 (label-names steps label.place labels h.3)
+    and_from (is_label_name label.name) (list_all is_label_name (label_names labels)) h.0 (label-names steps label.place labels h.3)
 
-labels-spell : (names : Names) (place : ℕ) (labels : List Label) → list_all is_name (label_names labels) ≡ true
+labels-spell : (names : Names) (place : ℕ) (labels : List Label) → list_all is_label_name (label_names labels) ≡ true
     → SpellEach (SpellsEntry names) (label_lines place labels) (label_entries place labels)
 labels-spell names place [] all = tt
 labels-spell names place (label ∷ labels) all =
-    let p = and_parts (is_name label.name) (list_all is_name (label_names labels)) all in
+    let p = and_parts (is_label_name label.name) (list_all is_label_name (label_names labels)) all in
     let rest = labels-spell names place labels p.1 in
     go (label.place == place) names (label_word label.name ∷ []) (entry.Label label.name) (label_lines place labels) (label_entries place labels) (refl, p.0) rest
   where
@@ -47,10 +52,10 @@ labels-spell names place (label ∷ labels) all =
     go true names w m ws ms h k = (h, k)
     go false names w m ws ms h k = k
 
-labels-lines : (place : ℕ) (labels : List Label) → list_all is_name (label_names labels) ≡ true → are_lines (label_lines place labels) ≡ true
+labels-lines : (place : ℕ) (labels : List Label) → list_all is_label_name (label_names labels) ≡ true → are_lines (label_lines place labels) ≡ true
 labels-lines place [] all = refl
 labels-lines place (label ∷ labels) all =
-    let p = and_parts (is_name label.name) (list_all is_name (label_names labels)) all in
+    let p = and_parts (is_label_name label.name) (list_all is_label_name (label_names labels)) all in
     let rest = labels-lines place labels p.1 in
     let line = label_word label.name ∷ [] in
     cond_both (label.place == place) (line ∷ label_lines place labels) (label_lines place labels) (λ ls. are_lines ls ≡ true)
@@ -144,7 +149,7 @@ abbrev step_entries : Names → List Label → ℕ → List Step → List Entry
 step_entries names labels place [] = label_entries place labels
 step_entries names labels place (s ∷ steps) = label_entries place labels ++ step_entry names labels s ∷ step_entries names labels (place + 1) steps
 
-lines-spell : (names : Names) (labels : List Label) (place : ℕ) (steps : List Step) → Known names → list_all is_name (label_names labels) ≡ true
+lines-spell : (names : Names) (labels : List Label) (place : ℕ) (steps : List Step) → Known names → list_all is_label_name (label_names labels) ≡ true
     → AreSteps names labels place steps → SpellEach (SpellsEntry names) (step_lines names labels place steps) (step_entries names labels place steps)
 lines-spell names labels place [] k all h = labels-spell names place labels all
 lines-spell names labels place (s ∷ steps) k all h =
@@ -152,7 +157,7 @@ lines-spell names labels place (s ∷ steps) k all h =
     (label_entries place labels) (step_entry names labels s ∷ step_entries names labels (place + 1) steps) (labels-spell names place labels all)
     (step-spells names labels place s k h.0, lines-spell names labels (place + 1) steps k all h.1)
 
-lines-are-lines : (names : Names) (labels : List Label) (place : ℕ) (steps : List Step) → Known names → list_all is_name (label_names labels) ≡ true
+lines-are-lines : (names : Names) (labels : List Label) (place : ℕ) (steps : List Step) → Known names → list_all is_label_name (label_names labels) ≡ true
     → AreSteps names labels place steps → are_lines (step_lines names labels place steps) ≡ true
 lines-are-lines names labels place [] k all h = labels-lines place labels all
 lines-are-lines names labels place (s ∷ steps) k all h =
@@ -219,7 +224,7 @@ budget-spells a names s h = (
   decimal s.budget.bytes,
   refl,
   decimal-spells REQUESTS_LIMIT s.budget.requests (omega arith) h.requests,
-  decimal-spells BYTES_LIMIT s.budget.bytes (omega arith) h.bytes,
+  decimal-spells REQUEST_BYTES_LIMIT s.budget.bytes (omega arith) h.bytes,
 )
 
 actor-whole : (a : Actor) → is_whole (actor_word a) ≡ true
@@ -240,10 +245,10 @@ budget-is-line a names s h =
     (more (actor_word a) (r ∷ b ∷ []) (actor-whole a) (more r (b ∷ []) (decimal-whole s.budget.requests (omega (arith, few)))
     (more b [] (decimal-whole s.budget.bytes (omega (arith, small))) refl))))
 
-names-whole : (limit : ℕ) (names : List Word) → list_all (is_named limit) names ≡ true → are_whole names ≡ true
-names-whole limit names h = all-weaker (is_named limit) is_whole (named-whole limit) names h
+names-whole : (limit : ℕ) (names : List Word) → list_all (is_name limit) names ≡ true → are_whole names ≡ true
+names-whole limit names h = all-weaker (is_name limit) is_whole (named-whole limit) names h
 
-names-are-lines : (word : Word) (limit : ℕ) (names : List Word) → is_whole word ≡ true → list_all (is_named limit) names ≡ true → are_lines (names_line word names) ≡ true
+names-are-lines : (word : Word) (limit : ℕ) (names : List Word) → is_whole word ≡ true → list_all (is_name limit) names ≡ true → are_lines (names_line word names) ≡ true
 names-are-lines word limit [] w h = refl
 names-are-lines word limit (name ∷ names) w h =
     and_from (is_line (word ∷ name ∷ names)) true (line-from word (name ∷ names) (more word (name ∷ names) w (names-whole limit (name ∷ names) h))) refl

@@ -6,18 +6,23 @@ use Rattle.std.proofs.lemmas.Bool.{and_parts, and_from, eqb-true, leb-true, ltb-
 use Rattle.std.proofs.lemmas.Bool.Decides.{nat_tests}
 use Rattle.std.proofs.lemmas.Option.{slice_get_within}
 use Rattle.mc_protocol.specs.Fields.{fields_of}
-use Rattle.mc_protocol.specs.Words.{verb_word}
+use Rattle.mc_protocol.specs.Words.{verb_word, class_word, class_index}
 use Rattle.mc_protocol.specs.declared.request.Fields.{Fields}
 use Rattle.mc_protocol.specs.declared.request.Fields.TheVariants as fields
 use Rattle.mc_protocol.specs.declared.request.Verb.{Verb}
 use Rattle.mc_protocol.specs.declared.request.Verb.TheVariants.{Set, Add, Replace, Append, Prepend, Cas, Get, Gets, Incr, Decr, Delete, Touch}
 use Rattle.mc_protocol.specs.declared.reply.Class.{Class}
 use Rattle.mc_protocol.specs.declared.reply.Class.TheVariants as class
+use Rattle.mc_protocol.specs.declared.limits.TheConstants.{KEYS_LIMIT, KEY_BYTES_LIMIT}
+use Rattle.mc_protocol.specs.Lines.{Word, Words}
+use Rattle.mc_protocol.specs.Names.{is_name, are_distinct}
+use Rattle.mc_protocol.specs.Decimals.{MAX_32, MAX_64}
+use Rattle.mc_protocol.proofs.Decimals.{decimal-spells}
 use Rattle.mc_script.specs.declared.entry.Entry.{Entry}
 use Rattle.mc_script.specs.declared.entry.Entry.TheVariants as entry
 use Rattle.mc_script.specs.declared.entry.Sign.{Sign}
 use Rattle.mc_script.specs.declared.entry.Sign.TheVariants as sign
-use Rattle.mc_script.specs.declared.limits.TheConstants.{KEYS_LIMIT, KEY_BYTES_LIMIT, FLAGS_LIMIT, VARIABLES_LIMIT, NAME_BYTES_LIMIT}
+use Rattle.mc_script.specs.declared.limits.TheConstants.{FLAGS_LIMIT, VARIABLES_LIMIT, NAME_BYTES_LIMIT}
 use Rattle.mc_script.specs.declared.section.Label.{Label}
 use Rattle.mc_script.specs.declared.step.Argument.{Argument}
 use Rattle.mc_script.specs.declared.step.Argument.TheVariants as argument
@@ -25,8 +30,8 @@ use Rattle.mc_script.specs.declared.step.Step.{Step}
 use Rattle.mc_script.specs.declared.step.Step.TheVariants as step
 use Rattle.mc_script.specs.declared.step.Template.{Template}
 use Rattle.mc_script.specs.Script.{Names, AreDeclared}
-use Rattle.mc_script.specs.ScriptWords.{Word, Words, is_named, is_name, is_body, are_distinct, body_word, variable_word, MAX_32, MAX_64}
-use Rattle.mc_script.specs.Marks.{sign_byte, class_word, class_index, jump_word, bind_word, bound_by}
+use Rattle.mc_script.specs.ScriptWords.{is_label_name, is_body, body_word, variable_word}
+use Rattle.mc_script.specs.Marks.{sign_byte, jump_word, bind_word, bound_by}
 use Rattle.mc_script.specs.SectionText.{SpellsEntry, SpellsFields, SpellsUnique, SpellsAmount, label_names}
 use Rattle.mc_script.specs.Steps.{in_front, sends, goes, marked, steps_from}
 use Rattle.mc_script.specs.Templates.{IsTemplate, has_fields, is_nothing, is_variable, is_amount, is_empty}
@@ -35,7 +40,7 @@ use Rattle.mc_script.specs.PrintedScript.{name_at, label_at, item_words, argumen
 use Rattle.mc_script.proofs.MarkLists.{three}
 use Rattle.mc_script.proofs.EntryWords.{same-template}
 use Rattle.mc_script.proofs.PrintedLines.{is_plain, are_plain, is_whole, are_whole, is_line}
-use Rattle.mc_script.proofs.PrintedNames.{decimal-spells, decimal-whole, named-whole, named-plain, front-whole, body-whole, name-has, index-found, label-found}
+use Rattle.mc_script.proofs.PrintedNames.{decimal-whole, named-whole, named-plain, front-whole, body-whole, name-has, index-found, label-found}
 use Rattle.mc_script.proofs.PrintedFlags.{all-append}
 use Rattle.mc_script.proofs.PrintedMarks.{marks_of, marks-spell, marks-together}
 use Rattle.mc_script.proofs.MarksAgain.{says-require_set, says-require_clear, says-sets, says-clears, says-bind, says-jumps}
@@ -46,15 +51,15 @@ pub record Known (names : Names) : Type 0 where
   pub keys : are_distinct names.keys ≡ true
   pub flags : are_distinct names.flags ≡ true
   pub vars : are_distinct names.vars ≡ true
-  pub key_names : list_all (is_named KEY_BYTES_LIMIT) names.keys ≡ true
-  pub flag_names : list_all (is_named NAME_BYTES_LIMIT) names.flags ≡ true
-  pub var_names : list_all (is_named NAME_BYTES_LIMIT) names.vars ≡ true
+  pub key_names : list_all (is_name KEY_BYTES_LIMIT) names.keys ≡ true
+  pub flag_names : list_all (is_name NAME_BYTES_LIMIT) names.flags ≡ true
+  pub var_names : list_all (is_name NAME_BYTES_LIMIT) names.vars ≡ true
 
 pub known : (names : Names) → AreDeclared names → Known names
 known names d =
-    let k = three (nat_le (length names.keys) KEYS_LIMIT) (list_all (is_named KEY_BYTES_LIMIT) names.keys) (are_distinct names.keys) d.keys in
-    let f = three (nat_le (length names.flags) FLAGS_LIMIT) (list_all (is_named NAME_BYTES_LIMIT) names.flags) (are_distinct names.flags) d.flags in
-    let v = three (nat_le (length names.vars) VARIABLES_LIMIT) (list_all (is_named NAME_BYTES_LIMIT) names.vars) (are_distinct names.vars) d.vars in
+    let k = three (nat_le (length names.keys) KEYS_LIMIT) (list_all (is_name KEY_BYTES_LIMIT) names.keys) (are_distinct names.keys) d.keys in
+    let f = three (nat_le (length names.flags) FLAGS_LIMIT) (list_all (is_name NAME_BYTES_LIMIT) names.flags) (are_distinct names.flags) d.flags in
+    let v = three (nat_le (length names.vars) VARIABLES_LIMIT) (list_all (is_name NAME_BYTES_LIMIT) names.vars) (are_distinct names.vars) d.vars in
     record { keys = k.2; flags = f.2; vars = v.2; key_names = k.1; flag_names = f.1; var_names = v.1 }
 
 -- ---- fields
@@ -201,7 +206,7 @@ more word words one others = and_from (is_whole word) (are_whole words) one othe
 
 variable-whole : (names : Names) (v : ℕ) → Known names → v < length names.vars → is_whole (variable_word (name_at names.vars v)) ≡ true
 variable-whole names v k lt =
-    front-whole 36 (name_at names.vars v) refl (named-plain NAME_BYTES_LIMIT (name_at names.vars v) (name-has (is_named NAME_BYTES_LIMIT) names.vars v k.var_names lt))
+    front-whole 36 (name_at names.vars v) refl (named-plain NAME_BYTES_LIMIT (name_at names.vars v) (name-has (is_name NAME_BYTES_LIMIT) names.vars v k.var_names lt))
 
 unique-whole : (names : Names) (a : Argument) → Known names → is_variable (length names.vars) a ≡ true → are_whole (argument_words names a) ≡ true
 unique-whole names argument.Nothing k h = absurd (cc)
@@ -247,14 +252,14 @@ whole-cond : (b : Bool) (word : Word) (words : Words) → is_whole word ≡ true
 whole-cond true word words one others = more word words one others
 whole-cond false word words one others = others
 
-flags-whole : (s : Sign) (mask k : ℕ) (ns : List Word) → list_all (is_named NAME_BYTES_LIMIT) ns ≡ true → are_whole (flag_words s mask k ns) ≡ true
+flags-whole : (s : Sign) (mask k : ℕ) (ns : List Word) → list_all (is_name NAME_BYTES_LIMIT) ns ≡ true → are_whole (flag_words s mask k ns) ≡ true
 flags-whole s mask k [] all = refl
 flags-whole s mask k (name ∷ ns) all =
-    let p = and_parts (is_named NAME_BYTES_LIMIT name) (list_all (is_named NAME_BYTES_LIMIT) ns) all in
+    let p = and_parts (is_name NAME_BYTES_LIMIT name) (list_all (is_name NAME_BYTES_LIMIT) ns) all in
     whole-cond (bit_at mask k == 1) (sign_byte s ∷ name) (flag_words s mask (k + 1) ns)
     (front-whole (sign_byte s) name (sign-plain s) (named-plain NAME_BYTES_LIMIT name p.0)) (flags-whole s mask (k + 1) ns p.1)
 
-all-flags-whole : (ns : List Word) (t : Template) → list_all (is_named NAME_BYTES_LIMIT) ns ≡ true → are_whole (all_flag_words ns t) ≡ true
+all-flags-whole : (ns : List Word) (t : Template) → list_all (is_name NAME_BYTES_LIMIT) ns ≡ true → are_whole (all_flag_words ns t) ≡ true
 all-flags-whole ns t all =
     let F : Sign → ℕ → Words = λ s mask. flag_words s mask 0 ns in
     let W : (s : Sign) (mask : ℕ) → are_whole (F s mask) ≡ true = λ s mask. flags-whole s mask 0 ns all in
@@ -296,13 +301,13 @@ names-length : (ls : List Label) → length (label_names ls) ≡ length ls
 names-length [] = refl
 names-length (l ∷ ls) = let e = names-length ls in omega (arith, e)
 
-behind-named : (labels : List Label) (place index : ℕ) → list_all is_name (label_names labels) ≡ true → IsBehind labels place index → is_name (label_at labels index) ≡ true
+behind-named : (labels : List Label) (place index : ℕ) → list_all is_label_name (label_names labels) ≡ true → IsBehind labels place index → is_label_name (label_at labels index) ≡ true
 behind-named labels place index all (label, get, lt) =
     let inside = slice_get_within labels index label get in
     let e = names-length labels in
-    name-has is_name (label_names labels) index all (omega (arith, inside, e))
+    name-has is_label_name (label_names labels) index all (omega (arith, inside, e))
 
-jumps-whole : (v : Verb) (labels : List Label) (place least : ℕ) (jumps : List (Class × ℕ)) → list_all is_name (label_names labels) ≡ true
+jumps-whole : (v : Verb) (labels : List Label) (place least : ℕ) (jumps : List (Class × ℕ)) → list_all is_label_name (label_names labels) ≡ true
     → AreJumps v labels place least jumps → are_whole (jump_words labels jumps) ≡ true
 jumps-whole v labels place least [] all h = refl
 jumps-whole v labels place least (jump ∷ jumps) all h =
@@ -314,7 +319,7 @@ bind-whole : (names : Names) (v : Verb) (jumps : List (Class × ℕ)) (bind : Op
 bind-whole names v jumps None k h = refl
 bind-whole names v jumps (Some x) k h =
     more (bind_word (name_at names.vars x)) []
-    (front-whole 62 (name_at names.vars x) refl (named-plain NAME_BYTES_LIMIT (name_at names.vars x) (name-has (is_named NAME_BYTES_LIMIT) names.vars x k.var_names h.0))) refl
+    (front-whole 62 (name_at names.vars x) refl (named-plain NAME_BYTES_LIMIT (name_at names.vars x) (name-has (is_name NAME_BYTES_LIMIT) names.vars x k.var_names h.0))) refl
 
 some-words : (word : Word) (words : Words) → not (length (word ∷ words) == 0) ≡ true
 some-words word words = grind (arith, nat_tests)
@@ -322,7 +327,7 @@ some-words word words = grind (arith, nat_tests)
 pub line-from : (word : Word) (words : Words) → are_whole (word ∷ words) ≡ true → is_line (word ∷ words) ≡ true
 line-from word words h = and_from (not (length (word ∷ words) == 0)) (are_whole (word ∷ words)) (some-words word words) h
 
-pub step-line : (names : Names) (labels : List Label) (place : ℕ) (s : Step) → Known names → list_all is_name (label_names labels) ≡ true
+pub step-line : (names : Names) (labels : List Label) (place : ℕ) (s : Step) → Known names → list_all is_label_name (label_names labels) ≡ true
     → IsStep names labels place s → is_line (step_words names labels s) ≡ true
 step-line names labels place (step.Send t jumps bind) k all (h, j, b) =
     let key = name_at names.keys t.key in
@@ -333,10 +338,10 @@ step-line names labels place (step.Send t jumps bind) k all (h, j, b) =
     line-from (verb_word t.verb) (key ∷ field_words names t ++ mark_words names labels t jumps bind)
     (more (verb_word t.verb) (key ∷ field_words names t ++ mark_words names labels t jumps bind) (verb-whole t.verb)
     (more key (field_words names t ++ mark_words names labels t jumps bind)
-    (named-whole KEY_BYTES_LIMIT key (name-has (is_named KEY_BYTES_LIMIT) names.keys t.key k.key_names h.key)) others))
+    (named-whole KEY_BYTES_LIMIT key (name-has (is_name KEY_BYTES_LIMIT) names.keys t.key k.key_names h.key)) others))
 step-line names labels place (step.Bind v) k all h =
     line-from (codes "bind") (name_at names.vars v ∷ []) (more (codes "bind") (name_at names.vars v ∷ []) refl
-    (more (name_at names.vars v) [] (named-whole NAME_BYTES_LIMIT (name_at names.vars v) (name-has (is_named NAME_BYTES_LIMIT) names.vars v k.var_names h)) refl))
+    (more (name_at names.vars v) [] (named-whole NAME_BYTES_LIMIT (name_at names.vars v) (name-has (is_name NAME_BYTES_LIMIT) names.vars v k.var_names h)) refl))
 step-line names labels place (step.Goto l) k all h =
     line-from (codes "goto") (label_at labels l ∷ []) (more (codes "goto") (label_at labels l ∷ []) refl
     (more (label_at labels l) [] (named-whole NAME_BYTES_LIMIT (label_at labels l) (behind-named labels place l all h)) refl))

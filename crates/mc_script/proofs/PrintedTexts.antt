@@ -4,10 +4,10 @@ use Rattle.std.specs.Int.{bit_at}
 use Rattle.std.proofs.lemmas.Grind.{flat_map-append}
 use Rattle.std.proofs.lemmas.Nat.Bits.{bit_at-suc}
 use Rattle.mc_protocol.specs.declared.actor.Actor.TheVariants as actor
+use Rattle.mc_protocol.specs.Lines.{Word, Words}
 use Rattle.mc_script.specs.declared.entry.Sign.{Sign}
 use Rattle.mc_script.specs.declared.section.Budget.{Budget}
 use Rattle.mc_script.specs.Script.{Names, Section, Script}
-use Rattle.mc_script.specs.ScriptWords.{Word, Words}
 use Rattle.mc_script.specs.Marks.{sign_byte}
 use Rattle.mc_script.specs.ScriptText.{header, names_lines, section_line, end_line}
 use Rattle.mc_script.specs.PrintedScript.{behind_text, line_text, lines_text, flag_words, section_lines, budget_line, script_text}

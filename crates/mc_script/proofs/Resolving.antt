@@ -1,12 +1,12 @@
 -- The steps and jumps that are left, one further on.
 use Rattle.std.proofs.Common.{◌≡◌, ℕ, ◌+◌, ◌-◌, ◌≤◌, false, Option, Some, None, List, [], ◌∷◌, ◌++◌, length, take, drop, get_or, refl, sym, ap, subst, ◌∙◌, arith, length-append}
 use Rattle.mc_protocol.specs.declared.reply.Class.{Class}
+use Rattle.mc_protocol.specs.Lines.{Word}
 use Rattle.mc_script.specs.declared.entry.Entry.{Entry}
 use Rattle.mc_script.specs.declared.entry.Entry.TheVariants as entry
 use Rattle.mc_script.specs.declared.entry.Mark.{Mark}
 use Rattle.mc_script.specs.declared.section.Label.{Label}
 use Rattle.mc_script.specs.declared.step.Step.{Step}
-use Rattle.mc_script.specs.ScriptWords.{Word}
 use Rattle.mc_script.specs.Marks.{target_of}
 use Rattle.mc_script.specs.Steps.{steps_from, jumps_on, with_jump, in_front, label_behind}
 use Rattle.mc_script.specs.TextReading.{onto, step_in, is_label}

@@ -2,12 +2,13 @@
 use Rattle.std.proofs.Common.{◌≡◌, ℕ, ◌==◌, true, not, Some, List, [], ◌∷◌, ◌++◌, length, codes, refl, sym, ap, subst, ◌∙◌}
 use Rattle.mc_protocol.specs.declared.actor.Actor.TheVariants as actor
 use Rattle.mc_protocol.specs.declared.lines.Separator.TheVariants.{SpaceOrTab}
-use Rattle.mc_protocol.specs.Lines.{words_of_text}
-use Rattle.mc_script.specs.declared.limits.TheConstants.{KEYS_LIMIT, KEY_BYTES_LIMIT, NAME_BYTES_LIMIT, FLAGS_LIMIT, VARIABLES_LIMIT}
+use Rattle.mc_protocol.specs.Lines.{words_of_text, Word, Words}
+use Rattle.mc_protocol.specs.declared.limits.TheConstants.{KEYS_LIMIT, KEY_BYTES_LIMIT}
+use Rattle.mc_protocol.specs.Words.{actor_word}
+use Rattle.mc_script.specs.declared.limits.TheConstants.{NAME_BYTES_LIMIT, FLAGS_LIMIT, VARIABLES_LIMIT}
 use Rattle.mc_script.specs.declared.section.Budget.{Budget}
 use Rattle.mc_script.specs.Script.{Names, Script, AreDeclared, may_be_declared}
-use Rattle.mc_script.specs.ScriptWords.{Word, Words}
-use Rattle.mc_script.specs.ScriptText.{SpellsScript, SpellsBudget, SpellsOneScript, actor_word, header, names_lines, section_line, end_line, body_lines}
+use Rattle.mc_script.specs.ScriptText.{SpellsScript, SpellsBudget, SpellsOneScript, header, names_lines, section_line, end_line, body_lines}
 use Rattle.mc_script.specs.Reading.{names_in}
 use Rattle.mc_script.specs.TextReading.{names_of, all_names_in, budgets_in, budgets_of, bodies_in, resolved_in, script_in}
 use Rattle.mc_script.proofs.Outcomes.{some-same}

@@ -4,14 +4,15 @@ use Rattle.std.specs.List.{list_any, list_all}
 use Rattle.std.specs.Str.{bytes_eq}
 use Rattle.std.proofs.lemmas.Bool.{and_parts, and_from, ltb-true, lt-ltb}
 use Rattle.std.proofs.lemmas.Slice.Eq.{bytes_eq-Decides}
+use Rattle.mc_protocol.specs.Lines.{Word, Words, is_only}
+use Rattle.mc_protocol.specs.Names.{is_new, are_distinct}
 use Rattle.mc_script.specs.declared.entry.Entry.{Entry}
 use Rattle.mc_script.specs.declared.entry.Entry.TheVariants as entry
 use Rattle.mc_script.specs.declared.limits.TheConstants.{STEPS_LIMIT}
 use Rattle.mc_script.specs.Script.{Names}
-use Rattle.mc_script.specs.ScriptWords.{Word, Words, is_new, are_distinct}
 use Rattle.mc_script.specs.SectionText.{SpellEach, SpellsEntry}
 use Rattle.mc_script.specs.Steps.{◌>>=◌}
-use Rattle.mc_script.specs.Reading.{entry_in, is_only}
+use Rattle.mc_script.specs.Reading.{entry_in}
 use Rattle.mc_script.specs.TextReading.{entries_in, may_follow, step_count, with_label}
 use Rattle.mc_script.proofs.Outcomes.{then-some, cond-cases, some-same, only-then}
 use Rattle.mc_script.proofs.EntryWords.{entry-spelled, entry-read}

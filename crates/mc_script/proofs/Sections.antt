@@ -1,5 +1,8 @@
 -- A section is read exactly where its lines spell it.
 use Rattle.std.proofs.Common.{◌≡◌, ℕ, ◌+◌, ◌≤◌, true, Option, Some, None, List, [], ◌∷◌, ◌++◌, length, refl, sym, ap, subst, ◌∙◌, arith}
+use Rattle.mc_protocol.specs.Lines.{Word, Words}
+use Rattle.mc_protocol.specs.Names.{are_distinct}
+use Rattle.mc_protocol.specs.Words.{all_classes}
 use Rattle.mc_script.specs.declared.entry.Entry.{Entry}
 use Rattle.mc_script.specs.declared.entry.Entry.TheVariants as entry
 use Rattle.mc_script.specs.declared.limits.TheConstants.{STEPS_LIMIT}
@@ -8,9 +11,8 @@ use Rattle.mc_script.specs.declared.section.Label.{Label}
 use Rattle.mc_script.specs.declared.step.Step.{Step}
 use Rattle.mc_script.specs.declared.step.Step.TheVariants as step
 use Rattle.mc_script.specs.Script.{Names, Section}
-use Rattle.mc_script.specs.ScriptWords.{Word, Words, are_distinct}
 use Rattle.mc_script.specs.SectionText.{SpellEach, SpellsEntry, SpellsSection, label_names}
-use Rattle.mc_script.specs.Steps.{labels_from, steps_from, in_front, jumps_on, sends, goes, label_behind, all_classes}
+use Rattle.mc_script.specs.Steps.{labels_from, steps_from, in_front, jumps_on, sends, goes, label_behind}
 use Rattle.mc_script.specs.Reading.{entry_in}
 use Rattle.mc_script.specs.TextReading.{entries_in, section_in}
 use Rattle.mc_script.proofs.Outcomes.{then-some, some-same}

@@ -1,21 +1,23 @@
 -- A text is read as a script exactly where it spells it.
-use Rattle.std.proofs.Common.{◌≡◌, ℕ, ◌==◌, true, not, Some, None, List, [], ◌∷◌, ◌++◌, length, codes, refl, sym, ap, subst, ◌∙◌}
+use Rattle.std.proofs.Common.{◌≡◌, ℕ, ◌==◌, true, not, Some, None, List, [], ◌∷◌, ◌++◌, length, drop, codes, refl, sym, ap, subst, ◌∙◌}
 use Rattle.std.specs.Str.{bytes_eq}
 use Rattle.std.proofs.lemmas.Bool.{and_parts}
 use Rattle.mc_protocol.specs.declared.actor.Actor.{Actor}
 use Rattle.mc_protocol.specs.declared.actor.Actor.TheVariants as actor
 use Rattle.mc_protocol.specs.declared.lines.Separator.TheVariants.{SpaceOrTab}
-use Rattle.mc_protocol.specs.Lines.{words_of_text}
+use Rattle.mc_protocol.specs.Lines.{words_of_text, Word, Words, begins_with, is_only}
+use Rattle.mc_protocol.specs.declared.limits.TheConstants.{KEYS_LIMIT, KEY_BYTES_LIMIT, REQUESTS_LIMIT, REQUEST_BYTES_LIMIT}
+use Rattle.mc_protocol.specs.Decimals.{SpellsNumber}
+use Rattle.mc_protocol.specs.Words.{actor_word}
 use Rattle.mc_script.specs.declared.entry.Entry.{Entry}
-use Rattle.mc_script.specs.declared.limits.TheConstants.{KEYS_LIMIT, KEY_BYTES_LIMIT, NAME_BYTES_LIMIT, FLAGS_LIMIT, VARIABLES_LIMIT, REQUESTS_LIMIT, BYTES_LIMIT}
+use Rattle.mc_script.specs.declared.limits.TheConstants.{NAME_BYTES_LIMIT, FLAGS_LIMIT, VARIABLES_LIMIT}
 use Rattle.mc_script.specs.declared.section.Budget.{Budget}
 use Rattle.mc_script.specs.declared.text.Budgets.{Budgets}
 use Rattle.mc_script.specs.Script.{Names, Section, Script, AreDeclared}
-use Rattle.mc_script.specs.ScriptWords.{Word, Words, SpellsNumber}
-use Rattle.mc_script.specs.ScriptText.{SpellsScript, SpellsBudget, actor_word, header, names_line, names_lines, section_line, end_line, body_lines}
+use Rattle.mc_script.specs.ScriptText.{SpellsScript, SpellsBudget, header, names_line, names_lines, section_line, end_line, body_lines}
 use Rattle.mc_script.specs.SectionText.{SpellsSection}
 use Rattle.mc_script.specs.Steps.{◌>>=◌}
-use Rattle.mc_script.specs.Reading.{entry_in, is_header, header_in, begins_with, others_of, names_in, keys_in, optional_in, then_line, number_in, numbers_in, amounts_in, budget_in, is_only}
+use Rattle.mc_script.specs.Reading.{entry_in, is_header, header_in, names_in, keys_in, optional_in, then_line, number_in, numbers_in, amounts_in, budget_in}
 use Rattle.mc_script.specs.TextReading.{line_in, names_of, all_names_in, next_budget_in, budgets_of, budgets_in, section_line_in, entries_in, ended_in, bodies_in, section_in, script_of, resolved_in, script_in}
 use Rattle.mc_script.proofs.Outcomes.{then-some, cond-cases, some-same, only-then}
 use Rattle.mc_script.proofs.FieldWords.{number-spelled, number-read}
@@ -41,7 +43,7 @@ header-spelled (line ∷ lines) rest h =
 
 -- ---- names
 
-first-word : (word : Word) (line : Words) → begins_with word line ≡ true → line ≡ word ∷ others_of line
+first-word : (word : Word) (line : Words) → begins_with word line ≡ true → line ≡ word ∷ drop 1 line
 first-word word [] h = absurd (cc)
 first-word word (first ∷ others) h = ap (λ w. w ∷ others) (bytes-same first word h)
 
@@ -53,9 +55,9 @@ keys-line : (lines : List Words) (keys : List Word) (rest : List Words) → keys
 keys-line [] keys rest h = absurd (cc)
 keys-line (line ∷ lines) keys rest h =
     let word = codes "keys" in
-    let p = only-then (begins_with word line) (names_in KEYS_LIMIT KEY_BYTES_LIMIT (others_of line) >>= λ names. Some (names, lines)) (keys, rest) h in
-    let q = then-some (names_in KEYS_LIMIT KEY_BYTES_LIMIT (others_of line)) (λ names. Some (names, lines)) (keys, rest) p.1 in
-    let d = names-declared KEYS_LIMIT KEY_BYTES_LIMIT (others_of line) q.0 q.1 in
+    let p = only-then (begins_with word line) (names_in KEYS_LIMIT KEY_BYTES_LIMIT (drop 1 line) >>= λ names. Some (names, lines)) (keys, rest) h in
+    let q = then-some (names_in KEYS_LIMIT KEY_BYTES_LIMIT (drop 1 line)) (λ names. Some (names, lines)) (keys, rest) p.1 in
+    let d = names-declared KEYS_LIMIT KEY_BYTES_LIMIT (drop 1 line) q.0 q.1 in
     let e = some-same (q.0, lines) (keys, rest) q.2 in
     let here : line ≡ word ∷ q.0 = first-word word line p.0 ∙ ap (λ ns. word ∷ ns) d.2 in
     ap (λ l. l ∷ lines) here ∙ ap (λ ls. ls ++ lines) (sym (some-line word q.0 d.0)) ∙ ap (λ t. names_line word t.0 ++ t.1) e
@@ -70,11 +72,11 @@ then-same x y (line ∷ lines) next rest h =
 optional-line : (word : Word) (limit : ℕ) (line : Words) (lines : List Words) (names : List Word) (next : Words) (rest : List Words)
     → optional_in word limit line lines ≡ Some (names, next, rest) → line ∷ lines ≡ names_line word names ++ next ∷ rest
 optional-line word limit line lines names next rest h =
-    cond-cases (begins_with word line) (names_in limit NAME_BYTES_LIMIT (others_of line) >>= λ ns. then_line ns lines) (Some ([], line, lines))
+    cond-cases (begins_with word line) (names_in limit NAME_BYTES_LIMIT (drop 1 line) >>= λ ns. then_line ns lines) (Some ([], line, lines))
     (names, next, rest) (line ∷ lines ≡ names_line word names ++ next ∷ rest) h
     (λ b g.
-    let q = then-some (names_in limit NAME_BYTES_LIMIT (others_of line)) (λ ns. then_line ns lines) (names, next, rest) g in
-    let d = names-declared limit NAME_BYTES_LIMIT (others_of line) q.0 q.1 in
+    let q = then-some (names_in limit NAME_BYTES_LIMIT (drop 1 line)) (λ ns. then_line ns lines) (names, next, rest) g in
+    let d = names-declared limit NAME_BYTES_LIMIT (drop 1 line) q.0 q.1 in
     let t = then-same q.0 names lines next rest q.2 in
     let here : line ≡ word ∷ q.0 = first-word word line b ∙ ap (λ ns. word ∷ ns) d.2 in
     ap (λ l. l ∷ lines) here ∙ ap (λ ls. ls ++ lines) (sym (some-line word q.0 d.0))
@@ -130,15 +132,15 @@ names-spelled lines names line rest h =
 -- ---- budgets
 
 numbers-spelled : (words : Words) (b : Budget) → numbers_in words ≡ Some b
-    → (r : Word) × (y : Word) × (words ≡ r ∷ y ∷ []) × SpellsNumber REQUESTS_LIMIT r b.requests × SpellsNumber BYTES_LIMIT y b.bytes
+    → (r : Word) × (y : Word) × (words ≡ r ∷ y ∷ []) × SpellsNumber REQUESTS_LIMIT r b.requests × SpellsNumber REQUEST_BYTES_LIMIT y b.bytes
 numbers-spelled [] b h = absurd (cc)
 numbers-spelled (r ∷ []) b h = absurd (cc)
 numbers-spelled (r ∷ y ∷ []) b h =
     let made : ℕ → ℕ → Budget = λ n m. record { requests = n; bytes = m } in
-    let p = then-some (number_in REQUESTS_LIMIT r) (λ n. number_in BYTES_LIMIT y >>= λ m. Some (made n m)) b h in
-    let q = then-some (number_in BYTES_LIMIT y) (λ m. Some (made p.0 m)) b p.2 in
-    let P : Budget → Type 0 = λ x. (r' : Word) × (y' : Word) × (r ∷ y ∷ [] ≡ r' ∷ y' ∷ []) × SpellsNumber REQUESTS_LIMIT r' x.requests × SpellsNumber BYTES_LIMIT y' x.bytes in
-    subst P (some-same (made p.0 q.0) b q.2) (r, y, refl, number-spelled REQUESTS_LIMIT r p.0 p.1, number-spelled BYTES_LIMIT y q.0 q.1)
+    let p = then-some (number_in REQUESTS_LIMIT r) (λ n. number_in REQUEST_BYTES_LIMIT y >>= λ m. Some (made n m)) b h in
+    let q = then-some (number_in REQUEST_BYTES_LIMIT y) (λ m. Some (made p.0 m)) b p.2 in
+    let P : Budget → Type 0 = λ x. (r' : Word) × (y' : Word) × (r ∷ y ∷ [] ≡ r' ∷ y' ∷ []) × SpellsNumber REQUESTS_LIMIT r' x.requests × SpellsNumber REQUEST_BYTES_LIMIT y' x.bytes in
+    subst P (some-same (made p.0 q.0) b q.2) (r, y, refl, number-spelled REQUESTS_LIMIT r p.0 p.1, number-spelled REQUEST_BYTES_LIMIT y q.0 q.1)
 numbers-spelled (r ∷ y ∷ x ∷ words) b h = absurd (cc)
 
 budget-spelled : (a : Actor) (line : Words) (b : Budget) → budget_in a line ≡ Some b → SpellsBudget a line b
@@ -160,7 +162,7 @@ budget-spelled a (word ∷ section ∷ numbers) b h =
 pub budget-read : (a : Actor) (line : Words) (b : Budget) → SpellsBudget a line b → budget_in a line ≡ Some b
 unfolding budget_in
 budget-read a line b (r, y, e, n, m) =
-    rw (e, bytes-equal (actor_word a), number-read REQUESTS_LIMIT r b.requests n, number-read BYTES_LIMIT y b.bytes m) refl
+    rw (e, bytes-equal (actor_word a), number-read REQUESTS_LIMIT r b.requests n, number-read REQUEST_BYTES_LIMIT y b.bytes m) refl
 
 next-budget : (a : Actor) (lines : List Words) (b : Budget) (rest : List Words) → next_budget_in a lines ≡ Some (b, rest)
     → (line : Words) × (lines ≡ line ∷ rest) × SpellsBudget a line b

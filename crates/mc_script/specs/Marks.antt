@@ -1,18 +1,21 @@
 -- The marks behind a request: which words they are, which may stand together, and what they say.
-use Rattle.std.specs.Prelude.{◌≡◌, ℕ, ◌==◌, Bool, true, false, not, ◌&&◌, Option, Some, None, List, [], ◌∷◌, ◌++◌, codes, if◌then◌else◌, ◌^◌}
+use Rattle.std.specs.Prelude.{◌≡◌, ℕ, ◌==◌, Bool, true, false, not, ◌&&◌, Option, Some, None, List, [], ◌∷◌, ◌++◌, if◌then◌else◌, ◌^◌}
 use Rattle.std.specs.Int.Bits.{bit_or}
 use Rattle.std.specs.List.{list_all, list_any, fold}
-use Rattle.mc_protocol.specs.Legal.{is_legal}
+use Rattle.mc_protocol.specs.Legal.{is_legal, same}
+use Rattle.mc_protocol.specs.Words.{class_word}
+pub use Rattle.mc_protocol.specs.Words.{class_index}
 use Rattle.mc_protocol.specs.declared.request.Verb.{Verb}
 use Rattle.mc_protocol.specs.declared.request.Verb.TheVariants as verb
 use Rattle.mc_protocol.specs.declared.reply.Class.{Class}
 use Rattle.mc_protocol.specs.declared.reply.Class.TheVariants as class
+use Rattle.mc_protocol.specs.Lines.{Word}
+use Rattle.mc_protocol.specs.Names.{index_of}
 use Rattle.mc_script.specs.declared.entry.Mark.{Mark}
 use Rattle.mc_script.specs.declared.entry.Mark.TheVariants as mark
 use Rattle.mc_script.specs.declared.entry.Sign.{Sign}
 use Rattle.mc_script.specs.declared.entry.Sign.TheVariants as sign
 use Rattle.mc_script.specs.Script.{Names}
-use Rattle.mc_script.specs.ScriptWords.{Word, index_of}
 
 -- ---- words
 
@@ -22,18 +25,6 @@ sign_byte sign.RequireSet = 63
 sign_byte sign.RequireClear = 33
 sign_byte sign.Sets = 43
 sign_byte sign.Clears = 45
-
-abbrev pub class_word : Class → Word
-class_word class.Stored = codes "stored"
-class_word class.NotStored = codes "notstored"
-class_word class.Exists = codes "exists"
-class_word class.NotFound = codes "notfound"
-class_word class.Hit = codes "hit"
-class_word class.Miss = codes "miss"
-class_word class.Deleted = codes "deleted"
-class_word class.Touched = codes "touched"
-class_word class.Number = codes "number"
-class_word class.NotNumber = codes "notnumber"
 
 -- `class:L`
 abbrev pub jump_word : Class → Word → Word
@@ -72,23 +63,6 @@ is_need sign.RequireSet = true
 is_need sign.RequireClear = true
 is_need sign.Sets = false
 is_need sign.Clears = false
-
-abbrev pub same : Bool → Bool → Bool
-same true b = b
-same false b = not b
-
--- the position of a class in the order of the classes
-abbrev pub class_index : Class → ℕ
-class_index class.Stored = 0
-class_index class.NotStored = 1
-class_index class.Exists = 2
-class_index class.NotFound = 3
-class_index class.Hit = 4
-class_index class.Miss = 5
-class_index class.Deleted = 6
-class_index class.Touched = 7
-class_index class.Number = 8
-class_index class.NotNumber = 9
 
 -- both say what is needed of one flag, or what becomes of it; where one class goes; or which variable is bound
 abbrev pub are_twins : Mark → Mark → Bool

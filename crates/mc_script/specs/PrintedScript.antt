@@ -3,12 +3,13 @@ use Rattle.std.specs.Prelude.{◌≡◌, ℕ, ◌+◌, ◌==◌, Option, Some, N
 use Rattle.std.specs.Int.{bit_at}
 use Rattle.std.specs.List.{flat_map}
 use Rattle.mc_protocol.specs.Fields.{fields_of}
-use Rattle.mc_protocol.specs.Words.{verb_word}
+use Rattle.mc_protocol.specs.Words.{verb_word, actor_word}
 use Rattle.mc_protocol.specs.declared.actor.Actor.{Actor}
 use Rattle.mc_protocol.specs.declared.actor.Actor.TheVariants as actor
 use Rattle.mc_protocol.specs.declared.request.Fields.{Fields}
 use Rattle.mc_protocol.specs.declared.request.Fields.TheVariants as fields
 use Rattle.mc_protocol.specs.declared.reply.Class.{Class}
+use Rattle.mc_protocol.specs.Lines.{Word, Words}
 use Rattle.mc_script.specs.declared.entry.Sign.{Sign}
 use Rattle.mc_script.specs.declared.entry.Sign.TheVariants as sign
 use Rattle.mc_script.specs.declared.section.Budget.{Budget}
@@ -19,8 +20,8 @@ use Rattle.mc_script.specs.declared.step.Step.{Step}
 use Rattle.mc_script.specs.declared.step.Step.TheVariants as step
 use Rattle.mc_script.specs.declared.step.Template.{Template}
 use Rattle.mc_script.specs.Script.{Names, Section, Script}
-use Rattle.mc_script.specs.ScriptWords.{Word, Words, body_word, variable_word, label_word}
-use Rattle.mc_script.specs.ScriptText.{SpellsScript, actor_word, header, names_lines, body_lines}
+use Rattle.mc_script.specs.ScriptWords.{body_word, variable_word, label_word}
+use Rattle.mc_script.specs.ScriptText.{SpellsScript, header, names_lines, body_lines}
 use Rattle.mc_script.specs.Marks.{sign_byte, jump_word, bind_word}
 use Rattle.mc_script.specs.SectionText.{halt_line, label_names}
 use Rattle.mc_script.specs.WellFormed.{IsScript}

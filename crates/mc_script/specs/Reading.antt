@@ -1,17 +1,19 @@
 -- What the readers of words and lines answer. No public contract cites these: the other definitions say what a text
 -- spells, and the proofs join the two.
-use Rattle.std.specs.Prelude.{◌≡◌, ◌≢◌, ℕ, ◌+◌, ◌-◌, ◌==◌, nat_le, nat_lt, Bool, false, not, ◌&&◌, ◌||◌, Option, Some, None, Result, Ok, Err, List, [], ◌∷◌, ◌++◌, length, take, drop, get_or, codes, if◌then◌else◌}
-use Rattle.std.specs.List.{find, list_any, position}
+use Rattle.std.specs.Prelude.{◌≡◌, ◌≢◌, ℕ, ◌+◌, ◌-◌, ◌==◌, Bool, false, not, ◌&&◌, Option, Some, None, Result, Ok, Err, List, [], ◌∷◌, ◌++◌, length, take, drop, get_or, codes, if◌then◌else◌}
+use Rattle.std.specs.List.{list_any, position}
+use Rattle.std.specs.Result.{result_ok}
 use Rattle.std.specs.Str.{bytes_eq}
-use Rattle.std.specs.Str.Parse.{digits_value}
 use Rattle.mc_protocol.specs.Fields.{fields_of}
-use Rattle.mc_protocol.specs.Words.{verb_word}
+use Rattle.mc_protocol.specs.Words.{verb_of, class_of_word, actor_word}
 use Rattle.mc_protocol.specs.declared.actor.Actor.{Actor}
 use Rattle.mc_protocol.specs.declared.request.Fields.{Fields}
 use Rattle.mc_protocol.specs.declared.request.Fields.TheVariants as fields
 use Rattle.mc_protocol.specs.declared.request.Verb.{Verb}
-use Rattle.mc_protocol.specs.declared.request.Verb.TheVariants as verb
-use Rattle.mc_protocol.specs.declared.reply.Class.{Class}
+use Rattle.mc_protocol.specs.declared.limits.TheConstants.{KEYS_LIMIT, KEY_BYTES_LIMIT, REQUESTS_LIMIT, REQUEST_BYTES_LIMIT}
+use Rattle.mc_protocol.specs.Lines.{Word, Words, begins_with}
+use Rattle.mc_protocol.specs.Decimals.{MAX_32, MAX_64, decimal_in}
+use Rattle.mc_protocol.specs.Names.{index_of}
 use Rattle.mc_script.specs.declared.entry.Entry.{Entry}
 use Rattle.mc_script.specs.declared.entry.Entry.TheVariants as entry
 use Rattle.mc_script.specs.declared.entry.Mark.{Mark}
@@ -22,16 +24,15 @@ use Rattle.mc_script.specs.declared.fault.ScriptKind.{ScriptKind}
 use Rattle.mc_script.specs.declared.fault.ScriptKind.TheVariants as kind
 use Rattle.mc_script.specs.declared.fault.ScriptFault.{ScriptFault}
 use Rattle.mc_script.specs.declared.fields.Parts.{Parts}
-use Rattle.mc_script.specs.declared.limits.TheConstants.{DIGITS_LIMIT, KEYS_LIMIT, KEY_BYTES_LIMIT, NAME_BYTES_LIMIT, REQUESTS_LIMIT, BYTES_LIMIT}
+use Rattle.mc_script.specs.declared.limits.TheConstants.{NAME_BYTES_LIMIT}
 use Rattle.mc_script.specs.declared.section.Budget.{Budget}
 use Rattle.mc_script.specs.declared.step.Argument.{Argument}
 use Rattle.mc_script.specs.declared.step.Argument.TheVariants as argument
 use Rattle.mc_script.specs.declared.step.Template.{Template}
 use Rattle.mc_script.specs.Script.{Names, may_be_declared}
-use Rattle.mc_script.specs.ScriptWords.{Word, Words, are_digits, is_body, is_name, index_of, MAX_32, MAX_64}
-use Rattle.mc_script.specs.Marks.{class_word, may_stand, are_twins, is_number_jump}
-use Rattle.mc_script.specs.Steps.{◌>>=◌, all_classes}
-use Rattle.mc_script.specs.ScriptText.{actor_word}
+use Rattle.mc_script.specs.ScriptWords.{is_body, is_label_name}
+use Rattle.mc_script.specs.Marks.{may_stand, are_twins, is_number_jump}
+use Rattle.mc_script.specs.Steps.{◌>>=◌}
 
 -- what was returned is what reading gives, unless memory ran out
 abbrev pub Gives : {V : Type 0} → Result V ScriptKind → Option V → Type 0
@@ -50,30 +51,13 @@ Says view (Err fault) read = fault.kind ≢ kind.OutOfMemory → read ≡ None
 
 -- ---- words
 
-unfoldable pub number_in : ℕ → Word → Option ℕ
-number_in greatest word =
-    if (length word == 0) || not (are_digits word) then None
-    else (if nat_lt DIGITS_LIMIT (length word) then None
-    else (if nat_le (digits_value 10 word) greatest then Some (digits_value 10 word) else None))
+-- the number that a word spells
+abbrev pub number_in : ℕ → Word → Option ℕ
+number_in greatest word = result_ok (decimal_in greatest word)
 
 abbrev pub body_in : Word → Option (List ℕ)
 body_in [] = None
 body_in (first ∷ body) = if first == 61 then (if is_body body then Some body else None) else None
-
--- ---- lines
-
-abbrev pub others_of : Words → Words
-others_of [] = []
-others_of (word ∷ words) = words
-
-abbrev pub begins_with : Word → Words → Bool
-begins_with text [] = false
-begins_with text (word ∷ words) = bytes_eq word text
-
-abbrev pub is_only : Word → Words → Bool
-is_only text [] = false
-is_only text (word ∷ []) = bytes_eq word text
-is_only text (word ∷ _ ∷ _) = false
 
 -- ---- declarations
 
@@ -95,7 +79,7 @@ names_in limit bytes (name ∷ names) = if may_be_declared limit bytes (name ∷
 abbrev pub keys_in : List Words → Option (List Word × List Words)
 keys_in [] = None
 keys_in (line ∷ lines) =
-    if begins_with (codes "keys") line then (names_in KEYS_LIMIT KEY_BYTES_LIMIT (others_of line) >>= λ names. Some (names, lines)) else None
+    if begins_with (codes "keys") line then (names_in KEYS_LIMIT KEY_BYTES_LIMIT (drop 1 line) >>= λ names. Some (names, lines)) else None
 
 -- a value, with the line that must follow and those behind it
 abbrev pub then_line : {A : Type 0} → A → List Words → Option (A × Words × List Words)
@@ -105,12 +89,12 @@ then_line x (line ∷ lines) = Some (x, line, lines)
 -- the names that this line declares, where it begins with the word; otherwise none, and it is still to be read
 abbrev pub optional_in : Word → ℕ → Words → List Words → Option (List Word × Words × List Words)
 optional_in word limit line lines =
-    if begins_with word line then (names_in limit NAME_BYTES_LIMIT (others_of line) >>= λ names. then_line names lines)
+    if begins_with word line then (names_in limit NAME_BYTES_LIMIT (drop 1 line) >>= λ names. then_line names lines)
     else Some ([], line, lines)
 
 abbrev pub numbers_in : Words → Option Budget
 numbers_in (requests ∷ bytes ∷ []) =
-    number_in REQUESTS_LIMIT requests >>= λ r. number_in BYTES_LIMIT bytes >>= λ b. Some (record { requests = r; bytes = b })
+    number_in REQUESTS_LIMIT requests >>= λ r. number_in REQUEST_BYTES_LIMIT bytes >>= λ b. Some (record { requests = r; bytes = b })
 numbers_in _ = None
 
 abbrev pub amounts_in : Actor → Words → Option Budget
@@ -122,13 +106,6 @@ budget_in actor [] = None
 budget_in actor (word ∷ others) = if bytes_eq word (codes "budget") then amounts_in actor others else None
 
 -- ---- requests
-
-abbrev pub all_verbs : List Verb
-all_verbs =
-    verb.Set ∷ verb.Add ∷ verb.Replace ∷ verb.Append ∷ verb.Prepend ∷ verb.Cas ∷ verb.Get ∷ verb.Gets ∷ verb.Incr ∷ verb.Decr ∷ verb.Delete ∷ verb.Touch ∷ []
-
-unfoldable pub verb_of : Word → Option Verb
-verb_of word = find (λ v. bytes_eq (verb_word v) word) all_verbs
 
 abbrev pub variable_behind : Names → Word → Option Argument
 variable_behind names name = index_of names.vars name >>= λ v. Some (argument.Variable v)
@@ -178,9 +155,6 @@ field_count fields.Swap = 3
 field_count fields.Amount = 1
 
 -- ---- marks
-
-unfoldable pub class_of_word : Word → Option Class
-class_of_word word = find (λ c. bytes_eq (class_word c) word) all_classes
 
 abbrev pub flag_in : Names → Sign → Word → Option Mark
 flag_in names s name = index_of names.flags name >>= λ f. Some (mark.Flag s f)
@@ -265,7 +239,7 @@ before_colon word =
     else (if get_or word (length word - 1) 0 == 58 then Some (take (length word - 1) word) else None)
 
 abbrev pub label_named : Word → Option Entry
-label_named name = if is_name name then Some (entry.Label name) else None
+label_named name = if is_label_name name then Some (entry.Label name) else None
 
 abbrev pub label_or_halt : Option Word → Word → Option Entry
 label_or_halt (Some name) word = label_named name

@@ -3,11 +3,13 @@ use Rattle.std.specs.Prelude.{◌≡◌, ℕ, ◌==◌, nat_le, Bool, true, not,
 use Rattle.std.specs.List.{list_all}
 use Rattle.mc_protocol.specs.declared.actor.Actor.{Actor}
 use Rattle.mc_protocol.specs.declared.actor.Actor.TheVariants as actor
-use Rattle.mc_script.specs.declared.limits.TheConstants.{KEYS_LIMIT, KEY_BYTES_LIMIT, FLAGS_LIMIT, VARIABLES_LIMIT, NAME_BYTES_LIMIT}
+use Rattle.mc_protocol.specs.declared.limits.TheConstants.{KEYS_LIMIT, KEY_BYTES_LIMIT}
+use Rattle.mc_protocol.specs.Lines.{Word}
+use Rattle.mc_protocol.specs.Names.{is_name, are_distinct}
+use Rattle.mc_script.specs.declared.limits.TheConstants.{FLAGS_LIMIT, VARIABLES_LIMIT, NAME_BYTES_LIMIT}
 use Rattle.mc_script.specs.declared.section.Budget.{Budget}
 use Rattle.mc_script.specs.declared.section.Label.{Label}
 use Rattle.mc_script.specs.declared.step.Step.{Step}
-use Rattle.mc_script.specs.ScriptWords.{Word, is_named, are_distinct}
 
 -- the keys, the flags and the variables, each by its name
 pub record Names : Type 0 where
@@ -23,7 +25,7 @@ pub record Section : Type 0 where
 
 -- these may be declared together: at most so many, each a name of at most so many bytes, and no two equal
 abbrev pub may_be_declared : ℕ → ℕ → List Word → Bool
-may_be_declared limit bytes names = nat_le (length names) limit && list_all (is_named bytes) names && are_distinct names
+may_be_declared limit bytes names = nat_le (length names) limit && list_all (is_name bytes) names && are_distinct names
 
 -- a script has a key, and any number of flags and variables within the limits
 pub record AreDeclared (names : Names) : Type 0 where

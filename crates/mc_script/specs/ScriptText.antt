@@ -3,17 +3,13 @@ use Rattle.std.specs.Prelude.{◌≡◌, ℕ, List, [], ◌∷◌, ◌++◌, cod
 use Rattle.mc_protocol.specs.declared.actor.Actor.{Actor}
 use Rattle.mc_protocol.specs.declared.actor.Actor.TheVariants as actor
 use Rattle.mc_protocol.specs.declared.lines.Separator.TheVariants.{SpaceOrTab}
-use Rattle.mc_protocol.specs.Lines.{words_of_text}
-use Rattle.mc_script.specs.declared.limits.TheConstants.{REQUESTS_LIMIT, BYTES_LIMIT}
+use Rattle.mc_protocol.specs.Lines.{words_of_text, Word, Words}
+use Rattle.mc_protocol.specs.declared.limits.TheConstants.{REQUESTS_LIMIT, REQUEST_BYTES_LIMIT}
+use Rattle.mc_protocol.specs.Decimals.{SpellsNumber}
+use Rattle.mc_protocol.specs.Words.{actor_word}
 use Rattle.mc_script.specs.declared.section.Budget.{Budget}
 use Rattle.mc_script.specs.Script.{Names, Script, AreDeclared}
-use Rattle.mc_script.specs.ScriptWords.{Word, Words, SpellsNumber}
 use Rattle.mc_script.specs.SectionText.{SpellsSection}
-
-abbrev pub actor_word : Actor → Word
-actor_word actor.P = codes "P"
-actor_word actor.A = codes "A"
-actor_word actor.B = codes "B"
 
 -- ---- declarations
 
@@ -31,7 +27,7 @@ names_lines names =
 abbrev pub SpellsBudget : Actor → Words → Budget → Type 0
 SpellsBudget actor line budget =
     (requests : Word) × (bytes : Word) × (line ≡ codes "budget" ∷ actor_word actor ∷ requests ∷ bytes ∷ [])
-    × SpellsNumber REQUESTS_LIMIT requests budget.requests × SpellsNumber BYTES_LIMIT bytes budget.bytes
+    × SpellsNumber REQUESTS_LIMIT requests budget.requests × SpellsNumber REQUEST_BYTES_LIMIT bytes budget.bytes
 
 -- ---- the whole text
 

@@ -4,6 +4,9 @@ use Rattle.mc_protocol.specs.Fields.{fields_of}
 use Rattle.mc_protocol.specs.Words.{verb_word}
 use Rattle.mc_protocol.specs.declared.request.Fields.{Fields}
 use Rattle.mc_protocol.specs.declared.request.Fields.TheVariants as fields
+use Rattle.mc_protocol.specs.Lines.{Word, Words}
+use Rattle.mc_protocol.specs.Names.{are_distinct, index_of}
+use Rattle.mc_protocol.specs.Decimals.{SpellsNumber, MAX_32, MAX_64}
 use Rattle.mc_script.specs.declared.entry.Entry.{Entry}
 use Rattle.mc_script.specs.declared.entry.Entry.TheVariants as entry
 use Rattle.mc_script.specs.declared.entry.Mark.{Mark}
@@ -13,7 +16,7 @@ use Rattle.mc_script.specs.declared.step.Argument.{Argument}
 use Rattle.mc_script.specs.declared.step.Argument.TheVariants as argument
 use Rattle.mc_script.specs.declared.step.Template.{Template}
 use Rattle.mc_script.specs.Script.{Names, Section}
-use Rattle.mc_script.specs.ScriptWords.{Word, Words, is_name, is_body, are_distinct, index_of, SpellsNumber, MAX_32, MAX_64, body_word, variable_word, label_word}
+use Rattle.mc_script.specs.ScriptWords.{is_label_name, is_body, body_word, variable_word, label_word}
 use Rattle.mc_script.specs.Marks.{SpellsMark, may_stand_together}
 use Rattle.mc_script.specs.Steps.{labels_from, steps_from}
 
@@ -27,7 +30,7 @@ SpellEach Spells (x ∷ xs) (value ∷ values) = Spells x value × SpellEach Spe
 -- ---- `L:`
 
 abbrev pub SpellsLabel : Words → Word → Type 0
-SpellsLabel line name = (line ≡ label_word name ∷ []) × (is_name name ≡ true)
+SpellsLabel line name = (line ≡ label_word name ∷ []) × (is_label_name name ≡ true)
 
 -- ---- a request: its verb, its key, what else the verb has, and the marks
 

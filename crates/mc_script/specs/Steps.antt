@@ -3,7 +3,8 @@ use Rattle.std.specs.Prelude.{ℕ, ◌+◌, nat_lt, ◌&&◌, Option, Some, None
 use Rattle.std.specs.List.{position}
 use Rattle.std.specs.Str.{bytes_eq}
 use Rattle.mc_protocol.specs.declared.reply.Class.{Class}
-use Rattle.mc_protocol.specs.declared.reply.Class.TheVariants as class
+pub use Rattle.mc_protocol.specs.Words.{all_classes}
+use Rattle.mc_protocol.specs.Lines.{Word}
 use Rattle.mc_script.specs.declared.entry.Entry.{Entry}
 use Rattle.mc_script.specs.declared.entry.Entry.TheVariants as entry
 use Rattle.mc_script.specs.declared.entry.Mark.{Mark}
@@ -12,7 +13,6 @@ use Rattle.mc_script.specs.declared.section.Label.{Label}
 use Rattle.mc_script.specs.declared.step.Step.{Step}
 use Rattle.mc_script.specs.declared.step.Step.TheVariants as step
 use Rattle.mc_script.specs.declared.step.Template.{Template}
-use Rattle.mc_script.specs.ScriptWords.{Word}
 use Rattle.mc_script.specs.Marks.{mask_of, target_of, bound_by}
 
 -- the labels of these lines, where so many steps stand before them: each label's place is that of the next step, or the
@@ -25,12 +25,6 @@ labels_from count (_ ∷ entries) = labels_from (count + 1) entries
 -- the index of the label with this name, which stands behind the step at this place
 abbrev pub label_behind : List Label → ℕ → Word → Option ℕ
 label_behind labels place name = position (λ label. bytes_eq label.name name && nat_lt place label.place) labels
-
--- the classes in their order
-abbrev pub all_classes : List Class
-all_classes =
-    class.Stored ∷ class.NotStored ∷ class.Exists ∷ class.NotFound ∷ class.Hit ∷ class.Miss ∷ class.Deleted
-    ∷ class.Touched ∷ class.Number ∷ class.NotNumber ∷ []
 
 -- ---- values that may be missing
 

@@ -4,10 +4,11 @@ use Rattle.std.specs.Int.Bits.{bit_and}
 use Rattle.mc_protocol.specs.Fields.{fields_of}
 use Rattle.mc_protocol.specs.declared.request.Fields.{Fields}
 use Rattle.mc_protocol.specs.declared.request.Fields.TheVariants as fields
+use Rattle.mc_protocol.specs.Decimals.{MAX_32, MAX_64}
 use Rattle.mc_script.specs.declared.step.Argument.{Argument}
 use Rattle.mc_script.specs.declared.step.Argument.TheVariants as argument
 use Rattle.mc_script.specs.declared.step.Template.{Template}
-use Rattle.mc_script.specs.ScriptWords.{MAX_32, MAX_64, is_body}
+use Rattle.mc_script.specs.ScriptWords.{is_body}
 
 -- ---- what stands behind the key
 

@@ -2,6 +2,9 @@
 use Rattle.std.specs.Prelude.{ℕ, ◌+◌, nat_lt, Bool, true, false, Option, Some, None, List, [], ◌∷◌, ◌++◌, codes, if◌then◌else◌}
 use Rattle.mc_protocol.specs.declared.actor.Actor.{Actor}
 use Rattle.mc_protocol.specs.declared.actor.Actor.TheVariants as actor
+use Rattle.mc_protocol.specs.Lines.{Word, Words, is_only}
+use Rattle.mc_protocol.specs.Names.{is_new}
+use Rattle.mc_protocol.specs.Words.{all_classes}
 use Rattle.mc_script.specs.declared.entry.Entry.{Entry}
 use Rattle.mc_script.specs.declared.entry.Entry.TheVariants as entry
 use Rattle.mc_script.specs.declared.limits.TheConstants.{FLAGS_LIMIT, VARIABLES_LIMIT, STEPS_LIMIT}
@@ -9,11 +12,10 @@ use Rattle.mc_script.specs.declared.section.Budget.{Budget}
 use Rattle.mc_script.specs.declared.section.Label.{Label}
 use Rattle.mc_script.specs.declared.text.Budgets.{Budgets}
 use Rattle.mc_script.specs.Script.{Names, Section, Script}
-use Rattle.mc_script.specs.ScriptWords.{Word, Words, is_new}
 use Rattle.mc_script.specs.declared.step.Step.{Step}
 use Rattle.mc_script.specs.declared.step.Step.TheVariants as step
-use Rattle.mc_script.specs.Steps.{◌>>=◌, all_classes, labels_from, steps_from, jumps_on, sends, goes, label_behind}
-use Rattle.mc_script.specs.Reading.{is_only, header_in, keys_in, optional_in, budget_in, before_colon, entry_in}
+use Rattle.mc_script.specs.Steps.{◌>>=◌, labels_from, steps_from, jumps_on, sends, goes, label_behind}
+use Rattle.mc_script.specs.Reading.{header_in, keys_in, optional_in, budget_in, before_colon, entry_in}
 
 -- ---- sections
 

@@ -5,13 +5,16 @@ use Rattle.mc_protocol.specs.Legal.{is_legal}
 use Rattle.mc_protocol.specs.declared.request.Verb.{Verb}
 use Rattle.mc_protocol.specs.declared.reply.Class.{Class}
 use Rattle.mc_protocol.specs.declared.reply.Class.TheVariants as class
-use Rattle.mc_script.specs.declared.limits.TheConstants.{REQUESTS_LIMIT, BYTES_LIMIT, STEPS_LIMIT}
+use Rattle.mc_protocol.specs.declared.limits.TheConstants.{REQUESTS_LIMIT, REQUEST_BYTES_LIMIT}
+use Rattle.mc_protocol.specs.Names.{are_distinct}
+use Rattle.mc_protocol.specs.Words.{class_index}
+use Rattle.mc_script.specs.declared.limits.TheConstants.{STEPS_LIMIT}
 use Rattle.mc_script.specs.declared.section.Label.{Label}
 use Rattle.mc_script.specs.declared.step.Step.{Step}
 use Rattle.mc_script.specs.declared.step.Step.TheVariants as step
 use Rattle.mc_script.specs.Script.{Names, Section, Script, AreDeclared}
-use Rattle.mc_script.specs.ScriptWords.{is_name, are_distinct}
-use Rattle.mc_script.specs.Marks.{class_index, shows_numbers}
+use Rattle.mc_script.specs.ScriptWords.{is_label_name}
+use Rattle.mc_script.specs.Marks.{shows_numbers}
 use Rattle.mc_script.specs.SectionText.{label_names}
 use Rattle.mc_script.specs.Templates.{IsTemplate}
 
@@ -59,11 +62,11 @@ AreSteps names labels place (s ∷ steps) = IsStep names labels place s × AreSt
 abbrev pub AreLabels : ℕ → ℕ → List Label → Type 0
 AreLabels steps place [] = Unit {0}
 AreLabels steps place (label ∷ labels) =
-    (is_name label.name ≡ true) × (place ≤ label.place) × (label.place ≤ steps) × AreLabels steps label.place labels
+    (is_label_name label.name ≡ true) × (place ≤ label.place) × (label.place ≤ steps) × AreLabels steps label.place labels
 
 pub record IsSection (names : Names) (s : Section) : Type 0 where
   pub requests : s.budget.requests ≤ REQUESTS_LIMIT
-  pub bytes : s.budget.bytes ≤ BYTES_LIMIT
+  pub bytes : s.budget.bytes ≤ REQUEST_BYTES_LIMIT
   pub few : length s.steps ≤ STEPS_LIMIT
   pub steps : AreSteps names s.labels 0 s.steps
   pub labels : AreLabels (length s.steps) 0 s.labels

@@ -3,29 +3,18 @@ ghost use Rattle.std.specs.List.{list_all, list_any};
 ghost use Rattle.std.specs.Result.{result_ok};
 ghost use Rattle.std.specs.Str.{bytes_eq};
 ghost use Rattle.mc_script.specs.Script as spec;
-ghost use Rattle.mc_script.specs.ScriptWords as words;
-ghost use Rattle.mc_script.specs.ScriptText as text;
+ghost use Rattle.mc_protocol.specs.Decimals as decimals;
+ghost use Rattle.mc_protocol.specs.Names as words;
 ghost use Rattle.mc_script.specs.Reading as reading;
 
-use crate::lines::{ScriptLine, ScriptLines};
-use crate::words::{is_named, is_word, read_number};
-use crate::{
-    BYTES_LIMIT, Budget, FLAGS_LIMIT, KEY_BYTES_LIMIT, KEYS_LIMIT, NAME_BYTES_LIMIT,
-    REQUESTS_LIMIT, ScriptFault, ScriptKind, VARIABLES_LIMIT,
+use crate::lines::next_due;
+use crate::words::read_number;
+use crate::{Budget, NAME_BYTES_LIMIT, ScriptFault, ScriptKind};
+use mc_protocol::{
+    Actor, Bytes, KEY_BYTES_LIMIT, KEYS_LIMIT, OutOfMemory, REQUEST_BYTES_LIMIT, REQUESTS_LIMIT,
+    WordLine, WordLines, is_name, is_word,
 };
-use mc_protocol::{Actor, Bytes, OutOfMemory};
 use std::alloc::Global;
-
-/// The word of a section.
-pub(crate) fn actor_word(actor: Actor) -> &'static [u8]
-    ensures { result.now ≡ text.actor_word actor }
-{
-    match actor {
-        Actor::P => b"P",
-        Actor::A => b"A",
-        Actor::B => b"B",
-    }
-}
 
 // Whether these may be declared together.
 fn may_be_declared(limit: usize, bytes: usize, names: &[&[u8]]) -> bool
@@ -35,15 +24,15 @@ fn may_be_declared(limit: usize, bytes: usize, names: &[&[u8]]) -> bool
 }
 
 fn are_named(bytes: usize, names: &[&[u8]]) -> bool
-    ensures { result ≡ list_all (words.is_named bytes) (map (λ w. w.now) names.now) }
+    ensures { result ≡ list_all (words.is_name bytes) (map (λ w. w.now) names.now) }
 {
     is_each_named(bytes, names)
 }
 
 fn is_each_named(bytes: usize, names: &[&[u8]]) -> bool
-    ensures { result ≡ list_all (λ w. words.is_named bytes w.now) names.now }
+    ensures { result ≡ list_all (λ w. words.is_name bytes w.now) names.now }
 {
-    names.iter().all(|name| is_named(bytes, name))
+    names.iter().all(|name| is_name(bytes, name))
 }
 
 fn are_distinct(names: &[&[u8]]) -> bool
@@ -78,11 +67,11 @@ fn is_any(names: &[&[u8]], word: &[u8]) -> bool
     names.iter().any(|name| is_word(word, name))
 }
 
-// The fault of the first of these names that can't be declared behind the others.
+// The fault of the first of these names that can't be declared after the others.
 fn names_fault(limit: usize, bytes: usize, names: &[&[u8]]) -> ScriptKind {
     for index in 0..names.len() {
         let name = names[index];
-        if !is_named(bytes, name) {
+        if !is_name(bytes, name) {
             return ScriptKind::Name;
         }
         if has(&names[..index], name) {
@@ -95,7 +84,7 @@ fn names_fault(limit: usize, bytes: usize, names: &[&[u8]]) -> ScriptKind {
     ScriptKind::Line
 }
 
-// Reads the names behind the first word of a line.
+// Reads the names after the first word of a line.
 #[tactic(auto, unfolding(crate::specs::Reading::names_in))]
 fn read_names(
     alloc: Global,
@@ -126,15 +115,15 @@ fn copied(alloc: Global, words: &[&[u8]]) -> Result<Vec<Bytes>, OutOfMemory>
 }
 
 /// Takes the header, `script 1`.
-pub(crate) fn take_header(alloc: Global, lines: &mut ScriptLines) -> Result<(), ScriptFault>
-    ensures { reading.Says (λ _. lines.new) result (reading.header_in lines.old) }
+pub(crate) fn take_header(alloc: Global, lines: &mut WordLines) -> Result<(), ScriptFault>
+    ensures { reading.Says (λ _. lines.new.words) result (reading.header_in lines.old.words) }
 {
     match lines.next(alloc)? {
         Some(line) => {
             if is_header(line.words()) {
                 Ok(())
             } else {
-                Err(line.fault(ScriptKind::Header))
+                Err(ScriptFault::at(ScriptKind::Header, line.number()))
             }
         }
         None => Err(ScriptFault::at(ScriptKind::Header, 1)),
@@ -151,49 +140,49 @@ fn is_header(words: &[&[u8]]) -> bool
 }
 
 /// Takes the line that declares the keys.
-pub(crate) fn take_keys(alloc: Global, lines: &mut ScriptLines) -> Result<Vec<Bytes>, ScriptFault>
-    ensures { reading.Says (λ keys. (keys.items, lines.new)) result (reading.keys_in lines.old) }
+pub(crate) fn take_keys(alloc: Global, lines: &mut WordLines) -> Result<Vec<Bytes>, ScriptFault>
+    ensures { reading.Says (λ keys. (keys.items, lines.new.words)) result (reading.keys_in lines.old.words) }
 {
-    let line = lines.next_due(alloc, ScriptKind::Header)?;
+    let line = next_due(alloc, lines, ScriptKind::Header)?;
     if !line.begins_with(b"keys") {
-        return Err(line.fault(ScriptKind::Header));
+        return Err(ScriptFault::at(ScriptKind::Header, line.number()));
     }
     match read_names(alloc, KEYS_LIMIT, KEY_BYTES_LIMIT, line.others()) {
         Ok(keys) => Ok(keys),
-        Err(kind) => Err(line.fault(kind)),
+        Err(kind) => Err(ScriptFault::at(kind, line.number())),
     }
 }
 
-/// Reads the names that this line declares, if it begins with the word, and then takes the line behind it.
+/// Reads the names that this line declares, if it begins with the word, and then takes the line after it.
 pub(crate) fn read_optional<'a>(
     alloc: Global,
-    lines: &mut ScriptLines<'a>,
+    lines: &mut WordLines<'a>,
     word: &[u8],
     limit: usize,
-    line: ScriptLine<'a>,
-) -> Result<(Vec<Bytes>, ScriptLine<'a>), ScriptFault>
-    ensures { reading.Says (λ r. (r.0.items, r.1, lines.new)) result
-        (reading.optional_in word.now limit line.entry lines.old) }
+    line: WordLine<'a>,
+) -> Result<(Vec<Bytes>, WordLine<'a>), ScriptFault>
+    ensures { reading.Says (λ r. (r.0.items, r.1.words, lines.new.words)) result
+        (reading.optional_in word.now limit line.entry.words lines.old.words) }
 {
     if !line.begins_with(word) {
         return Ok((Vec::new(alloc), line));
     }
     match read_names(alloc, limit, NAME_BYTES_LIMIT, line.others()) {
         Ok(names) => {
-            let next = lines.next_due(alloc, ScriptKind::Header)?;
+            let next = next_due(alloc, lines, ScriptKind::Header)?;
             Ok((names, next))
         }
-        Err(kind) => Err(line.fault(kind)),
+        Err(kind) => Err(ScriptFault::at(kind, line.number())),
     }
 }
 
 /// Reads the budget of a section.
-pub(crate) fn read_budget(actor: Actor, line: &ScriptLine) -> Result<Budget, ScriptFault>
-    ensures { reading.Says (λ budget. budget) result (reading.budget_in actor line.now) }
+pub(crate) fn read_budget(actor: Actor, line: &WordLine) -> Result<Budget, ScriptFault>
+    ensures { reading.Says (λ budget. budget) result (reading.budget_in actor line.now.words) }
 {
     match budget_of(actor, line.words()) {
         Ok(budget) => Ok(budget),
-        Err(kind) => Err(line.fault(kind)),
+        Err(kind) => Err(ScriptFault::at(kind, line.number())),
     }
 }
 
@@ -210,7 +199,7 @@ fn budget_of(actor: Actor, words: &[&[u8]]) -> Result<Budget, ScriptKind>
     let [section, numbers @ ..] = others else {
         return Err(ScriptKind::Line);
     };
-    if !is_word(section, actor_word(actor)) {
+    if !is_word(section, actor.word().as_bytes()) {
         return Err(other_section(section));
     }
     read_numbers(numbers)
@@ -218,9 +207,9 @@ fn budget_of(actor: Actor, words: &[&[u8]]) -> Result<Budget, ScriptKind>
 
 // The fault of a budget that is not the one that is due: it is out of its place, or of no section.
 fn other_section(word: &[u8]) -> ScriptKind {
-    match word {
-        [b'P' | b'A' | b'B'] => ScriptKind::Header,
-        _ => ScriptKind::Line,
+    match Actor::from_word(word) {
+        Some(_) => ScriptKind::Header,
+        None => ScriptKind::Line,
     }
 }
 
@@ -230,11 +219,11 @@ fn read_numbers(words: &[&[u8]]) -> Result<Budget, ScriptKind>
     let [requests, rest @ ..] = words else {
         return Err(ScriptKind::Line);
     };
-    let requests = read_allowed(REQUESTS_LIMIT, requests)?;
+    let requests = read_allowed(REQUESTS_LIMIT as u64, requests)?;
     let [bytes, rest @ ..] = rest else {
         return Err(ScriptKind::Line);
     };
-    let bytes = read_allowed(BYTES_LIMIT, bytes)?;
+    let bytes = read_allowed(REQUEST_BYTES_LIMIT as u64, bytes)?;
     if !rest.is_empty() {
         return Err(ScriptKind::Line);
     }
@@ -242,9 +231,9 @@ fn read_numbers(words: &[&[u8]]) -> Result<Budget, ScriptKind>
 }
 
 // Reads a number of a budget.
-#[tactic(auto, unfolding(crate::specs::Reading::number_in))]
+#[tactic(auto, unfolding(mc_protocol::specs::Decimals::decimal_in))]
 fn read_allowed(limit: u64, word: &[u8]) -> Result<u32, ScriptKind>
-    requires { limit ≤ words.MAX_32 }
+    requires { limit ≤ decimals.MAX_32 }
     ensures { result_ok result ≡ reading.number_in limit word.now }
 {
     let number = read_number(u64::MAX, word)?;

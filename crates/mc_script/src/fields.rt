@@ -1,6 +1,6 @@
 ghost use Rattle.std.specs.Prelude.{◌≡◌, map};
 ghost use Rattle.std.specs.Result.{result_ok};
-ghost use Rattle.mc_script.specs.ScriptWords as words;
+ghost use Rattle.mc_protocol.specs.Decimals as decimals;
 ghost use Rattle.mc_script.specs.Reading as reading;
 
 use crate::names::Names;
@@ -110,7 +110,7 @@ fn read_counted(alloc: Global, names: &Names, words: &[&[u8]]) -> Result<Parts, 
 }
 
 fn read_flags(word: &[u8]) -> Result<u32, ScriptKind>
-    ensures { result_ok result ≡ reading.number_in words.MAX_32 word.now }
+    ensures { result_ok result ≡ reading.number_in decimals.MAX_32 word.now }
 {
     let flags = read_number(u64::from(u32::MAX), word)?;
     Ok(flags as u32)

@@ -8,7 +8,6 @@ mod declarations;
 mod entry;
 mod fault;
 mod fields;
-mod labels;
 mod limits;
 mod lines;
 mod marks;
@@ -28,10 +27,7 @@ mod text_laws;
 mod words;
 
 pub use fault::{ScriptFault, ScriptKind};
-pub use limits::{
-    BODY_LIMIT, BYTES_LIMIT, DIGITS_LIMIT, FLAGS_LIMIT, KEY_BYTES_LIMIT, KEYS_LIMIT, Mask,
-    NAME_BYTES_LIMIT, REQUESTS_LIMIT, STEPS_LIMIT, VARIABLES_LIMIT,
-};
+pub use limits::{FLAGS_LIMIT, Mask, NAME_BYTES_LIMIT, STEPS_LIMIT, VARIABLES_LIMIT};
 pub use print_laws::{printed_scripts_are_read_again, printed_scripts_are_spelled};
 pub use print_script::print;
 pub use script::Script;
@@ -39,6 +35,7 @@ pub use section::{Budget, Label};
 pub use step::{Argument, Jumps, Step, Template};
 pub use text::parse;
 pub use text_laws::texts_spell_one_script;
+pub use words::is_body;
 
 #[cfg(test)]
 mod example_tests;

@@ -9,68 +9,7 @@ use crate::names::Names;
 use mc_protocol::{Bytes, Class, Verb, is_legal};
 use std::alloc::Global;
 
-/// The classes in their order.
-pub(crate) static CLASSES: [Class; 10] = [
-    Class::Stored,
-    Class::NotStored,
-    Class::Exists,
-    Class::NotFound,
-    Class::Hit,
-    Class::Miss,
-    Class::Deleted,
-    Class::Touched,
-    Class::Number,
-    Class::NotNumber,
-];
-
-/// The word of a class.
-pub(crate) fn class_word(class: Class) -> &'static str
-    ensures { result.now ≡ spec.class_word class }
-{
-    match class {
-        Class::Stored => "stored",
-        Class::NotStored => "notstored",
-        Class::Exists => "exists",
-        Class::NotFound => "notfound",
-        Class::Hit => "hit",
-        Class::Miss => "miss",
-        Class::Deleted => "deleted",
-        Class::Touched => "touched",
-        Class::Number => "number",
-        Class::NotNumber => "notnumber",
-    }
-}
-
-// The class with this word.
-#[tactic(auto, unfolding(crate::specs::Reading::class_of_word))]
-fn class_of_word(word: &[u8]) -> Option<Class>
-    ensures { result ≡ reading.class_of_word word.now }
-{
-    CLASSES
-        .iter()
-        .copied()
-        .find(|class| class_word(*class).as_bytes() == word)
-}
-
-// The position of a class in their order.
-pub(crate) fn class_index(class: Class) -> u8
-    ensures { result ≡ spec.class_index class }
-{
-    match class {
-        Class::Stored => 0,
-        Class::NotStored => 1,
-        Class::Exists => 2,
-        Class::NotFound => 3,
-        Class::Hit => 4,
-        Class::Miss => 5,
-        Class::Deleted => 6,
-        Class::Touched => 7,
-        Class::Number => 8,
-        Class::NotNumber => 9,
-    }
-}
-
-/// The byte in front of a flag.
+/// The byte before a flag.
 pub(crate) fn sign_byte(sign: Sign) -> u8
     ensures { result ≡ spec.sign_byte sign }
 {
@@ -146,7 +85,7 @@ fn read_jump(alloc: Global, word: &[u8]) -> Result<Mark, ScriptKind>
     let Some(colon) = colon_of(word) else {
         return Err(ScriptKind::Line);
     };
-    let Some(class) = class_of_word(&word[..colon]) else {
+    let Some(class) = Class::from_word(&word[..colon]) else {
         return Err(ScriptKind::Line);
     };
     Ok(Mark::Jump(
@@ -297,8 +236,7 @@ fn are_twins(mark: &Mark, other: &Mark) -> bool
         (Mark::Flag(sign, flag), Mark::Flag(other_sign, other_flag)) => {
             flag.index() == other_flag.index() && is_need(*sign) == is_need(*other_sign)
         }
-        (Mark::Jump(class, _), Mark::Jump(other_class, _)) => class_index(*class)
-            == class_index(*other_class),
+        (Mark::Jump(class, _), Mark::Jump(other_class, _)) => class.index() == other_class.index(),
         (Mark::Bind(_), Mark::Bind(_)) => true,
         _ => false,
     }

@@ -1,6 +1,6 @@
 ghost use Rattle.std.specs.Prelude.{◌≡◌};
 ghost use Rattle.mc_script.specs.Script as spec;
-ghost use Rattle.mc_script.specs.ScriptWords as words;
+ghost use Rattle.mc_protocol.specs.Names as names;
 
 use crate::entry::Flag;
 use crate::words::index_of;
@@ -53,13 +53,13 @@ impl Names {
     }
 
     pub(crate) fn key(&self, name: &[u8]) -> Option<u8>
-        ensures { result ≡ words.index_of self.now.keys name.now }
+        ensures { result ≡ names.index_of self.now.keys name.now }
     {
         index_of(self.keys.as_slice(), name)
     }
 
     pub(crate) fn flag(&self, name: &[u8]) -> Option<Flag>
-        ensures { result ≡ words.index_of self.now.flags name.now }
+        ensures { result ≡ names.index_of self.now.flags name.now }
     {
         match index_of(self.flags.as_slice(), name) {
             Some(index) => Some(Flag::new(index)),
@@ -68,7 +68,7 @@ impl Names {
     }
 
     pub(crate) fn variable(&self, name: &[u8]) -> Option<u8>
-        ensures { result ≡ words.index_of self.now.vars name.now }
+        ensures { result ≡ names.index_of self.now.vars name.now }
     {
         index_of(self.vars.as_slice(), name)
     }

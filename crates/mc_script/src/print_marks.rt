@@ -4,7 +4,6 @@ ghost use Rattle.mc_script.specs.Marks as spec;
 ghost use Rattle.mc_script.specs.PrintedScript as printed;
 
 use crate::entry::Sign;
-use crate::marks::class_word;
 use crate::names::Names;
 use crate::{Label, Mask, Template};
 use mc_protocol::{Bytes, Class, OutOfMemory, append_all};
@@ -148,7 +147,7 @@ fn print_jump(
         ++ 32 ∷ spec.jump_word class (printed.label_at labels.now label)) }
 {
     out.extend_from_slice(b" ")?;
-    out.extend_from_slice(class_word(class).as_bytes())?;
+    out.extend_from_slice(class.word().as_bytes())?;
     append_all(out, &[b":", label_at(labels, label)])
 }
 

@@ -2,7 +2,6 @@ ghost use Rattle.std.specs.Prelude.{◌≡◌, ◌++◌, ◌∷◌, IfOk, OnOk, 
 ghost use Rattle.mc_script.specs.ScriptText.{SpellsScript, header, names_line, names_lines};
 ghost use Rattle.mc_script.specs.PrintedScript as printed;
 
-use crate::declarations::actor_word;
 use crate::names::Names;
 use crate::print_section::print_section;
 use crate::{Budget, Script};
@@ -85,7 +84,7 @@ fn print_budget(actor: Actor, budget: Budget, out: &mut Vec<u8>) -> Result<(), O
         out,
         &[
             b"budget ",
-            actor_word(actor),
+            actor.word().as_bytes(),
             b" ",
             requests,
             b" ",

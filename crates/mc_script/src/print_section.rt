@@ -3,7 +3,6 @@ ghost use Rattle.mc_protocol.specs.Fields.{fields_of};
 ghost use Rattle.mc_script.specs.ScriptText.{section_line};
 ghost use Rattle.mc_script.specs.PrintedScript as printed;
 
-use crate::declarations::actor_word;
 use crate::names::Names;
 use crate::print_marks::{label_at, name_at, print_marks};
 use crate::section::Section;
@@ -21,7 +20,7 @@ pub(crate) fn print_section(
     ensures { OnOk result (out.new.items ≡ out.old.items
         ++ printed.lines_text (section_line actor ∷ printed.section_lines names.now section.now)) }
 {
-    append_all(out, &[actor_word(actor), b"\n"])?;
+    append_all(out, &[actor.word().as_bytes(), b"\n"])?;
     print_steps(names, &section.labels, &section.steps, out)
 }
 

@@ -8,43 +8,16 @@ use crate::entry::Entry;
 use crate::fields::{field_count, read_fields};
 use crate::marks::read_marks;
 use crate::names::Names;
-use crate::words::{is_named, is_word};
 use crate::{NAME_BYTES_LIMIT, ScriptKind, Template};
-use mc_protocol::{Bytes, Verb};
+use mc_protocol::{Bytes, Verb, is_name, is_word};
 use std::alloc::Global;
-
-static VERBS: [Verb; 12] = [
-    Verb::Set,
-    Verb::Add,
-    Verb::Replace,
-    Verb::Append,
-    Verb::Prepend,
-    Verb::Cas,
-    Verb::Get,
-    Verb::Gets,
-    Verb::Incr,
-    Verb::Decr,
-    Verb::Delete,
-    Verb::Touch,
-];
-
-// The verb with this word.
-#[tactic(auto, unfolding(crate::specs::Reading::verb_of))]
-fn verb_of(word: &[u8]) -> Option<Verb>
-    ensures { result ≡ reading.verb_of word.now }
-{
-    VERBS
-        .iter()
-        .copied()
-        .find(|verb| verb.word().as_bytes() == word)
-}
 
 /// Whether a line that begins with this word is a step, if it is a line of a section at all.
 pub(crate) fn begins_step(word: &[u8]) -> bool {
     is_word(word, b"bind")
         || is_word(word, b"goto")
         || is_word(word, b"halt")
-        || verb_of(word).is_some()
+        || Verb::from_word(word).is_some()
 }
 
 /// Reads the words of a line of a section. The fault is that of the leftmost faulty word; a missing word stands behind
@@ -62,7 +35,7 @@ pub(crate) fn read_entry(alloc: Global, names: &Names, words: &[&[u8]]) -> Resul
             } else if is_word(word, b"goto") {
                 read_goto(alloc, next, others)
             } else {
-                match verb_of(word) {
+                match Verb::from_word(word) {
                     Some(verb) => read_request(alloc, names, verb, next, others),
                     None => Err(unknown_fault(word)),
                 }
@@ -103,7 +76,7 @@ fn read_lone(alloc: Global, word: &[u8]) -> Result<Entry, ScriptKind>
 fn read_label(alloc: Global, name: &[u8]) -> Result<Entry, ScriptKind>
     ensures { reading.Gives result (reading.label_named name.now) }
 {
-    if !is_named(NAME_BYTES_LIMIT, name) {
+    if !is_name(NAME_BYTES_LIMIT, name) {
         return Err(ScriptKind::Name);
     }
     Ok(Entry::Label(Bytes::new(Vec::from_slice(alloc, name)?)))

@@ -1,12 +1,13 @@
 ghost use Rattle.std.specs.Prelude.{◌≡◌, ◌<◌, Some, None, IfOk, MatchOption};
 ghost use Rattle.mc_script.specs.declared.limits.TheConstants.{FLAGS_LIMIT};
+ghost use Rattle.mc_protocol.specs.Words.{all_classes};
 ghost use Rattle.mc_script.specs.Marks as said;
 ghost use Rattle.mc_script.specs.Steps as spec;
 ghost use Rattle.mc_script.specs.Reading as reading;
 ghost use Rattle.mc_script.specs.TextReading as whole;
 
 use crate::entry::{Entry, Mark, Sign};
-use crate::marks::{CLASSES, class_index, sign_byte};
+use crate::marks::sign_byte;
 use crate::section::Section;
 use crate::section_text::Numbered;
 use crate::{Budget, Jumps, Label, Mask, ScriptFault, ScriptKind, Step, Template};
@@ -108,7 +109,7 @@ fn send_of(
     marks: &[Mark],
 ) -> Result<Step, ScriptKind>
     ensures { reading.Gives result
-        (spec.sends template.now marks.now (spec.jumps_on labels.now place marks.now spec.all_classes)) }
+        (spec.sends template.now marks.now (spec.jumps_on labels.now place marks.now all_classes)) }
 {
     let jumps = jumps_of(alloc, labels, place, marks)?;
     let template = marked(alloc, template, marks)?;
@@ -205,10 +206,10 @@ fn jumps_of(
     place: usize,
     marks: &[Mark],
 ) -> Result<Jumps, ScriptKind>
-    ensures { reading.Gives result (spec.jumps_on labels.now place marks.now spec.all_classes) }
+    ensures { reading.Gives result (spec.jumps_on labels.now place marks.now all_classes) }
 {
     let mut jumps = Vec::new(alloc);
-    let mut rest = CLASSES.as_slice();
+    let mut rest = Class::ALL.as_slice();
     'classes: while let [class, others @ ..] = rest {
         if let Some(name) = target_of(*class, marks) {
             let Some(label) = label_behind(labels, place, name) else {
@@ -228,7 +229,7 @@ fn target_of<'a>(class: Class, marks: &'a [Mark]) -> Option<&'a [u8]>
     let mut rest = marks;
     'marks: while let [mark, others @ ..] = rest {
         if let Mark::Jump(other, label) = mark {
-            if class_index(class) == class_index(*other) {
+            if class.index() == other.index() {
                 return Some(label.as_slice());
             }
         }

@@ -4,11 +4,11 @@ ghost use Rattle.mc_script.specs.Reading as reading;
 ghost use Rattle.mc_script.specs.TextReading as whole;
 
 use crate::entry::Entry;
-use crate::labels::LabelNames;
-use crate::lines::{ScriptLine, ScriptLines};
+use crate::lines::next_due;
 use crate::names::Names;
 use crate::read_entry::{before_colon, begins_step, read_entry};
 use crate::{STEPS_LIMIT, ScriptFault, ScriptKind};
+use mc_protocol::{NameSet, WordLine, WordLines};
 use std::alloc::Global;
 use std::marker::Model;
 
@@ -27,38 +27,41 @@ impl Model for Numbered {
     ghost view = { λ n. n.entry };
 }
 
-/// Reads the lines of a section, and takes the line behind them, which is this word alone.
+/// Reads the lines of a section, and takes the line after them, which is the word `stop` alone.
 pub(crate) fn read_section<'a>(
     alloc: Global,
     names: &Names,
-    lines: &mut ScriptLines<'a>,
+    lines: &mut WordLines<'a>,
     stop: &[u8],
 ) -> Result<Vec<Numbered>, ScriptFault>
-    ensures { reading.Says (λ entries. (entries.items, lines.new)) result
-        (whole.entries_in names.now stop.now [] 0 [] lines.old) }
+    ensures { reading.Says (λ entries. (entries.items, lines.new.words)) result
+        (whole.entries_in names.now stop.now [] 0 [] lines.old.words) }
 {
     let mut entries = Vec::new(alloc);
     let mut count = 0;
-    let mut labels = LabelNames::new(alloc);
+    let mut labels = NameSet::new(alloc);
     'lines: loop {
-        let line = lines.next_due(alloc, ScriptKind::Unended)?;
+        let line = next_due(alloc, lines, ScriptKind::Unended)?;
         if line.is_only(stop) {
             return Ok(entries);
         }
         let entry = match read_entry(alloc, names, line.words()) {
             Ok(entry) => entry,
-            Err(kind) => return Err(line.fault(entry_fault(kind, count, &line))),
+            Err(kind) => return Err(ScriptFault::at(
+                entry_fault(kind, count, &line),
+                line.number(),
+            )),
         };
         match label_in(&line) {
             Some(name) => {
                 if labels.has(name) {
-                    return Err(line.fault(ScriptKind::Duplicate));
+                    return Err(ScriptFault::at(ScriptKind::Duplicate, line.number()));
                 }
                 labels.push(name)?;
             }
             None => {
                 if !has_room(count) {
-                    return Err(line.fault(ScriptKind::TooMany));
+                    return Err(ScriptFault::at(ScriptKind::TooMany, line.number()));
                 }
                 count += 1;
             }
@@ -70,7 +73,7 @@ pub(crate) fn read_section<'a>(
     }
 }
 
-// Whether a step may stand behind so many.
+// Whether a step may stand after `count` others.
 fn has_room(count: usize) -> bool
     ensures { result ≡ nat_lt count STEPS_LIMIT }
 {
@@ -78,8 +81,8 @@ fn has_room(count: usize) -> bool
 }
 
 // The name of the label that the line is, if it is one.
-fn label_in<'a>(line: &ScriptLine<'a>) -> Option<&'a [u8]>
-    ensures { MatchOption result (whole.label_of line.now ≡ None) (λ name. whole.label_of line.now ≡ Some name.now) }
+fn label_in<'a>(line: &WordLine<'a>) -> Option<&'a [u8]>
+    ensures { MatchOption result (whole.label_of line.now.words ≡ None) (λ name. whole.label_of line.now.words ≡ Some name.now) }
 {
     match line.words() {
         [word] => before_colon(*word),
@@ -87,8 +90,8 @@ fn label_in<'a>(line: &ScriptLine<'a>) -> Option<&'a [u8]>
     }
 }
 
-// The fault of a line behind so many steps: that it is one too many goes before its words.
-fn entry_fault(kind: ScriptKind, count: usize, line: &ScriptLine) -> ScriptKind
+// The fault of a line after `count` steps: that it is one too many goes before its words.
+fn entry_fault(kind: ScriptKind, count: usize, line: &WordLine) -> ScriptKind
     ensures { kind ≡ ScriptKind.OutOfMemory → result ≡ ScriptKind.OutOfMemory }
 {
     match line.words() {

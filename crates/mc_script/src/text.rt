@@ -7,17 +7,17 @@ ghost use Rattle.mc_script.specs.Reading as reading;
 ghost use Rattle.mc_script.specs.TextReading as whole;
 ghost use Rattle.mc_script.specs.WellFormed.{IsScript};
 
-use crate::declarations::{actor_word, read_budget, read_optional, take_header, take_keys};
-use crate::lines::{ScriptLine, ScriptLines};
+use crate::declarations::{read_budget, read_optional, take_header, take_keys};
+use crate::lines::{finish, next_due};
 use crate::names::Names;
 use crate::resolve::resolve;
 use crate::section_text::{Numbered, read_section};
 use crate::{Budget, FLAGS_LIMIT, Script, ScriptFault, ScriptKind, VARIABLES_LIMIT};
-use mc_protocol::Actor;
+use mc_protocol::{Actor, Separator, WordLine, WordLines};
 use std::alloc::Global;
 
 /// Reads a script. The fault is that of the first faulty line, on it of the leftmost faulty word, and of that the kind
-/// that comes first; that a label is unknown or stands in front of its use is told only where nothing else is wrong.
+/// that comes first; that a label is unknown or stands before its use is reported only where nothing else is wrong.
 pub fn parse(alloc: Global, text: &[u8]) -> Result<Script, ScriptFault>
     ensures found { IfOk result (SpellsScript text.now) }
     ensures none { IfErr result (λ fault. fault.kind ≢ ScriptKind.OutOfMemory
@@ -29,7 +29,7 @@ pub fn parse(alloc: Global, text: &[u8]) -> Result<Script, ScriptFault>
 fn read_script(alloc: Global, text: &[u8]) -> Result<Script, ScriptFault>
     ensures { reading.Says (λ script. script) result (whole.script_in (words_of_text SpaceOrTab text.now)) }
 {
-    let mut lines = ScriptLines::new(text);
+    let mut lines = WordLines::new(text, Separator::SpaceOrTab);
     take_header(alloc, &mut lines)?;
     let (names, line) = take_names(alloc, &mut lines)?;
     let budgets = take_budgets(alloc, &mut lines, &line)?;
@@ -37,15 +37,15 @@ fn read_script(alloc: Global, text: &[u8]) -> Result<Script, ScriptFault>
     resolve_all(alloc, names, budgets, &bodies)
 }
 
-// Takes the names that are declared, and the line behind them.
+// Takes the names that are declared, and the line after them.
 fn take_names<'a>(
     alloc: Global,
-    lines: &mut ScriptLines<'a>,
-) -> Result<(Names, ScriptLine<'a>), ScriptFault>
-    ensures { reading.Says (λ r. (r.0, r.1, lines.new)) result (whole.all_names_in lines.old) }
+    lines: &mut WordLines<'a>,
+) -> Result<(Names, WordLine<'a>), ScriptFault>
+    ensures { reading.Says (λ r. (r.0, r.1.words, lines.new.words)) result (whole.all_names_in lines.old.words) }
 {
     let keys = take_keys(alloc, lines)?;
-    let line = lines.next_due(alloc, ScriptKind::Header)?;
+    let line = next_due(alloc, lines, ScriptKind::Header)?;
     let (flags, line) = read_optional(alloc, lines, b"flags", FLAGS_LIMIT, line)?;
     let (vars, line) = read_optional(alloc, lines, b"vars", VARIABLES_LIMIT, line)?;
     let names = Names::new(keys, flags, vars);
@@ -63,10 +63,10 @@ struct Budgets {
 // Takes the three budgets, of which the first line is taken already.
 fn take_budgets(
     alloc: Global,
-    lines: &mut ScriptLines,
-    first: &ScriptLine,
+    lines: &mut WordLines,
+    first: &WordLine,
 ) -> Result<Budgets, ScriptFault>
-    ensures { reading.Says (λ budgets. (budgets, lines.new)) result (whole.budgets_in first.now lines.old) }
+    ensures { reading.Says (λ budgets. (budgets, lines.new.words)) result (whole.budgets_in first.now.words lines.old.words) }
 {
     let p = read_budget(Actor::P, first)?;
     let a = take_budget(alloc, Actor::A, lines)?;
@@ -74,10 +74,10 @@ fn take_budgets(
     Ok(Budgets { p, a, b })
 }
 
-fn take_budget(alloc: Global, actor: Actor, lines: &mut ScriptLines) -> Result<Budget, ScriptFault>
-    ensures { reading.Says (λ budget. (budget, lines.new)) result (whole.next_budget_in actor lines.old) }
+fn take_budget(alloc: Global, actor: Actor, lines: &mut WordLines) -> Result<Budget, ScriptFault>
+    ensures { reading.Says (λ budget. (budget, lines.new.words)) result (whole.next_budget_in actor lines.old.words) }
 {
-    let line = lines.next_due(alloc, ScriptKind::Header)?;
+    let line = next_due(alloc, lines, ScriptKind::Header)?;
     read_budget(actor, &line)
 }
 
@@ -90,27 +90,27 @@ struct Bodies {
 }
 
 // Takes the lines of the three sections, and sees that `end` ends the text.
-fn take_bodies(alloc: Global, names: &Names, lines: &mut ScriptLines) -> Result<Bodies, ScriptFault>
+fn take_bodies(alloc: Global, names: &Names, lines: &mut WordLines) -> Result<Bodies, ScriptFault>
     ensures { reading.Says (λ bodies. (bodies.p.items, bodies.a.items, bodies.b.items)) result
-        (whole.bodies_in names.now lines.old) }
+        (whole.bodies_in names.now lines.old.words) }
 {
     take_section_line(alloc, lines)?;
     let p = read_section(alloc, names, lines, b"A")?;
     let a = read_section(alloc, names, lines, b"B")?;
     let b = read_section(alloc, names, lines, b"end")?;
-    lines.finish(alloc)?;
+    finish(alloc, lines)?;
     Ok(Bodies { p, a, b })
 }
 
 // Takes the line before P's lines.
-fn take_section_line(alloc: Global, lines: &mut ScriptLines) -> Result<(), ScriptFault>
-    ensures { reading.Says (λ _. lines.new) result (whole.section_line_in lines.old) }
+fn take_section_line(alloc: Global, lines: &mut WordLines) -> Result<(), ScriptFault>
+    ensures { reading.Says (λ _. lines.new.words) result (whole.section_line_in lines.old.words) }
 {
-    let line = lines.next_due(alloc, ScriptKind::Unended)?;
-    if line.is_only(actor_word(Actor::P)) {
+    let line = next_due(alloc, lines, ScriptKind::Unended)?;
+    if line.is_only(Actor::P.word().as_bytes()) {
         Ok(())
     } else {
-        Err(line.fault(ScriptKind::Line))
+        Err(ScriptFault::at(ScriptKind::Line, line.number()))
     }
 }
 

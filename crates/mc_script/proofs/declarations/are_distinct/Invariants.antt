@@ -1,5 +1,5 @@
 use Rattle.std.proofs.Common.{◌≡◌, length, map}
-use Rattle.mc_script.specs.ScriptWords.{are_distinct}
+use Rattle.mc_protocol.specs.Names.{are_distinct}
 use Rattle.mc_script.proofs.declarations.are_distinct.Given as goal
 
 abbrev pub invariant-names : goal.invariant-names

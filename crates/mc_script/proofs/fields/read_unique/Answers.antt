@@ -1,8 +1,8 @@
 use Rattle.std.proofs.Common.{◌≡◌, ℕ, ◌≤◌, ◌-◌, Option, [], ◌∷◌, length, get_or, take, drop, sym, subst, arith}
 use Rattle.std.specs.Result.{result_ok}
+use Rattle.mc_protocol.specs.Lines.{Word}
 use Rattle.mc_script.specs.declared.step.Argument.{Argument}
 use Rattle.mc_script.specs.Script.{Names}
-use Rattle.mc_script.specs.ScriptWords.{Word}
 use Rattle.mc_script.specs.Reading.{unique_in, variable_behind}
 use Rattle.mc_script.proofs.Lists.{behind_first}
 use Rattle.mc_script.proofs.fields.read_unique.Goals as goal

@@ -1,8 +1,8 @@
 use Rattle.std.proofs.Common.{◌≡◌, ℕ, ◌≤◌, ◌-◌, Result, [], ◌∷◌, length, get_or, take, drop, sym, subst, arith}
+use Rattle.mc_protocol.specs.Lines.{Word}
 use Rattle.mc_script.specs.declared.entry.Mark.{Mark}
 use Rattle.mc_script.specs.declared.fault.ScriptKind.{ScriptKind}
 use Rattle.mc_script.specs.Script.{Names}
-use Rattle.mc_script.specs.ScriptWords.{Word}
 use Rattle.mc_script.specs.Reading.{Gives, mark_in, bind_mark_in}
 use Rattle.mc_script.proofs.Lists.{behind_first}
 use Rattle.mc_script.proofs.marks.read_mark.Goals as goal

@@ -1,6 +1,7 @@
 use Rattle.std.proofs.Common.{◌≡◌, length}
+use Rattle.mc_protocol.specs.Words.{all_classes}
 use Rattle.mc_script.specs.TextReading.{onto}
-use Rattle.mc_script.specs.Steps.{jumps_on, all_classes}
+use Rattle.mc_script.specs.Steps.{jumps_on}
 use Rattle.mc_script.proofs.resolve.jumps_of.Given as goal
 
 abbrev pub invariant-classes : goal.invariant-classes

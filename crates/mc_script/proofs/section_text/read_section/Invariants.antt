@@ -5,9 +5,9 @@ use Rattle.mc_script.proofs.section_text.read_section.Given as goal
 
 abbrev pub invariant-lines : goal.invariant-lines
 invariant-lines l = record {
-  reads : entries_in l.names l.stop l.entries.items l.count l.labels l.lines ≡ entries_in l.names l.stop [] 0 [] l.initial.lines;
+  reads : entries_in l.names l.stop l.entries.items l.count l.labels l.lines.words ≡ entries_in l.names l.stop [] 0 [] l.initial.lines.words;
   few : l.count ≤ STEPS_LIMIT;
 }
 
 abbrev pub decreases-lines : goal.decreases-lines
-decreases-lines l = length l.lines
+decreases-lines l = length l.lines.words

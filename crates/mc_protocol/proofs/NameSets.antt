@@ -1,4 +1,4 @@
--- A set of names that grows.
+-- A set of names, with one more.
 use Rattle.std.proofs.Common.{◌≡◌, ◌||◌, Bool, true, false, List, [], ◌∷◌, ◌++◌, map, refl, sym, ap, ◌∙◌, Bor, Ordering}
 use Rattle.std.specs.List.{list_any}
 use Rattle.std.specs.Str.{bytes_eq}
@@ -10,7 +10,7 @@ use Rattle.std.specs.BTreeMap.{is_at}
 use Rattle.std.proofs.lemmas.List.{map-append}
 use Rattle.std.proofs.lemmas.Map.Text.{is_eq-slice_cmp}
 use Rattle.std.proofs.lemmas.Slice.Eq.{bytes_eq-Decides}
-use Rattle.mc_script.specs.ScriptWords.{Word}
+use Rattle.mc_protocol.specs.Lines.{Word}
 
 pub bytes_same : (xs ys : Word) → bytes_eq xs ys ≡ true → xs ≡ ys
 bytes_same xs ys = (bytes_eq-Decides xs ys).0

@@ -1,5 +1,5 @@
-use Rattle.mc_script.proofs.Numbers.{IsUtf8-digits, parsed_digits}
-use Rattle.mc_script.proofs.words.value_of.Goals as goal
+use Rattle.mc_protocol.proofs.Digits.{IsUtf8-digits, parsed_digits}
+use Rattle.mc_protocol.proofs.decimal.value_of_digits.Goals as goal
 
 pub returns-in-Ok : goal.returns-in-Ok
 returns-in-Ok c =

@@ -8,7 +8,7 @@ use Rattle.std.proofs.lemmas.Bool.{cases_lt}
 use Rattle.std.proofs.lemmas.List.{get_or_past}
 use Rattle.std.proofs.lemmas.Str.{IsUtf8-from_ascii}
 use Rattle.std.proofs.lemmas.Str.Parse.{IsNumeralModel, numerals_by_value, digit_at, parse_digits}
-use Rattle.mc_model.specs.Words.{are_digits, MAX_64}
+use Rattle.mc_protocol.specs.Decimals.{are_digits, MAX_64}
 
 -- the digits are those of std, and they have its value
 pub digits : IsNumeralModel (λ ds. are_digits ds ≡ true) (digits_value 10)

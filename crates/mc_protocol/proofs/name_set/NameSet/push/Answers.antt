@@ -1,6 +1,6 @@
 use Rattle.std.proofs.Common.{◌≡◌, ◌∷◌, [], ◌++◌, ap, ◌∙◌}
-use Rattle.mc_script.proofs.LabelSets.{agrees_more}
-use Rattle.mc_script.proofs.labels.LabelNames.push.Goals as goal
+use Rattle.mc_protocol.proofs.NameSets.{agrees_more}
+use Rattle.mc_protocol.proofs.name_set.NameSet.push.Goals as goal
 
 pub invariant_of-self-2 : goal.invariant_of-self-2
 invariant_of-self-2 c =
