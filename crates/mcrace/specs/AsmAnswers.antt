@@ -1,11 +1,12 @@
 -- What `asm` answers to a text.
 use Rattle.std.specs.Prelude.{◌≡◌, ◌≢◌, ℕ, List, ◌++◌, codes, decimal}
 use Rattle.mc_protocol.specs.declared.actor.Actor.{Actor}
+use Rattle.mc_protocol.specs.Words.{actor_word}
 use Rattle.mc_script.specs.declared.fault.ScriptFault.{ScriptFault}
 use Rattle.mc_script.specs.declared.fault.ScriptKind.{ScriptKind}
 use Rattle.mc_script.specs.declared.fault.ScriptKind.TheVariants as kind
 use Rattle.mc_script.specs.Script.{Script}
-use Rattle.mc_script.specs.ScriptText.{SpellsScript, actor_word}
+use Rattle.mc_script.specs.ScriptText.{SpellsScript}
 use Rattle.mc_code.specs.declared.fault.AsmFault.{AsmFault}
 use Rattle.mc_code.specs.declared.fault.AsmFault.TheVariants as fault
 use Rattle.mc_code.specs.Agreement.{Agrees}

@@ -1,7 +1,6 @@
 //! What `asm` answers to a text.
 ghost use Rattle.std.specs.Prelude.{◌≡◌, ◌++◌, codes, decimal, string_bytes, IfOk};
 ghost use Rattle.mc_code.specs.Image.{image_of};
-ghost use Rattle.mc_script.specs.ScriptText as spells;
 ghost use Rattle.mcrace.specs.AsmAnswers as answers;
 
 use mc_code::{AsmFault, Code, assemble, encode};
@@ -81,18 +80,8 @@ fn refusal_text(alloc: Global, fault: ScriptFault) -> Result<String, AllocError>
 fn long_section_text(alloc: Global, actor: Actor) -> Result<String, AllocError>
     ensures { IfOk result (λ text. string_bytes text ≡ answers.long_section_text actor) }
 {
-    let name = actor_name(actor);
+    let name = actor.word();
     format!(in alloc; "refused asm 2 TooManyInstructions {name}\n")
-}
-
-fn actor_name(actor: Actor) -> &'static str
-    ensures { result.now ≡ spells.actor_word actor }
-{
-    match actor {
-        Actor::P => "P",
-        Actor::A => "A",
-        Actor::B => "B",
-    }
 }
 
 fn kind_number(kind: ScriptKind) -> u32
