@@ -3,7 +3,8 @@ use Rattle.std.proofs.Common.{◌≡◌, ℕ, ◌≤◌, ◌==◌, true, not, So
 use Rattle.std.specs.Str.{bytes_eq}
 use Rattle.std.proofs.lemmas.List.{append-nil}
 use Rattle.std.proofs.lemmas.Slice.Eq.{bytes_eq-Decides}
-use Rattle.mc_script.specs.declared.limits.TheConstants.{KEYS_LIMIT, KEY_BYTES_LIMIT, FLAGS_LIMIT, VARIABLES_LIMIT, REQUESTS_LIMIT, BYTES_LIMIT}
+use Rattle.mc_protocol.specs.declared.limits.TheConstants.{KEYS_LIMIT, KEY_BYTES_LIMIT, REQUESTS_LIMIT, REQUEST_BYTES_LIMIT}
+use Rattle.mc_script.specs.declared.limits.TheConstants.{FLAGS_LIMIT, VARIABLES_LIMIT}
 use Rattle.mc_script.specs.declared.section.Budget.{Budget}
 use Rattle.mc_script.specs.Script.{may_be_declared}
 use Rattle.mc_code.specs.declared.instr.Instr.{Instr}
@@ -96,7 +97,7 @@ each_again {A} one_in text P law p a b rest hp ha hb =
     rw (law.again p (text a ++ (text b ++ rest)) hp, law.again a (text b ++ rest) ha, law.again b rest hb) refl
 
 abbrev FitsBudget : Budget → Type 0
-FitsBudget budget = (budget.requests ≤ REQUESTS_LIMIT) × (budget.bytes ≤ BYTES_LIMIT)
+FitsBudget budget = (budget.requests ≤ REQUESTS_LIMIT) × (budget.bytes ≤ REQUEST_BYTES_LIMIT)
 
 budgets_law : IsOne budget_in budget_bytes FitsBudget
 budgets_law = record {

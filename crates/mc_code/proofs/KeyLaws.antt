@@ -6,9 +6,10 @@ use Rattle.std.proofs.lemmas.Bool.{leb-true, le-leb, not-true, not_from_false, f
 use Rattle.std.proofs.lemmas.Bool.Decides.{nat_tests}
 use Rattle.std.proofs.lemmas.List.Folds.{list_all-append}
 use Rattle.std.proofs.lemmas.Slice.Eq.{bytes_eq-Decides}
-use Rattle.mc_script.specs.declared.limits.TheConstants.{KEYS_LIMIT, KEY_BYTES_LIMIT}
+use Rattle.mc_protocol.specs.declared.limits.TheConstants.{KEYS_LIMIT, KEY_BYTES_LIMIT}
 use Rattle.mc_script.specs.Script.{may_be_declared}
-use Rattle.mc_script.specs.ScriptWords.{Word, is_named, is_new, are_distinct, are_name_bytes}
+use Rattle.mc_script.specs.ScriptWords.{Word}
+use Rattle.mc_protocol.specs.Names.{is_name, is_new, are_distinct, are_name_bytes}
 use Rattle.mc_code.specs.Image.{sized, counted}
 use Rattle.mc_code.specs.ImageReading.{bytes_in, small_in, key_in, keys_in}
 use Rattle.mc_code.proofs.FieldLaws.{then-some, only-then, some-same, IsBytes, Takes, Takes-then, small_takes, small_again, bytes_take, bytes_again}
@@ -55,22 +56,22 @@ distinct-new (x ∷ names) name others d =
 -- ---- one key
 
 abbrev AreKeys : List Word → Type 0
-AreKeys keys = (list_all (is_named KEY_BYTES_LIMIT) keys ≡ true) × (are_distinct keys ≡ true)
+AreKeys keys = (list_all (is_name KEY_BYTES_LIMIT) keys ≡ true) × (are_distinct keys ≡ true)
 
-keys-push : (keys : List Word) (key : Word) → AreKeys keys → is_named KEY_BYTES_LIMIT key ≡ true → is_new keys key ≡ true → AreKeys (keys ++ key ∷ [])
+keys-push : (keys : List Word) (key : Word) → AreKeys keys → is_name KEY_BYTES_LIMIT key ≡ true → is_new keys key ≡ true → AreKeys (keys ++ key ∷ [])
 keys-push keys key p named new =
-    (list_all-append (is_named KEY_BYTES_LIMIT) keys (key ∷ []) ∙ and_from _ _ p.0 (and_from _ _ named refl), distinct-push keys key p.1 new)
+    (list_all-append (is_name KEY_BYTES_LIMIT) keys (key ∷ []) ∙ and_from _ _ p.0 (and_from _ _ named refl), distinct-push keys key p.1 new)
 
-key-named : (keys : List Word) (key : Word) (others : List Word) → AreKeys (keys ++ key ∷ others) → is_named KEY_BYTES_LIMIT key ≡ true
+key-named : (keys : List Word) (key : Word) (others : List Word) → AreKeys (keys ++ key ∷ others) → is_name KEY_BYTES_LIMIT key ≡ true
 key-named keys key others p =
-    let both = and_parts _ _ (sym (list_all-append (is_named KEY_BYTES_LIMIT) keys (key ∷ others)) ∙ p.0) in
-    (and_parts (is_named KEY_BYTES_LIMIT key) (list_all (is_named KEY_BYTES_LIMIT) others) both.1).0
+    let both = and_parts _ _ (sym (list_all-append (is_name KEY_BYTES_LIMIT) keys (key ∷ others)) ∙ p.0) in
+    (and_parts (is_name KEY_BYTES_LIMIT key) (list_all (is_name KEY_BYTES_LIMIT) others) both.1).0
 
 some-byte : (word : Word) → not (length word == 0) ≡ true → 1 ≤ length word
 some-byte [] e = absurd (cc)
 some-byte (byte ∷ word) e = omega arith
 
-named-length : (key : Word) → is_named KEY_BYTES_LIMIT key ≡ true → (1 ≤ length key) × (length key ≤ KEY_BYTES_LIMIT)
+named-length : (key : Word) → is_name KEY_BYTES_LIMIT key ≡ true → (1 ≤ length key) × (length key ≤ KEY_BYTES_LIMIT)
 named-length key e =
     let p = and_parts (not (length key == 0) && leb (length key) KEY_BYTES_LIMIT) (are_name_bytes key) e in
     let q = and_parts (not (length key == 0)) (leb (length key) KEY_BYTES_LIMIT) p.0 in
@@ -82,8 +83,8 @@ unfolding key_in
 key_takes keys bytes x fits p e =
     let n = then-some (small_in 1 KEY_BYTES_LIMIT bytes) _ x e in
     let k = then-some (bytes_in n.0.0 n.0.1) _ x n.2 in
-    let g = only-then (is_named KEY_BYTES_LIMIT k.0.0 && is_new keys k.0.0) (Some k.0) x k.2 in
-    let h = and_parts (is_named KEY_BYTES_LIMIT k.0.0) (is_new keys k.0.0) g.0 in
+    let g = only-then (is_name KEY_BYTES_LIMIT k.0.0 && is_new keys k.0.0) (Some k.0) x k.2 in
+    let h = and_parts (is_name KEY_BYTES_LIMIT k.0.0) (is_new keys k.0.0) g.0 in
     let t = small_takes 1 KEY_BYTES_LIMIT bytes n.0 fits n.1 in
     let b = bytes_take n.0.0 n.0.1 k.0 t.0.fits k.1 in
     let taken = subst (λ (i : ℕ). Takes bytes (i ∷ k.0.0) k.0.1) (sym b.1) (Takes-then bytes (n.0.0 ∷ []) n.0.1 k.0.0 k.0.1 t.0 b.0) in
@@ -121,6 +122,6 @@ pub keys_again : (keys : List Word) (rest : List ℕ) → not (length keys == 0)
     → keys_in (counted sized keys ++ rest) ≡ Some (keys, rest)
 unfolding keys_in
 keys_again keys rest some p =
-    let both = and_parts (leb (length keys) KEYS_LIMIT && list_all (is_named KEY_BYTES_LIMIT) keys) (are_distinct keys) p in
-    let each = and_parts (leb (length keys) KEYS_LIMIT) (list_all (is_named KEY_BYTES_LIMIT) keys) both.0 in
+    let both = and_parts (leb (length keys) KEYS_LIMIT && list_all (is_name KEY_BYTES_LIMIT) keys) (are_distinct keys) p in
+    let each = and_parts (leb (length keys) KEYS_LIMIT) (list_all (is_name KEY_BYTES_LIMIT) keys) both.0 in
     counted_again key_in sized AreKeys keys_law 1 KEYS_LIMIT keys rest (each.1, both.1) (one-key keys some) (leb-true _ _ each.0)

@@ -3,7 +3,7 @@ use Rattle.std.proofs.Common.{◌≡◌, ℕ, zero, suc, ◌^◌, ◌≤◌, leb
 use Rattle.std.specs.Int.{w16, to_be_bytes}
 use Rattle.std.proofs.lemmas.Bool.{leb-true, le-leb}
 use Rattle.std.proofs.lemmas.List.Elements.{All-nil, All-push, All-from_get_or}
-use Rattle.mc_script.specs.declared.limits.TheConstants.{REQUESTS_LIMIT, BYTES_LIMIT}
+use Rattle.mc_protocol.specs.declared.limits.TheConstants.{REQUESTS_LIMIT, REQUEST_BYTES_LIMIT}
 use Rattle.mc_script.specs.declared.section.Budget.{Budget}
 use Rattle.mc_script.specs.Steps.{◌>>=◌}
 use Rattle.mc_code.specs.declared.instr.Instr.{Instr}
@@ -19,27 +19,27 @@ use Rattle.mc_code.proofs.TemplateLaws.{middle}
 -- ---- budgets
 
 pub budget_takes : (bytes : List ℕ) (x : Budget × List ℕ) → IsBytes bytes → budget_in bytes ≡ Some x
-    → Takes bytes (budget_bytes x.0) x.1 × (x.0.requests ≤ REQUESTS_LIMIT) × (x.0.bytes ≤ BYTES_LIMIT)
+    → Takes bytes (budget_bytes x.0) x.1 × (x.0.requests ≤ REQUESTS_LIMIT) × (x.0.bytes ≤ REQUEST_BYTES_LIMIT)
 unfolding budget_in
 budget_takes bytes x fits e =
     let r = then-some (small_in 0 REQUESTS_LIMIT bytes) _ x e in
     let b = then-some (number_in w16 r.0.1) _ x r.2 in
     let made : Budget × List ℕ = (record { requests = r.0.0; bytes = b.0.0 }, b.0.1) in
-    let g = only-then (leb b.0.0 BYTES_LIMIT) (Some made) x b.2 in
+    let g = only-then (leb b.0.0 REQUEST_BYTES_LIMIT) (Some made) x b.2 in
     let tr = small_takes 0 REQUESTS_LIMIT bytes r.0 fits r.1 in
     let tb = number_takes w16 (2 ^ 16) wide16 r.0.1 b.0 tr.0.fits b.1 in
     let both = Takes-then bytes (r.0.0 ∷ []) r.0.1 (to_be_bytes w16 b.0.0) b.0.1 tr.0 tb.0 in
-    subst (λ (y : Budget × List ℕ). Takes bytes (budget_bytes y.0) y.1 × (y.0.requests ≤ REQUESTS_LIMIT) × (y.0.bytes ≤ BYTES_LIMIT)) (some-same made x g.1)
+    subst (λ (y : Budget × List ℕ). Takes bytes (budget_bytes y.0) y.1 × (y.0.requests ≤ REQUESTS_LIMIT) × (y.0.bytes ≤ REQUEST_BYTES_LIMIT)) (some-same made x g.1)
     (both, tr.2, leb-true _ _ g.0)
 
-pub budget_again : (budget : Budget) (rest : List ℕ) → budget.requests ≤ REQUESTS_LIMIT → budget.bytes ≤ BYTES_LIMIT
+pub budget_again : (budget : Budget) (rest : List ℕ) → budget.requests ≤ REQUESTS_LIMIT → budget.bytes ≤ REQUEST_BYTES_LIMIT
     → budget_in (budget_bytes budget ++ rest) ≡ Some (budget, rest)
 unfolding budget_in
 budget_again budget rest few-requests few-bytes =
     rw (
       small_again 0 REQUESTS_LIMIT budget.requests (to_be_bytes w16 budget.bytes ++ rest) (omega arith) few-requests,
       number_again w16 (2 ^ 16) wide16 budget.bytes rest (omega (arith, few-bytes)),
-      le-leb budget.bytes BYTES_LIMIT few-bytes,
+      le-leb budget.bytes REQUEST_BYTES_LIMIT few-bytes,
     ) refl
 
 -- ---- one instruction

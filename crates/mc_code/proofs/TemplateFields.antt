@@ -1,33 +1,26 @@
 -- The fields of a template: what is read was written, and what was written is read again.
-use Rattle.std.proofs.Common.{◌≡◌, ℕ, zero, suc, ◌^◌, ◌<◌, ◌≤◌, ◌==◌, Bool, true, false, cond, ltb, leb, eqb, ◌&&◌, Option, Some, List, [], ◌∷◌, ◌++◌, length, refl, sym, ap, subst, ◌∙◌, arith}
-use Rattle.std.specs.List.{find}
+use Rattle.std.proofs.Common.{◌≡◌, ℕ, zero, suc, ◌^◌, ◌<◌, ◌≤◌, ◌==◌, true, ltb, leb, eqb, ◌&&◌, Option, Some, List, [], ◌∷◌, ◌++◌, length, refl, sym, ap, subst, ◌∙◌, arith}
 use Rattle.std.specs.Int.{w32, w64, to_be_bytes}
 use Rattle.std.proofs.lemmas.Bool.{ltb-true, lt-ltb, leb-true, eqb-true, and_parts}
 use Rattle.mc_protocol.specs.declared.request.Fields.{Fields}
 use Rattle.mc_protocol.specs.declared.request.Fields.TheVariants as fields
 use Rattle.mc_protocol.specs.declared.request.Verb.{Verb}
 use Rattle.mc_protocol.specs.declared.request.Verb.TheVariants as verb
-use Rattle.mc_script.specs.declared.limits.TheConstants.{VARIABLES_LIMIT, BODY_LIMIT}
+use Rattle.mc_script.specs.declared.limits.TheConstants.{VARIABLES_LIMIT}
+use Rattle.mc_protocol.specs.declared.limits.TheConstants.{SCRIPT_BODY_LIMIT}
 use Rattle.mc_script.specs.declared.step.Argument.{Argument}
 use Rattle.mc_script.specs.declared.step.Argument.TheVariants as argument
-use Rattle.mc_script.specs.ScriptWords.{MAX_32, MAX_64, is_body, are_body_bytes}
+use Rattle.mc_protocol.specs.Decimals.{MAX_32, MAX_64}
+use Rattle.mc_script.specs.ScriptWords.{is_body, are_body_bytes}
 use Rattle.mc_script.specs.Steps.{◌>>=◌}
 use Rattle.mc_script.specs.Templates.{is_nothing, is_variable, is_amount, is_empty, has_fields}
 use Rattle.mc_code.specs.declared.read_template.Masks.{Masks}
 use Rattle.mc_code.specs.Image.{verb_index, argument_bytes, mask_bytes}
 use Rattle.mc_code.specs.ImageReading.{byte_in, number_in, small_in, all_verbs, verb_at, verb_in, argument_of, argument_in, masks_in}
+use Rattle.mc_protocol.proofs.Found.{find-passes}
 use Rattle.mc_code.proofs.FieldLaws.{then-some, only-then, some-same, IsBytes, Takes, Takes-then, byte_takes, byte_again, wide32, wide64, number_takes, number_again, small_takes, small_again}
 
 -- ---- verbs
-
-found-here : {X : Type 0} (passes : X → Bool) (b : Bool) (x y : X) (xs : List X) → passes x ≡ b → cond b (Some x) (find passes xs) ≡ Some y
-    → (find passes xs ≡ Some y → passes y ≡ true) → passes y ≡ true
-found-here passes true x y xs p h rest = let e : x ≡ y = cc in rw (← e) p
-found-here passes false x y xs p h rest = rest h
-
-find-passes : {X : Type 0} (passes : X → Bool) (xs : List X) (y : X) → find passes xs ≡ Some y → passes y ≡ true
-find-passes passes [] y h = absurd (cc)
-find-passes passes (x ∷ xs) y h = found-here passes (passes x) x y xs refl h (find-passes passes xs y)
 
 verb-index : (index : ℕ) (v : Verb) → verb_at index ≡ Some v → verb_index v ≡ index
 unfolding verb_at
@@ -155,17 +148,17 @@ amount-fits vars argument.Nothing e = tt
 amount-fits vars (argument.Number n) e = omega (arith, leb-true n MAX_64 e)
 amount-fits vars (argument.Variable v) e = ltb-true v vars e
 
-short-body : (body : List ℕ) → is_body body ≡ true → length body ≤ BODY_LIMIT
-short-body body e = leb-true _ _ (and_parts (leb (length body) BODY_LIMIT) (are_body_bytes body) e).0
+short-body : (body : List ℕ) → is_body body ≡ true → length body ≤ SCRIPT_BODY_LIMIT
+short-body body e = leb-true _ _ (and_parts (leb (length body) SCRIPT_BODY_LIMIT) (are_body_bytes body) e).0
 
-no-body : (body : List ℕ) → is_empty body ≡ true → length body ≤ BODY_LIMIT
+no-body : (body : List ℕ) → is_empty body ≡ true → length body ≤ SCRIPT_BODY_LIMIT
 no-body body e = omega (arith, eqb-true (length body) 0 e)
 
 -- what the fields of an image need of these
 pub record Suit (vars flags : ℕ) (a : Argument) (body : List ℕ) : Type 0 where
   pub flags_fit : flags < 2 ^ 32
   pub argument_fits : FitsArgument vars a
-  pub body_fits : length body ≤ BODY_LIMIT
+  pub body_fits : length body ≤ SCRIPT_BODY_LIMIT
 
 pub fields-suit : (vars : ℕ) (f : Fields) (flags : ℕ) (a : Argument) (body : List ℕ) → has_fields vars f flags a body ≡ true → Suit vars flags a body
 fields-suit vars fields.KeyAlone flags a body e =

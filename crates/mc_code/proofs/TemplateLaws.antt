@@ -7,7 +7,8 @@ use Rattle.std.proofs.lemmas.List.Elements.{All-nil, All-push, All-head, All-tai
 use Rattle.std.proofs.lemmas.Nat.{pow_below}
 use Rattle.mc_protocol.specs.Fields.{fields_of}
 use Rattle.mc_protocol.specs.declared.request.Verb.{Verb}
-use Rattle.mc_script.specs.declared.limits.TheConstants.{FLAGS_LIMIT, VARIABLES_LIMIT, BODY_LIMIT}
+use Rattle.mc_script.specs.declared.limits.TheConstants.{FLAGS_LIMIT, VARIABLES_LIMIT}
+use Rattle.mc_protocol.specs.declared.limits.TheConstants.{SCRIPT_BODY_LIMIT}
 use Rattle.mc_script.specs.declared.step.Argument.{Argument}
 use Rattle.mc_script.specs.declared.step.Template.{Template}
 use Rattle.mc_script.specs.Templates.{has_fields, IsTemplate}
@@ -82,7 +83,7 @@ template_takes keys flags vars bytes x fits e =
     let k = then-some (byte_in v.0.1) _ x v.2 in
     let f = then-some (number_in w32 k.0.1) _ x k.2 in
     let a = then-some (argument_in vars f.0.1) _ x f.2 in
-    let b = then-some (sized_in 0 BODY_LIMIT a.0.1) _ x a.2 in
+    let b = then-some (sized_in 0 SCRIPT_BODY_LIMIT a.0.1) _ x a.2 in
     let m = then-some (masks_in b.0.1) _ x b.2 in
     let t = then-some (allowed keys flags vars v.0.0 k.0.0 f.0.0 a.0.0 b.0.0 m.0.0) _ x m.2 in
     let h = allowed-some keys flags vars v.0.0 k.0.0 f.0.0 a.0.0 b.0.0 m.0.0 t.0 t.1 in
@@ -90,7 +91,7 @@ template_takes keys flags vars bytes x fits e =
     let tk = byte_takes v.0.1 k.0 tv.fits k.1 in
     let tf = number_takes w32 (2 ^ 32) wide32 k.0.1 f.0 tk.0.fits f.1 in
     let ta = argument_takes vars f.0.1 a.0 tf.0.fits a.1 in
-    let tb = sized_takes 0 BODY_LIMIT a.0.1 b.0 ta.0 b.1 in
+    let tb = sized_takes 0 SCRIPT_BODY_LIMIT a.0.1 b.0 ta.0 b.1 in
     let tm = masks_take b.0.1 m.0 tb.fits m.1 in
     let front = verb_index v.0.0 ∷ k.0.0 ∷ to_be_bytes w32 f.0.0 in
     let two = Takes-then bytes (verb_index v.0.0 ∷ []) v.0.1 (k.0.0 ∷ []) k.0.1 tv tk.0 in
@@ -127,7 +128,7 @@ template_again keys flags vars t rest few-flags few-vars h =
     let masks : Masks = record { require_set = t.require_set; require_clear = t.require_clear; sets = t.sets; clears = t.clears } in
     let fit = λ (mask : ℕ) (below : mask < 2 ^ flags). mask-fits flags mask few-flags below in
     let m = masks_again masks rest (fit t.require_set h.require_set) (fit t.require_clear h.require_clear) (fit t.sets h.sets) (fit t.clears h.clears) in
-    let b = sized_again 0 BODY_LIMIT t.body (masks_text masks ++ rest) (omega arith) s.body_fits in
+    let b = sized_again 0 SCRIPT_BODY_LIMIT t.body (masks_text masks ++ rest) (omega arith) s.body_fits in
     let a = argument_again vars t.argument (sized t.body ++ (masks_text masks ++ rest)) few-vars s.argument_fits in
     let f = number_again w32 (2 ^ 32) wide32 t.flags (argument_bytes t.argument ++ (sized t.body ++ (masks_text masks ++ rest))) s.flags_fit in
     let after = to_be_bytes w32 t.flags ++ (argument_bytes t.argument ++ (sized t.body ++ (masks_text masks ++ rest))) in

@@ -3,7 +3,8 @@ use Rattle.std.specs.Prelude.{◌≡◌, ℕ, ◌<◌, ◌≤◌, ◌==◌, true
 use Rattle.std.specs.List.{All}
 use Rattle.mc_protocol.specs.declared.actor.Actor.{Actor}
 use Rattle.mc_protocol.specs.declared.actor.Actor.TheVariants as actor
-use Rattle.mc_script.specs.declared.limits.TheConstants.{KEYS_LIMIT, KEY_BYTES_LIMIT, FLAGS_LIMIT, VARIABLES_LIMIT, REQUESTS_LIMIT, BYTES_LIMIT}
+use Rattle.mc_protocol.specs.declared.limits.TheConstants.{KEYS_LIMIT, KEY_BYTES_LIMIT, REQUESTS_LIMIT, REQUEST_BYTES_LIMIT}
+use Rattle.mc_script.specs.declared.limits.TheConstants.{FLAGS_LIMIT, VARIABLES_LIMIT}
 use Rattle.mc_script.specs.declared.section.Budget.{Budget}
 use Rattle.mc_script.specs.declared.step.Template.{Template}
 use Rattle.mc_script.specs.Script.{may_be_declared}
@@ -50,7 +51,7 @@ IsInstr instr.Halt = Unit {0}
 
 pub record IsSection (s : Section) : Type 0 where
   pub requests : s.budget.requests ≤ REQUESTS_LIMIT
-  pub bytes : s.budget.bytes ≤ BYTES_LIMIT
+  pub bytes : s.budget.bytes ≤ REQUEST_BYTES_LIMIT
   pub few : length s.instructions ≤ INSTRUCTIONS_LIMIT
   pub instructions : All IsInstr s.instructions
 

@@ -8,12 +8,14 @@ use Rattle.std.specs.Str.{bytes_eq}
 use Rattle.mc_protocol.specs.Fields.{fields_of}
 use Rattle.mc_protocol.specs.declared.request.Verb.{Verb}
 use Rattle.mc_protocol.specs.declared.request.Verb.TheVariants as verb
-use Rattle.mc_script.specs.declared.limits.TheConstants.{KEYS_LIMIT, KEY_BYTES_LIMIT, FLAGS_LIMIT, VARIABLES_LIMIT, REQUESTS_LIMIT, BYTES_LIMIT, BODY_LIMIT}
+use Rattle.mc_protocol.specs.declared.limits.TheConstants.{KEYS_LIMIT, KEY_BYTES_LIMIT, REQUESTS_LIMIT, REQUEST_BYTES_LIMIT, SCRIPT_BODY_LIMIT}
+use Rattle.mc_script.specs.declared.limits.TheConstants.{FLAGS_LIMIT, VARIABLES_LIMIT}
 use Rattle.mc_script.specs.declared.section.Budget.{Budget}
 use Rattle.mc_script.specs.declared.step.Argument.{Argument}
 use Rattle.mc_script.specs.declared.step.Argument.TheVariants as argument
 use Rattle.mc_script.specs.declared.step.Template.{Template}
-use Rattle.mc_script.specs.ScriptWords.{Word, is_new, is_named}
+use Rattle.mc_script.specs.ScriptWords.{Word}
+use Rattle.mc_protocol.specs.Names.{is_new, is_name}
 use Rattle.mc_script.specs.Steps.{◌>>=◌}
 use Rattle.mc_script.specs.Templates.{has_fields}
 use Rattle.mc_code.specs.declared.fault.ImageFault.{ImageFault}
@@ -76,7 +78,7 @@ counted_in least greatest item_in bytes = small_in least greatest bytes >>= λ n
 unfoldable pub key_in : List Word → List ℕ → Field Word
 key_in keys bytes =
     small_in 1 KEY_BYTES_LIMIT bytes >>= λ n. bytes_in n.0 n.1
-    >>= λ k. if is_named KEY_BYTES_LIMIT k.0 && is_new keys k.0 then Some k else None
+    >>= λ k. if is_name KEY_BYTES_LIMIT k.0 && is_new keys k.0 then Some k else None
 
 unfoldable pub keys_in : List ℕ → Field (List Word)
 keys_in bytes = counted_in 1 KEYS_LIMIT key_in bytes
@@ -86,7 +88,7 @@ keys_in bytes = counted_in 1 KEYS_LIMIT key_in bytes
 unfoldable pub budget_in : List ℕ → Field Budget
 budget_in bytes =
     small_in 0 REQUESTS_LIMIT bytes >>= λ r. number_in w16 r.1
-    >>= λ b. if nat_le b.0 BYTES_LIMIT then Some (record { requests = r.0; bytes = b.0 }, b.1) else None
+    >>= λ b. if nat_le b.0 REQUEST_BYTES_LIMIT then Some (record { requests = r.0; bytes = b.0 }, b.1) else None
 
 -- ---- templates
 
@@ -147,7 +149,7 @@ allowed keys flags vars v key item_flags (Some a) body masks =
 unfoldable pub template_in : ℕ → ℕ → ℕ → List ℕ → Field Template
 template_in keys flags vars bytes =
     verb_in bytes >>= λ v. byte_in v.1 >>= λ key. number_in w32 key.1 >>= λ item_flags. argument_in vars item_flags.1
-    >>= λ a. sized_in 0 BODY_LIMIT a.1 >>= λ body. masks_in body.1
+    >>= λ a. sized_in 0 SCRIPT_BODY_LIMIT a.1 >>= λ body. masks_in body.1
     >>= λ masks. allowed keys flags vars v.0 key.0 item_flags.0 a.0 body.0 masks.0 >>= λ t. Some (t, masks.1)
 
 unfoldable pub templates_in : ℕ → ℕ → ℕ → List ℕ → Field (List Template)

@@ -2,7 +2,7 @@
 ghost use Rattle.std.specs.Prelude.{◌≡◌, ◌≤◌, ◌∷◌, ◌++◌, length, OnOk, OnErr};
 ghost use Rattle.std.specs.List.{All};
 ghost use Rattle.std.specs.Int.{w64, to_be_bytes};
-ghost use Rattle.mc_script.specs.declared.limits.TheConstants.{REQUESTS_LIMIT, BYTES_LIMIT, BODY_LIMIT};
+ghost use Rattle.mc_protocol.specs.declared.limits.TheConstants.{REQUESTS_LIMIT, REQUEST_BYTES_LIMIT, SCRIPT_BODY_LIMIT};
 ghost use Rattle.mc_code.specs.declared.limits.TheConstants.{INSTRUCTIONS_LIMIT, TEMPLATES_LIMIT};
 ghost use Rattle.mc_code.specs.Image as image;
 ghost use Rattle.mc_code.specs.Image.{image_of};
@@ -69,7 +69,7 @@ fn push_budgets(code: &Code, out: &mut Vec<u8>) -> Result<(), OutOfMemory>
 /// The bytes of a budget.
 fn budget_bytes(budget: Budget) -> [u8; 3]
     requires requests { budget.requests ≤ REQUESTS_LIMIT }
-    requires bytes { budget.bytes ≤ BYTES_LIMIT }
+    requires bytes { budget.bytes ≤ REQUEST_BYTES_LIMIT }
     ensures { result ≡ image.budget_bytes budget }
 {
     let [high, low] = (budget.bytes as u16).to_be_bytes();
@@ -79,7 +79,7 @@ fn budget_bytes(budget: Budget) -> [u8; 3]
 /// Appends the number of the templates, and each template.
 fn push_templates(templates: &[Template], out: &mut Vec<u8>) -> Result<(), OutOfMemory>
     requires few { length templates.now ≤ TEMPLATES_LIMIT }
-    requires short { All (λ t. length t.body ≤ BODY_LIMIT) templates.now }
+    requires short { All (λ t. length t.body ≤ SCRIPT_BODY_LIMIT) templates.now }
     ensures { OnOk result (out.new.items ≡ out.old.items ++ image.counted image.template_bytes templates.now) }
 {
     out.push(templates.len() as u8)?;
@@ -91,7 +91,7 @@ fn push_templates(templates: &[Template], out: &mut Vec<u8>) -> Result<(), OutOf
 
 /// Appends the fields of a template.
 fn push_template(template: &Template, out: &mut Vec<u8>) -> Result<(), OutOfMemory>
-    requires { length template.now.body ≤ BODY_LIMIT }
+    requires { length template.now.body ≤ SCRIPT_BODY_LIMIT }
     ensures { OnOk result (out.new.items ≡ out.old.items ++ image.template_bytes template.now) }
 {
     let body = template.body.as_slice();

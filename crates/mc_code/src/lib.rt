@@ -20,7 +20,6 @@ mod instr;
 mod kind;
 mod layout_laws;
 mod limits;
-mod names;
 mod number_laws;
 mod places;
 mod read_declared;

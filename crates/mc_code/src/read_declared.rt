@@ -4,10 +4,9 @@ ghost use Rattle.mc_script.specs.declared.limits.TheConstants.{FLAGS_LIMIT};
 ghost use Rattle.mc_code.specs.ImageReading as reading;
 
 use crate::fields::Fields;
-use crate::names::{is_named, is_new};
 use crate::{ImageFault, ImageKind};
-use mc_protocol::Bytes;
-use mc_script::{FLAGS_LIMIT, KEY_BYTES_LIMIT, KEYS_LIMIT, VARIABLES_LIMIT};
+use mc_protocol::{Bytes, KEY_BYTES_LIMIT, KEYS_LIMIT, is_key, is_new};
+use mc_script::{FLAGS_LIMIT, VARIABLES_LIMIT};
 use std::alloc::Global;
 use std::marker::Model;
 
@@ -71,7 +70,7 @@ fn read_key<'a>(fields: &mut Fields<'a>, keys: &[Bytes]) -> Result<&'a [u8], Ima
     let count = fields.byte_within(1, KEY_BYTES_LIMIT)?;
     let offset = fields.offset();
     let key = fields.bytes(count as usize)?;
-    if !is_named(KEY_BYTES_LIMIT, key) || !is_new(keys, key) {
+    if !is_key(key) || !is_new(keys, key) {
         return Err(ImageFault::at(ImageKind::Range, offset));
     }
     Ok(key)

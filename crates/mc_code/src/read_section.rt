@@ -4,7 +4,8 @@ ghost use Rattle.mc_code.specs.ImageReading as reading;
 
 use crate::fields::Fields;
 use crate::{CLASS_COUNT, INSTRUCTIONS_LIMIT, ImageFault, ImageKind, Instr};
-use mc_script::{BYTES_LIMIT, Budget, REQUESTS_LIMIT};
+use mc_protocol::{REQUEST_BYTES_LIMIT, REQUESTS_LIMIT};
+use mc_script::Budget;
 use std::alloc::Global;
 
 /// Takes the budget of a section.
@@ -12,10 +13,10 @@ use std::alloc::Global;
 pub(crate) fn read_budget(fields: &mut Fields) -> Result<Budget, ImageFault>
     ensures { reading.Reads (λ budget. (budget, fields.new)) result (reading.budget_in fields.old) }
 {
-    let requests = fields.byte_within(0, REQUESTS_LIMIT as usize)?;
+    let requests = fields.byte_within(0, REQUESTS_LIMIT)?;
     let offset = fields.offset();
     let bytes = fields.number_16()?;
-    if bytes as u64 > BYTES_LIMIT {
+    if bytes as usize > REQUEST_BYTES_LIMIT {
         return Err(ImageFault::at(ImageKind::Range, offset));
     }
     Ok(Budget {

@@ -6,8 +6,8 @@ ghost use Rattle.mc_code.specs.ImageReading as reading;
 use crate::fields::Fields;
 use crate::well_formed::{Counts, is_template};
 use crate::{ImageFault, ImageKind, TEMPLATES_LIMIT};
-use mc_protocol::{Bytes, Verb};
-use mc_script::{Argument, BODY_LIMIT, Mask, Template};
+use mc_protocol::{Bytes, SCRIPT_BODY_LIMIT, Verb};
+use mc_script::{Argument, Mask, Template};
 use std::alloc::Global;
 
 /// Takes the number of the templates, and each template. `counts` says what is declared.
@@ -56,7 +56,7 @@ fn read_template(alloc: Global, fields: &mut Fields, counts: Counts) -> Result<T
     let key = fields.byte()?;
     let flags = fields.number_32()?;
     let argument = read_argument(fields, counts.vars)?;
-    let body = fields.counted_bytes(0, BODY_LIMIT)?;
+    let body = fields.counted_bytes(0, SCRIPT_BODY_LIMIT)?;
     let masks = read_masks(fields)?;
     let Some(argument) = argument else {
         return Err(ImageFault::at(ImageKind::Template, offset));

@@ -7,8 +7,8 @@ ghost use Rattle.mc_code.specs.Assembling as assembling;
 
 use crate::AsmFault;
 use crate::limits::{INSTRUCTIONS_LIMIT, TEMPLATES_LIMIT};
-use mc_protocol::{Actor, Bytes};
-use mc_script::{KEYS_LIMIT, STEPS_LIMIT, Script, Step};
+use mc_protocol::{Actor, Bytes, KEYS_LIMIT};
+use mc_script::{STEPS_LIMIT, Script, Step};
 
 /// How many instructions a step needs: two if it is a request that binds a variable, and otherwise one.
 pub(crate) fn size_of(step: &Step) -> u8

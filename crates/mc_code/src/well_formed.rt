@@ -4,9 +4,8 @@ ghost use Rattle.mc_script.specs.declared.limits.TheConstants.{FLAGS_LIMIT};
 ghost use Rattle.mc_script.specs.Templates as spec;
 ghost use Rattle.mc_code.specs.ImageReading as reading;
 
-use crate::names::is_body;
 use mc_protocol::Fields;
-use mc_script::{Argument, Mask, Template};
+use mc_script::{Argument, Mask, Template, is_body};
 
 /// How many keys, flags and variables an image declares.
 #[derive(Clone, Copy)]

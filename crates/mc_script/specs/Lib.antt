@@ -1,7 +1,9 @@
 -- What the public contracts cite.
+pub use Rattle.mc_protocol.specs.Decimals
 pub use Rattle.mc_protocol.specs.Fields
 pub use Rattle.mc_protocol.specs.Legal
 pub use Rattle.mc_protocol.specs.Lines
+pub use Rattle.mc_protocol.specs.Names
 pub use Rattle.mc_protocol.specs.Words as VerbWords
 pub mod Script
 pub mod ScriptWords

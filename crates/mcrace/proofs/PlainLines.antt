@@ -7,7 +7,7 @@ use Rattle.clap.specs.Kinds.{or_else}
 use Rattle.clap.specs.Simple.{label_of}
 use Rattle.clap.specs.Walk.{Walk, answers_to, finished, nothing_held, settled, walk, walk_from}
 use Rattle.clap.proofs.OnLiterals.{clap_on_literals}
-use Rattle.mc_model.specs.Words.{SpellsNumber, are_digits, is_digit}
+use Rattle.mc_protocol.specs.Decimals.{SpellsNumber, are_digits, is_digit}
 use Rattle.mcrace.proofs.OptionValue.{IsNoFlag, no_flag, value_walked, value_has_no_fault}
 use Rattle.mcrace.specs.declared.arguments.Asked.TheVariants as asked
 use Rattle.mcrace.specs.Command.{AsksFor, IsLimit}

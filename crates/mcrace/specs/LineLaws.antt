@@ -1,6 +1,6 @@
 -- What the definition of a line says of the lines that are mostly written, and of any line.
 use Rattle.std.specs.Prelude.{◌≡◌, ◌⊎◌, ℕ, false, List, [], ◌∷◌, ◌++◌, codes}
-use Rattle.mc_model.specs.Words.{SpellsNumber, is_digit}
+use Rattle.mc_protocol.specs.Decimals.{SpellsNumber, is_digit}
 use Rattle.mcrace.specs.Command.{AsksFor, IsFaulty, MayTell}
 use Rattle.mcrace.specs.CommandLine.{DEFAULT_LIMIT, GREATEST_LIMIT}
 use Rattle.mcrace.specs.declared.arguments.Asked.{Asked}

@@ -1,6 +1,6 @@
 -- What is written where an input is refused.
 use Rattle.std.specs.Prelude.{ℕ, List, [], ◌++◌, codes, decimal}
-use Rattle.mc_script.specs.ScriptText.{actor_word}
+use Rattle.mc_protocol.specs.Words.{actor_word}
 use Rattle.mcrace.specs.declared.refusal.Place.{Place}
 use Rattle.mcrace.specs.declared.refusal.Place.TheVariants as place
 use Rattle.mcrace.specs.declared.refusal.Refusal.{Refusal}

@@ -60,6 +60,7 @@ fn judge_asked(alloc: Global, options: &ArgMatches) -> Result<Asked, Error>
     }
 }
 
+// The fault of a line without a subcommand. Clap finds it first, since a subcommand is required.
 fn no_subcommand(alloc: Global) -> Result<Error, AllocError>
     ensures { IfOk result (λ error. kind_of error ≡ ErrorKind.MissingSubcommand) }
 {

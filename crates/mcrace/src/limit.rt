@@ -6,7 +6,7 @@ ghost use Rattle.mcrace.specs.CommandLine.{limit_rule};
 
 use clap::error::ErrorKind;
 use clap::{Arg, ArgMatches, Command, Error};
-use mc_model::read_number;
+use mc_protocol::read_decimal;
 use std::alloc::{AllocError, Global};
 
 // The most turns of a search where the line names no limit.
@@ -36,7 +36,7 @@ pub fn named<'a>(options: &ArgMatches<'a>) -> Result<u64, &'a str>
     let Some(word) = options.get_str("limit") else {
         return Ok(DEFAULT_LIMIT);
     };
-    match read_number(GREATEST_LIMIT, word.as_bytes()) {
+    match read_decimal(GREATEST_LIMIT, word.as_bytes()) {
         Ok(limit) => Ok(limit),
         Err(_) => Err(word),
     }

@@ -1,6 +1,5 @@
 //! How an input is refused: one line, whatever was asked for.
 ghost use Rattle.std.specs.Prelude.{◌≡◌, ◌++◌, codes, decimal, string_bytes, IfOk};
-ghost use Rattle.mc_script.specs.ScriptText as spells;
 ghost use Rattle.mcrace.specs.Refusals as refusals;
 
 use mc_protocol::Actor;
@@ -49,18 +48,8 @@ fn place_text(alloc: Global, place: Place) -> Result<String, AllocError>
         Place::Whole => Ok(String::new(alloc)),
         Place::Line(line) => format!(in alloc; " line {line}"),
         Place::Section(actor) => {
-            let section = actor_name(actor);
+            let section = actor.word();
             format!(in alloc; " {section}")
         }
-    }
-}
-
-fn actor_name(actor: Actor) -> &'static str
-    ensures { result.now ≡ spells.actor_word actor }
-{
-    match actor {
-        Actor::P => "P",
-        Actor::A => "A",
-        Actor::B => "B",
     }
 }
