@@ -197,5 +197,15 @@ code-again c h =
           (h.p.few, h.p.instructions) (h.a.few, h.a.instructions) (h.b.few, h.b.instructions),
     ) refl
 
+-- bytes that can't be read are no image
+pub unread : (bytes : List ℕ) → code_in bytes ≡ None → (code : Code) → IsCode code → image_of code ≡ bytes → ⊥
+unread bytes none code is same =
+    let clash = sym none ∙ ap code_in (sym same) ∙ code-again code is in
+    absurd (cc)
+
+-- an image is read as the code that it is of
+pub read-as : (bytes : List ℕ) (found : Code) → code_in bytes ≡ Some found → (code : Code) → IsCode code → image_of code ≡ bytes → found ≡ code
+read-as bytes found read code is same = some-same found code (sym read ∙ ap code_in (sym same) ∙ code-again code is)
+
 pub one_code : ImagesAreOfOneCode
 one_code c d hc hd same = some-same c d (sym (code-again c hc) ∙ ap code_in same ∙ code-again d hd)

@@ -11,13 +11,12 @@ use crate::read_section::{read_budget, read_instructions};
 use crate::read_template::read_templates;
 use crate::well_formed::Counts;
 use crate::{Code, ImageFault, ImageKind, Instr};
-use mc_protocol::Bytes;
-use mc_script::{Budget, Template};
+use mc_script::Budget;
 use std::alloc::Global;
-use std::marker::Model;
 
 /// Reads an image. The fault is that of the first field that is wrong. That the fields of a template don't suit each other
 /// is reported once all of them are read, at the offset of the template.
+#[tactic(auto, unfolding(crate::specs::ImageReading::code_in))]
 pub fn decode(alloc: Global, bytes: &[u8]) -> Result<Code, ImageFault>
     ensures found { IfOk result (λ code. image_of code ≡ bytes.now) }
     ensures kept { IfOk result spec.IsCode }
@@ -25,43 +24,6 @@ pub fn decode(alloc: Global, bytes: &[u8]) -> Result<Code, ImageFault>
     ensures none { IfErr result (λ fault. fault.kind ≢ ImageKind.OutOfMemory
         → (code : spec.Code) → spec.IsCode code → image_of code ≡ bytes.now → ⊥) }
     ensures memory { IfErr result (λ fault. fault.kind ≡ ImageKind.OutOfMemory → fault.offset ≡ 0) }
-{
-    let parts = read_parts(alloc, bytes)?;
-    Ok(Code {
-        keys: parts.keys,
-        flags: parts.flags,
-        vars: parts.vars,
-        templates: parts.templates,
-        p: parts.p,
-        a: parts.a,
-        b: parts.b,
-    })
-}
-
-/// What was read of an image. Contracts see it as code.
-#[derive(Drop)]
-struct Parts {
-    keys: Vec<Bytes>,
-    flags: u8,
-    vars: u8,
-    templates: Vec<Template>,
-    p: Section,
-    a: Section,
-    b: Section,
-}
-
-impl Model for Parts {
-    ghost use Rattle.mc_code.specs.Code as spec;
-
-    ghost Value = { spec.Code };
-
-    ghost view = { λ c. record { keys = c.keys.items; flags = c.flags; vars = c.vars; templates = c.templates.items; p = c.p; a = c.a; b = c.b } };
-}
-
-/// Reads the whole image.
-#[tactic(auto, unfolding(crate::specs::ImageReading::code_in))]
-fn read_parts(alloc: Global, bytes: &[u8]) -> Result<Parts, ImageFault>
-    ensures { reading.Says (λ parts. parts) result (reading.code_in bytes.now) }
 {
     let mut fields = Fields::new(bytes);
     read_magic(&mut fields)?;
@@ -75,7 +37,7 @@ fn read_parts(alloc: Global, bytes: &[u8]) -> Result<Parts, ImageFault>
     let templates = read_templates(alloc, &mut fields, counts)?;
     let instructions = read_all_instructions(alloc, &mut fields)?;
     fields.finish()?;
-    Ok(Parts {
+    Ok(Code {
         keys: declared.keys,
         flags: declared.flags,
         vars: declared.vars,

@@ -1,5 +1,5 @@
 //! Reads what an image declares: its keys, and how many flags and variables there are.
-ghost use Rattle.std.specs.Prelude.{◌≡◌, ◌≤◌, [], IfOk};
+ghost use Rattle.std.specs.Prelude.{◌≡◌, ◌≤◌, IfOk};
 ghost use Rattle.mc_script.specs.declared.limits.TheConstants.{FLAGS_LIMIT};
 ghost use Rattle.mc_code.specs.ImageReading as reading;
 
@@ -46,14 +46,6 @@ fn read_keys(alloc: Global, fields: &mut Fields) -> Result<Vec<Bytes>, ImageFaul
     ensures { reading.Says (λ keys. (keys.items, fields.new)) result (reading.keys_in fields.old) }
 {
     let count = fields.byte_within(1, KEYS_LIMIT)?;
-    take_keys(alloc, fields, count)
-}
-
-/// Takes `count` keys.
-fn take_keys(alloc: Global, fields: &mut Fields, count: u8) -> Result<Vec<Bytes>, ImageFault>
-    ensures { reading.Says (λ keys. (keys.items, fields.new)) result
-        (reading.items_in reading.key_in count [] fields.old) }
-{
     let mut keys = Vec::new(alloc);
     for _ in 0..count {
         let key = read_key(fields, keys.as_slice())?;

@@ -1,5 +1,5 @@
 //! Reads the budgets and the instructions of an image.
-ghost use Rattle.std.specs.Prelude.{◌≡◌, []};
+ghost use Rattle.std.specs.Prelude.{◌≡◌};
 ghost use Rattle.mc_code.specs.ImageReading as reading;
 
 use crate::fields::Fields;
@@ -35,18 +35,6 @@ pub(crate) fn read_instructions(
         (reading.instructions_in fields.old) }
 {
     let count = fields.byte_within(0, INSTRUCTIONS_LIMIT)?;
-    take_instructions(alloc, fields, count)
-}
-
-/// Takes `count` instructions.
-fn take_instructions(
-    alloc: Global,
-    fields: &mut Fields,
-    count: u8,
-) -> Result<Vec<Instr>, ImageFault>
-    ensures { reading.Says (λ instructions. (instructions.items, fields.new)) result
-        (reading.items_in (λ _. reading.instr_in) count [] fields.old) }
-{
     let mut instructions = Vec::new(alloc);
     for _ in 0..count {
         let instr = read_instr(fields)?;

@@ -1,5 +1,5 @@
 //! Reads the templates of an image.
-ghost use Rattle.std.specs.Prelude.{◌≡◌, ◌≤◌, []};
+ghost use Rattle.std.specs.Prelude.{◌≡◌, ◌≤◌};
 ghost use Rattle.mc_script.specs.declared.limits.TheConstants.{FLAGS_LIMIT};
 ghost use Rattle.mc_code.specs.ImageReading as reading;
 
@@ -22,20 +22,6 @@ pub(crate) fn read_templates(
         (reading.templates_in counts.keys counts.flags counts.vars fields.old) }
 {
     let count = fields.byte_within(0, TEMPLATES_LIMIT)?;
-    take_templates(alloc, fields, counts, count)
-}
-
-/// Takes `count` templates.
-fn take_templates(
-    alloc: Global,
-    fields: &mut Fields,
-    counts: Counts,
-    count: u8,
-) -> Result<Vec<Template>, ImageFault>
-    requires { counts.flags ≤ FLAGS_LIMIT }
-    ensures { reading.Says (λ templates. (templates.items, fields.new)) result
-        (reading.items_in (λ _. reading.template_in counts.keys counts.flags counts.vars) count [] fields.old) }
-{
     let mut templates = Vec::new(alloc);
     for _ in 0..count {
         let template = read_template(alloc, fields, counts)?;

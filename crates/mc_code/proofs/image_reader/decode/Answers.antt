@@ -1,35 +1,102 @@
-use Rattle.std.proofs.Common.{◌≡◌, Some, None, sym, ap, subst, ◌∙◌, arith}
+use Rattle.std.proofs.Common.{◌≡◌, Some, None, arith, rules}
 use Rattle.std.proofs.lemmas.Result.{err_from_is_err_and}
-use Rattle.mc_code.specs.Code.{Code, IsCode}
-use Rattle.mc_code.specs.Image.{image_of}
+use Rattle.mc_code.specs.Code.{Code}
 use Rattle.mc_code.specs.ImageReading.{code_in}
-use Rattle.mc_code.proofs.FieldLaws.{some-same}
-use Rattle.mc_code.proofs.ImageLaws.{code-read, code-again}
+use Rattle.mc_code.proofs.ImageLaws.{code-read, unread, read-as}
 use Rattle.mc_code.proofs.image_reader.decode.Goals as goal
 
-pub returns-in_err-parts-clause-none : goal.returns-in_err-parts-clause-none
-returns-in_err-parts-clause-none c =
+pub returns-in_err-read_magic-clause-none : goal.returns-in_err-read_magic-clause-none
+unfolding code_in
+returns-in_err-read_magic-clause-none c =
     let p = err_from_is_err_and c.from_residual.result c.from_residual.ensures.1 in
-    rw (p.1, p.2) (λ real code is same.
-    let none : code_in c.args.bytes.now ≡ None = c.in_err-parts.ensures.0 real in
-    let some : code_in c.args.bytes.now ≡ Some code = ap code_in (sym same) ∙ code-again code is in
-    let clash = sym none ∙ some in absurd (cc))
+    rw (p.1, p.2) (λ real. let none : code_in c.args.bytes.now ≡ None = search rules in unread c.args.bytes.now none)
+
+pub returns-in_err-declared-clause-none : goal.returns-in_err-declared-clause-none
+unfolding code_in
+returns-in_err-declared-clause-none c =
+    let p = err_from_is_err_and c.from_residual-in_err-declared.result c.from_residual-in_err-declared.ensures.1 in
+    rw (p.1, p.2) (λ real. let none : code_in c.args.bytes.now ≡ None = search rules in unread c.args.bytes.now none)
+
+pub returns-in_err-budgets-clause-none : goal.returns-in_err-budgets-clause-none
+unfolding code_in
+returns-in_err-budgets-clause-none c =
+    let p = err_from_is_err_and c.from_residual-in_err-budgets.result c.from_residual-in_err-budgets.ensures.1 in
+    rw (p.1, p.2) (λ real. let none : code_in c.args.bytes.now ≡ None = search rules in unread c.args.bytes.now none)
+
+pub returns-in_err-templates-clause-none : goal.returns-in_err-templates-clause-none
+unfolding code_in
+returns-in_err-templates-clause-none c =
+    let p = err_from_is_err_and c.from_residual-in_err-templates.result c.from_residual-in_err-templates.ensures.1 in
+    rw (p.1, p.2) (λ real. let none : code_in c.args.bytes.now ≡ None = search rules in unread c.args.bytes.now none)
+
+pub returns-in_err-instructions-clause-none : goal.returns-in_err-instructions-clause-none
+unfolding code_in
+returns-in_err-instructions-clause-none c =
+    let p = err_from_is_err_and c.from_residual-in_err-instructions.result c.from_residual-in_err-instructions.ensures.1 in
+    rw (p.1, p.2) (λ real. let none : code_in c.args.bytes.now ≡ None = search rules in unread c.args.bytes.now none)
+
+pub returns-in_err-finish-clause-none : goal.returns-in_err-finish-clause-none
+unfolding code_in
+returns-in_err-finish-clause-none c =
+    let p = err_from_is_err_and c.from_residual-in_err-finish.result c.from_residual-in_err-finish.ensures.1 in
+    rw (p.1, p.2) (λ real. let none : code_in c.args.bytes.now ≡ None = search rules in unread c.args.bytes.now none)
 
 pub invariant_of-result : goal.invariant_of-result
+unfolding code_in
 invariant_of-result c =
-    let read = code-read c.args.bytes.now c.in_ok-parts.parts (λ i. omega (arith, c.type_inv.bytes i)) c.in_ok-parts.ensures in
-    subst IsCode (sym c.parts.view_is) read.1
-
-pub returns-clause-kept : goal.returns-clause-kept
-returns-clause-kept c =
-    let read = code-read c.args.bytes.now c.in_ok-parts.parts (λ i. omega (arith, c.type_inv.bytes i)) c.in_ok-parts.ensures in
-    subst IsCode (sym c.parts.view_is) read.1
-
-pub returns-clause-read : goal.returns-clause-read
-returns-clause-read c = λ code is same.
-    some-same _ code (ap Some c.parts.view_is ∙ sym c.in_ok-parts.ensures ∙ ap code_in (sym same) ∙ code-again code is)
+    let code : Code = record {
+      keys = c.declared.inside.keys.items;
+      flags = c.declared.inside.flags;
+      vars = c.declared.inside.vars;
+      templates = c.in_ok-templates.templates.items;
+      p = c.section_of.result;
+      a = c.section_of-2.result;
+      b = c.section_of-3.result;
+    } in
+    let read : code_in c.args.bytes.now ≡ Some code = search rules in
+    (code-read c.args.bytes.now code (λ i. omega (arith, c.type_inv.bytes i)) read).1
 
 pub returns-clause-found : goal.returns-clause-found
+unfolding code_in
 returns-clause-found c =
-    let read = code-read c.args.bytes.now c.in_ok-parts.parts (λ i. omega (arith, c.type_inv.bytes i)) c.in_ok-parts.ensures in
-    subst (λ (code : Code). image_of code ≡ c.args.bytes.now) (sym c.parts.view_is) read.0
+    let code : Code = record {
+      keys = c.declared.inside.keys.items;
+      flags = c.declared.inside.flags;
+      vars = c.declared.inside.vars;
+      templates = c.in_ok-templates.templates.items;
+      p = c.section_of.result;
+      a = c.section_of-2.result;
+      b = c.section_of-3.result;
+    } in
+    let read : code_in c.args.bytes.now ≡ Some code = search rules in
+    (code-read c.args.bytes.now code (λ i. omega (arith, c.type_inv.bytes i)) read).0
+
+pub returns-clause-kept : goal.returns-clause-kept
+unfolding code_in
+returns-clause-kept c =
+    let code : Code = record {
+      keys = c.declared.inside.keys.items;
+      flags = c.declared.inside.flags;
+      vars = c.declared.inside.vars;
+      templates = c.in_ok-templates.templates.items;
+      p = c.section_of.result;
+      a = c.section_of-2.result;
+      b = c.section_of-3.result;
+    } in
+    let read : code_in c.args.bytes.now ≡ Some code = search rules in
+    (code-read c.args.bytes.now code (λ i. omega (arith, c.type_inv.bytes i)) read).1
+
+pub returns-clause-read : goal.returns-clause-read
+unfolding code_in
+returns-clause-read c =
+    let code : Code = record {
+      keys = c.declared.inside.keys.items;
+      flags = c.declared.inside.flags;
+      vars = c.declared.inside.vars;
+      templates = c.in_ok-templates.templates.items;
+      p = c.section_of.result;
+      a = c.section_of-2.result;
+      b = c.section_of-3.result;
+    } in
+    let read : code_in c.args.bytes.now ≡ Some code = search rules in
+    read-as c.args.bytes.now code read
