@@ -43,7 +43,8 @@ pub use print::{print_reply_words, print_request_words};
 pub use rules::{HistoryKind, KEY_BYTES_LIMIT, KEYS_LIMIT, REQUESTS_LIMIT};
 pub use sent::Sent;
 pub use word_laws::{
-    joined_words_end_no_line, joined_words_fall_apart, what_is_printed_spells_the_reply,
+    joined_words_end_no_line, joined_words_fall_apart, spelled_replies_have_short_bodies,
+    spelled_requests_have_words, what_is_printed_spells_the_reply,
     what_is_printed_spells_the_request, word_spells_one_body, word_spells_one_number,
     words_of_a_reply_are_whole, words_of_a_request_are_whole, words_spell_one_reply,
     words_spell_one_request,
