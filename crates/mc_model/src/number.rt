@@ -1,4 +1,4 @@
-ghost use Rattle.std.specs.Prelude.{◌≡◌, ◌<◌, ℕ, true, IfOk, IfErr, length};
+ghost use Rattle.std.specs.Prelude.{◌≡◌, ◌≢◌, ◌<◌, ℕ, true, IfOk, IfErr, length};
 ghost use Rattle.std.specs.Option.{MatchOption};
 ghost use Rattle.std.specs.Str.Parse.{digits_value};
 ghost use Rattle.mc_model.specs.Words as spec;
@@ -49,6 +49,7 @@ pub fn read_number(greatest: u64, word: &[u8]) -> Result<u64, WordsFault>
     ensures exact { reading.Gives (λ n. n) result (reading.number_in greatest word.now) }
     ensures found { IfOk result (spec.SpellsNumber greatest word.now) }
     ensures none { IfErr result (λ _. (n : ℕ) → spec.SpellsNumber greatest word.now n → ⊥) }
+    ensures memory { IfErr result (λ fault. fault ≢ WordsFault.OutOfMemory) }
 {
     if word.is_empty() || !are_digits(word) {
         return Err(WordsFault::Form);

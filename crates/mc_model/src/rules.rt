@@ -1,3 +1,4 @@
+//! The rules of a history, as tests of one request and of those before it.
 ghost use Rattle.std.specs.Prelude.{◌≡◌, ◌↔◌, IsTrue};
 ghost use Rattle.std.specs.List.{list_any};
 ghost use Rattle.mc_model.specs.History as rule;
@@ -62,8 +63,8 @@ impl<T: Drop> From<AllocFailed<T>> for HistoryKind {
     }
 }
 
-// Whether some text spells the request: its key and body keep their limits, and a field that its verb lacks is 0 or
-// empty.
+/// Whether some text spells the request: its key and body keep their limits, and a field that its verb lacks is 0 or
+/// empty.
 pub(crate) fn has_words(request: &Request) -> bool
     ensures { result ≡ rule.has_words request.now }
 {
@@ -72,6 +73,7 @@ pub(crate) fn has_words(request: &Request) -> bool
         && has_its_fields(request)
 }
 
+/// Whether each field that the verb lacks is 0 or empty.
 fn has_its_fields(request: &Request) -> bool
     ensures { result ≡ rule.has_its_fields request.now }
 {
@@ -85,14 +87,14 @@ fn has_its_fields(request: &Request) -> bool
     }
 }
 
-// Whether every request of the section was answered.
+/// Whether every request of the section was answered.
 pub(crate) fn are_answered(section: &[Sent]) -> bool
     ensures { result ≡ rule.are_answered section.now }
 {
     section.iter().all(|sent| sent.reply.is_some())
 }
 
-// Whether the section has a request on the key.
+/// Whether the section has a request on the key.
 pub(crate) fn has_key(section: &[Sent], key: &[u8]) -> bool
     ensures { result ≡ rule.has_key key.now section.now }
 {
@@ -101,47 +103,23 @@ pub(crate) fn has_key(section: &[Sent], key: &[u8]) -> bool
         .any(|sent| sent.request.key.as_slice() == key)
 }
 
-pub(crate) fn is_delete(verb: Verb) -> bool
-    ensures { result ≡ rule.is_delete verb }
-{
-    matches!(verb, Verb::Delete)
-}
-
-// Whether one of the earlier requests shows the number of a cas. Other requests need none.
+/// Whether one of the earlier requests shows the number of a `cas`. Other requests need none.
 pub(crate) fn is_seen(earlier: &[Sent], sent: &Sent) -> bool
     ensures { result ≡ rule.is_seen earlier.now sent.now }
 {
-    !is_cas(sent.request.verb) || is_shown(earlier, &sent.request)
+    sent.request.verb != Verb::Cas || earlier.iter().any(|shown| shows(shown, &sent.request))
 }
 
-fn is_cas(verb: Verb) -> bool
-    ensures { result ≡ rule.is_cas verb }
-{
-    matches!(verb, Verb::Cas)
-}
-
-fn is_shown(earlier: &[Sent], request: &Request) -> bool
-    ensures { result ≡ list_any (rule.shows request.now.key request.now.number) earlier.now }
-{
-    earlier.iter().any(|sent| shows(sent, request))
-}
-
-// Whether what was sent is a `gets` of the request's key, answered with its number.
+/// Whether what was sent is a `gets` of the request's key, answered with its number.
 fn shows(sent: &Sent, request: &Request) -> bool
     ensures { result ≡ rule.shows request.now.key request.now.number sent.now }
 {
-    is_gets(sent.request.verb)
-        && sent.request.key.as_slice() == request.key.as_slice()
+    sent.request.verb == Verb::Gets
+        && sent.request.key == request.key
         && tells(sent, request.number)
 }
 
-fn is_gets(verb: Verb) -> bool
-    ensures { result ≡ rule.is_gets verb }
-{
-    matches!(verb, Verb::Gets)
-}
-
-// Whether the reply is a hit with this cas number.
+/// Whether the reply is a hit with this cas number.
 fn tells(sent: &Sent, number: u64) -> bool
     ensures { result ≡ rule.tells number sent.now.reply }
 {
@@ -151,7 +129,7 @@ fn tells(sent: &Sent, number: u64) -> bool
     }
 }
 
-// Whether the reply, if one came, is one that the request may have.
+/// Whether the reply, if one came, is one that the request may have.
 pub(crate) fn is_answered_rightly(sent: &Sent) -> bool
     ensures { result ≡ rule.is_answered_rightly sent.now }
 {

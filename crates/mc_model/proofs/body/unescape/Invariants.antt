@@ -2,7 +2,7 @@
 use Rattle.std.proofs.Common.{◌≡◌, length}
 use Rattle.mc_model.specs.Reading.{bytes_in}
 use Rattle.mc_model.proofs.Escaped.{onto}
-use Rattle.mc_model.proofs.body.unescaped.Given as goal
+use Rattle.mc_model.proofs.body.unescape.Given as goal
 
 abbrev pub invariant-bytes : goal.invariant-bytes
 invariant-bytes l = onto l.bytes.items (bytes_in l.rest) ≡ bytes_in l.fn.text
