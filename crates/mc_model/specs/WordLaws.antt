@@ -67,7 +67,7 @@ SpellingWordsAreWhole {V} Spells = (words : List Word) (v : V) → Spells words 
 abbrev pub JoinedWordsFallApart : Type 0
 JoinedWordsFallApart = (separator : Separator) (words : List Word) → are_whole words ≡ true → words_of separator (joined words) ≡ words
 
--- a byte that may stand within a line: a space, or a visible byte
+-- a byte that a line may have: a space, or a visible byte
 abbrev pub is_in_line : ℕ → Bool
 is_in_line byte = nat_le 32 byte && nat_le byte 126
 

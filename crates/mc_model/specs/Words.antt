@@ -87,7 +87,7 @@ SpellsBody word body = (text : List ℕ) × (word ≡ 61 ∷ text) × SpellsByte
 
 -- ---- requests
 
--- the words behind the key, by what the verb has there; a field that it lacks is 0 or empty
+-- the words after the key, by what the verb has there; a field that it lacks is 0 or empty
 abbrev pub SpellsFields : Fields → List Word → Request → Type 0
 SpellsFields fields.KeyAlone words r = (words ≡ []) × (r.flags ≡ 0) × (r.body ≡ []) × (r.number ≡ 0)
 SpellsFields fields.Expiry words r = (words ≡ []) × (r.flags ≡ 0) × (r.body ≡ []) × (r.number ≡ 0)
@@ -121,7 +121,7 @@ class_word class.Touched = codes "TOUCHED"
 class_word class.Number = codes "NUMBER"
 class_word class.NotNumber = codes "NOT_A_NUMBER"
 
--- the words behind a hit's body: the cas number, where it is shown
+-- the words after a hit's body: the cas number, where it is shown
 abbrev pub SpellsShown : List Word → Option ℕ → Type 0
 SpellsShown words None = words ≡ []
 SpellsShown words (Some n) = (word : Word) × (words ≡ word ∷ []) × SpellsNumber MAX_64 word n
@@ -158,7 +158,7 @@ printed_byte byte = if is_plain byte then byte ∷ [] else escaped_byte byte
 abbrev pub body_word : List ℕ → Word
 body_word body = 61 ∷ flat_map printed_byte body
 
--- the words behind the key
+-- the words after the key
 abbrev pub field_words : Fields → Request → List Word
 field_words fields.KeyAlone r = []
 field_words fields.Expiry r = []
@@ -169,7 +169,7 @@ field_words fields.Amount r = decimal r.number ∷ []
 abbrev pub request_words : Request → List Word
 request_words r = verb_word r.verb ∷ r.key ∷ field_words (fields_of r.verb) r
 
--- the word behind a hit's body, where the cas number is shown
+-- the word after a hit's body, where the cas number is shown
 abbrev pub shown_words : Option ℕ → List Word
 shown_words None = []
 shown_words (Some n) = decimal n ∷ []

@@ -23,6 +23,7 @@ pub fn read_body(alloc: Global, word: &[u8]) -> Result<Bytes, WordsFault>
     body_in(alloc, word)
 }
 
+/// Reads a body. The public function adds to the contract what words spell.
 #[tactic(auto, unfolding(crate::specs::Reading::body_in))]
 fn body_in(alloc: Global, word: &[u8]) -> Result<Bytes, WordsFault>
     ensures exact { reading.Gives (λ b. b) result (reading.body_in word.now) }

@@ -1,8 +1,8 @@
 //! The model of a cache server, and what a history of requests and replies is.
 //!
-//! Below it stands `mc_protocol`. The crates above use three things: what a cache answers to a request
-//! (`Cache::act`, by `specs/Act.antt`), that a `History` keeps the rules of `specs/History.antt`, and the words of
-//! requests and replies (`specs/Words.antt`).
+//! It uses `mc_protocol`. The crates that use it rest on three things: what a cache answers to a request (`Cache::act`,
+//! by `specs/Act.antt`), that a `History` keeps the rules of `specs/History.antt`, and the words of requests and replies
+//! (`specs/Words.antt`).
 #![tactic(auto)]
 
 mod act;
@@ -34,7 +34,7 @@ pub use history_laws::{
 };
 pub use laws::{
     answered_numbers_are_there, bodies_stay_short, deleted_is_gone, only_counts_choose,
-    other_keys_stay, replies_fit, versions_are_told,
+    other_keys_stay, replies_fit, versions_are_reported,
 };
 pub use number::{is_key, read_number};
 pub use numeral::{Numeral, numeral_of};

@@ -21,24 +21,34 @@ pub const KEYS_LIMIT: usize = 8;
 /// Why a text, or requests with their replies, are no history.
 #[derive(Clone, Copy, Debug, Drop, PartialEq, Eq, Error)]
 pub enum HistoryKind {
+    /// The text has another first line.
     #[error("the first line is not `history 1`")]
     Header,
+    /// The line can't be read, or may not stand there.
     #[error("the line is not one that may stand there")]
     Line,
+    /// A number has more than 20 digits, or is too large.
     #[error("a number is too large")]
     Number,
+    /// A request comes before one that it has to wait for.
     #[error("a request stands behind an unanswered one of its section, or the prefix's requests don't come first")]
     Order,
+    /// The protocol has no such reply to the request, or the reply's body is too long.
     #[error("the reply is none that the request may have")]
     WrongReply,
+    /// The history doesn't begin its key with a `delete`.
     #[error("the key's first request is not a delete in the prefix")]
     NotCleared,
+    /// A `cas` has a number that its section can't know.
     #[error("no earlier `gets` of the key showed this cas number to the section")]
     UnseenNumber,
+    /// There are too many requests or keys.
     #[error("a section has more than 24 requests, or the history more than 8 keys")]
     TooMany,
+    /// The text ends before its last line.
     #[error("the line `end` is missing")]
     Unended,
+    /// No fault of the text: memory ran out.
     #[error("out of memory")]
     OutOfMemory,
 }

@@ -1,4 +1,4 @@
--- The bytes so far, in front of those that the rest stands for, are those that the text stands for.
+-- The bytes so far, and after them those that the rest stands for, are those that the text stands for.
 use Rattle.std.proofs.Common.{◌≡◌, length}
 use Rattle.mc_model.specs.Reading.{bytes_in}
 use Rattle.mc_model.proofs.Escaped.{onto}

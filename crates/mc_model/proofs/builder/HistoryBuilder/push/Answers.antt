@@ -13,7 +13,7 @@ kept : (before after : Sections) (keys : ℕ) (who : Actor) (sent : Sent) → is
 kept before after keys who sent h none more counted =
     (rw more (no_fault before who sent none).1, rw more (counted ∙ sym (keys_counted before who sent h)))
 
--- behind the `match` one section has the request
+-- after the `match` one section has the request
 pushed : (c : goal.After-self-1) → ◌≡◌ {A = Sections} (record { p = c.match-actor.self-inside.p.items; a = c.match-actor.self-inside.a.items; b = c.match-actor.self-inside.b.items }) (added c.args.self.now c.args.actor c.args.sent)
 pushed c =
     elim c.match-actor.branch [
