@@ -1,5 +1,5 @@
 -- What words spell is a value of which the printed words do.
-use Rattle.std.proofs.Common.{◌≡◌, ℕ, ◌≤◌, ◌==◌, nat_le, Bool, true, ◌&&◌, List, [], length, refl}
+use Rattle.std.proofs.Common.{◌≡◌, nat_le, true, List, length, refl}
 use Rattle.std.proofs.lemmas.Bool.{le-leb}
 use Rattle.mc_protocol.specs.Fields.{fields_of}
 use Rattle.mc_protocol.specs.declared.legal.TheConstants.{BODY_LIMIT}
@@ -7,7 +7,7 @@ use Rattle.mc_protocol.specs.declared.request.Fields.{Fields}
 use Rattle.mc_protocol.specs.declared.request.Fields.TheVariants as fields
 use Rattle.mc_protocol.specs.declared.request.Request.{Request}
 use Rattle.mc_protocol.specs.declared.reply.Reply.TheVariants as reply
-use Rattle.mc_model.specs.Words.{Word, SpellsFields, is_key}
+use Rattle.mc_model.specs.Words.{Word, SpellsFields}
 use Rattle.mc_model.specs.History.{lacks_the_others}
 use Rattle.mc_model.specs.WordLaws.{SpelledRequestsHaveWords, SpelledRepliesHaveShortBodies}
 

@@ -86,7 +86,10 @@ impl Cache {
     pub fn find(&self, key: &[u8]) -> Option<&Item>
         ensures { option_copied result ≡ finite_map.get self.now key.now }
     {
-        find_item(self.entries.as_slice(), key)
+        self.entries
+            .iter()
+            .find(|entry| entry.0.as_slice() == key)
+            .map(|entry| &entry.1)
     }
 
     /// Puts an item at the key, in place of what is there. Want of memory leaves the cache as it was.
@@ -122,15 +125,6 @@ fn copied_entries(
         copies.push((key, item))?;
     }
     Ok(copies)
-}
-
-fn find_item<'a>(entries: &'a [(Bytes, Item)], key: &[u8]) -> Option<&'a Item>
-    ensures { option_copied result ≡ finite_map.get (contents_of entries.entry.now) key.now }
-{
-    match entries.iter().find(|entry| entry.0.as_slice() == key) {
-        Some(entry) => Some(&entry.1),
-        None => None,
-    }
 }
 
 /// Removes the entries of the key, and gives no memory back.

@@ -1,8 +1,6 @@
 //! The rules of a history, as tests of one request and of those before it.
-ghost use Rattle.std.specs.Prelude.{◌≡◌, ◌↔◌, IsTrue};
-ghost use Rattle.std.specs.List.{list_any};
+ghost use Rattle.std.specs.Prelude.{◌≡◌};
 ghost use Rattle.mc_model.specs.History as rule;
-ghost use Rattle.mc_model.specs.Next as next;
 
 use crate::{Sent, is_key};
 use mc_protocol::{BODY_LIMIT, Fields, Reply, Request, Verb, fits};
@@ -30,13 +28,13 @@ pub enum HistoryKind {
     /// A number has more than 20 digits, or is too large.
     #[error("a number is too large")]
     Number,
-    /// A request comes before one that it has to wait for.
+    /// A request comes before a reply that its section waits for, or one of the prefix comes after one of a branch.
     #[error("a request stands behind an unanswered one of its section, or the prefix's requests don't come first")]
     Order,
-    /// The protocol has no such reply to the request, or the reply's body is too long.
+    /// The protocol has no such reply to the request, or a hit has the wrong fields or too long a body.
     #[error("the reply is none that the request may have")]
     WrongReply,
-    /// The history doesn't begin its key with a `delete`.
+    /// The first request of a key is no `delete` of the prefix.
     #[error("the key's first request is not a delete in the prefix")]
     NotCleared,
     /// A `cas` has a number that its section can't know.
@@ -126,12 +124,12 @@ fn shows(sent: &Sent, request: &Request) -> bool
 {
     sent.request.verb == Verb::Gets
         && sent.request.key == request.key
-        && tells(sent, request.number)
+        && shows_number(sent, request.number)
 }
 
 /// Whether the reply is a hit with this cas number.
-fn tells(sent: &Sent, number: u64) -> bool
-    ensures { result ≡ rule.tells number sent.now.reply }
+fn shows_number(sent: &Sent, number: u64) -> bool
+    ensures { result ≡ rule.shows_number number sent.now.reply }
 {
     match &sent.reply {
         Some(Reply::Hit { cas: Some(cas), .. }) => *cas == number,

@@ -1,6 +1,5 @@
 //! How the words of requests and replies are read.
 ghost use Rattle.std.specs.Prelude.{◌≡◌, ◌≢◌, map, IfOk, IfErr};
-ghost use Rattle.std.specs.Option.{option_copied};
 ghost use Rattle.mc_model.specs.Words as spec;
 ghost use Rattle.mc_model.specs.Reading as reading;
 
