@@ -13,7 +13,7 @@ use Rattle.mc_model.specs.declared.act.Choice.{Choice}
 use Rattle.mc_model.specs.Contents.{Contents}
 use Rattle.mc_model.specs.Numeral.{numeral_of}
 use Rattle.mc_model.specs.Act.{Puts, Effect, effect_by, effect_of, act}
-use Rattle.mc_model.specs.ActLaws.{OtherKeysStay, RepliesFit, BodiesStayShort, JoinedBodiesAddUp, DeletedIsGone, ToldVersionIsMade, MadeVersionIsTold, AnsweredNumberIsThere, is_short, body_length, joins, tells_version}
+use Rattle.mc_model.specs.ActLaws.{OtherKeysStay, RepliesFit, BodiesStayShort, JoinedBodiesAddUp, DeletedIsGone, ReportedVersionIsMade, MadeVersionIsReported, AnsweredNumberIsThere, is_short, body_length, joins, reports_version}
 use Rattle.mc_model.proofs.Changes.{after, get_changed, get_other}
 use Rattle.mc_model.proofs.Effects.{NewBody, own, joining, counting, Does, answering, removing, putting, does}
 
@@ -107,15 +107,15 @@ record Made (number : ℕ) (effect : Effect) : Type 0 where
   puts : effect.change ≡ Puts item
   numbered : item.number ≡ number
 
--- an effect whose answer tells of a version makes one
-made : (request : Request) (number : ℕ) (found : Option Item) (effect : Effect) → Does request number found effect → tells_version (class_of effect.reply) ≡ true → Made number effect
-made request number found effect (answering r untold fit) told = absurd (both_ways (tells_version (class_of r)) untold told)
+-- an effect whose reply reports a version makes one
+made : (request : Request) (number : ℕ) (found : Option Item) (effect : Effect) → Does request number found effect → reports_version (class_of effect.reply) ≡ true → Made number effect
+made request number found effect (answering r untold fit) told = absurd (both_ways (reports_version (class_of r)) untold told)
 made request number found effect (removing fit) told = absurd cc
 made request number found effect (putting item r numbered told_of fit says new) told = record { item = item; puts = refl; numbered = numbered }
 
 -- and it is at the key
-pub told_version_is_made : ToldVersionIsMade
-told_version_is_made contents request choice number told =
+pub reported_version_is_made : ReportedVersionIsMade
+reported_version_is_made contents request choice number told =
     let m = made request number (at contents request) (effect_of contents request choice number) (does_here contents request choice number) told in
     record {
       item = m.item;
@@ -124,21 +124,21 @@ told_version_is_made contents request choice number told =
       there = left contents request choice number ∙ ap (λ change. after change (at contents request)) m.puts;
     }
 
--- an effect that makes a version tells of it
-told : (request : Request) (number : ℕ) (found : Option Item) (effect : Effect) (item : Item) → Does request number found effect → effect.change ≡ Puts item → tells_version (class_of effect.reply) ≡ true
+-- an effect that makes a version reports it
+told : (request : Request) (number : ℕ) (found : Option Item) (effect : Effect) (item : Item) → Does request number found effect → effect.change ≡ Puts item → reports_version (class_of effect.reply) ≡ true
 told request number found effect item (answering r untold fit) is = absurd cc
 told request number found effect item (removing fit) is = absurd cc
 told request number found effect item (putting _ r numbered told_of fit says new) is = told_of
 
 -- and so does the request's
-pub made_version_is_told : MadeVersionIsTold
-made_version_is_told contents request choice number item is =
+pub made_version_is_reported : MadeVersionIsReported
+made_version_is_reported contents request choice number item is =
     told request number (at contents request) (effect_of contents request choice number) item (does_here contents request choice number) is
 
 -- a number that an effect answers is what its new body says
 says_number : (request : Request) (number n : ℕ) (found : Option Item) (effect : Effect) → Does request number found effect → effect.reply ≡ reply.Number n
     → (item : Item) × (after effect.change found ≡ Some item) × (numeral_of item.body ≡ Is n)
-says_number request number n found effect (answering r untold fit) is = absurd (both_ways (tells_version (class_of r)) untold (ap (λ r. tells_version (class_of r)) is))
+says_number request number n found effect (answering r untold fit) is = absurd (both_ways (reports_version (class_of r)) untold (ap (λ r. reports_version (class_of r)) is))
 says_number request number n found effect (removing fit) is = absurd cc
 says_number request number n found effect (putting item r numbered told_of fit says new) is = (item, refl, says n is)
 

@@ -1,4 +1,4 @@
--- Every effect is an answer alone, a removal, or a version that the reply tells of.
+-- Every effect is an answer alone, a removal, or a version that the reply reports.
 use Rattle.std.proofs.Common.{◌≡◌, ℕ, ◌+◌, ◌-◌, ◌^◌, ◌<◌, ◌≤◌, Bool, true, false, ◌&&◌, cond, eqb, ltb, Option, Some, None, List, ◌++◌, length, replicate, max, refl, sym, ap, ◌∙◌, arith}
 use Rattle.std.specs.Fmt.{decimal}
 use Rattle.std.proofs.lemmas.List.{append-nil, length-append, length-replicate}
@@ -15,7 +15,7 @@ use Rattle.mc_model.specs.declared.numeral.Numeral.TheVariants.{Is}
 use Rattle.mc_model.specs.declared.act.Choice.{Choice}
 use Rattle.mc_model.specs.Numeral.{numeral_of, read_as}
 use Rattle.mc_model.specs.Act.{Removes, Effect, answers, puts, stored, counted, counted_from, counted_to, counted_body, incremented, decremented, effect_by, version}
-use Rattle.mc_model.specs.ActLaws.{is_short, body_length, joins, tells_version}
+use Rattle.mc_model.specs.ActLaws.{is_short, body_length, joins, reports_version}
 use Rattle.mc_model.proofs.NumeralReadings.{decimal_says, small_numeral}
 
 -- what the body of a version that is made may be
@@ -26,9 +26,9 @@ pub data NewBody (request : Request) (found : Option Item) : List ℕ → Type 0
 
 -- what an effect may be, and what holds of its parts
 pub data Does (request : Request) (number : ℕ) (found : Option Item) : Effect → Type 0 where
-  answering : (r : Reply) → tells_version (class_of r) ≡ false → (is_short found ≡ true → is_fit request r ≡ true) → Does request number found (answers r)
+  answering : (r : Reply) → reports_version (class_of r) ≡ false → (is_short found ≡ true → is_fit request r ≡ true) → Does request number found (answers r)
   removing : is_fit request reply.Deleted ≡ true → Does request number found (record { change = Removes; reply = reply.Deleted })
-  putting : (item : Item) (r : Reply) → item.number ≡ number → tells_version (class_of r) ≡ true → is_fit request r ≡ true
+  putting : (item : Item) (r : Reply) → item.number ≡ number → reports_version (class_of r) ≡ true → is_fit request r ≡ true
       → ((n : ℕ) → r ≡ reply.Number n → numeral_of item.body ≡ Is n) → NewBody request found item.body → Does request number found (puts item r)
 
 -- a reply that it is stored answers no number

@@ -62,7 +62,7 @@ module _ {X : Type 0} where
       ∙ again (eq_by_cmp (slice_cmp nat_cmp) q key) (Some x) None (finite_map.get m q)
       ∙ sym (get-insert nat_list_cmp_total m key x q))
 
-  -- an entry behind entries that make the map without its key
+  -- an entry after entries that make the map without its key
   pub pushed_entry : (m : FinMap (slice_cmp nat_cmp) X) (kept : List (List ℕ × X)) (key : List ℕ) (x : X) → finite_map.from_entries kept ≡ finite_map.remove m key
       → finite_map.from_entries (kept ++ (key, x) ∷ []) ≡ finite_map.insert m key x
   pushed_entry m kept key x is =

@@ -8,7 +8,7 @@ use Rattle.mc_model.specs.declared.words.WordsFault.TheVariants as fault
 use Rattle.mc_model.specs.Words.{is_plain, hex_value}
 use Rattle.mc_model.specs.Reading.{Fails, first_byte_in, bytes_in, in_front, plain_before, hex_before, if_plain, if_hex}
 
--- bytes in front of those that are read, if they are
+-- bytes before those that are read, if they are
 abbrev pub onto : List ℕ → Result (List ℕ) WordsFault → Result (List ℕ) WordsFault
 onto front (Ok bytes) = Ok (front ++ bytes)
 onto front (Err e) = Err e

@@ -66,7 +66,7 @@ one_first_fault s k j who other n m f g =
     let place = same_place s k j who n m f there in
     (same_kind s k j who n f (subst (λ p. IsFirstFault s j who p) (sym place) there), section, place)
 
--- a section's requests behind those that made a history: all do, or one fails first
+-- a section's requests after those that made a history: all do, or one fails first
 walk : (s : Sections) (who : Actor) (done rest : List Sent) → comes_late s who ≡ false → is_history (with_section s who done) ≡ true → (is_history (with_section s who (done ++ rest)) ≡ true) ⊎ ((kind : HistoryKind) × (place : ℕ) × FailsAt s who (done ++ rest) kind place)
 walk s who done [] late h = inl (rw (append-nil done) h)
 walk s who done (x ∷ xs) late h =

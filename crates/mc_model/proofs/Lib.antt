@@ -11,6 +11,7 @@ pub mod BodyWords
 pub mod RequestWords
 pub mod ReplyWords
 pub mod PrintedWords
+pub mod SpelledValues
 pub mod WholeWords
 pub mod Added
 pub mod Keys

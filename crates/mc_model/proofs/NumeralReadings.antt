@@ -13,7 +13,7 @@ use Rattle.mc_protocol.specs.Decimals.{are_digits, is_digit}
 use Rattle.mc_protocol.proofs.Digits.{digits as own}
 use Rattle.mc_model.specs.declared.numeral.Numeral.{Numeral}
 use Rattle.mc_model.specs.declared.numeral.Numeral.TheVariants.{NoNumber, Is, MayBe}
-use Rattle.mc_model.specs.Numeral.{numeral_of, numeral_of_parts, leading_digits, behind_digits, ends_or_has_space, are_spaces, is_space, is_readable, is_plain_numeral, read_as}
+use Rattle.mc_model.specs.Numeral.{numeral_of, numeral_of_parts, leading_digits, after_digits, ends_or_has_space, are_spaces, is_space, is_readable, is_plain_numeral, read_as}
 use Rattle.mc_model.specs.NumeralLaws.{BeginsWithNumber, IsPlainNumber, WillingReads, StrictReads}
 
 -- one more element before those that pass, where it passes
@@ -34,9 +34,9 @@ leading_front body = ap (λ n. take n body) (length-prefix_len is_digit body)
 pub front_are_digits : (body front : List ℕ) (n : ℕ) → n ≡ length (leading_digits body) → front ≡ take n body → are_digits front ≡ true
 front_are_digits body front n e is = ap are_digits (is ∙ ap (λ k. take k body) e ∙ leading_front body) ∙ passing is_digit body
 
--- a body is its leading digits and what stands behind them
-front_and_rest : (body : List ℕ) → leading_digits body ++ behind_digits body ≡ body
-front_and_rest body = ap (λ front. front ++ behind_digits body) (sym (leading_front body)) ∙ take-append-drop (length (leading_digits body)) body
+-- a body is its leading digits and what comes after them
+front_and_rest : (body : List ℕ) → leading_digits body ++ after_digits body ≡ body
+front_and_rest body = ap (λ front. front ++ after_digits body) (sym (leading_front body)) ∙ take-append-drop (length (leading_digits body)) body
 
 -- no digit leads what ends at once or goes on with a space
 no_leading : (rest : List ℕ) → ends_or_has_space rest ≡ true → leading_digits rest ≡ []
@@ -68,7 +68,7 @@ says : (digits rest : List ℕ) → are_digits digits ≡ true → 0 < length di
     → numeral_of (digits ++ rest) ≡ said true (is_plain_numeral digits rest) (digits_value 10 digits)
 says digits rest are some ends small =
     let front = leading_of digits rest are ends in
-    ap (λ ds. numeral_of_parts ds (behind_digits (digits ++ rest))) front
+    ap (λ ds. numeral_of_parts ds (after_digits (digits ++ rest))) front
     ∙ ap (numeral_of_parts digits) (ap (λ ds. drop (length ds) (digits ++ rest)) front ∙ drop-append_seam digits rest)
     ∙ ap (λ b. said b (is_plain_numeral digits rest) (digits_value 10 digits)) (readable digits rest some ends small)
 
@@ -82,7 +82,7 @@ spaces_end : (k : ℕ) → ends_or_has_space (replicate k 32) ≡ true
 spaces_end zero = refl
 spaces_end (suc k) = refl
 
--- bytes that are all spaces are so many spaces
+-- bytes that are all spaces are as many spaces as there are bytes
 are_replicated : (rest : List ℕ) → are_spaces rest ≡ true → rest ≡ replicate (length rest) 32
 are_replicated [] are = refl
 are_replicated (byte ∷ bytes) are =
@@ -96,7 +96,7 @@ plainly digits spaces are some few small =
     says digits (replicate spaces 32) are some (spaces_end spaces) small
     ∙ ap (λ b. said true b (digits_value 10 digits)) (and_from (leb (length digits) 20) (are_spaces (replicate spaces 32)) (le-leb (length digits) 20 few) (spaces_are spaces))
 
--- a decimal, and spaces behind it, say the number
+-- a decimal, and spaces after it, say the number
 pub decimal_says : (n spaces : ℕ) → n < 2 ^ 64 → numeral_of (decimal n ++ replicate spaces 32) ≡ Is n
 decimal_says n spaces small =
     let value = digits_value-decimal own n small in
@@ -139,12 +139,12 @@ readable_parts digits rest is =
     }
 
 -- a body with readable digits begins with a number
-begins : (body : List ℕ) (n : ℕ) → is_readable (leading_digits body) (behind_digits body) ≡ true → digits_value 10 (leading_digits body) ≡ n → BeginsWithNumber body n
+begins : (body : List ℕ) (n : ℕ) → is_readable (leading_digits body) (after_digits body) ≡ true → digits_value 10 (leading_digits body) ≡ n → BeginsWithNumber body n
 begins body n is value =
-    let parts = readable_parts (leading_digits body) (behind_digits body) is in
+    let parts = readable_parts (leading_digits body) (after_digits body) is in
     record {
       digits = leading_digits body;
-      rest = behind_digits body;
+      rest = after_digits body;
       whole = sym (front_and_rest body);
       are = passing is_digit body;
       some = parts.some;
@@ -165,7 +165,7 @@ read_willingly body n b =
 pub willing_reads : WillingReads
 willing_reads body n = (
   λ e.
-      let is = willing (is_readable (leading_digits body) (behind_digits body)) (is_plain_numeral (leading_digits body) (behind_digits body)) (digits_value 10 (leading_digits body)) n e in
+      let is = willing (is_readable (leading_digits body) (after_digits body)) (is_plain_numeral (leading_digits body) (after_digits body)) (digits_value 10 (leading_digits body)) n e in
       begins body n is.0 is.1,
   read_willingly body n,
 )
@@ -178,15 +178,15 @@ read_strictly body n p =
     ∙ ap Some p.value
 
 -- a body with readable and plain digits is a plain number
-plain_parts : (body : List ℕ) (n : ℕ) → is_readable (leading_digits body) (behind_digits body) ≡ true → is_plain_numeral (leading_digits body) (behind_digits body) ≡ true
+plain_parts : (body : List ℕ) (n : ℕ) → is_readable (leading_digits body) (after_digits body) ≡ true → is_plain_numeral (leading_digits body) (after_digits body) ≡ true
     → digits_value 10 (leading_digits body) ≡ n → IsPlainNumber body n
 plain_parts body n is is_plain value =
-    let parts = readable_parts (leading_digits body) (behind_digits body) is in
-    let limits = and_parts (leb (length (leading_digits body)) 20) (are_spaces (behind_digits body)) is_plain in
+    let parts = readable_parts (leading_digits body) (after_digits body) is in
+    let limits = and_parts (leb (length (leading_digits body)) 20) (are_spaces (after_digits body)) is_plain in
     record {
       digits = leading_digits body;
-      spaces = length (behind_digits body);
-      whole = sym (front_and_rest body) ∙ ap (λ rest. leading_digits body ++ rest) (are_replicated (behind_digits body) limits.1);
+      spaces = length (after_digits body);
+      whole = sym (front_and_rest body) ∙ ap (λ rest. leading_digits body ++ rest) (are_replicated (after_digits body) limits.1);
       are = passing is_digit body;
       some = parts.some;
       few = leb-true (length (leading_digits body)) 20 limits.0;
@@ -198,7 +198,7 @@ plain_parts body n is is_plain value =
 pub strict_reads : StrictReads
 strict_reads body n = (
   λ e.
-      let is = strict (is_readable (leading_digits body) (behind_digits body)) (is_plain_numeral (leading_digits body) (behind_digits body)) (digits_value 10 (leading_digits body)) n e in
+      let is = strict (is_readable (leading_digits body) (after_digits body)) (is_plain_numeral (leading_digits body) (after_digits body)) (digits_value 10 (leading_digits body)) n e in
       plain_parts body n is.0 is.1 is.2,
   read_strictly body n,
 )
@@ -213,5 +213,5 @@ small_said false plain read value n small e = absurd cc
 -- a number that is read has 64 bits
 pub small_numeral : (read : Bool) (body : List ℕ) (n : ℕ) → read_as read (numeral_of body) ≡ Some n → n < 2 ^ 64
 small_numeral read body n e =
-    small_said (is_readable (leading_digits body) (behind_digits body)) (is_plain_numeral (leading_digits body) (behind_digits body)) read (digits_value 10 (leading_digits body)) n
-    (λ is. (readable_parts (leading_digits body) (behind_digits body) is).small) e
+    small_said (is_readable (leading_digits body) (after_digits body)) (is_plain_numeral (leading_digits body) (after_digits body)) read (digits_value 10 (leading_digits body)) n
+    (λ is. (readable_parts (leading_digits body) (after_digits body) is).small) e

@@ -79,7 +79,7 @@ history_before_place s actor.P n h =
 next_of : (xs : List Sent) (n : ℕ) (sent : Sent) → slice_get xs n ≡ Some sent → take (n + 1) xs ≡ take n xs ++ sent ∷ []
 next_of xs n sent at = take_more xs n sent (slice_get_within xs n sent at) ∙ ap (λ x. take n xs ++ x ∷ []) (get_or_from_slice_get xs n sent sent at)
 
--- the request at a place, behind those before it
+-- the request at a place, after those before it
 before_next : (s : Sections) (who : Actor) (n : ℕ) (sent : Sent) → slice_get (section_of s who) n ≡ Some sent → before s who (n + 1) ≡ added (before s who n) who sent
 before_next s actor.P n sent at = rw (next_of s.p n sent at) refl
 before_next s actor.A n sent at = rw (next_of s.a n sent at) refl

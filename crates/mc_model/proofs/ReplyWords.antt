@@ -12,7 +12,7 @@ use Rattle.mc_protocol.specs.Words.{all_classes}
 use Rattle.mc_protocol.proofs.Found.{find-passes}
 use Rattle.mc_model.specs.declared.words.WordsFault.TheVariants as fault
 use Rattle.mc_model.specs.Words.{SpellsShown, SpellsReply, class_word}
-use Rattle.mc_model.specs.Reading.{◌>>=◌, class_of_word, number_in, flags_in, body_in, bare_in, shown_number_in, hit_in, count_in, behind_class, reply_in}
+use Rattle.mc_model.specs.Reading.{◌>>=◌, class_of_word, number_in, flags_in, body_in, bare_in, shown_number_in, hit_in, count_in, after_class, reply_in}
 use Rattle.mc_model.proofs.Outcomes.{steps-ok, ok-same}
 use Rattle.mc_model.proofs.NumberWords.{number-spelled, number-read}
 use Rattle.mc_model.proofs.BodyWords.{body-spelled, body-read}
@@ -37,7 +37,7 @@ pub word-of_class : (word : Word) (c : Class) → class_of_word word ≡ Some c 
 unfolding class_of_word
 word-of_class word c h = (bytes_eq-Decides (class_word c) word).0 (find-passes (λ d. bytes_eq (class_word d) word) all_classes c h)
 
--- ---- replies with nothing behind their word
+-- ---- replies with nothing after their word
 
 bare-spelled : (c : Class) (made : Reply) → ((words : List Word) → words ≡ class_word c ∷ [] → SpellsReply words made) → (word : Word) (words : List Word) (r : Reply) → class_word c ≡ word → bare_in made words ≡ Ok r → SpellsReply (word ∷ words) r
 bare-spelled c made spells word [] r w h = subst (SpellsReply (word ∷ [])) (ok-same made r h) (spells (word ∷ []) (rw w refl))
@@ -83,26 +83,26 @@ count-read word n s = rw (number-read MAX_64 word n s) refl
 
 -- ---- replies
 
-behind-spelled : (word : Word) (c : Option Class) (words : List Word) (r : Reply) → class_of_word word ≡ c → behind_class c words ≡ Ok r → SpellsReply (word ∷ words) r
-behind-spelled word None words r e h = absurd (cc)
-behind-spelled word (Some class.Stored) words r e h = bare-spelled class.Stored reply.Stored (λ _ p. p) word words r (word-of_class word class.Stored e) h
-behind-spelled word (Some class.NotStored) words r e h = bare-spelled class.NotStored reply.NotStored (λ _ p. p) word words r (word-of_class word class.NotStored e) h
-behind-spelled word (Some class.Exists) words r e h = bare-spelled class.Exists reply.Exists (λ _ p. p) word words r (word-of_class word class.Exists e) h
-behind-spelled word (Some class.NotFound) words r e h = bare-spelled class.NotFound reply.NotFound (λ _ p. p) word words r (word-of_class word class.NotFound e) h
-behind-spelled word (Some class.Hit) words r e h = hit-spelled word words r (word-of_class word class.Hit e) h
-behind-spelled word (Some class.Miss) words r e h = bare-spelled class.Miss reply.Miss (λ _ p. p) word words r (word-of_class word class.Miss e) h
-behind-spelled word (Some class.Deleted) words r e h = bare-spelled class.Deleted reply.Deleted (λ _ p. p) word words r (word-of_class word class.Deleted e) h
-behind-spelled word (Some class.Touched) words r e h = bare-spelled class.Touched reply.Touched (λ _ p. p) word words r (word-of_class word class.Touched e) h
-behind-spelled word (Some class.Number) words r e h = count-spelled word words r (word-of_class word class.Number e) h
-behind-spelled word (Some class.NotNumber) words r e h = bare-spelled class.NotNumber reply.NotNumber (λ _ p. p) word words r (word-of_class word class.NotNumber e) h
+after-spelled : (word : Word) (c : Option Class) (words : List Word) (r : Reply) → class_of_word word ≡ c → after_class c words ≡ Ok r → SpellsReply (word ∷ words) r
+after-spelled word None words r e h = absurd (cc)
+after-spelled word (Some class.Stored) words r e h = bare-spelled class.Stored reply.Stored (λ _ p. p) word words r (word-of_class word class.Stored e) h
+after-spelled word (Some class.NotStored) words r e h = bare-spelled class.NotStored reply.NotStored (λ _ p. p) word words r (word-of_class word class.NotStored e) h
+after-spelled word (Some class.Exists) words r e h = bare-spelled class.Exists reply.Exists (λ _ p. p) word words r (word-of_class word class.Exists e) h
+after-spelled word (Some class.NotFound) words r e h = bare-spelled class.NotFound reply.NotFound (λ _ p. p) word words r (word-of_class word class.NotFound e) h
+after-spelled word (Some class.Hit) words r e h = hit-spelled word words r (word-of_class word class.Hit e) h
+after-spelled word (Some class.Miss) words r e h = bare-spelled class.Miss reply.Miss (λ _ p. p) word words r (word-of_class word class.Miss e) h
+after-spelled word (Some class.Deleted) words r e h = bare-spelled class.Deleted reply.Deleted (λ _ p. p) word words r (word-of_class word class.Deleted e) h
+after-spelled word (Some class.Touched) words r e h = bare-spelled class.Touched reply.Touched (λ _ p. p) word words r (word-of_class word class.Touched e) h
+after-spelled word (Some class.Number) words r e h = count-spelled word words r (word-of_class word class.Number e) h
+after-spelled word (Some class.NotNumber) words r e h = bare-spelled class.NotNumber reply.NotNumber (λ _ p. p) word words r (word-of_class word class.NotNumber e) h
 
 pub reply-spelled : (words : List Word) (r : Reply) → reply_in words ≡ Ok r → SpellsReply words r
 unfolding reply_in
 reply-spelled [] r h = absurd (cc)
-reply-spelled (word ∷ words) r h = behind-spelled word (class_of_word word) words r refl h
+reply-spelled (word ∷ words) r h = after-spelled word (class_of_word word) words r refl h
 
--- what stands behind a class's word is read by the class
-class-read : (c : Class) (words others : List Word) (r : Reply) → words ≡ class_word c ∷ others → behind_class (Some c) others ≡ Ok r → reply_in words ≡ Ok r
+-- what comes after a class's word is read by the class
+class-read : (c : Class) (words others : List Word) (r : Reply) → words ≡ class_word c ∷ others → after_class (Some c) others ≡ Ok r → reply_in words ≡ Ok r
 unfolding reply_in
 class-read c words others r e h = rw (e, class_of-word c) h
 

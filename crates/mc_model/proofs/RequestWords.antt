@@ -13,33 +13,33 @@ use Rattle.mc_protocol.specs.Decimals.{are_digits, MAX_32, MAX_64}
 use Rattle.mc_protocol.proofs.OfWords.{verb_of-word, word-of_verb}
 use Rattle.mc_model.specs.declared.words.WordsFault.TheVariants as fault
 use Rattle.mc_model.specs.Words.{SpellsBody, SpellsFields, SpellsRequest}
-use Rattle.mc_model.specs.Reading.{◌>>=◌, body_in, flags_in, fields_in, key_alone_in, item_in, behind_verb, request_in, number_in, swap_in, amount_in}
+use Rattle.mc_model.specs.Reading.{◌>>=◌, body_in, flags_in, fields_in, key_alone_in, item_in, after_verb, request_in, number_in, swap_in, amount_in}
 use Rattle.mc_model.proofs.Outcomes.{then-ok, steps-ok, ok-same}
 use Rattle.mc_model.proofs.NumberWords.{number-spelled, number-read}
 use Rattle.mc_model.proofs.BodyWords.{body-spelled, body-read}
 
--- ---- what stands behind the key, by its shape
+-- ---- what comes after the key, by its shape
 
 -- the request is for the verb and the key, and the words spell what it has besides
-abbrev SpellsBehind : Fields → Verb → List ℕ → List Word → Request → Type 0
-SpellsBehind shape verb key words r = (r.verb ≡ verb) × (r.key ≡ key) × SpellsFields shape words r
+abbrev SpellsAfter : Fields → Verb → List ℕ → List Word → Request → Type 0
+SpellsAfter shape verb key words r = (r.verb ≡ verb) × (r.key ≡ key) × SpellsFields shape words r
 
-key_alone-spelled : (verb : Verb) (key : List ℕ) (words : List Word) (r : Request) → key_alone_in verb key words ≡ Ok r → SpellsBehind fields.KeyAlone verb key words r
-key_alone-spelled verb key [] r h = subst (SpellsBehind fields.KeyAlone verb key []) (ok-same _ r h) (refl, refl, (refl, refl, refl, refl))
+key_alone-spelled : (verb : Verb) (key : List ℕ) (words : List Word) (r : Request) → key_alone_in verb key words ≡ Ok r → SpellsAfter fields.KeyAlone verb key words r
+key_alone-spelled verb key [] r h = subst (SpellsAfter fields.KeyAlone verb key []) (ok-same _ r h) (refl, refl, (refl, refl, refl, refl))
 key_alone-spelled verb key (word ∷ words) r h = absurd (cc)
 
-item-spelled : (verb : Verb) (key : List ℕ) (words : List Word) (r : Request) → item_in verb key words ≡ Ok r → SpellsBehind fields.Item verb key words r
+item-spelled : (verb : Verb) (key : List ℕ) (words : List Word) (r : Request) → item_in verb key words ≡ Ok r → SpellsAfter fields.Item verb key words r
 item-spelled verb key [] r h = absurd (cc)
 item-spelled verb key (flags ∷ []) r h = absurd (let p = steps-ok (flags_in flags) (λ f. Err fault.Form) r h in cc)
 item-spelled verb key (flags ∷ body ∷ []) r h =
     let made : ℕ → List ℕ → Request = λ f b. record { verb = verb; key = key; flags = f; body = b; number = 0 } in
     let p = steps-ok (flags_in flags) (λ f. body_in body >>= λ b. Ok (made f b)) r h in
     let q = steps-ok (body_in body) (λ b. Ok (made p.0 b)) r p.2 in
-    subst (SpellsBehind fields.Item verb key (flags ∷ body ∷ [])) (ok-same (made p.0 q.0) r q.2) (refl, refl, (flags, body, refl, number-spelled MAX_32 flags p.0 p.1, body-spelled body q.0 q.1, refl))
+    subst (SpellsAfter fields.Item verb key (flags ∷ body ∷ [])) (ok-same (made p.0 q.0) r q.2) (refl, refl, (flags, body, refl, number-spelled MAX_32 flags p.0 p.1, body-spelled body q.0 q.1, refl))
 item-spelled verb key (flags ∷ body ∷ word ∷ words) r h =
     absurd (let p = steps-ok (flags_in flags) (λ f. body_in body >>= λ b. Err fault.Form) r h in let q = steps-ok (body_in body) (λ b. Err fault.Form) r p.2 in cc)
 
-swap-spelled : (verb : Verb) (key : List ℕ) (words : List Word) (r : Request) → swap_in verb key words ≡ Ok r → SpellsBehind fields.Swap verb key words r
+swap-spelled : (verb : Verb) (key : List ℕ) (words : List Word) (r : Request) → swap_in verb key words ≡ Ok r → SpellsAfter fields.Swap verb key words r
 swap-spelled verb key [] r h = absurd (cc)
 swap-spelled verb key (flags ∷ []) r h = absurd (let p = steps-ok (flags_in flags) (λ f. Err fault.Form) r h in cc)
 swap-spelled verb key (flags ∷ body ∷ []) r h =
@@ -49,7 +49,7 @@ swap-spelled verb key (flags ∷ body ∷ number ∷ []) r h =
     let p = steps-ok (flags_in flags) (λ f. body_in body >>= λ b. number_in MAX_64 number >>= λ n. Ok (made f b n)) r h in
     let q = steps-ok (body_in body) (λ b. number_in MAX_64 number >>= λ n. Ok (made p.0 b n)) r p.2 in
     let s = steps-ok (number_in MAX_64 number) (λ n. Ok (made p.0 q.0 n)) r q.2 in
-    subst (SpellsBehind fields.Swap verb key (flags ∷ body ∷ number ∷ [])) (ok-same (made p.0 q.0 s.0) r s.2)
+    subst (SpellsAfter fields.Swap verb key (flags ∷ body ∷ number ∷ [])) (ok-same (made p.0 q.0 s.0) r s.2)
     (refl, refl, (flags, body, number, refl, number-spelled MAX_32 flags p.0 p.1, body-spelled body q.0 q.1, number-spelled MAX_64 number s.0 s.1))
 swap-spelled verb key (flags ∷ body ∷ number ∷ word ∷ words) r h =
     absurd (
@@ -58,15 +58,15 @@ swap-spelled verb key (flags ∷ body ∷ number ∷ word ∷ words) r h =
     let s = steps-ok (number_in MAX_64 number) (λ n. Err fault.Form) r q.2 in
     cc)
 
-amount-spelled : (verb : Verb) (key : List ℕ) (words : List Word) (r : Request) → amount_in verb key words ≡ Ok r → SpellsBehind fields.Amount verb key words r
+amount-spelled : (verb : Verb) (key : List ℕ) (words : List Word) (r : Request) → amount_in verb key words ≡ Ok r → SpellsAfter fields.Amount verb key words r
 amount-spelled verb key [] r h = absurd (cc)
 amount-spelled verb key (number ∷ []) r h =
     let made : ℕ → Request = λ n. record { verb = verb; key = key; flags = 0; body = []; number = n } in
     let p = steps-ok (number_in MAX_64 number) (λ n. Ok (made n)) r h in
-    subst (SpellsBehind fields.Amount verb key (number ∷ [])) (ok-same (made p.0) r p.2) (refl, refl, (number, refl, refl, refl, number-spelled MAX_64 number p.0 p.1))
+    subst (SpellsAfter fields.Amount verb key (number ∷ [])) (ok-same (made p.0) r p.2) (refl, refl, (number, refl, refl, refl, number-spelled MAX_64 number p.0 p.1))
 amount-spelled verb key (number ∷ word ∷ words) r h = absurd (let p = steps-ok (number_in MAX_64 number) (λ n. Err fault.Form) r h in cc)
 
-fields-spelled : (shape : Fields) (verb : Verb) (key : List ℕ) (words : List Word) (r : Request) → fields_in shape verb key words ≡ Ok r → SpellsBehind shape verb key words r
+fields-spelled : (shape : Fields) (verb : Verb) (key : List ℕ) (words : List Word) (r : Request) → fields_in shape verb key words ≡ Ok r → SpellsAfter shape verb key words r
 fields-spelled fields.KeyAlone verb key words r h = key_alone-spelled verb key words r h
 fields-spelled fields.Expiry verb key words r h = key_alone-spelled verb key words r h
 fields-spelled fields.Item verb key words r h = item-spelled verb key words r h
@@ -89,10 +89,10 @@ fields-read fields.Amount r words (number, e, f, b, n) =
 
 -- ---- requests
 
-behind-spelled : (word : Word) (verb : Option Verb) (words : List Word) (r : Request) → verb_of word ≡ verb → behind_verb verb words ≡ Ok r → SpellsRequest (word ∷ words) r
-behind-spelled word None words r e h = absurd (cc)
-behind-spelled word (Some verb) [] r e h = absurd (cc)
-behind-spelled word (Some verb) (key ∷ others) r e h =
+after-spelled : (word : Word) (verb : Option Verb) (words : List Word) (r : Request) → verb_of word ≡ verb → after_verb verb words ≡ Ok r → SpellsRequest (word ∷ words) r
+after-spelled word None words r e h = absurd (cc)
+after-spelled word (Some verb) [] r e h = absurd (cc)
+after-spelled word (Some verb) (key ∷ others) r e h =
     let p = then-ok (is_key key) (fields_in (fields_of verb) verb key others) fault.Form r h in
     let q = fields-spelled (fields_of verb) verb key others r p.1 in
     let w = word-of_verb word verb e in
@@ -101,7 +101,7 @@ behind-spelled word (Some verb) (key ∷ others) r e h =
 pub request-spelled : (words : List Word) (r : Request) → request_in words ≡ Ok r → SpellsRequest words r
 unfolding request_in
 request-spelled [] r h = absurd (cc)
-request-spelled (word ∷ words) r h = behind-spelled word (verb_of word) words r refl h
+request-spelled (word ∷ words) r h = after-spelled word (verb_of word) words r refl h
 
 pub request-read : (words : List Word) (r : Request) → SpellsRequest words r → request_in words ≡ Ok r
 unfolding request_in

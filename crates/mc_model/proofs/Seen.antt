@@ -19,7 +19,7 @@ and_assoc : (x y z : Bool) → (x && (y && z)) ≡ (x && y && z)
 and_assoc true y z = refl
 and_assoc false y z = refl
 
--- one more request of a section, behind those that it sees
+-- one more request of a section, after those that it sees
 pub seen_added : (earlier xs : List Sent) (sent : Sent) → are_seen earlier (xs ++ sent ∷ []) ≡ (are_seen earlier xs && is_seen (earlier ++ xs) sent)
 seen_added earlier [] sent = and_once (is_seen earlier sent) ∙ ap (λ all. is_seen all sent) (sym (append-nil earlier))
 seen_added earlier (x ∷ xs) sent =
@@ -40,9 +40,9 @@ seen-append xs ys sent =
 abbrev ShowsNoLess : List Sent → List Sent → Type 0
 ShowsNoLess less more = (sent : Sent) → is_seen less sent ≡ true → is_seen more sent ≡ true
 
--- requests behind both
-no_less_behind : (less more xs : List Sent) → ShowsNoLess less more → ShowsNoLess (less ++ xs) (more ++ xs)
-no_less_behind less more xs keeps sent seen =
+-- requests after both
+no_less_after : (less more xs : List Sent) → ShowsNoLess less more → ShowsNoLess (less ++ xs) (more ++ xs)
+no_less_after less more xs keeps sent seen =
     elim (or_cases (is_seen less sent) (is_seen xs sent) (sym (seen-append less xs sent) ∙ seen)) [
       | inl e ↦ seen-append more xs sent ∙ or_left (is_seen more sent) (is_seen xs sent) (keeps sent e)
       | inr e ↦ seen-append more xs sent ∙ or_right (is_seen more sent) (is_seen xs sent) e
@@ -53,11 +53,11 @@ seen_with_more : (less more xs : List Sent) → ShowsNoLess less more → are_se
 seen_with_more less more [] keeps all = refl
 seen_with_more less more (x ∷ xs) keeps all =
     let parts = and_parts (is_seen less x) (are_seen (less ++ x ∷ []) xs) all in
-    and_from (is_seen more x) (are_seen (more ++ x ∷ []) xs) (keeps x parts.0) (seen_with_more (less ++ x ∷ []) (more ++ x ∷ []) xs (no_less_behind less more (x ∷ []) keeps) parts.1)
+    and_from (is_seen more x) (are_seen (more ++ x ∷ []) xs) (keeps x parts.0) (seen_with_more (less ++ x ∷ []) (more ++ x ∷ []) xs (no_less_after less more (x ∷ []) keeps) parts.1)
 
 -- a branch sees what comes at P's end
-seen_behind : (p xs : List Sent) (sent : Sent) → are_seen p xs ≡ true → are_seen (p ++ sent ∷ []) xs ≡ true
-seen_behind p xs sent all =
+seen_after : (p xs : List Sent) (sent : Sent) → are_seen p xs ≡ true → are_seen (p ++ sent ∷ []) xs ≡ true
+seen_after p xs sent all =
     seen_with_more p (p ++ sent ∷ []) xs (λ x seen. seen-append p (sent ∷ []) x ∙ or_left (is_seen p x) (is_seen (sent ∷ []) x) seen) all
 
 -- the three sections
@@ -79,7 +79,7 @@ and_twice false = refl
 pub numbers_added : (s : Sections) (who : Actor) (sent : Sent) → numbers_are_seen s ≡ true → numbers_are_seen (added s who sent) ≡ number_is_seen s who sent
 numbers_added s actor.P sent all =
     let parts = seen_parts s all in
-    rw (seen_added [] s.p sent, parts.0, seen_behind s.p s.a sent parts.1, seen_behind s.p s.b sent parts.2)
+    rw (seen_added [] s.p sent, parts.0, seen_after s.p s.a sent parts.1, seen_after s.p s.b sent parts.2)
     (and_twice (is_seen s.p sent) ∙ or_twice (is_seen s.p sent))
 numbers_added s actor.A sent all =
     let parts = seen_parts s all in

@@ -75,7 +75,7 @@ none_sent (x ∷ xs) none = cc
 pub no_branch : (s : Sections) → comes_late s actor.P ≡ false → has_no_branch s ≡ true
 no_branch s late = not-false (has_no_branch s) late
 
--- an unanswered request of P has no branch behind it
+-- an unanswered request of P has no branch after it
 answered_first : (p x y : Bool) → (p || (x && y)) ≡ true → (x && y) ≡ false → p ≡ true
 answered_first true x y e f = refl
 answered_first false x y e f = sym f ∙ e

@@ -48,7 +48,7 @@ abbrev pub replaced : Request → ℕ → Option Item → Effect
 replaced request number None = answers reply.NotStored
 replaced request number (Some item) = stored request number
 
--- ---- joining: the old flags, and the body behind or in front of the old one
+-- ---- joining: the old flags, and the request's body after or before the old one
 
 abbrev pub joined : Item → List ℕ → ℕ → Effect
 joined item body number = puts (record { flags = item.flags; body = body; number = number }) reply.Stored

@@ -71,10 +71,10 @@ DeletedIsGone =
 -- ---- versions
 
 -- a reply that says that a version was made
-abbrev pub tells_version : Class → Bool
-tells_version class.Stored = true
-tells_version class.Number = true
-tells_version _ = false
+abbrev pub reports_version : Class → Bool
+reports_version class.Stored = true
+reports_version class.Number = true
+reports_version _ = false
 
 -- the effect makes a version with this number, and what is at the key after it is that version
 pub record MakesVersion (contents : Contents) (request : Request) (choice : Choice) (number : ℕ) : Type 0 where
@@ -83,18 +83,18 @@ pub record MakesVersion (contents : Contents) (request : Request) (choice : Choi
   pub numbered : item.number ≡ number
   pub there : finite_map.get (act contents request choice number).contents request.key ≡ Some item
 
--- a version is made where the reply tells of one, and has the number given
-abbrev pub ToldVersionIsMade : Type 0
-ToldVersionIsMade =
+-- a version is made where the reply reports one, and has the number given
+abbrev pub ReportedVersionIsMade : Type 0
+ReportedVersionIsMade =
     (contents : Contents) (request : Request) (choice : Choice) (number : ℕ)
-    → tells_version (class_of (act contents request choice number).reply) ≡ true → MakesVersion contents request choice number
+    → reports_version (class_of (act contents request choice number).reply) ≡ true → MakesVersion contents request choice number
 
 -- and nowhere else
-abbrev pub MadeVersionIsTold : Type 0
-MadeVersionIsTold =
+abbrev pub MadeVersionIsReported : Type 0
+MadeVersionIsReported =
     (contents : Contents) (request : Request) (choice : Choice) (number : ℕ) (item : Item)
     → (effect_of contents request choice number).change ≡ Puts item
-    → tells_version (class_of (act contents request choice number).reply) ≡ true
+    → reports_version (class_of (act contents request choice number).reply) ≡ true
 
 -- ---- numbers
 

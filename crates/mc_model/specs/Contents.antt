@@ -19,6 +19,6 @@ coded_item =
 abbrev pub coded_contents : Coded Contents
 coded_contents = finite_map.code (coded_list coded_ℕ) coded_item
 
--- what a list of keys and items holds; at a key that stands twice it is the first item
+-- what a list of keys and items holds: of a key that it has twice, the first item
 abbrev pub contents_of : List (List ℕ × Item) → Contents
 contents_of = finite_map.from_entries

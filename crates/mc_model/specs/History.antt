@@ -126,13 +126,13 @@ is_gets verb.Gets = true
 is_gets _ = false
 
 -- the reply is a hit with this cas number
-abbrev pub tells : ℕ → Option Reply → Bool
-tells number (Some (replies.Hit flags body (Some cas))) = cas == number
-tells number _ = false
+abbrev pub shows_number : ℕ → Option Reply → Bool
+shows_number number (Some (replies.Hit flags body (Some cas))) = cas == number
+shows_number number _ = false
 
 -- the request is a gets of the key that was answered with this number
 abbrev pub shows : List ℕ → ℕ → Sent → Bool
-shows key number sent = is_gets sent.request.verb && is_on key sent && tells number sent.reply
+shows key number sent = is_gets sent.request.verb && is_on key sent && shows_number number sent.reply
 
 -- one of the earlier requests shows the number of a cas: other requests need none
 abbrev pub is_seen : List Sent → Sent → Bool

@@ -11,7 +11,7 @@ abbrev pub PrefixesAreHistories : Type 0
 PrefixesAreHistories =
     (s : Sections) (who : Actor) (sent : Sent) → comes_late s who ≡ false → is_history (added s who sent) ≡ true → is_history s ≡ true
 
--- so is what stands before any place of it
+-- so are the requests before any place of it
 abbrev pub PlacesEndHistories : Type 0
 PlacesEndHistories = (s : Sections) (who : Actor) (place : ℕ) → is_history s ≡ true → is_history (before s who place) ≡ true
 

@@ -9,9 +9,9 @@ use Rattle.mc_model.specs.declared.numeral.Numeral.TheVariants.{NoNumber, Is, Ma
 abbrev pub leading_digits : List ℕ → List ℕ
 leading_digits body = take_while is_digit body
 
--- what stands behind the leading digits
-abbrev pub behind_digits : List ℕ → List ℕ
-behind_digits body = drop (length (leading_digits body)) body
+-- what comes after the leading digits
+abbrev pub after_digits : List ℕ → List ℕ
+after_digits body = drop (length (leading_digits body)) body
 
 abbrev pub is_space : ℕ → Bool
 is_space byte = byte == 32
@@ -24,7 +24,7 @@ ends_or_has_space (byte ∷ bytes) = is_space byte
 abbrev pub value_of : List ℕ → ℕ
 value_of digits = digits_value 10 digits
 
--- the digits are a number of 64 bits, and the body ends behind them or goes on with a space
+-- the digits are a number of 64 bits, and the body ends after them or goes on with a space
 abbrev pub is_readable : List ℕ → List ℕ → Bool
 is_readable digits rest = not (length digits == 0) && ends_or_has_space rest && nat_lt (value_of digits) (2 ^ 64)
 
@@ -42,7 +42,7 @@ numeral_of_parts digits rest =
 
 -- what a body says
 abbrev pub numeral_of : List ℕ → Numeral
-numeral_of body = numeral_of_parts (leading_digits body) (behind_digits body)
+numeral_of body = numeral_of_parts (leading_digits body) (after_digits body)
 
 -- the number that is read, by the choice where there is one
 abbrev pub read_as : Bool → Numeral → Option ℕ

@@ -4,7 +4,7 @@ use Rattle.std.specs.Str.Parse.{digits_value}
 use Rattle.mc_protocol.specs.Decimals.{are_digits}
 use Rattle.mc_model.specs.Numeral.{numeral_of, read_as, ends_or_has_space}
 
--- digits, and behind them nothing, or a space and what follows it
+-- digits, and after them nothing, or a space and what follows it
 pub record BeginsWithNumber (body : List ℕ) (n : ℕ) : Type 0 where
   pub digits : List ℕ
   pub rest : List ℕ
@@ -26,10 +26,10 @@ pub record IsPlainNumber (body : List ℕ) (n : ℕ) : Type 0 where
   pub value : digits_value 10 digits ≡ n
   pub small : n < 2 ^ 64
 
--- who reads what may be read reads the bodies that begin with a number
+-- a server that reads all that it may reads the bodies that begin with a number
 abbrev pub WillingReads : Type 0
 WillingReads = (body : List ℕ) (n : ℕ) → (read_as true (numeral_of body) ≡ Some n) ↔ BeginsWithNumber body n
 
--- who doesn't reads the plain ones
+-- one that reads only what it must reads the plain ones
 abbrev pub StrictReads : Type 0
 StrictReads = (body : List ℕ) (n : ℕ) → (read_as false (numeral_of body) ≡ Some n) ↔ IsPlainNumber body n

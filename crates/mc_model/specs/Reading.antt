@@ -1,7 +1,6 @@
--- What the readers of words answer, fault by fault. Of public contracts only those of `read_number` and `read_body`
--- cite it, which say by it which fault comes: `Words.antt` says what words
--- spell, and the proofs join the two.
-use Rattle.std.specs.Prelude.{◌≡◌, ℕ, ◌+◌, ◌*◌, ◌==◌, nat_le, Option, Some, None, Result, Ok, Err, List, [], ◌∷◌, length, if◌then◌else◌}
+-- What the readers of words answer, fault by fault. Of the public contracts only those of `read_number` and `read_body`
+-- cite it, to say which fault comes. `Words.antt` says what words spell, and the proofs join the two.
+use Rattle.std.specs.Prelude.{◌≡◌, ℕ, ◌+◌, ◌*◌, ◌==◌, nat_le, nat_lt, not, ◌||◌, Option, Some, None, Result, Ok, Err, List, [], ◌∷◌, length, if◌then◌else◌}
 use Rattle.std.specs.List.{find}
 use Rattle.std.specs.Str.{bytes_eq}
 use Rattle.mc_protocol.specs.Words.{verb_of, all_classes}
@@ -65,7 +64,7 @@ first_byte_in (a ∷ []) = if_plain a []
 first_byte_in (a ∷ b ∷ []) = if_plain a (b ∷ [])
 first_byte_in (a ∷ b ∷ c ∷ rest) = if a == 37 then if_hex (hex_value b) (hex_value c) rest else if_plain a (b ∷ c ∷ rest)
 
--- a byte in front of the bytes that follow
+-- a byte before the bytes that follow
 abbrev pub in_front : ℕ → Result (List ℕ) WordsFault → Result (List ℕ) WordsFault
 in_front byte (Ok bytes) = Ok (byte ∷ bytes)
 in_front byte (Err e) = Err e
@@ -120,14 +119,14 @@ fields_in fields.Item verb key words = item_in verb key words
 fields_in fields.Swap verb key words = swap_in verb key words
 fields_in fields.Amount verb key words = amount_in verb key words
 
-abbrev pub behind_verb : Option Verb → List Word → Result Request WordsFault
-behind_verb None words = Err fault.Form
-behind_verb (Some verb) [] = Err fault.Form
-behind_verb (Some verb) (key ∷ others) = if is_key key then fields_in (fields_of verb) verb key others else Err fault.Form
+abbrev pub after_verb : Option Verb → List Word → Result Request WordsFault
+after_verb None words = Err fault.Form
+after_verb (Some verb) [] = Err fault.Form
+after_verb (Some verb) (key ∷ others) = if is_key key then fields_in (fields_of verb) verb key others else Err fault.Form
 
 unfoldable pub request_in : List Word → Result Request WordsFault
 request_in [] = Err fault.Form
-request_in (word ∷ words) = behind_verb (verb_of word) words
+request_in (word ∷ words) = after_verb (verb_of word) words
 
 unfoldable pub class_of_word : Word → Option Class
 class_of_word word = find (λ c. bytes_eq (class_word c) word) all_classes
@@ -151,19 +150,19 @@ count_in [] = Err fault.Form
 count_in (number ∷ []) = number_in MAX_64 number >>= λ n. Ok (reply.Number n)
 count_in (number ∷ _ ∷ _) = number_in MAX_64 number >>= λ n. Err fault.Form
 
-abbrev pub behind_class : Option Class → List Word → Result Reply WordsFault
-behind_class None words = Err fault.Form
-behind_class (Some class.Stored) words = bare_in reply.Stored words
-behind_class (Some class.NotStored) words = bare_in reply.NotStored words
-behind_class (Some class.Exists) words = bare_in reply.Exists words
-behind_class (Some class.NotFound) words = bare_in reply.NotFound words
-behind_class (Some class.Hit) words = hit_in words
-behind_class (Some class.Miss) words = bare_in reply.Miss words
-behind_class (Some class.Deleted) words = bare_in reply.Deleted words
-behind_class (Some class.Touched) words = bare_in reply.Touched words
-behind_class (Some class.Number) words = count_in words
-behind_class (Some class.NotNumber) words = bare_in reply.NotNumber words
+abbrev pub after_class : Option Class → List Word → Result Reply WordsFault
+after_class None words = Err fault.Form
+after_class (Some class.Stored) words = bare_in reply.Stored words
+after_class (Some class.NotStored) words = bare_in reply.NotStored words
+after_class (Some class.Exists) words = bare_in reply.Exists words
+after_class (Some class.NotFound) words = bare_in reply.NotFound words
+after_class (Some class.Hit) words = hit_in words
+after_class (Some class.Miss) words = bare_in reply.Miss words
+after_class (Some class.Deleted) words = bare_in reply.Deleted words
+after_class (Some class.Touched) words = bare_in reply.Touched words
+after_class (Some class.Number) words = count_in words
+after_class (Some class.NotNumber) words = bare_in reply.NotNumber words
 
 unfoldable pub reply_in : List Word → Result Reply WordsFault
 reply_in [] = Err fault.Form
-reply_in (word ∷ words) = behind_class (class_of_word word) words
+reply_in (word ∷ words) = after_class (class_of_word word) words

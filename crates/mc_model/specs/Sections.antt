@@ -24,7 +24,7 @@ added s actor.P sent = record s { p = s.p ++ sent ∷ [] }
 added s actor.A sent = record s { a = s.a ++ sent ∷ [] }
 added s actor.B sent = record s { b = s.b ++ sent ∷ [] }
 
--- what stands before a request, in the order P, A, B: the first of its section, and the sections before
+-- what comes before the request at a place, in the order P, A, B: the earlier requests of its section, and the sections before
 abbrev pub before : Sections → Actor → ℕ → Sections
 before s actor.P n = record { p = take n s.p; a = []; b = [] }
 before s actor.A n = record { p = s.p; a = take n s.a; b = [] }

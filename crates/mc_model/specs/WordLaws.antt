@@ -39,6 +39,14 @@ PrintedWordsSpellTheRequest = (r : Request) → has_words r ≡ true → FitsReq
 abbrev pub PrintedWordsSpellTheReply : Type 0
 PrintedWordsSpellTheReply = (r : Reply) → has_short_body r ≡ true → FitsReply r → SpellsReply (reply_words r) r
 
+-- the other way: what some words spell is such a request
+abbrev pub SpelledRequestsHaveWords : Type 0
+SpelledRequestsHaveWords = (words : List Word) (r : Request) → SpellsRequest words r → has_words r ≡ true
+
+-- and such a reply
+abbrev pub SpelledRepliesHaveShortBodies : Type 0
+SpelledRepliesHaveShortBodies = (words : List Word) (r : Reply) → SpellsReply words r → has_short_body r ≡ true
+
 -- ---- words stay whole on a line
 
 -- a byte that neither separates words nor ends a line: 33 to 126
@@ -60,7 +68,7 @@ SpellingWordsAreWhole {V} Spells = (words : List Word) (v : V) → Spells words 
 abbrev pub JoinedWordsFallApart : Type 0
 JoinedWordsFallApart = (separator : Separator) (words : List Word) → are_whole words ≡ true → words_of separator (joined words) ≡ words
 
--- a byte that may stand within a line: a space, or a visible byte
+-- a byte that a line may have: a space, or a visible byte
 abbrev pub is_in_line : ℕ → Bool
 is_in_line byte = nat_le 32 byte && nat_le byte 126
 

@@ -1,4 +1,5 @@
-ghost use Rattle.std.specs.Prelude.{◌≡◌, ◌≢◌, ◌++◌, ◌<◌, ℕ, List, false, IfOk, IfErr, OnOk, OnErr};
+//! The words of bodies, in which a byte that isn't visible, and `%`, is escaped.
+ghost use Rattle.std.specs.Prelude.{◌≡◌, ◌≢◌, ◌++◌, ◌<◌, ℕ, List, false, IfOk, IfErr, OnOk};
 ghost use Rattle.std.specs.Fmt.{digit_glyph};
 ghost use Rattle.std.specs.Option.{option_map};
 ghost use Rattle.mc_model.specs.Words as spec;
@@ -7,10 +8,10 @@ ghost use Rattle.mc_model.specs.Reading as reading;
 
 use crate::WordsFault;
 use mc_protocol::{Bytes, OutOfMemory, REPLY_BODY_LIMIT};
-use std::alloc::{AllocError, Global};
+use std::alloc::Global;
 
-/// Reads a body: `=`, and behind it the bytes. A byte from 33 to 126 other than `%` stands for itself, and `%hh` for
-/// the byte with these two hexadecimal digits. A word that is none, or a body of more than [`REPLY_BODY_LIMIT`] bytes, is
+/// Reads a body: `=`, and after it the bytes. A byte from 33 to 126 other than `%` stands for itself, and `%hh` stands
+/// for the byte with these two hexadecimal digits. A word that is no body, or one of more than [`REPLY_BODY_LIMIT`] bytes, is
 /// [`WordsFault::Form`].
 pub fn read_body(alloc: Global, word: &[u8]) -> Result<Bytes, WordsFault>
     ensures exact { reading.Gives (λ b. b) result (reading.body_in word.now) }
@@ -22,6 +23,7 @@ pub fn read_body(alloc: Global, word: &[u8]) -> Result<Bytes, WordsFault>
     body_in(alloc, word)
 }
 
+/// Reads a body. The public function adds to the contract what words spell.
 #[tactic(auto, unfolding(crate::specs::Reading::body_in))]
 fn body_in(alloc: Global, word: &[u8]) -> Result<Bytes, WordsFault>
     ensures exact { reading.Gives (λ b. b) result (reading.body_in word.now) }
@@ -32,15 +34,15 @@ fn body_in(alloc: Global, word: &[u8]) -> Result<Bytes, WordsFault>
     if *first != b'=' {
         return Err(WordsFault::Form);
     }
-    let bytes = unescaped(alloc, text)?;
+    let bytes = unescape(alloc, text)?;
     if bytes.len() > REPLY_BODY_LIMIT {
         return Err(WordsFault::Form);
     }
     Ok(Bytes::new(bytes))
 }
 
-// The bytes that an escaped text stands for.
-fn unescaped(alloc: Global, text: &[u8]) -> Result<Vec<u8>, WordsFault>
+/// The bytes that an escaped text stands for.
+fn unescape(alloc: Global, text: &[u8]) -> Result<Vec<u8>, WordsFault>
     ensures exact { reading.Gives (λ v. v.items) result (reading.bytes_in text.now) }
 {
     let mut bytes = Vec::new(alloc);
@@ -52,7 +54,7 @@ fn unescaped(alloc: Global, text: &[u8]) -> Result<Vec<u8>, WordsFault>
     Ok(bytes)
 }
 
-// The first byte that the text stands for, and what follows; nothing of an empty text.
+/// The first byte that the text stands for, and what follows it. An empty text has none.
 fn first_byte(text: &[u8]) -> Result<Option<(u8, &[u8])>, WordsFault>
     ensures exact { reading.Gives (λ o. option_map (λ x. (x.0, x.1.now)) o) result (reading.first_byte_in text.now) }
 {
@@ -73,6 +75,7 @@ fn first_byte(text: &[u8]) -> Result<Option<(u8, &[u8])>, WordsFault>
     }
 }
 
+/// The value of a hexadecimal digit.
 fn hex_value(byte: u8) -> Option<u8>
     ensures { result ≡ spec.hex_value byte }
 {
@@ -84,41 +87,37 @@ fn hex_value(byte: u8) -> Option<u8>
     }
 }
 
-// Whether the byte stands for itself in a body.
+/// Whether the byte stands for itself in a body.
 fn is_plain(byte: u8) -> bool
     ensures { result ≡ spec.is_plain byte }
 {
     byte >= 33 && byte <= 126 && byte != b'%'
 }
 
-// Appends the word of a body. Want of memory leaves `out` as it was.
+/// Appends the word of a body. Want of memory can leave a part of it in `out`.
 pub(crate) fn append_body(out: &mut Vec<u8>, body: &[u8]) -> Result<(), OutOfMemory>
     ensures ok { OnOk result (out.new.items ≡ out.old.items ++ spec.body_word body.now) }
     ensures bytes { OnOk result (AreBytes body.now) }
-    ensures err { OnErr result (out.new.items ≡ out.old.items) }
 {
-    let start = out.len();
-    out.extend_from_slice(b"=")?;
+    out.push(b'=')?;
     'bytes: for byte in body {
-        if append_byte(out, *byte).is_err() {
-            out.truncate(start);
-            return Err(AllocError);
-        }
+        append_byte(out, *byte)?;
     }
     Ok(())
 }
 
+/// Appends a byte of a body, escaped if it doesn't stand for itself.
 fn append_byte(out: &mut Vec<u8>, byte: u8) -> Result<(), OutOfMemory>
     ensures ok { OnOk result (out.new.items ≡ out.old.items ++ spec.printed_byte byte) }
-    ensures err { OnErr result (out.new.items ≡ out.old.items) }
 {
     if is_plain(byte) {
-        out.extend_from_slice(&[byte])
+        Ok(out.push(byte)?)
     } else {
         out.extend_from_slice(&[b'%', hex_digit(byte / 16), hex_digit(byte % 16)])
     }
 }
 
+/// The hexadecimal digit with this value, in lower case.
 fn hex_digit(value: u8) -> u8
     requires { value < 16 }
     ensures { result ≡ digit_glyph false value }

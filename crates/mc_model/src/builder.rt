@@ -1,13 +1,14 @@
-ghost use Rattle.std.specs.Prelude.{◌≡◌, ◌≢◌, true, Some, None, OnOk, OnErr, IfErr};
+//! How a history is made: request by request, each tested against the rules of `specs/History.antt` when it is added.
+ghost use Rattle.std.specs.Prelude.{◌≡◌, ◌≢◌, true, Some, None, OnOk, OnErr, IfOk, IfErr};
 ghost use Rattle.mc_model.specs.Sections as sections;
 ghost use Rattle.mc_model.specs.History as rule;
 ghost use Rattle.mc_model.specs.Next as next;
 
 use crate::rules::{
-    HistoryKind, are_answered, has_key, has_words, is_answered_rightly, is_delete, is_seen,
+    HistoryKind, are_answered, has_key, has_words, is_answered_rightly, is_seen,
 };
 use crate::{History, Sent};
-use mc_protocol::{Actor, KEYS_LIMIT, REQUESTS_LIMIT};
+use mc_protocol::{Actor, KEYS_LIMIT, REQUESTS_LIMIT, Verb};
 use std::alloc::Global;
 use std::marker::Model;
 
@@ -18,7 +19,7 @@ pub struct HistoryBuilder {
     p: Vec<Sent>,
     a: Vec<Sent>,
     b: Vec<Sent>,
-    // how many keys there are
+    /// How many keys the requests have.
     keys: usize,
 }
 
@@ -37,7 +38,7 @@ impl Model for HistoryBuilder {
 }
 
 impl HistoryBuilder {
-    /// Of no request yet.
+    /// A history with no request yet.
     pub fn new(alloc: Global) -> Self
         ensures { result ≡ sections.no_sections }
     {
@@ -49,19 +50,18 @@ impl HistoryBuilder {
         }
     }
 
-    /// Adds the next request of a section. Where the sections would be no history with it, or it is one of P behind
-    /// one of A or B, the fault is the first rule that is broken, in the order of `first_broken`. An `Err` changes
-    /// nothing, and the sections are a history all along.
+    /// Adds the next request of a section. Where the sections would be no history with it, or it is one of P after one
+    /// of A or B, the fault is the first rule that is broken, in the order of `first_broken`. Want of memory comes only
+    /// where no rule is broken. An `Err` changes nothing, and the sections are a history all along.
     pub fn push(&mut self, actor: Actor, sent: Sent) -> Result<(), HistoryKind>
         ensures ok { OnOk result (self.new ≡ sections.added self.old actor sent) }
         ensures history { OnOk result (rule.fault_at self.old actor sent ≡ None) }
         ensures fault { IfErr result (λ kind. kind ≢ HistoryKind.OutOfMemory → rule.fault_at self.old actor sent ≡ Some kind) }
+        ensures memory { IfErr result (λ kind. kind ≡ HistoryKind.OutOfMemory → rule.fault_at self.old actor sent ≡ None) }
         ensures err { OnErr result (self.new ≡ self.old) }
         ensures kept { rule.is_history self.new ≡ true }
     {
-        if let Some(kind) = self.fault_of(actor, &sent) {
-            return Err(kind);
-        }
+        self.check(actor, &sent)?;
         let keys = self.keys_with(&sent);
         match actor {
             Actor::P => self.p.push(sent)?,
@@ -72,7 +72,8 @@ impl HistoryBuilder {
         Ok(())
     }
 
-    // How many keys there are with the request, which is counted by P alone: it has each key of a history.
+    /// How many keys there are with the request. P has each key of a history, so its requests tell whether this one is
+    /// new.
     fn keys_with(&self, sent: &Sent) -> usize
         ensures { result ≡ next.keys_with self.now sent.now }
     {
@@ -83,36 +84,36 @@ impl HistoryBuilder {
         }
     }
 
-    // The first rule that the sections break with the request added.
+    /// Tests the request against the rules. The fault is the first rule that the sections break with it added.
     #[tactic(auto, using(crate::proofs::Faults::fault_by_tests))]
-    fn fault_of(&self, actor: Actor, sent: &Sent) -> Option<HistoryKind>
-        ensures { result ≡ rule.fault_at self.now actor sent.now }
+    fn check(&self, actor: Actor, sent: &Sent) -> Result<(), HistoryKind>
+        ensures ok { IfOk result (λ _. rule.fault_at self.now actor sent.now ≡ None) }
+        ensures fault { IfErr result (λ kind. rule.fault_at self.now actor sent.now ≡ Some kind) }
+        ensures memory { IfErr result (λ kind. kind ≢ HistoryKind.OutOfMemory) }
     {
-        // The tests of one request say what the rules say of all only since the sections are a history: to read a
-        // field makes that known.
-        let _ = &self.p;
+        let prefix = self.p.as_slice();
         if !has_words(&sent.request) {
-            return Some(HistoryKind::Line);
+            return Err(HistoryKind::Line);
         }
         if self.is_full(actor, sent) {
-            return Some(HistoryKind::TooMany);
+            return Err(HistoryKind::TooMany);
         }
         if !self.may_come(actor) {
-            return Some(HistoryKind::Order);
+            return Err(HistoryKind::Order);
         }
         if !self.is_cleared(actor, sent) {
-            return Some(HistoryKind::NotCleared);
+            return Err(HistoryKind::NotCleared);
         }
-        if !self.number_is_seen(actor, sent) {
-            return Some(HistoryKind::UnseenNumber);
+        if !(is_seen(prefix, sent) || is_seen(self.section(actor), sent)) {
+            return Err(HistoryKind::UnseenNumber);
         }
         if !is_answered_rightly(sent) {
-            return Some(HistoryKind::WrongReply);
+            return Err(HistoryKind::WrongReply);
         }
-        None
+        Ok(())
     }
 
-    // Whether the section has all its requests, or the history all its keys and this is another.
+    /// Whether the section has all its requests, or the history all its keys and this is another.
     fn is_full(&self, actor: Actor, sent: &Sent) -> bool
         ensures { result ≡ next.is_full self.now actor sent.now }
     {
@@ -120,7 +121,7 @@ impl HistoryBuilder {
             || (self.keys >= KEYS_LIMIT && !has_key(self.p.as_slice(), sent.request.key.as_slice()))
     }
 
-    // Whether the section may have one more request: all that it waits for came.
+    /// Whether the section may have one more request: all replies that it waits for came.
     fn may_come(&self, actor: Actor) -> bool
         ensures { result ≡ next.may_come self.now actor }
     {
@@ -131,19 +132,12 @@ impl HistoryBuilder {
         }
     }
 
-    // Whether the request's key is cleared before it, or by it.
+    /// Whether the request's key is cleared before it, or by it.
     fn is_cleared(&self, actor: Actor, sent: &Sent) -> bool
         ensures { result ≡ next.clears self.now actor sent.now }
     {
         has_key(self.p.as_slice(), sent.request.key.as_slice())
-            || (actor == Actor::P && is_delete(sent.request.verb))
-    }
-
-    // Whether P or the section shows the request's cas number, if it has one. The other branch's replies don't count.
-    fn number_is_seen(&self, actor: Actor, sent: &Sent) -> bool
-        ensures { result ≡ next.number_is_seen self.now actor sent.now }
-    {
-        is_seen(self.p.as_slice(), sent) || is_seen(self.section(actor), sent)
+            || (actor == Actor::P && sent.request.verb == Verb::Delete)
     }
 
     fn section(&self, actor: Actor) -> &[Sent]

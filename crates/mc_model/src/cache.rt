@@ -9,8 +9,8 @@ use mc_protocol::{Bytes, OutOfMemory};
 use std::alloc::Global;
 use std::marker::Model;
 
-/// What a cache holds at a key. A version is an item as one call made it, and no other version of its key has its
-/// number.
+/// What a cache holds at a key. Each call that stores makes a new version of the item, with a number that no other
+/// version of its key has.
 #[derive(Debug, Drop)]
 pub struct Item {
     /// The client's flags.
@@ -61,14 +61,14 @@ impl Cache {
         }
     }
 
-    /// A cache that holds these items; at a key that stands twice it has the first.
+    /// A cache that holds these items. Of a key that `entries` has twice, it holds the first item.
     pub fn from_entries(entries: Vec<(Bytes, Item)>) -> Self
         ensures { result ≡ contents_of entries.items }
     {
         Cache { entries }
     }
 
-    /// A copy, in memory of its own from where the cache has its memory.
+    /// A copy. Its memory is its own, and comes from where the cache has its memory.
     pub fn copy(&self) -> Result<Cache, OutOfMemory>
         ensures { IfOk result (λ copy. copy ≡ self.now) }
     {
@@ -86,7 +86,10 @@ impl Cache {
     pub fn find(&self, key: &[u8]) -> Option<&Item>
         ensures { option_copied result ≡ finite_map.get self.now key.now }
     {
-        find_item(self.entries.as_slice(), key)
+        self.entries
+            .iter()
+            .find(|entry| entry.0.as_slice() == key)
+            .map(|entry| &entry.1)
     }
 
     /// Puts an item at the key, in place of what is there. Want of memory leaves the cache as it was.
@@ -108,6 +111,7 @@ impl Cache {
     }
 }
 
+/// Copies of the entries, with memory from `alloc`.
 fn copied_entries(
     alloc: Global,
     entries: &[(Bytes, Item)],
@@ -123,15 +127,7 @@ fn copied_entries(
     Ok(copies)
 }
 
-fn find_item<'a>(entries: &'a [(Bytes, Item)], key: &[u8]) -> Option<&'a Item>
-    ensures { option_copied result ≡ finite_map.get (contents_of entries.entry.now) key.now }
-{
-    match entries.iter().find(|entry| entry.0.as_slice() == key) {
-        Some(entry) => Some(&entry.1),
-        None => None,
-    }
-}
-
+/// Removes the entries of the key, and gives no memory back.
 fn remove_key(entries: &mut Vec<(Bytes, Item)>, key: &[u8])
     ensures removed { contents_of entries.new.items ≡ finite_map.remove (contents_of entries.old.items) key.now }
     ensures len { vec_len entries.new ≤ vec_len entries.old }

@@ -1,3 +1,4 @@
+//! Histories: what three sections sent and received, if that keeps the rules of `specs/History.antt`.
 ghost use Rattle.std.specs.Prelude.{◌≡◌, ◌≢◌, [], true, false, IfOk, OnOk, IfErr};
 ghost use Rattle.mc_model.specs.Sections as sections;
 ghost use Rattle.mc_model.specs.History as rule;
@@ -30,9 +31,9 @@ impl Model for History {
 }
 
 impl History {
-    /// The history of three sections, if they keep its rules. Otherwise the fault is found request by request, P's
-    /// first, then A's, then B's: the rule that the first faulty request breaks, its section, and its place there from
-    /// 0. Want of memory is told with P and 0.
+    /// The history of three sections, if they keep its rules. Otherwise the fault is that of the first faulty request,
+    /// in the order P, A, B: the rule that it breaks, its section, and its place there, counted from 0. Want of memory
+    /// comes with P and 0.
     pub fn new(
         alloc: Global,
         p: Vec<Sent>,
@@ -45,21 +46,17 @@ impl History {
             → rule.IsFirstFault (record { p = p.items; a = a.items; b = b.items }) fault.0 fault.1 fault.2) }
         ensures none { IfErr result (λ fault. fault.0 ≢ HistoryKind.OutOfMemory
             → rule.is_history (record { p = p.items; a = a.items; b = b.items }) ≡ false) }
+        ensures memory { IfErr result (λ fault. fault.0 ≡ HistoryKind.OutOfMemory
+            → (fault.1 ≡ Actor.P) × (fault.2 ≡ 0)) }
     {
         let mut builder = HistoryBuilder::new(alloc);
-        if let Err((kind, place)) = push_all(&mut builder, Actor::P, p) {
-            return Err(located(kind, Actor::P, place));
-        }
-        if let Err((kind, place)) = push_all(&mut builder, Actor::A, a) {
-            return Err(located(kind, Actor::A, place));
-        }
-        if let Err((kind, place)) = push_all(&mut builder, Actor::B, b) {
-            return Err(located(kind, Actor::B, place));
-        }
+        push_all(&mut builder, Actor::P, p)?;
+        push_all(&mut builder, Actor::A, a)?;
+        push_all(&mut builder, Actor::B, b)?;
         Ok(builder.finish())
     }
 
-    // The history of sections that are known to keep its rules.
+    /// The history of sections that are known to keep its rules.
     pub(crate) fn from_sections(p: Vec<Sent>, a: Vec<Sent>, b: Vec<Sent>) -> History
         requires { rule.is_history (record { p = p.items; a = a.items; b = b.items }) ≡ true }
         ensures { result ≡ record { p = p.items; a = a.items; b = b.items } }
@@ -80,31 +77,34 @@ impl History {
     }
 }
 
-// Adds a section's requests. The fault is that of the first faulty one, with its place.
+/// Adds a section's requests. The fault is that of the first faulty one, with its place.
 fn push_all(
     builder: &mut HistoryBuilder,
     actor: Actor,
     section: Vec<Sent>,
-) -> Result<(), (HistoryKind, usize)>
+) -> Result<(), (HistoryKind, Actor, usize)>
     requires { sections.section_of builder.old actor ≡ [] }
     ensures ok { OnOk result (builder.new ≡ next.with_section builder.old actor section.items) }
     ensures fault { IfErr result (λ fault. fault.0 ≢ HistoryKind.OutOfMemory
-        → next.FailsAt builder.old actor section.items fault.0 fault.1) }
+        → (fault.1 ≡ actor) × next.FailsAt builder.old actor section.items fault.0 fault.2) }
+    ensures memory { IfErr result (λ fault. fault.0 ≡ HistoryKind.OutOfMemory
+        → (fault.1 ≡ Actor.P) × (fault.2 ≡ 0)) }
 {
     let mut place = 0;
     'requests: for sent in section {
         if let Err(kind) = builder.push(actor, sent) {
-            return Err((kind, place));
+            return Err(fault_at(kind, actor, place));
         }
         place += 1;
     }
     Ok(())
 }
 
-// A fault at its place; want of memory has none.
-fn located(kind: HistoryKind, actor: Actor, place: usize) -> (HistoryKind, Actor, usize)
+/// A fault with its place. Want of memory has none, so it gets P and 0.
+fn fault_at(kind: HistoryKind, actor: Actor, place: usize) -> (HistoryKind, Actor, usize)
     ensures kind { result.0 ≡ kind }
     ensures place { kind ≢ HistoryKind.OutOfMemory → (result.1 ≡ actor) × (result.2 ≡ place) }
+    ensures memory { kind ≡ HistoryKind.OutOfMemory → (result.1 ≡ Actor.P) × (result.2 ≡ 0) }
 {
     match kind {
         HistoryKind::OutOfMemory => (kind, Actor::P, 0),

@@ -1,4 +1,4 @@
-//! What follows from the rules of a history: laws, which callers cite. The functions do nothing.
+//! What follows from the rules of a history. Each function here does nothing: its contract is a law, which callers cite.
 ghost use Rattle.mc_model.specs.HistoryLaws as laws;
 
 /// A history without its last request is a history.
@@ -6,7 +6,7 @@ pub fn prefixes_are_histories()
     ensures { laws.PrefixesAreHistories }
 {}
 
-/// What stands before any place of a history is a history.
+/// The requests before any place of a history are a history.
 pub fn places_end_histories()
     ensures { laws.PlacesEndHistories }
 {}

@@ -1,7 +1,7 @@
 //! What holds of every request that a server acts on. Each function here does nothing: its contract is a law over
 //! `specs/Act.antt`, and `Cache::act` does what that file says.
 
-ghost use Rattle.mc_model.specs.ActLaws.{OtherKeysStay, RepliesFit, BodiesStayShort, JoinedBodiesAddUp, DeletedIsGone, ToldVersionIsMade, MadeVersionIsTold, AnsweredNumberIsThere, OnlyCountsChoose, OnlyDoubtfulAreChosen, PaddingIsUnseen};
+ghost use Rattle.mc_model.specs.ActLaws.{OtherKeysStay, RepliesFit, BodiesStayShort, JoinedBodiesAddUp, DeletedIsGone, ReportedVersionIsMade, MadeVersionIsReported, AnsweredNumberIsThere, OnlyCountsChoose, OnlyDoubtfulAreChosen, PaddingIsUnseen};
 
 /// A request changes at most the item at its own key.
 pub fn other_keys_stay()
@@ -26,11 +26,11 @@ pub fn deleted_is_gone()
     ensures { DeletedIsGone }
 {}
 
-/// A version is made exactly where the reply is that it is stored, or a number. It has the number given, and is what
-/// stands at the key afterwards.
-pub fn versions_are_told()
-    ensures made { ToldVersionIsMade }
-    ensures told { MadeVersionIsTold }
+/// A version is made exactly where the reply is that it is stored, or a number. It has the number given, and is what is
+/// at the key afterwards.
+pub fn versions_are_reported()
+    ensures made { ReportedVersionIsMade }
+    ensures reported { MadeVersionIsReported }
 {}
 
 /// The number that `incr` or `decr` answers is what the body at the key then says.

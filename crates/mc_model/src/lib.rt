@@ -1,8 +1,8 @@
 //! The model of a cache server, and what a history of requests and replies is.
 //!
-//! Below it stands `mc_protocol`. The crates above use three things: what a cache answers to a request
-//! (`Cache::act`, by `specs/Act.antt`), that a `History` keeps the rules of `specs/History.antt`, and the words of
-//! requests and replies (`specs/Words.antt`).
+//! It uses `mc_protocol`. The crates that use it rest on three things: what a cache answers to a request (`Cache::act`,
+//! by `specs/Act.antt`), that a `History` keeps the rules of `specs/History.antt`, and the words of requests and replies
+//! (`specs/Words.antt`).
 #![tactic(auto)]
 
 mod act;
@@ -34,7 +34,7 @@ pub use history_laws::{
 };
 pub use laws::{
     answered_numbers_are_there, bodies_stay_short, deleted_is_gone, only_counts_choose,
-    other_keys_stay, replies_fit, versions_are_told,
+    other_keys_stay, replies_fit, versions_are_reported,
 };
 pub use mc_protocol::is_key;
 pub use number::read_number;
@@ -44,7 +44,8 @@ pub use print::{print_reply_words, print_request_words};
 pub use rules::HistoryKind;
 pub use sent::Sent;
 pub use word_laws::{
-    joined_words_end_no_line, joined_words_fall_apart, what_is_printed_spells_the_reply,
+    joined_words_end_no_line, joined_words_fall_apart, spelled_replies_have_short_bodies,
+    spelled_requests_have_words, what_is_printed_spells_the_reply,
     what_is_printed_spells_the_request, word_spells_one_body, word_spells_one_number,
     words_of_a_reply_are_whole, words_of_a_request_are_whole, words_spell_one_reply,
     words_spell_one_request,

@@ -1,3 +1,4 @@
+//! What a body says as a number to a server that counts.
 ghost use Rattle.std.specs.Prelude.{◌≡◌, length};
 ghost use Rattle.mc_model.specs.Numeral as spec;
 
@@ -6,16 +7,16 @@ use mc_protocol::{DIGITS_LIMIT, is_digit, value_of_digits};
 /// What a body says as a number.
 #[derive(Clone, Copy, Debug, PartialEq, Eq)]
 pub enum Numeral {
-    /// No number.
+    /// It says no number.
     NoNumber,
-    /// This number.
+    /// It says this number.
     Is(u64),
-    /// This number to one server, and none to another.
+    /// It says this number to one server, and none to another.
     MayBe(u64),
 }
 
 impl Numeral {
-    // The number that is read, by the choice where there is one.
+    /// The number that is read. `read` chooses where one server reads a number and another doesn't.
     pub(crate) fn read_as(self, read: bool) -> Option<u64>
         ensures { result ≡ spec.read_as read self }
     {
@@ -27,8 +28,8 @@ impl Numeral {
     }
 }
 
-/// What `incr` and `decr` make of a body: what its leading digits say, where 64 bits hold that and nothing or a space
-/// stands behind them.
+/// What `incr` and `decr` make of a body: the number that its leading digits say, if 64 bits hold it and after them the
+/// body ends or has a space.
 pub fn numeral_of(body: &[u8]) -> Numeral
     ensures { result ≡ spec.numeral_of body.now }
 {
@@ -46,13 +47,14 @@ pub fn numeral_of(body: &[u8]) -> Numeral
     }
 }
 
-// How many digits stand before anything else.
+/// How many digits the body begins with.
 fn digit_count(body: &[u8]) -> usize
     ensures { result ≡ length (spec.leading_digits body.now) }
 {
     body.iter().take_while(|byte| is_digit(**byte)).count()
 }
 
+/// Whether the rest of a body is empty or begins with a space.
 fn ends_or_has_space(rest: &[u8]) -> bool
     ensures { result ≡ spec.ends_or_has_space rest.now }
 {
@@ -62,6 +64,7 @@ fn ends_or_has_space(rest: &[u8]) -> bool
     }
 }
 
+/// Whether each byte is a space.
 fn are_spaces(bytes: &[u8]) -> bool
     ensures { result ≡ spec.are_spaces bytes.now }
 {

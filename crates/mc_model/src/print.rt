@@ -1,3 +1,5 @@
+//! The words of requests and replies as they are printed: numbers without leading zeros, and no byte of a body escaped
+//! that may stand for itself.
 ghost use Rattle.std.specs.Prelude.{◌≡◌, ◌++◌, ◌≤◌, true, map, IfSome, OnOk, OnErr};
 ghost use Rattle.std.specs.List.{concat};
 ghost use Rattle.mc_protocol.specs.Words.{verb_word};
@@ -11,10 +13,9 @@ use crate::body::append_body;
 use crate::words::class_word;
 use itoa::Buffer;
 use mc_protocol::{Fields, OutOfMemory, Reply, Request, append_all};
-use std::alloc::AllocError;
 
-/// Appends the words of a request, with one space between them. They spell the request, if it is one that words can
-/// spell. Want of memory leaves `out` as it was.
+/// Appends the words of a request, with one space between them. They spell the request if any words do: exactly then
+/// `has_words` is true (`spelled_requests_have_words`). Want of memory leaves `out` as it was.
 pub fn print_request_words(request: &Request, out: &mut Vec<u8>) -> Result<(), OutOfMemory>
     ensures ok { OnOk result (out.new.items ≡ out.old.items ++ joined (request_words request.now)) }
     ensures spelled { OnOk result (has_words request.now ≡ true → SpellsRequest (request_words request.now) request.now) }
@@ -23,7 +24,7 @@ pub fn print_request_words(request: &Request, out: &mut Vec<u8>) -> Result<(), O
     print_request_as(request.verb.word().as_bytes(), request, out)
 }
 
-// The same, given the verb's word.
+/// Appends the words of a request under the word of its verb.
 fn print_request_as(verb: &[u8], request: &Request, out: &mut Vec<u8>) -> Result<(), OutOfMemory>
     requires { verb.now ≡ verb_word request.now.verb }
     ensures ok { OnOk result (out.new.items ≡ out.old.items ++ joined (request_words request.now)) }
@@ -47,8 +48,8 @@ fn print_request_as(verb: &[u8], request: &Request, out: &mut Vec<u8>) -> Result
     }
 }
 
-/// Appends the words of a reply, with one space between them. They spell the reply, if it has no body beyond the
-/// limit. Want of memory leaves `out` as it was.
+/// Appends the words of a reply, with one space between them. They spell the reply if any words do: exactly then
+/// `has_short_body` is true (`spelled_replies_have_short_bodies`). Want of memory leaves `out` as it was.
 pub fn print_reply_words(reply: &Reply, out: &mut Vec<u8>) -> Result<(), OutOfMemory>
     ensures ok { OnOk result (out.new.items ≡ out.old.items ++ joined (reply_words reply.now)) }
     ensures spelled { OnOk result (has_short_body reply.now ≡ true → SpellsReply (reply_words reply.now) reply.now) }
@@ -68,7 +69,8 @@ pub fn print_reply_words(reply: &Reply, out: &mut Vec<u8>) -> Result<(), OutOfMe
     }
 }
 
-// Appends the pieces and, behind them, the words for flags, a body and, where there is one, a number: all or none.
+/// Appends the pieces, and after them the words for flags, a body and, if there is one, a number. Want of memory leaves
+/// `out` as it was.
 fn append_item(
     out: &mut Vec<u8>,
     pieces: &[&[u8]],
@@ -81,25 +83,20 @@ fn append_item(
     ensures fits { OnOk result ((flags ≤ MAX_32) × AreBytes body.now × IfSome number (λ n. n ≤ MAX_64)) }
     ensures err { OnErr result (out.new.items ≡ out.old.items) }
 {
-    let start = out.len();
     let mut flags_text = Buffer::new();
     let flags = flags_text.format(flags).as_bytes();
-    append_all(out, pieces)?;
-    if append_all(out, &[b" ", flags, b" "]).is_err()
-        || append_body(out, body).is_err()
-        || append_number(out, number).is_err()
-    {
-        out.truncate(start);
-        return Err(AllocError);
-    }
-    Ok(())
+    let mut words = Vec::new(*out.allocator());
+    append_all(&mut words, pieces)?;
+    append_all(&mut words, &[b" ", flags, b" "])?;
+    append_body(&mut words, body)?;
+    append_number(&mut words, number)?;
+    out.extend_from_slice(words.as_slice())
 }
 
-// Appends a space and the number, if there is one.
+/// Appends a space and the number, if there is one.
 fn append_number(out: &mut Vec<u8>, number: Option<u64>) -> Result<(), OutOfMemory>
     ensures ok { OnOk result (out.new.items ≡ out.old.items ++ number_text number) }
     ensures fits { IfSome number (λ n. n ≤ MAX_64) }
-    ensures err { OnErr result (out.new.items ≡ out.old.items) }
 {
     match number {
         None => Ok(()),

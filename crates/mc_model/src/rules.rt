@@ -1,7 +1,6 @@
-ghost use Rattle.std.specs.Prelude.{◌≡◌, ◌↔◌, IsTrue};
-ghost use Rattle.std.specs.List.{list_any};
+//! The rules of a history, as tests of one request and of those before it.
+ghost use Rattle.std.specs.Prelude.{◌≡◌};
 ghost use Rattle.mc_model.specs.History as rule;
-ghost use Rattle.mc_model.specs.Next as next;
 ghost use Rattle.mc_model.specs.Kinds as kinds;
 
 use crate::Sent;
@@ -12,24 +11,34 @@ use thiserror::Error;
 /// Why a text, or requests with their replies, are no history.
 #[derive(Clone, Copy, Debug, Drop, PartialEq, Eq, Error)]
 pub enum HistoryKind {
+    /// The text has another first line.
     #[error("the first line is not `history 1`")]
     Header,
+    /// The line can't be read, or may not stand there.
     #[error("the line is not one that may stand there")]
     Line,
+    /// A number has more than 20 digits, or is too large.
     #[error("a number is too large")]
     Number,
+    /// A request comes before a reply that its section waits for, or one of the prefix comes after one of a branch.
     #[error("a request stands behind an unanswered one of its section, or the prefix's requests don't come first")]
     Order,
+    /// The protocol has no such reply to the request, or a hit has the wrong fields or too long a body.
     #[error("the reply is none that the request may have")]
     WrongReply,
+    /// The first request of a key is no `delete` of the prefix.
     #[error("the key's first request is not a delete in the prefix")]
     NotCleared,
+    /// A `cas` has a number that its section can't know.
     #[error("no earlier `gets` of the key showed this cas number to the section")]
     UnseenNumber,
+    /// There are too many requests or keys.
     #[error("a section has more than 24 requests, or the history more than 8 keys")]
     TooMany,
+    /// The text ends before its last line.
     #[error("the line `end` is missing")]
     Unended,
+    /// No fault of the text: memory ran out.
     #[error("out of memory")]
     OutOfMemory,
 }
@@ -92,8 +101,8 @@ impl<T: Drop> From<AllocFailed<T>> for HistoryKind {
     }
 }
 
-// Whether some text spells the request: its key and body keep their limits, and a field that its verb lacks is 0 or
-// empty.
+/// Whether some text spells the request: its key and body keep their limits, and a field that its verb lacks is 0 or
+/// empty.
 pub(crate) fn has_words(request: &Request) -> bool
     ensures { result ≡ rule.has_words request.now }
 {
@@ -102,6 +111,7 @@ pub(crate) fn has_words(request: &Request) -> bool
         && has_its_fields(request)
 }
 
+/// Whether each field that the verb lacks is 0 or empty.
 fn has_its_fields(request: &Request) -> bool
     ensures { result ≡ rule.has_its_fields request.now }
 {
@@ -115,14 +125,14 @@ fn has_its_fields(request: &Request) -> bool
     }
 }
 
-// Whether every request of the section was answered.
+/// Whether every request of the section was answered.
 pub(crate) fn are_answered(section: &[Sent]) -> bool
     ensures { result ≡ rule.are_answered section.now }
 {
     section.iter().all(|sent| sent.reply.is_some())
 }
 
-// Whether the section has a request on the key.
+/// Whether the section has a request on the key.
 pub(crate) fn has_key(section: &[Sent], key: &[u8]) -> bool
     ensures { result ≡ rule.has_key key.now section.now }
 {
@@ -131,49 +141,25 @@ pub(crate) fn has_key(section: &[Sent], key: &[u8]) -> bool
         .any(|sent| sent.request.key.as_slice() == key)
 }
 
-pub(crate) fn is_delete(verb: Verb) -> bool
-    ensures { result ≡ rule.is_delete verb }
-{
-    matches!(verb, Verb::Delete)
-}
-
-// Whether one of the earlier requests shows the number of a cas. Other requests need none.
+/// Whether one of the earlier requests shows the number of a `cas`. Other requests need none.
 pub(crate) fn is_seen(earlier: &[Sent], sent: &Sent) -> bool
     ensures { result ≡ rule.is_seen earlier.now sent.now }
 {
-    !is_cas(sent.request.verb) || is_shown(earlier, &sent.request)
+    sent.request.verb != Verb::Cas || earlier.iter().any(|shown| shows(shown, &sent.request))
 }
 
-fn is_cas(verb: Verb) -> bool
-    ensures { result ≡ rule.is_cas verb }
-{
-    matches!(verb, Verb::Cas)
-}
-
-fn is_shown(earlier: &[Sent], request: &Request) -> bool
-    ensures { result ≡ list_any (rule.shows request.now.key request.now.number) earlier.now }
-{
-    earlier.iter().any(|sent| shows(sent, request))
-}
-
-// Whether what was sent is a `gets` of the request's key, answered with its number.
+/// Whether what was sent is a `gets` of the request's key, answered with its number.
 fn shows(sent: &Sent, request: &Request) -> bool
     ensures { result ≡ rule.shows request.now.key request.now.number sent.now }
 {
-    is_gets(sent.request.verb)
-        && sent.request.key.as_slice() == request.key.as_slice()
-        && tells(sent, request.number)
+    sent.request.verb == Verb::Gets
+        && sent.request.key == request.key
+        && shows_number(sent, request.number)
 }
 
-fn is_gets(verb: Verb) -> bool
-    ensures { result ≡ rule.is_gets verb }
-{
-    matches!(verb, Verb::Gets)
-}
-
-// Whether the reply is a hit with this cas number.
-fn tells(sent: &Sent, number: u64) -> bool
-    ensures { result ≡ rule.tells number sent.now.reply }
+/// Whether the reply is a hit with this cas number.
+fn shows_number(sent: &Sent, number: u64) -> bool
+    ensures { result ≡ rule.shows_number number sent.now.reply }
 {
     match &sent.reply {
         Some(Reply::Hit { cas: Some(cas), .. }) => *cas == number,
@@ -181,7 +167,7 @@ fn tells(sent: &Sent, number: u64) -> bool
     }
 }
 
-// Whether the reply, if one came, is one that the request may have.
+/// Whether the reply, if one came, is one that the request may have.
 pub(crate) fn is_answered_rightly(sent: &Sent) -> bool
     ensures { result ≡ rule.is_answered_rightly sent.now }
 {

@@ -1,3 +1,4 @@
+//! What a section sends and receives.
 use mc_protocol::{Reply, Request};
 
 /// A request that a section sent, and its reply if one came.

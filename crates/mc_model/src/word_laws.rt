@@ -5,6 +5,8 @@ ghost use Rattle.mc_protocol.specs.Decimals.{SpellsNumber};
 ghost use Rattle.mc_model.specs.WordLaws.{
   PrintedWordsSpellTheRequest,
   PrintedWordsSpellTheReply,
+  SpelledRequestsHaveWords,
+  SpelledRepliesHaveShortBodies,
   SpellingWordsAreWhole,
   JoinedWordsFallApart,
   JoinedWordsEndNoLine,
@@ -38,6 +40,16 @@ pub fn what_is_printed_spells_the_request()
 /// The words that are printed of a reply spell it, where its body is within the limit.
 pub fn what_is_printed_spells_the_reply()
     ensures { PrintedWordsSpellTheReply }
+{}
+
+/// A request that some words spell is one of which the printed words do: `has_words` is true of it.
+pub fn spelled_requests_have_words()
+    ensures { SpelledRequestsHaveWords }
+{}
+
+/// A reply that some words spell is one of which the printed words do: `has_short_body` is true of it.
+pub fn spelled_replies_have_short_bodies()
+    ensures { SpelledRepliesHaveShortBodies }
 {}
 
 /// No word of a request is empty, or has a space, the end of a line or any other byte that isn't visible.

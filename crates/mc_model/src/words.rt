@@ -1,5 +1,5 @@
+//! How the words of requests and replies are read.
 ghost use Rattle.std.specs.Prelude.{◌≡◌, ◌≢◌, map, IfOk, IfErr};
-ghost use Rattle.std.specs.Option.{option_copied};
 ghost use Rattle.mc_model.specs.Words as spec;
 ghost use Rattle.mc_model.specs.Reading as reading;
 
@@ -11,12 +11,13 @@ use thiserror::Error;
 /// Why words are no request, or no reply.
 #[derive(Clone, Copy, Debug, Drop, PartialEq, Eq, Error)]
 pub enum WordsFault {
-    /// A word is missing, is one too many, or isn't what stands in its place.
+    /// A word is missing, is one too many, or isn't what is expected in its place.
     #[error("a word is missing, or isn't what is expected there")]
     Form,
     /// A number has more than 20 digits, or is too large.
     #[error("a number is too large")]
     Number,
+    /// No fault of the words: memory ran out.
     #[error("out of memory")]
     OutOfMemory,
 }
@@ -41,8 +42,8 @@ impl<T: Drop> From<AllocFailed<T>> for WordsFault {
     }
 }
 
-/// Reads the words of a request: its verb, its key, and what the verb has after it. The fault is that of the leftmost
-/// faulty word; a missing word stands after the last.
+/// Reads the words of a request: its verb, its key, and what the verb has after the key. The fault is that of the
+/// leftmost faulty word, where a missing word comes after the last.
 pub fn read_request_words(alloc: Global, words: &[&[u8]]) -> Result<Request, WordsFault>
     ensures found { IfOk result (spec.SpellsRequest (map (λ w. w.now) words.now)) }
     ensures none { IfErr result (λ fault. fault ≢ WordsFault.OutOfMemory
@@ -51,6 +52,7 @@ pub fn read_request_words(alloc: Global, words: &[&[u8]]) -> Result<Request, Wor
     request_in(alloc, words)
 }
 
+/// Reads a request. The public function adds to the contract what words spell.
 #[tactic(auto, unfolding(crate::specs::Reading::request_in))]
 fn request_in(alloc: Global, words: &[&[u8]]) -> Result<Request, WordsFault>
     ensures exact { reading.Gives (λ r. r) result (reading.request_in (map (λ w. w.now) words.now)) }
@@ -76,7 +78,7 @@ fn request_in(alloc: Global, words: &[&[u8]]) -> Result<Request, WordsFault>
     }
 }
 
-// A request with nothing after its key.
+/// A request with nothing after its key.
 fn key_alone(alloc: Global, verb: Verb, key: Bytes, fields: &[&[u8]]) -> Result<Request, WordsFault>
     ensures exact { reading.Gives (λ r. r) result (reading.key_alone_in verb key (map (λ w. w.now) fields.now)) }
 {
@@ -92,7 +94,7 @@ fn key_alone(alloc: Global, verb: Verb, key: Bytes, fields: &[&[u8]]) -> Result<
     })
 }
 
-// A request with flags and a body after its key.
+/// A request with flags and a body after its key.
 fn item(alloc: Global, verb: Verb, key: Bytes, fields: &[&[u8]]) -> Result<Request, WordsFault>
     ensures exact { reading.Gives (λ r. r) result (reading.item_in verb key (map (λ w. w.now) fields.now)) }
 {
@@ -116,7 +118,7 @@ fn item(alloc: Global, verb: Verb, key: Bytes, fields: &[&[u8]]) -> Result<Reque
     })
 }
 
-// A request with flags, a body and a cas unique after its key.
+/// A request with flags, a body and a cas unique after its key.
 fn swap(alloc: Global, verb: Verb, key: Bytes, fields: &[&[u8]]) -> Result<Request, WordsFault>
     ensures exact { reading.Gives (λ r. r) result (reading.swap_in verb key (map (λ w. w.now) fields.now)) }
 {
@@ -144,7 +146,7 @@ fn swap(alloc: Global, verb: Verb, key: Bytes, fields: &[&[u8]]) -> Result<Reque
     })
 }
 
-// A request with an amount after its key.
+/// A request with an amount after its key.
 fn amount(alloc: Global, verb: Verb, key: Bytes, fields: &[&[u8]]) -> Result<Request, WordsFault>
     ensures exact { reading.Gives (λ r. r) result (reading.amount_in verb key (map (λ w. w.now) fields.now)) }
 {
@@ -164,6 +166,7 @@ fn amount(alloc: Global, verb: Verb, key: Bytes, fields: &[&[u8]]) -> Result<Req
     })
 }
 
+/// Reads the flags, a number of 32 bits.
 fn read_flags(word: &[u8]) -> Result<u32, WordsFault>
     ensures exact { reading.Gives (λ n. n) result (reading.flags_in word.now) }
 {
@@ -171,7 +174,7 @@ fn read_flags(word: &[u8]) -> Result<u32, WordsFault>
     Ok(flags as u32)
 }
 
-// The word that a reply of the class begins with.
+/// The word that a reply of the class begins with.
 pub(crate) fn class_word(class: Class) -> &'static str
     ensures { result.now ≡ spec.class_word class }
 {
@@ -201,7 +204,7 @@ fn class_of_word(word: &[u8]) -> Option<Class>
 }
 
 /// Reads the words of a reply, without looking at the request that it answers. The fault is that of the leftmost
-/// faulty word; a missing word stands after the last.
+/// faulty word, where a missing word comes after the last.
 pub fn read_reply_words(alloc: Global, words: &[&[u8]]) -> Result<Reply, WordsFault>
     ensures found { IfOk result (spec.SpellsReply (map (λ w. w.now) words.now)) }
     ensures none { IfErr result (λ fault. fault ≢ WordsFault.OutOfMemory
@@ -210,6 +213,7 @@ pub fn read_reply_words(alloc: Global, words: &[&[u8]]) -> Result<Reply, WordsFa
     reply_in(alloc, words)
 }
 
+/// Reads a reply. The public function adds to the contract what words spell.
 #[tactic(auto, unfolding(crate::specs::Reading::reply_in))]
 fn reply_in(alloc: Global, words: &[&[u8]]) -> Result<Reply, WordsFault>
     ensures exact { reading.Gives (λ r. r) result (reading.reply_in (map (λ w. w.now) words.now)) }
@@ -234,7 +238,7 @@ fn reply_in(alloc: Global, words: &[&[u8]]) -> Result<Reply, WordsFault>
     }
 }
 
-// A reply with nothing after its word.
+/// A reply with nothing after its word.
 fn bare(reply: Reply, fields: &[&[u8]]) -> Result<Reply, WordsFault>
     ensures exact { reading.Gives (λ r. r) result (reading.bare_in reply (map (λ w. w.now) fields.now)) }
 {
@@ -244,7 +248,7 @@ fn bare(reply: Reply, fields: &[&[u8]]) -> Result<Reply, WordsFault>
     Ok(reply)
 }
 
-// A number that was counted.
+/// A number that was counted.
 fn count(fields: &[&[u8]]) -> Result<Reply, WordsFault>
     ensures exact { reading.Gives (λ r. r) result (reading.count_in (map (λ w. w.now) fields.now)) }
 {
@@ -258,7 +262,7 @@ fn count(fields: &[&[u8]]) -> Result<Reply, WordsFault>
     Ok(Reply::Number(number))
 }
 
-// A hit: flags, a body, and the cas number where one is shown.
+/// A hit: flags, a body, and the cas number if one is shown.
 fn hit(alloc: Global, fields: &[&[u8]]) -> Result<Reply, WordsFault>
     ensures exact { reading.Gives (λ r. r) result (reading.hit_in (map (λ w. w.now) fields.now)) }
 {
@@ -274,7 +278,7 @@ fn hit(alloc: Global, fields: &[&[u8]]) -> Result<Reply, WordsFault>
     Ok(Reply::Hit { flags, body, cas })
 }
 
-// The cas number that the last word shows, if there is one.
+/// The cas number that the last word shows, if there is one.
 fn shown_number(words: &[&[u8]]) -> Result<Option<u64>, WordsFault>
     ensures exact { reading.Gives (λ n. n) result (reading.shown_number_in (map (λ w. w.now) words.now)) }
 {

@@ -13,7 +13,7 @@ kept : (before after : Sections) (keys : ℕ) (who : Actor) (sent : Sent) → is
 kept before after keys who sent h none more counted =
     (rw more (no_fault before who sent none).1, rw more (counted ∙ sym (keys_counted before who sent h)))
 
--- behind the `match` one section has the request
+-- after the `match` one section has the request
 pushed : (c : goal.After-self-1) → ◌≡◌ {A = Sections} (record { p = c.match-actor.self-inside.p.items; a = c.match-actor.self-inside.a.items; b = c.match-actor.self-inside.b.items }) (added c.args.self.now c.args.actor c.args.sent)
 pushed c =
     elim c.match-actor.branch [
@@ -25,9 +25,9 @@ pushed c =
 pub invariant_of-self-2 : goal.invariant_of-self-2
 invariant_of-self-2 c =
     let h : is_history c.args.self.now ≡ true = rw (← c.self.view_is) c.self.invariant.0 in
-    kept c.args.self.now _ c.keys_with-keys.result c.args.actor c.args.sent h (sym c.in_default.ensures) (pushed c) c.keys_with-keys.ensures
+    kept c.args.self.now _ c.keys_with-keys.result c.args.actor c.args.sent h c.in_ok-check.ensures.ok (pushed c) c.keys_with-keys.ensures
 
 pub returns-clause-kept : goal.returns-clause-kept
 returns-clause-kept c =
     let h : is_history c.args.self.now ≡ true = rw (← c.self.view_is) c.self.invariant.0 in
-    (kept c.args.self.now _ c.keys_with-keys.result c.args.actor c.args.sent h (sym c.in_default.ensures) (pushed c) c.keys_with-keys.ensures).0
+    (kept c.args.self.now _ c.keys_with-keys.result c.args.actor c.args.sent h c.in_ok-check.ensures.ok (pushed c) c.keys_with-keys.ensures).0

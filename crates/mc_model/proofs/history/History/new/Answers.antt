@@ -1,22 +1,32 @@
-use Rattle.std.proofs.Common.{rules}
+-- Where a request has a fault, the sections are no history.
+use Rattle.std.proofs.Common.{rules, ◌≢◌}
+use Rattle.std.proofs.lemmas.Result.{err_from_is_err_and}
+use Rattle.mc_model.specs.declared.rules.HistoryKind.TheVariants.{OutOfMemory}
+use Rattle.mc_model.specs.Sections.{Sections}
 use Rattle.mc_model.specs.History.{IsFirstFault}
 use Rattle.mc_model.proofs.Prefixes.{no_history}
 use Rattle.mc_model.proofs.history.History.new.Goals as goal
 
-pub returns-in-Err-clause-none : goal.returns-in-Err-clause-none
-returns-in-Err-clause-none c = λ other.
-    let e = c.located.result in
-    let f : IsFirstFault (record { p = c.args.p.items; a = c.args.a.items; b = c.args.b.items }) e.0 e.1 e.2 = search rules in
-    no_history (record { p = c.args.p.items; a = c.args.a.items; b = c.args.b.items }) e.0 e.1 e.2 f
+pub returns-in_err-push_all-clause-none : goal.returns-in_err-push_all-clause-none
+returns-in_err-push_all-clause-none c =
+    let p = err_from_is_err_and c.from_residual.result c.from_residual.ensures.1 in
+    let s : Sections = record { p = c.args.p.items; a = c.args.a.items; b = c.args.b.items } in
+    let e = c.in_err-push_all.field-0.0 in
+    let first : e.0 ≢ OutOfMemory → IsFirstFault s e.0 e.1 e.2 = λ other. search rules in
+    rw (p.1, p.2) (λ other. no_history s e.0 e.1 e.2 (first other))
 
-pub returns-in-Err-push_all-clause-none : goal.returns-in-Err-push_all-clause-none
-returns-in-Err-push_all-clause-none c = λ other.
-    let e = c.located-in-Err-push_all.result in
-    let f : IsFirstFault (record { p = c.args.p.items; a = c.args.a.items; b = c.args.b.items }) e.0 e.1 e.2 = search rules in
-    no_history (record { p = c.args.p.items; a = c.args.a.items; b = c.args.b.items }) e.0 e.1 e.2 f
+pub returns-in_err-push_all-2-clause-none : goal.returns-in_err-push_all-2-clause-none
+returns-in_err-push_all-2-clause-none c =
+    let p = err_from_is_err_and c.from_residual-in_err-push_all-2.result c.from_residual-in_err-push_all-2.ensures.1 in
+    let s : Sections = record { p = c.args.p.items; a = c.args.a.items; b = c.args.b.items } in
+    let e = c.in_err-push_all-2.field-0.0 in
+    let first : e.0 ≢ OutOfMemory → IsFirstFault s e.0 e.1 e.2 = λ other. search rules in
+    rw (p.1, p.2) (λ other. no_history s e.0 e.1 e.2 (first other))
 
-pub returns-in-Err-push_all-2-clause-none : goal.returns-in-Err-push_all-2-clause-none
-returns-in-Err-push_all-2-clause-none c = λ other.
-    let e = c.located-in-Err-push_all-2.result in
-    let f : IsFirstFault (record { p = c.args.p.items; a = c.args.a.items; b = c.args.b.items }) e.0 e.1 e.2 = search rules in
-    no_history (record { p = c.args.p.items; a = c.args.a.items; b = c.args.b.items }) e.0 e.1 e.2 f
+pub returns-in_err-push_all-3-clause-none : goal.returns-in_err-push_all-3-clause-none
+returns-in_err-push_all-3-clause-none c =
+    let p = err_from_is_err_and c.from_residual-in_err-push_all-3.result c.from_residual-in_err-push_all-3.ensures.1 in
+    let s : Sections = record { p = c.args.p.items; a = c.args.a.items; b = c.args.b.items } in
+    let e = c.in_err-push_all-3.field-0.0 in
+    let first : e.0 ≢ OutOfMemory → IsFirstFault s e.0 e.1 e.2 = λ other. search rules in
+    rw (p.1, p.2) (λ other. no_history s e.0 e.1 e.2 (first other))

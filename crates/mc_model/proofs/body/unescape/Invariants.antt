@@ -1,8 +1,8 @@
--- The bytes so far, in front of those that the rest stands for, are those that the text stands for.
+-- The bytes so far, and after them those that the rest stands for, are those that the text stands for.
 use Rattle.std.proofs.Common.{◌≡◌, length}
 use Rattle.mc_model.specs.Reading.{bytes_in}
 use Rattle.mc_model.proofs.Escaped.{onto}
-use Rattle.mc_model.proofs.body.unescaped.Given as goal
+use Rattle.mc_model.proofs.body.unescape.Given as goal
 
 abbrev pub invariant-bytes : goal.invariant-bytes
 invariant-bytes l = onto l.bytes.items (bytes_in l.rest) ≡ bytes_in l.fn.text

@@ -2,7 +2,7 @@
 use Rattle.std.proofs.lemmas.Result.{err_from_is_err_and}
 use Rattle.mc_model.specs.Reading.{bytes_in}
 use Rattle.mc_model.proofs.Escaped.{onto-byte, onto-fails, shorter-byte}
-use Rattle.mc_model.proofs.body.unescaped.Goals as goal
+use Rattle.mc_model.proofs.body.unescape.Goals as goal
 
 pub bytes-preserved : goal.bytes-preserved
 bytes-preserved c =
