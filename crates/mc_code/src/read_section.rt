@@ -15,12 +15,12 @@ pub(crate) fn read_budget(fields: &mut Fields) -> Result<Budget, ImageFault>
     let requests = fields.byte_within(0, REQUESTS_LIMIT as usize)?;
     let offset = fields.offset();
     let bytes = fields.number_16()?;
-    if bytes as u64 > BYTES_LIMIT {
+    if u64::from(bytes) > BYTES_LIMIT {
         return Err(ImageFault::at(ImageKind::Range, offset));
     }
     Ok(Budget {
-        requests: requests as u32,
-        bytes: bytes as u32,
+        requests: u32::from(requests),
+        bytes: u32::from(bytes),
     })
 }
 
