@@ -18,8 +18,8 @@ use std::alloc::Global;
 /// Assembles a script. Whatever the replies are, its code does what the script does: P first deletes each key, and then
 /// each section does its steps.
 ///
-/// A script that needs too many templates is refused, and so is one with a section that needs too many instructions; the
-/// fault then names the first such section.
+/// A script that needs too many templates is refused. So is one with a section that needs too many instructions, and the
+/// fault names the first such section.
 pub fn assemble(alloc: Global, script: &Script) -> Result<Code, AsmFault>
     ensures layout { IfOk result (λ code. code ≡ layout.code_of script.now) }
     ensures kept { IfOk result spec.IsCode }

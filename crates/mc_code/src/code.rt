@@ -26,8 +26,8 @@ impl Model for Section {
 }
 
 /// Code: 1 to 8 keys, at most 32 flags and 16 variables, at most 64 templates, and three sections of at most 64
-/// instructions each. Each template names a key, flags and a variable that are declared. An instruction may name a template,
-/// a variable or a place that isn't there. Contracts see the vectors as lists.
+/// instructions each. A template's key, flags and variable are declared. An instruction may name a template, a variable or
+/// a place that isn't there. Contracts see the vectors as lists.
 #[derive(Debug, Drop)]
 pub struct Code {
     pub(crate) keys: Vec<Bytes>,
@@ -94,8 +94,8 @@ impl Code {
         self.part(actor).instructions.as_slice()
     }
 
-    /// The request of a call: that of its template, with the call's number. The key and the body are copied, so memory may
-    /// run out.
+    /// The request of a call: that of its template, with the call's number. Its key and its body are copies, for which
+    /// memory may run out.
     pub fn request(&self, alloc: Global, call: Call) -> Result<Request, OutOfMemory>
         requires { call.template < length self.now.templates }
         ensures { IfOk result (requests.IsRequest self.now call) }

@@ -13,7 +13,7 @@ pub enum AsmFault {
     /// The script needs more than 64 templates: one for each key, and one for each request of its sections.
     #[error("expected at most 64 templates: one for each key, and one for each request")]
     TooManyTemplates,
-    /// This section needs more than 64 instructions. It is the first such of P, A and B, and the templates are not too many.
+    /// This section, the first such of P, A and B, needs more than 64 instructions. The templates are not too many.
     #[error("expected at most 64 instructions in a section")]
     TooManyInstructions(Actor),
     /// Memory ran out.
@@ -124,8 +124,8 @@ impl ImageKind {
 pub struct ImageFault {
     /// What is wrong.
     pub kind: ImageKind,
-    /// Where: the offset of the first field that is wrong, or of a template whose fields don't suit each other, or of the
-    /// first byte after the last instruction; 0 if memory ran out.
+    /// The offset of what is wrong: the first such field, a template whose fields don't suit each other, or the first byte
+    /// after the last instruction. It is 0 if memory ran out.
     pub offset: usize,
 }
 

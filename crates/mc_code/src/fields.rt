@@ -103,7 +103,7 @@ impl<'a> Fields<'a> {
     {
         let offset = self.offset();
         let number = self.byte()?;
-        if (number as usize) < least || number as usize > greatest {
+        if !(least..=greatest).contains(&usize::from(number)) {
             return Err(ImageFault::at(ImageKind::Range, offset));
         }
         Ok(number)
@@ -119,7 +119,7 @@ impl<'a> Fields<'a> {
         ensures { reading.Reads (λ bytes. (bytes.now, self.new)) result (reading.sized_in least greatest self.old) }
     {
         let count = self.byte_within(least, greatest)?;
-        self.bytes(count as usize)
+        self.bytes(usize::from(count))
     }
 
     /// Checks that no byte is left.

@@ -14,13 +14,13 @@ use crate::{Code, ImageFault, ImageKind, Instr};
 use mc_script::Budget;
 use std::alloc::Global;
 
-/// Reads an image. The fault is that of the first field that is wrong. That the fields of a template don't suit each other
-/// is reported once all of them are read, at the offset of the template.
-#[tactic(auto, unfolding(crate::specs::ImageReading::code_in))]
+/// Reads an image. The fault is that of the first field that is wrong. Whether the fields of a template suit each other is
+/// decided once all of them are read; if they don't, the fault has the offset of the template.
 pub fn decode(alloc: Global, bytes: &[u8]) -> Result<Code, ImageFault>
     ensures found { IfOk result (λ code. image_of code ≡ bytes.now) }
     ensures kept { IfOk result spec.IsCode }
-    ensures read { (code : spec.Code) → spec.IsCode code → image_of code ≡ bytes.now → IfOk result (λ read. read ≡ code) }
+    ensures read { (code : spec.Code) → spec.IsCode code → image_of code ≡ bytes.now
+        → IfOk result (λ read. read ≡ code) }
     ensures none { IfErr result (λ fault. fault.kind ≢ ImageKind.OutOfMemory
         → (code : spec.Code) → spec.IsCode code → image_of code ≡ bytes.now → ⊥) }
     ensures memory { IfErr result (λ fault. fault.kind ≡ ImageKind.OutOfMemory → fault.offset ≡ 0) }

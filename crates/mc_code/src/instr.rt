@@ -8,7 +8,8 @@ pub enum Instr {
     Send {
         /// The index of the request's template.
         template: u8,
-        /// The place to which a reply of each class leads, in the order of the classes, `Stored` first and `NotNumber` last.
+        /// The place to which a reply of each class leads, in the order of the classes: `Stored` is the first, and
+        /// `NotNumber` the last.
         next: [u8; CLASS_COUNT],
     },
     /// Gives the variable with this index the number that the section's last reply showed.

@@ -11,8 +11,8 @@ use mc_script::{Label, Step};
 use std::alloc::Global;
 use std::marker::Model;
 
-/// The places of a section: where the code of each step begins, where the section ends, and where the code after each label
-/// begins.
+/// The places of a section: where the code of each step begins, where the section ends, and where the code after each
+/// label begins.
 #[derive(Drop)]
 pub(crate) struct Places {
     steps: Vec<u8>,

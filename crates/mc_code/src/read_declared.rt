@@ -61,7 +61,7 @@ fn read_key<'a>(fields: &mut Fields<'a>, keys: &[Bytes]) -> Result<&'a [u8], Ima
 {
     let count = fields.byte_within(1, KEY_BYTES_LIMIT)?;
     let offset = fields.offset();
-    let key = fields.bytes(count as usize)?;
+    let key = fields.bytes(usize::from(count))?;
     if !is_key(key) || !is_new(keys, key) {
         return Err(ImageFault::at(ImageKind::Range, offset));
     }

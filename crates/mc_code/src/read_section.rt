@@ -16,12 +16,12 @@ pub(crate) fn read_budget(fields: &mut Fields) -> Result<Budget, ImageFault>
     let requests = fields.byte_within(0, REQUESTS_LIMIT)?;
     let offset = fields.offset();
     let bytes = fields.number_16()?;
-    if bytes as usize > REQUEST_BYTES_LIMIT {
+    if usize::from(bytes) > REQUEST_BYTES_LIMIT {
         return Err(ImageFault::at(ImageKind::Range, offset));
     }
     Ok(Budget {
-        requests: requests as u32,
-        bytes: bytes as u32,
+        requests: u32::from(requests),
+        bytes: u32::from(bytes),
     })
 }
 

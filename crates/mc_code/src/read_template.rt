@@ -118,7 +118,7 @@ fn argument_of(vars: u8, sort: u8, number: u64) -> Option<Argument>
         0 if number == 0 => Some(Argument::Nothing),
         0 => None,
         1 => Some(Argument::Number(number)),
-        _ if number < vars as u64 => Some(Argument::Variable(number as u8)),
+        _ if number < u64::from(vars) => Some(Argument::Variable(number as u8)),
         _ => None,
     }
 }

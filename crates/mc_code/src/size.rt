@@ -1,5 +1,5 @@
 //! How many templates and instructions a script needs, and whether those are too many.
-ghost use Rattle.std.specs.Prelude.{◌≡◌, ◌+◌, ◌*◌, ◌≤◌, length, IfErr, OnOk};
+ghost use Rattle.std.specs.Prelude.{◌≡◌, ◌≢◌, ◌+◌, ◌*◌, ◌≤◌, length, IfErr, OnOk};
 ghost use Rattle.mc_protocol.specs.declared.actor.Actor as actor;
 ghost use Rattle.mc_code.specs.Layout as layout;
 ghost use Rattle.mc_code.specs.ScriptRuns as runs;
@@ -89,6 +89,7 @@ pub(crate) fn check_limits(script: &Script) -> Result<(), AsmFault>
     ensures instructions { OnOk result ((actor : actor.Actor) → layout.instruction_count script.now actor ≤ INSTRUCTIONS_LIMIT) }
     ensures exceeded { IfErr result (layout.IsExceeded script.now) }
     ensures first { IfErr result (layout.IsFirst script.now) }
+    ensures memory { IfErr result (λ fault. fault ≢ AsmFault.OutOfMemory) }
 {
     let templates = request_count(script, Actor::P)
         + request_count(script, Actor::A)

@@ -21,7 +21,7 @@ pub(crate) fn is_template(counts: Counts, template: &Template) -> bool
     requires { counts.flags ≤ FLAGS_LIMIT }
     ensures { result ≡ reading.is_template counts.keys counts.flags counts.vars template.now }
 {
-    (template.key as usize) < counts.keys
+    usize::from(template.key) < counts.keys
         && has_fields(
             counts.vars,
             template.verb.fields(),

@@ -38,7 +38,7 @@ static SIZES: [([usize; 3], Option<AsmFault>); 6] = [
     ([63, 64, 64], Some(AsmFault::TooManyInstructions(Actor::P))),
     ([62, 64, 64], Some(AsmFault::TooManyInstructions(Actor::A))),
     ([62, 63, 64], Some(AsmFault::TooManyInstructions(Actor::B))),
-    // Too many templates are told before too many instructions.
+    // Too many templates are reported before too many instructions.
     ([64, 0, 0], Some(AsmFault::TooManyTemplates)),
     ([64, 64, 64], Some(AsmFault::TooManyTemplates)),
 ];
@@ -51,7 +51,7 @@ fn assembles(rt: HostRuntime) -> Result<(), Fail> {
     Ok(())
 }
 
-// What stands there already is kept.
+// What is there already stays.
 #[test]
 fn writes_an_image_after_what_is_there(rt: HostRuntime) -> Result<(), Fail> {
     let alloc = rt.alloc();

@@ -17,8 +17,8 @@ fn reads_two_images(rt: HostRuntime) -> Result<(), Fail> {
     Ok(())
 }
 
-// Each byte of the two images takes each value in turn. `docs/FORMATS.md` allows so many of these images, the two
-// themselves among them once for each of their bytes. What is read is written again, byte for byte.
+// Each byte of an image takes each value in turn. What is read is written again, byte for byte. The numbers are how many of
+// these images `docs/FORMATS.md` allows; the image itself is among them once for each of its bytes.
 #[test]
 fn writes_what_it_reads(rt: HostRuntime) -> Result<(), Fail> {
     let alloc = rt.alloc();
@@ -27,7 +27,7 @@ fn writes_what_it_reads(rt: HostRuntime) -> Result<(), Fail> {
     Ok(())
 }
 
-// How many of the images that differ in at most one given byte are read, or `None` where one is written otherwise.
+// How many of the images with another value at one offset are read, or `None` if one of them isn't written as it was read.
 fn count_written(alloc: Global, image: &[u8]) -> Result<Option<usize>, ImageFault> {
     let mut count = 0usize;
     for offset in 0..image.len() {

@@ -100,8 +100,8 @@ static FAULTY_EVERYTHING: [(usize, u8, ImageKind, usize); 21] = [
     (268, 1, Short, 269),
 ];
 
-// The image with everything, with these bytes changed and cut here. Each first template has a key that is none, which is
-// told after its last field.
+// The image with everything, with these bytes changed and cut at this length, and the kind and offset of its fault. The key
+// of the first template is not declared, which is reported only after the template's last field.
 static INSIDE: [(&[(usize, u8)], usize, ImageKind, usize); 4] = [
     (&[(24, 2)], 60, Short, 39),
     (&[(24, 2)], 118, Short, 115),
@@ -124,7 +124,7 @@ static OTHERS: [(&[u8], ImageKind, usize); 9] = [
         Range,
         5,
     ),
-    // the first faulty field is told
+    // two fields are wrong: the first is reported
     (b"MCR1\x01\x01A\xff\xff", Range, 6),
     (b"MCR1\x01\x01a\x21\xff", Range, 7),
 ];
@@ -170,18 +170,21 @@ static EVERYTHING_FIELDS: [usize; 79] = [
 ];
 
 #[test]
-fn tells_the_first_fault(rt: HostRuntime) -> Result<(), Fail> {
+fn reports_the_first_fault(rt: HostRuntime) -> Result<(), Fail> {
     let alloc = rt.alloc();
-    assert_eq!(rt; first_untold(alloc, COUNTER_IMAGE, &FAULTY_COUNTER)?, None);
     assert_eq!(rt;
-        first_untold(alloc, EVERYTHING_IMAGE, &FAULTY_EVERYTHING)?,
+        first_unreported(alloc, COUNTER_IMAGE, &FAULTY_COUNTER)?,
+        None
+    );
+    assert_eq!(rt;
+        first_unreported(alloc, EVERYTHING_IMAGE, &FAULTY_EVERYTHING)?,
         None
     );
     Ok(())
 }
 
 #[test]
-fn tells_fields_before_their_template(rt: HostRuntime) -> Result<(), Fail> {
+fn reports_fields_before_their_template(rt: HostRuntime) -> Result<(), Fail> {
     let alloc = rt.alloc();
     for (changes, end, kind, at) in INSIDE {
         let bytes = changed(alloc, EVERYTHING_IMAGE, changes)?;
@@ -192,7 +195,7 @@ fn tells_fields_before_their_template(rt: HostRuntime) -> Result<(), Fail> {
 }
 
 #[test]
-fn tells_faults_of_other_bytes(rt: HostRuntime) -> Result<(), Fail> {
+fn reports_faults_of_other_bytes(rt: HostRuntime) -> Result<(), Fail> {
     for (bytes, kind, at) in OTHERS {
         assert!(rt; has_fault(rt.alloc(), bytes, kind, at)?, "offset {at}");
     }
@@ -200,7 +203,7 @@ fn tells_faults_of_other_bytes(rt: HostRuntime) -> Result<(), Fail> {
 }
 
 #[test]
-fn tells_the_cut_field(rt: HostRuntime) -> Result<(), Fail> {
+fn reports_the_cut_field(rt: HostRuntime) -> Result<(), Fail> {
     let alloc = rt.alloc();
     assert_eq!(rt; first_miscut(alloc, COUNTER_IMAGE, &COUNTER_FIELDS)?, None);
     assert_eq!(rt;
@@ -211,15 +214,15 @@ fn tells_the_cut_field(rt: HostRuntime) -> Result<(), Fail> {
 }
 
 #[test]
-fn tells_a_byte_too_many(rt: HostRuntime) -> Result<(), Fail> {
+fn reports_a_byte_too_many(rt: HostRuntime) -> Result<(), Fail> {
     let mut longer = Vec::from_slice(rt.alloc(), COUNTER_IMAGE)?;
     longer.push(3)?;
     assert!(rt; has_fault(rt.alloc(), &longer, Extra, 202)?);
     Ok(())
 }
 
-// The first of these rows whose fault isn't told.
-fn first_untold(
+// The first of these rows whose fault isn't the one that is reported.
+fn first_unreported(
     alloc: Global,
     image: &[u8],
     rows: &[(usize, u8, ImageKind, usize)],
@@ -233,7 +236,7 @@ fn first_untold(
     Ok(None)
 }
 
-// The first length to which the image is cut, and the field that isn't whole is not told.
+// The first length to which the image is cut without its last field, which isn't whole, being reported.
 fn first_miscut(
     alloc: Global,
     image: &[u8],
@@ -248,7 +251,7 @@ fn first_miscut(
     Ok(None)
 }
 
-// Where the last field begins that begins here or before.
+// The offset of the last field that begins at `end` or before it.
 fn field_at(fields: &[usize], end: usize) -> usize {
     let mut start = 0;
     for field in fields {

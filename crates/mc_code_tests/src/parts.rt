@@ -5,7 +5,7 @@ use mc_code::{Code, Instr, NO_ENTRY};
 use mc_protocol::{Actor, Bytes, Verb};
 use mc_script::{Argument, Budget, Template};
 
-/// All parts of a code, its sections those of P, A and B.
+/// All parts of code.
 pub(crate) struct Parts {
     pub(crate) keys: &'static [&'static [u8]],
     pub(crate) flags: usize,
@@ -16,13 +16,14 @@ pub(crate) struct Parts {
     pub(crate) b: Section,
 }
 
-/// What a section may send, and its instructions.
+/// The most that a section may send, and its instructions.
 pub(crate) struct Section {
     pub(crate) budget: Budget,
     pub(crate) instructions: &'static [Instr],
 }
 
-/// A template; the masks are those of the flags that must be set, must be clear, are set, and are cleared.
+/// A template. Its masks are the flags that must be set, those that must be clear, those that it sets, and those that it
+/// clears.
 pub(crate) struct Fields {
     pub(crate) verb: Verb,
     pub(crate) key: u8,
