@@ -6,7 +6,7 @@ use mc_protocol::OutOfMemory;
 use std::alloc::Global;
 use std::test::Fail;
 
-// What a server chooses where a row asks for nothing else.
+/// What a server chooses where a row asks for nothing else.
 const PLAIN: Choice = Choice {
     pad: false,
     read: false,
@@ -22,11 +22,11 @@ const PADS: Choice = Choice {
     read: false,
 };
 
-// The flags, body and number of an item.
+/// The flags, body and number of an item.
 type Held = Option<(u32, &'static str, u64)>;
 
-// The body that is at the key with flags 5 and the number 4, what is asked and answered, and what is there then. The
-// number of a version that is made is 9.
+/// The body that is at the key with flags 5 and the number 4, what is asked and answered, and what is there then. The
+/// number of a version that is made is 9.
 type Row = (&'static str, &'static str, Choice, &'static str, Held);
 
 static ACTS: &[Row] = &[
@@ -112,7 +112,7 @@ fn cache_of(alloc: Global, body: &str) -> Result<Cache, OutOfMemory> {
     Ok(cache)
 }
 
-// Whether the cache answers so, and holds this then. Without memory it is as it was.
+/// Whether the cache answers so, and holds this then. Without memory it is as it was.
 fn acts(
     alloc: Global,
     body: &str,

@@ -13,7 +13,7 @@ fn item(alloc: Global, number: u64) -> Result<Item, OutOfMemory> {
     })
 }
 
-// The number of what the cache holds at the key.
+/// The number of what the cache holds at the key.
 fn number_at(cache: &Cache, key: &str) -> Option<u64> {
     match cache.find(key.as_bytes()) {
         Some(item) => Some(item.number),
@@ -21,7 +21,7 @@ fn number_at(cache: &Cache, key: &str) -> Option<u64> {
     }
 }
 
-// A cache of these keys and numbers.
+/// A cache of these keys and numbers.
 fn cache_of(alloc: Global, held: &[(&str, u64)]) -> Result<Cache, OutOfMemory> {
     let mut entries = Vec::new(alloc);
     for (key, number) in held {
@@ -32,7 +32,7 @@ fn cache_of(alloc: Global, held: &[(&str, u64)]) -> Result<Cache, OutOfMemory> {
 
 static HELD: &[(&str, u64)] = &[("a", 2), ("b", 3), ("a", 4)];
 
-// Of a key that stands twice the first counts.
+/// Of a key that stands twice the first counts.
 static FOUND: &[(&str, Option<u64>)] = &[("a", Some(2)), ("b", Some(3)), ("c", None)];
 
 fn finds(cache: &Cache, found: &[(&str, Option<u64>)]) -> bool {
@@ -50,7 +50,7 @@ fn takes_the_first_item_of_a_key(rt: HostRuntime) -> Result<(), Fail> {
     Ok(())
 }
 
-// What a cache of one or two items finds before an item is put, its key and number, and what it finds then.
+/// What a cache of one or two items finds before an item is put, its key and number, and what it finds then.
 type Row = (
     &'static [(&'static str, u64)],
     &'static [(&'static str, Option<u64>)],
@@ -76,7 +76,7 @@ static PUTS: &[Row] = &[
     ),
 ];
 
-// Whether the cache finds so once the item is put. Without memory it finds what it did.
+/// Whether the cache finds so once the item is put. Without memory it finds what it did.
 fn puts(
     alloc: Global,
     held: &[(&str, u64)],

@@ -5,7 +5,7 @@ use mc_protocol::OutOfMemory;
 use std::alloc::Global;
 use std::test::Fail;
 
-// What is wrong with words, where that is more than memory.
+/// What is wrong with words, where that is more than memory.
 fn fault_in<T: Drop>(answer: Result<T, WordsFault>) -> Result<Option<WordsFault>, WordsFault> {
     match answer {
         Ok(_) => Ok(None),
@@ -54,7 +54,7 @@ fn refuses_bodies(rt: HostRuntime) -> Result<(), Fail> {
     Ok(())
 }
 
-fn is_told(
+fn are_shown(
     alloc: Global,
     kind: HistoryKind,
     fault: WordsFault,
@@ -64,11 +64,11 @@ fn is_told(
 }
 
 #[test]
-fn tells_faults(rt: HostRuntime) -> Result<(), Fail> {
+fn shows_faults(rt: HostRuntime) -> Result<(), Fail> {
     let expected =
         "a section has more than 24 requests, or the history more than 8 keys; a number is too large";
     assert!(rt;
-        is_told(
+        are_shown(
             rt.alloc(),
             HistoryKind::TooMany,
             WordsFault::Number,

@@ -8,7 +8,7 @@ use mc_protocol::{Actor, Verb};
 use std::alloc::Global;
 use std::test::Fail;
 
-// A request with its reply, or `?` where none came.
+/// A request with its reply, or `?` where none came.
 fn sent(alloc: Global, request: &str, reply: &str) -> Result<Sent, WordsFault> {
     let request = request_in(alloc, request)?;
     let reply = if reply == "?" {
@@ -19,7 +19,7 @@ fn sent(alloc: Global, request: &str, reply: &str) -> Result<Sent, WordsFault> {
     Ok(Sent { request, reply })
 }
 
-// The requests of a section with their replies.
+/// The requests of a section with their replies.
 type Section = &'static [(&'static str, &'static str)];
 
 fn section(alloc: Global, lines: &[(&str, &str)]) -> Result<Vec<Sent>, WordsFault> {
@@ -45,7 +45,7 @@ fn history(
     }
 }
 
-// Sections that are no history: the rule that is broken, and the section and place of the request that breaks it.
+/// Sections that are no history: the rule that is broken, and the section and place of the request that breaks it.
 static FAULTY: &[(Section, Section, Section, (HistoryKind, Actor, usize))] = &[
     (
         &[("delete a", "NOT_FOUND")],
@@ -83,7 +83,7 @@ fn has_verbs(section: &[Sent], verbs: &[Verb]) -> bool {
     section.len() == verbs.len()
 }
 
-// What a section has in a history of all three.
+/// What a section has in a history of all three.
 static P: Section = &[("delete a", "NOT_FOUND")];
 
 static A: Section = &[("get a", "MISS"), ("touch a", "NOT_FOUND")];
@@ -105,7 +105,7 @@ fn takes_histories(rt: HostRuntime) -> Result<(), Fail> {
     Ok(())
 }
 
-// What is pushed, one after another, and the rule that it would break. What breaks one changes nothing.
+/// What is pushed, one after another, and the rule that it would break. What breaks one changes nothing.
 static PUSHES: &[(Actor, &str, &str, Option<HistoryKind>)] = &[
     (Actor::P, "delete a", "NOT_FOUND", None),
     (Actor::A, "get b", "MISS", Some(HistoryKind::NotCleared)),
@@ -120,7 +120,7 @@ static BUILT: &[(Actor, &[Verb])] = &[
     (Actor::B, &[]),
 ];
 
-fn pushed(
+fn push_fault(
     builder: &mut HistoryBuilder,
     actor: Actor,
     sent: Sent,
@@ -138,7 +138,7 @@ fn builds_histories(rt: HostRuntime) -> Result<(), Fail> {
     for (actor, request, reply, expected) in PUSHES {
         let sent = sent(rt.alloc(), request, reply)?;
         assert!(rt;
-            pushed(&mut builder, *actor, sent)? == *expected,
+            push_fault(&mut builder, *actor, sent)? == *expected,
             "{request} {reply}"
         );
     }

@@ -7,7 +7,7 @@ use mc_protocol::{Class, OutOfMemory, Reply, Request, Verb};
 use std::alloc::Global;
 use std::test::Fail;
 
-// A request's line, and its parts behind the key `k-1`: flags, body and number.
+/// A request's line, and its parts after the key `k-1`: flags, body and number.
 static REQUESTS: &[(&str, Verb, u32, &[u8], u64)] = &[
     ("set k-1 0 =5", Verb::Set, 0, b"5", 0),
     ("add k-1 7 =a%20b", Verb::Add, 7, b"a b", 0),
@@ -37,8 +37,12 @@ fn has_parts(request: &Request, verb: Verb, flags: u32, body: &[u8], number: u64
         && request.number == number
 }
 
-// Whether the line was appended to the two bytes that were there. Without memory nothing was.
-fn appended(answer: Result<(), OutOfMemory>, out: &[u8], line: &str) -> Result<bool, WordsFault> {
+/// Whether the line was appended to the two bytes that were there. Without memory nothing was.
+fn is_appended(
+    answer: Result<(), OutOfMemory>,
+    out: &[u8],
+    line: &str,
+) -> Result<bool, WordsFault> {
     let after = out.strip_prefix(b"> ");
     match answer {
         Ok(()) => Ok(after == Some(line.as_bytes())),
@@ -50,7 +54,7 @@ fn appended(answer: Result<(), OutOfMemory>, out: &[u8], line: &str) -> Result<b
 fn prints_request(alloc: Global, request: &Request, line: &str) -> Result<bool, WordsFault> {
     let mut out = Vec::from_slice(alloc, b"> ")?;
     let answer = print_request_words(request, &mut out);
-    appended(answer, out.as_slice(), line)
+    is_appended(answer, out.as_slice(), line)
 }
 
 #[test]
@@ -66,7 +70,7 @@ fn reads_and_prints_each_verb(rt: HostRuntime) -> Result<(), Fail> {
     Ok(())
 }
 
-// A reply's line and its class. For most classes there is one reply.
+/// A reply's line and its class. For most classes there is one reply.
 static REPLIES: &[(&str, Class)] = &[
     ("STORED", Class::Stored),
     ("NOT_STORED", Class::NotStored),
@@ -84,7 +88,7 @@ static REPLIES: &[(&str, Class)] = &[
 fn prints_reply(alloc: Global, reply: &Reply, line: &str) -> Result<bool, WordsFault> {
     let mut out = Vec::from_slice(alloc, b"> ")?;
     let answer = print_reply_words(reply, &mut out);
-    appended(answer, out.as_slice(), line)
+    is_appended(answer, out.as_slice(), line)
 }
 
 #[test]
@@ -99,7 +103,7 @@ fn reads_and_prints_each_reply(rt: HostRuntime) -> Result<(), Fail> {
     Ok(())
 }
 
-// The line of a hit, and its flags, body and cas number.
+/// The line of a hit, and its flags, body and cas number.
 static HITS: &[(&str, u32, &[u8], Option<u64>)] = &[
     ("HIT 3 =%00a%25", 3, b"\0a%", None),
     ("HIT 0 = 12", 0, b"", Some(12)),
@@ -128,7 +132,7 @@ fn reads_the_parts_of_replies(rt: HostRuntime) -> Result<(), Fail> {
     Ok(())
 }
 
-// A word, the body that it says, and the reply that is printed of it.
+/// A word, the body that it says, and the reply that is printed of it.
 static BODIES: &[(&str, &[u8], &str)] = &[
     ("=", b"", "HIT 0 ="),
     ("=%00", b"\0", "HIT 0 =%00"),
@@ -160,7 +164,7 @@ fn reads_and_prints_bodies(rt: HostRuntime) -> Result<(), Fail> {
     Ok(())
 }
 
-// A word, and the number below 2^64 that it says.
+/// A word, and the number below 2^64 that it says.
 static NUMBERS: &[(&str, Result<u64, WordsFault>)] = &[
     ("18446744073709551615", Ok(u64::MAX)),
     ("00000000000000000001", Ok(1)),
