@@ -1,10 +1,7 @@
 //! What makes a history, and the faults of requests that make none. The rules themselves are cases of the program.
 use crate::lines::{reply_in, request_in};
-use mc_model::{
-    History, HistoryBuilder, HistoryKind, KEY_BYTES_LIMIT, KEYS_LIMIT, REQUESTS_LIMIT, Sent,
-    WordsFault,
-};
-use mc_protocol::{Actor, Verb};
+use mc_model::{History, HistoryBuilder, HistoryKind, Sent, WordsFault};
+use mc_protocol::{Actor, KEY_BYTES_LIMIT, KEYS_LIMIT, REQUESTS_LIMIT, Verb};
 use std::alloc::Global;
 use std::test::Fail;
 

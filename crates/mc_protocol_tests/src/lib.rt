@@ -7,6 +7,8 @@ mod lines;
 #[cfg(test)]
 mod replies;
 #[cfg(test)]
+mod shared_words;
+#[cfg(test)]
 mod texts;
 #[cfg(test)]
 mod values;

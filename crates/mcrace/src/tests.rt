@@ -160,11 +160,15 @@ fn tells_the_value_of_a_wrong_limit(rt: HostRuntime) -> Result<(), Fail> {
     let rows = [
         (
             "x",
-            "error: invalid value 'x' for '--limit <N>': invalid digit found in string\n",
+            "error: invalid value 'x' for '--limit <N>': expected a number from 0 to 1,000,000,000\n",
+        ),
+        (
+            "+5",
+            "error: invalid value '+5' for '--limit <N>': expected a number from 0 to 1,000,000,000\n",
         ),
         (
             "1000000001",
-            "error: invalid value '1000000001' for '--limit <N>': 1000000001 is not in 0..=1000000000\n",
+            "error: invalid value '1000000001' for '--limit <N>': expected a number from 0 to 1,000,000,000\n",
         ),
     ];
     for (word, wanted) in rows {
