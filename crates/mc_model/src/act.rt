@@ -47,6 +47,7 @@ impl Cache {
 }
 
 impl Cache {
+    /// Shows the item at the key.
     fn get(&self, request: &Request) -> Result<Reply, OutOfMemory>
         ensures { IfOk result (λ reply. reply ≡ (read (finite_map.get self.now request.now.key)).reply) }
     {
@@ -56,6 +57,7 @@ impl Cache {
         }
     }
 
+    /// Shows the item at the key, with its number.
     fn gets(&self, request: &Request) -> Result<Reply, OutOfMemory>
         ensures { IfOk result (λ reply. reply ≡ (read_with_number (finite_map.get self.now request.now.key)).reply) }
     {
@@ -65,6 +67,7 @@ impl Cache {
         }
     }
 
+    /// Removes the item at the key.
     fn delete(&mut self, request: &Request) -> Reply
         ensures reply { result ≡ (acted self.old request.now (deleted (finite_map.get self.old request.now.key))).reply }
         ensures contents { self.new ≡ (acted self.old request.now (deleted (finite_map.get self.old request.now.key))).contents }

@@ -140,6 +140,7 @@ impl HistoryBuilder {
             || (actor == Actor::P && sent.request.verb == Verb::Delete)
     }
 
+    /// The section's requests so far.
     fn section(&self, actor: Actor) -> &[Sent]
         ensures { result.now ≡ sections.section_of self.now actor }
     {

@@ -31,6 +31,7 @@ impl Direction {
 }
 
 impl Cache {
+    /// Adds the request's amount to the number at the key.
     pub(crate) fn incr(
         &mut self,
         request: &Request,
@@ -44,6 +45,7 @@ impl Cache {
         self.count(request, choice, number, Direction::Up)
     }
 
+    /// Takes the request's amount from the number at the key.
     pub(crate) fn decr(
         &mut self,
         request: &Request,
@@ -57,6 +59,7 @@ impl Cache {
         self.count(request, choice, number, Direction::Down)
     }
 
+    /// Counts in the direction: the item's body becomes the new number, and its flags stay.
     fn count(
         &mut self,
         request: &Request,
