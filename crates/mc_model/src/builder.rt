@@ -4,9 +4,7 @@ ghost use Rattle.mc_model.specs.Sections as sections;
 ghost use Rattle.mc_model.specs.History as rule;
 ghost use Rattle.mc_model.specs.Next as next;
 
-use crate::rules::{
-    HistoryKind, are_answered, has_key, has_words, is_answered_rightly, is_seen,
-};
+use crate::rules::{HistoryKind, are_answered, has_key, has_words, is_answered_rightly, is_seen};
 use crate::{History, Sent};
 use mc_protocol::{Actor, KEYS_LIMIT, REQUESTS_LIMIT, Verb};
 use std::alloc::Global;
