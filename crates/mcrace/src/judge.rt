@@ -36,8 +36,8 @@ pub fn judge_text(alloc: Global, text: &[u8], limit: u64) -> Result<Judgement, A
         Ok(parsed) => {
             let (history, explanation) = parsed;
             match explanation {
-                Some(explanation) => confirmation(alloc, &history, &explanation),
-                None => judgement(alloc, &history, limit),
+                Some(explanation) => check_explanation(alloc, &history, &explanation),
+                None => find_verdict(alloc, &history, limit),
             }
         }
         // Want of memory is no fault of the text.
@@ -48,7 +48,7 @@ pub fn judge_text(alloc: Global, text: &[u8], limit: u64) -> Result<Judgement, A
     }
 }
 
-fn confirmation(
+fn check_explanation(
     alloc: Global,
     history: &History,
     explanation: &Explanation,
@@ -62,7 +62,7 @@ fn confirmation(
     }
 }
 
-fn judgement(alloc: Global, history: &History, limit: u64) -> Result<Judgement, AllocError>
+fn find_verdict(alloc: Global, history: &History, limit: u64) -> Result<Judgement, AllocError>
     ensures { IfOk result (answers.JudgesRightly limit history.now) }
 {
     let (verdict, turns) = judge(alloc, history, limit)?;
