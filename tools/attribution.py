@@ -7,6 +7,8 @@ import items
 from edits import BadEdit
 
 GAVE_UP = "`search` gave up at one of its limits"
+# What is said of a function that is proved; the second where others may have holes for proofs, but none on which it rests.
+PROVED = ("proved", "no holes")
 
 
 def place(edit, crate, found):
@@ -74,7 +76,7 @@ def refusal(edit, answer):
                     return "goal", f"{name}: {said}"
                 weaker = "limit", f"{name}: `{answer.goals[name][0][1]}`: {answer.goals[name][0][0]}"
             path = name.partition("::")[2]
-            if not words.startswith("proved") and path in answer.of_proof_files:
+            if not words.startswith(PROVED) and path in answer.of_proof_files:
                 weaker = weaker or ("proof file", f"{name}: {answer.of_proof_files[path]}")
     return weaker
 
@@ -82,7 +84,7 @@ def refusal(edit, answer):
 def is_proved(edit, answer):
     """Whether the answer proves each function of the edit."""
     lines = [it for function in edit.functions for it in lines_of(answer, function)]
-    return set(edit.functions) <= set(lines) and all(answer.words[it] == "proved" for it in lines)
+    return set(edit.functions) <= set(lines) and all(answer.words[it] in PROVED for it in lines)
 
 
 def why_not(edit, answer):
@@ -90,7 +92,7 @@ def why_not(edit, answer):
     if is_proved(edit, answer):
         return f"NOT REFUSED: {', '.join(edit.functions)} still proved"
     lines = [it for function in edit.functions for it in lines_of(answer, function)]
-    return "; ".join(f"{it}: {answer.words[it]}" for it in lines if answer.words[it] != "proved") or "no message of its function"
+    return "; ".join(f"{it}: {answer.words[it]}" for it in lines if answer.words[it] not in PROVED) or "no message of its function"
 
 
 def fault_of(edit, answer):

@@ -9,6 +9,7 @@ from dataclasses import dataclass
 ITEM = re.compile(r"( *)(pub(?:\([^)]*\))? )?(?:(?:const|unsafe) )*(fn|const|static|struct|enum|type|trait|impl|mod)\b *(?:<|(\w+))?")
 OF_TESTS = re.compile(r"#\[cfg\(test\)\]\n *(?:pub )?mod (\w+);")
 CLAUSE = re.compile(r" *(requires|ensures|ghost)\b")
+QUOTE_MARK = re.compile(r"'\\?\"'")
 
 
 @dataclass
@@ -25,9 +26,10 @@ class Item:
     has_body: bool = False
     is_empty: bool = False
     is_public: bool = False
-    # Of a method: its block's type, and whether the block is of a trait.
+    # Of a method: its block's type, whether the block is of a trait, and whether it declares the trait.
     owner: str = ""
     is_of_trait: bool = False
+    is_of_declared_trait: bool = False
 
     @property
     def name(self):
@@ -83,7 +85,36 @@ def owner_of(header):
     return "".join(names), True
 
 
-def block_items(lines, file, module, first, last, indent, owner, is_of_trait):
+def is_in_text(line, begins_so):
+    """Whether a text in quotes goes on after this line, and where in the line one ends that began above it."""
+    inside, at, ended = begins_so, 0, len(line) if begins_so else 0
+    while at < len(line):
+        if inside and line[at] == "\\":
+            at += 1
+        elif line[at] == '"':
+            inside = not inside
+            ended = min(ended, at + 1)
+        elif not inside and line.startswith("//", at):
+            break
+        elif not inside and (quoted := QUOTE_MARK.match(line, at)):
+            at = quoted.end() - 1
+        at += 1
+    return inside, ended
+
+
+def without_texts(lines):
+    """The lines without what stands in a text of several lines, which may look like an item. As many lines are left."""
+    found, inside, indent = [], False, ""
+    for line in lines:
+        was_inside = inside
+        inside, ended = is_in_text(line, inside)
+        found.append(indent + line[ended:] if was_inside else line)
+        if not was_inside:
+            indent = line[: len(line) - len(line.lstrip())]
+    return found
+
+
+def block_items(lines, file, module, first, last, indent, owner, is_of_trait, is_declared=False):
     """The items among these lines that begin at this indent, and those inside them."""
     found, at = [], first
     while at <= last:
@@ -104,10 +135,10 @@ def block_items(lines, file, module, first, last, indent, owner, is_of_trait):
             opens = next((it for it in range(at, end + 1) if lines[it].endswith("{")), end)
             inner = (*module, name) if kind == "mod" else module
             block, of = ("", False) if kind == "mod" else owner_of(" ".join(lines[at : opens + 1]))
-            found += block_items(lines, file, inner, opens + 1, end - 1, indent + "    ", block, of)
+            found += block_items(lines, file, inner, opens + 1, end - 1, indent + "    ", block, of, kind == "trait")
         elif kind not in ("impl", "mod"):
             path = (*module, *[owner] * bool(owner), name)
-            item = Item(kind, file, path, above, end, owner=owner, is_of_trait=is_of_trait)
+            item = Item(kind, file, path, above, end, owner=owner, is_of_trait=is_of_trait, is_of_declared_trait=is_declared)
             item.is_public = head[2] == "pub "
             if kind == "fn":
                 item.body = next((it for it in range(at, end + 1) if is_at(lines[it], indent) and lines[it].endswith("{")), end)
@@ -129,7 +160,7 @@ def items_of(folder):
     for module, (file, text) in texts.items():
         if any(module[: len(it)] == it for it in of_tests):
             continue
-        lines = text.split("\n")
+        lines = without_texts(text.split("\n"))
         found += block_items(lines, file, module, 0, len(lines) - 1, "", "", False)
     # A type's own methods are named by the module that declares the type, whichever module their block stands in.
     declared = {it.path for it in found if it.kind in ("struct", "enum")}

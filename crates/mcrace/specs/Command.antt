@@ -42,7 +42,7 @@ pub record IsFaultOf (words : List (List ℕ)) (found : ErrorKind) : Type 0 wher
 abbrev pub MayShow : List (List ℕ) → Type 0
 MayShow words = (found : ErrorKind) × IsFaultOf words found × IsShown found
 
--- the words have a fault that is told
+-- the words have a fault that is reported
 abbrev pub MayTell : List (List ℕ) → Type 0
 MayTell words = (found : ErrorKind) × IsFaultOf words found × (IsShown found → ⊥)
 

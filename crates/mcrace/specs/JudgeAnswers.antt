@@ -22,7 +22,7 @@ use Rattle.mcrace.specs.declared.judge.Judgement.TheVariants as judgement
 abbrev pub SpellsNone : List ℕ → Type 0
 SpellsNone text = (s : Sections) (claim : Option Claim) → SpellsHistory text s claim → ⊥
 
--- the answer is right for the text, where a search may take so many turns
+-- the answer is right for the text, where a search may take at most limit turns
 abbrev pub IsRight : ℕ → List ℕ → Judgement → Type 0
 IsRight limit text judgement.Confirmed = (s : Sections) × (claim : Claim) × SpellsHistory text s (Some claim) × Explains s claim
 IsRight limit text judgement.NotConfirmed =

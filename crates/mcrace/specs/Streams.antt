@@ -30,6 +30,6 @@ Writes old new before after bytes result = MatchResult result
     (λ _. Grows old new bytes × (after ≡ before))
     (λ _. after ≡ true)
 
--- at most so many bytes were taken
+-- at most this many bytes were taken
 abbrev pub TakesAtMost : ℕ → Option (List ℕ) → Option (List ℕ) → Type 0
 TakesAtMost most old new = (taken : List ℕ) × (length taken ≤ most) × Loses old new taken

@@ -24,14 +24,14 @@ const STATUSES: &str = "Exit status:
 /// What a line asks for.
 #[derive(Clone, Copy, Debug, Drop, PartialEq, Eq)]
 pub enum Asked {
-    /// A judgement, in a search of at most so many turns.
+    /// A judgement. A search takes at most this many turns.
     Judge(u64),
     /// The image of a script.
     Asm,
 }
 
 /// Reads the line, whose first word is the program's name. It asks for something; or the error says what to write and where.
-pub fn parsed(alloc: Global, line: &[String]) -> Result<Asked, Error>
+pub fn read_line(alloc: Global, line: &[String]) -> Result<Asked, Error>
     ensures asked { IfOk result (AsksFor (map string_bytes line.now)) }
     ensures fault { IfErr result (λ error. (kind_of error ≡ ErrorKind.OutOfMemory)
         ⊎ IsFaultOf (map string_bytes line.now) (kind_of error)) }
@@ -39,7 +39,7 @@ pub fn parsed(alloc: Global, line: &[String]) -> Result<Asked, Error>
     let matches = program(alloc)?.try_get_matches_from(line)?;
     match matches.subcommand() {
         Some((name, options)) => match name {
-            "judge" => judge_asked(alloc, options),
+            "judge" => read_judge_options(alloc, options),
             "asm" => Ok(Asked::Asm),
             _ => Err(no_subcommand(alloc)?),
         },
@@ -47,14 +47,14 @@ pub fn parsed(alloc: Global, line: &[String]) -> Result<Asked, Error>
     }
 }
 
-fn judge_asked(alloc: Global, options: &ArgMatches) -> Result<Asked, Error>
+fn read_judge_options(alloc: Global, options: &ArgMatches) -> Result<Asked, Error>
     ensures asked { IfOk result (λ asked. (limit : ℕ) × (asked ≡ Asked.Judge limit)
         × IsLimit (first_value (found_of options.now) (codes "limit")) limit) }
     ensures fault { IfErr result (λ error. (kind_of error ≡ ErrorKind.OutOfMemory)
         ⊎ ((kind_of error ≡ ErrorKind.ValueValidation)
         × ((limit : ℕ) → IsLimit (first_value (found_of options.now) (codes "limit")) limit → ⊥))) }
 {
-    match limit::named(options) {
+    match limit::read(options) {
         Ok(limit) => Ok(Asked::Judge(limit)),
         Err(word) => Err(limit::fault(alloc, judge::subcommand(alloc)?, word)?),
     }

@@ -29,7 +29,7 @@ pub fn assemble_text(alloc: Global, text: &[u8]) -> Result<Assembly, AllocError>
     ensures { IfOk result (answers.IsRight text.now) }
 {
     match parse(alloc, text) {
-        Ok(script) => assembled(alloc, &script),
+        Ok(script) => assemble_script(alloc, &script),
         // Want of memory is no fault of the text.
         Err(fault) => match fault.kind {
             ScriptKind::OutOfMemory => Err(AllocError),
@@ -38,7 +38,7 @@ pub fn assemble_text(alloc: Global, text: &[u8]) -> Result<Assembly, AllocError>
     }
 }
 
-fn assembled(alloc: Global, script: &Script) -> Result<Assembly, AllocError>
+fn assemble_script(alloc: Global, script: &Script) -> Result<Assembly, AllocError>
     ensures { IfOk result (answers.IsRightFor script.now) }
 {
     match assemble(alloc, script) {

@@ -8,7 +8,7 @@ ghost use Rattle.mcrace.specs.Streams.{Grows, TakesAtMost};
 ghost use Rattle.clap.specs.Words.{kind_of};
 
 use crate::answer::{Answer, INPUT_LIMIT, OUT_OF_MEMORY, answer_to};
-use crate::arguments::{Asked, parsed};
+use crate::arguments::{Asked, read_line};
 use crate::input::{InputFault, read_input};
 use crate::status::Status;
 use crate::streams::{Sink, Source};
@@ -53,7 +53,7 @@ pub fn command<I: Source, O: Sink, F: Sink>(
     ensures broken_faults { F.has_failed faults.old ≡ false → F.has_failed faults.new ≡ true → result ≡ 4 }
     ensures taken { TakesAtMost 1048577 (I.left input.old) (I.left input.new) }
 {
-    match parsed(alloc, line) {
+    match read_line(alloc, line) {
         Ok(asked) => answer(alloc, asked, input, output).number(),
         Err(error) => explain(alloc, &error, output, faults).number(),
     }

@@ -22,7 +22,7 @@ pub enum Judgement {
     Confirmed,
     /// The explanation in the text does not explain the history.
     NotConfirmed,
-    /// The text has no explanation, and a search for one ended so, after so many turns.
+    /// The text has no explanation. This is the verdict of the search for one, and how many turns it took.
     Judged(Verdict, u64),
     /// The text is no history.
     Refused(HistoryFault),
@@ -36,8 +36,8 @@ pub fn judge_text(alloc: Global, text: &[u8], limit: u64) -> Result<Judgement, A
         Ok(parsed) => {
             let (history, explanation) = parsed;
             match explanation {
-                Some(explanation) => confirmed(alloc, &history, &explanation),
-                None => judged(alloc, &history, limit),
+                Some(explanation) => check_explanation(alloc, &history, &explanation),
+                None => find_verdict(alloc, &history, limit),
             }
         }
         // Want of memory is no fault of the text.
@@ -48,7 +48,7 @@ pub fn judge_text(alloc: Global, text: &[u8], limit: u64) -> Result<Judgement, A
     }
 }
 
-fn confirmed(
+fn check_explanation(
     alloc: Global,
     history: &History,
     explanation: &Explanation,
@@ -62,7 +62,7 @@ fn confirmed(
     }
 }
 
-fn judged(alloc: Global, history: &History, limit: u64) -> Result<Judgement, AllocError>
+fn find_verdict(alloc: Global, history: &History, limit: u64) -> Result<Judgement, AllocError>
     ensures { IfOk result (answers.JudgesRightly limit history.now) }
 {
     let (verdict, turns) = judge(alloc, history, limit)?;

@@ -29,7 +29,7 @@ pub fn option<'a>(alloc: Global) -> Arg<'a>
 }
 
 /// The limit that the words of a subcommand name, or the default; or the word that is no limit.
-pub fn named<'a>(options: &ArgMatches<'a>) -> Result<u64, &'a str>
+pub fn read<'a>(options: &ArgMatches<'a>) -> Result<u64, &'a str>
     ensures { MatchResult result (IsLimit (first_value (found_of options.now) (codes "limit")))
         (λ _. (limit : ℕ) → IsLimit (first_value (found_of options.now) (codes "limit")) limit → ⊥) }
 {

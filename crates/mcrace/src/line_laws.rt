@@ -13,8 +13,8 @@ pub fn signed_limits_are_faulty()
     ensures { SignedLimitsAreFaulty }
 {}
 
-/// `mcrace --help`, `mcrace judge --help`, `mcrace asm --help` and `mcrace --version` ask for nothing, and no fault is told of
-/// them.
+/// `mcrace --help`, `mcrace judge --help`, `mcrace asm --help` and `mcrace --version` ask for nothing and are no faulty lines:
+/// they show help or the version.
 pub fn help_is_shown()
     ensures { HelpIsShown }
 {}

@@ -30,7 +30,7 @@ pub struct Ran {
     pub faults: Vec<u8>,
 }
 
-// The line of these words behind the program's name.
+// The line with these words after the program's name.
 fn line_of(alloc: Global, words: &[&str]) -> Result<Vec<String>, AllocError> {
     let mut line = Vec::new(alloc);
     line.push(String::from_str(alloc, "mcrace")?)?;

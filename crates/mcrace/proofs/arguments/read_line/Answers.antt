@@ -2,7 +2,7 @@ use Rattle.std.proofs.Common.{inl, inr, map, rules, string_bytes, sym, Some, ◌
 use Rattle.std.proofs.lemmas.Result.{IfOk-weaker, IfErr-weaker, err_from_is_err_and}
 use Rattle.clap.specs.Words.{kind_of}
 use Rattle.mcrace.proofs.Line.{command_is, fault_by_clap, limit_is, line_faults-is, no_limit, no_subcommand, program_is_simple}
-use Rattle.mcrace.proofs.arguments.parsed.Goals as goal
+use Rattle.mcrace.proofs.arguments.read_line.Goals as goal
 
 pub returns-in_err-matches-clause-fault : goal.returns-in_err-matches-clause-fault
 returns-in_err-matches-clause-fault c =
@@ -19,7 +19,7 @@ returns-in-judge-clause-asked c =
     let none = sym (line_faults-is _ words program) ∙ c.in_ok-matches.ensures.kinds (program_is_simple _ program) in
     let command = command_is _ words _ program matches _ c.in-Some.ensures.name in
     let limit = limit_is _ words _ program matches _ c.in-Some.ensures.rows in
-    IfOk-weaker c.judge_asked.result _ _ (λ asked is. rw is.1 (none, (command ∙ search rules, rw limit is.2))) c.judge_asked.ensures.asked
+    IfOk-weaker c.read_judge_options.result _ _ (λ asked is. rw is.1 (none, (command ∙ search rules, rw limit is.2))) c.read_judge_options.ensures.asked
 
 pub returns-in-judge-clause-fault : goal.returns-in-judge-clause-fault
 returns-in-judge-clause-fault c =
@@ -29,10 +29,10 @@ returns-in-judge-clause-fault c =
     let clear = sym (line_faults-is _ words program) ∙ c.in_ok-matches.ensures.kinds (program_is_simple _ program) in
     let command = command_is _ words _ program matches _ c.in-Some.ensures.name in
     let limit = limit_is _ words _ program matches _ c.in-Some.ensures.rows in
-    IfErr-weaker c.judge_asked.result _ _ (λ error fails. elim fails [
+    IfErr-weaker c.read_judge_options.result _ _ (λ error fails. elim fails [
       | inl memory ↦ inl memory
       | inr none ↦ inr (no_limit words (kind_of error) none.0 clear (command ∙ search rules) (rw limit none.1))
-    ]) c.judge_asked.ensures.fault
+    ]) c.read_judge_options.ensures.fault
 
 pub returns-in-asm-clause-asked : goal.returns-in-asm-clause-asked
 returns-in-asm-clause-asked c =

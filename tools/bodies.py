@@ -1,0 +1,61 @@
+"""A copy of a crate in which few functions keep their bodies, so that a check of these few is cheap.
+
+A proof uses the contracts of what a function calls and not their bodies. But a check of one function makes and checks the code
+of all that it calls, and with it what is written of their proofs. `rt ci` has proved these, so here each of them has the body
+`unreachable!()`, and a hole for its proof. Its contract and its line stay.
+"""
+
+import shutil
+
+HOLE = """use Rattle.{place}.Statement.{{statement}}
+
+pub {name}_spec : {{M : Type 1}} → statement M
+{name}_spec = ?
+"""
+
+
+def copy_with_bodies_of(functions, crate, found, sources, folder):
+    """Makes the copy in a new folder, from the crate's sources in another one: these items keep their bodies."""
+    if folder.exists():
+        shutil.rmtree(folder)
+    shutil.copytree(sources, folder)
+    taken = [it for it in found if it.kind == "fn" and it.has_body and it not in functions]
+    for file in {it.file for it in taken}:
+        lines = (folder / file).read_text(encoding="utf-8").split("\n")
+        of_file = [it for it in taken if it.file == file and can_be_taken(it, lines)]
+        for item in of_file:
+            take_body(item, lines)
+            write_hole(item, crate, folder)
+        (folder / file).write_text("\n".join(lines), encoding="utf-8")
+
+
+def can_be_taken(item, lines):
+    """Whether nothing but calls uses the body: a constant uses that of a `const fn`, and functions that call one another are
+    proved as one. A body on the line of its head stays too, but for the empty body of a law."""
+    head = "\n".join(lines[item.first : item.body + 1])
+    return "const fn" not in head and "#[cycle(" not in head and not item.is_of_declared_trait and (item.body < item.last or item.is_empty)
+
+
+def take_body(item, lines):
+    """Puts `unreachable!()` in place of the body, in as many lines. A law has none to take."""
+    if not item.is_empty:
+        inner = range(item.body + 1, item.last)
+        indent = len(lines[item.last]) - len(lines[item.last].lstrip())
+        for at in inner:
+            lines[at] = ""
+        if inner:
+            lines[inner[0]] = " " * (indent + 4) + "unreachable!()"
+
+
+def write_hole(item, crate, folder):
+    """Puts a hole in place of what is written of the function's proof, that of its closures included."""
+    for at in range(len(item.path)):
+        of_closures = folder.joinpath("proofs", *item.path[:at], "fn", *item.path[at:])
+        if of_closures.is_dir():
+            shutil.rmtree(of_closures)
+    home = folder.joinpath("proofs", *item.path)
+    home.mkdir(parents=True, exist_ok=True)
+    for name in ("Invariants", "Answers"):
+        (home / f"{name}.antt").unlink(missing_ok=True)
+    place = ".".join((crate.name, "proofs", *item.path))
+    (home / "Proof.antt").write_text(HOLE.format(place=place, name=item.name), encoding="utf-8")
