@@ -248,7 +248,7 @@ fn bare(reply: Reply, fields: &[&[u8]]) -> Result<Reply, WordsFault>
     Ok(reply)
 }
 
-/// A number that was counted.
+/// The new value of `incr` or `decr`.
 fn count(fields: &[&[u8]]) -> Result<Reply, WordsFault>
     ensures exact { reading.Gives (λ r. r) result (reading.count_in (map (λ w. w.now) fields.now)) }
 {
