@@ -1,6 +1,6 @@
 -- A run of a script's code is one of the script.
 use Rattle.std.proofs.Common.{◌≡◌, ◌⊎◌, inl, inr, ℕ, ◌+◌, Bool, true, false, Option, Some, None, List, [], ◌∷◌, slice_get, refl, ap, sym, subst, ◌∙◌, if◌then◌else◌, arith}
-use Rattle.mc_protocol.specs.Legal.{class_of}
+use Rattle.mc_protocol.specs.Legal.{class_of, is_fit_for}
 use Rattle.mc_protocol.specs.declared.reply.Class.{Class}
 use Rattle.mc_protocol.specs.declared.reply.Reply.{Reply}
 use Rattle.mc_script.specs.declared.section.Label.{Label}
@@ -12,7 +12,7 @@ use Rattle.mc_code.specs.declared.instr.Instr.{Instr}
 use Rattle.mc_code.specs.declared.instr.Instr.TheVariants as instr
 use Rattle.mc_code.specs.Layout.{code_place, after_label, label_place, entry_for, entries}
 use Rattle.mc_code.specs.Paths.{Slides, Sends}
-use Rattle.mc_code.specs.Runs.{Exchange, is_fit_for, slid, met_at, IsRun, rests, slides, sends}
+use Rattle.mc_code.specs.Runs.{Exchange, slid, met_at, IsRun, rests, slides, sends}
 use Rattle.mc_code.specs.ScriptRuns.{IsScriptRun, jump_on, place_of_label, place_of, next_of, taken, met_at_step}
 use Rattle.mc_code.specs.ScriptRuns as script_run
 use Rattle.mc_code.specs.States.{State, answered, bound, Outcome, nothing_to_bind, is_number}

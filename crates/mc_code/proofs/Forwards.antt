@@ -1,6 +1,6 @@
 -- A run of a script is one of its code.
 use Rattle.std.proofs.Common.{◌≡◌, ℕ, ◌+◌, Bool, true, false, Option, Some, None, List, ◌∷◌, slice_get, refl, sym, subst, if◌then◌else◌, arith}
-use Rattle.mc_protocol.specs.Legal.{class_of}
+use Rattle.mc_protocol.specs.Legal.{class_of, is_fit_for}
 use Rattle.mc_protocol.specs.declared.reply.Class.{Class}
 use Rattle.mc_protocol.specs.declared.reply.Reply.{Reply}
 use Rattle.mc_script.specs.declared.section.Label.{Label}
@@ -10,7 +10,7 @@ use Rattle.mc_script.specs.declared.step.Template.{Template}
 use Rattle.mc_script.specs.WellFormed.{is_number_class}
 use Rattle.mc_code.specs.declared.instr.Instr.TheVariants as instr
 use Rattle.mc_code.specs.Layout.{code_place, label_place, entry_for, entries}
-use Rattle.mc_code.specs.Runs.{Exchange, is_fit_for, IsRun}
+use Rattle.mc_code.specs.Runs.{Exchange, IsRun}
 use Rattle.mc_code.specs.Runs as run
 use Rattle.mc_code.specs.ScriptRuns.{IsScriptRun, rests, binds, goes, sends, jump_on, next_of, taken}
 use Rattle.mc_code.specs.States.{State, answered, bound}

@@ -8,14 +8,14 @@ use Rattle.mc_protocol.specs.Legal.{is_legal}
 use Rattle.mc_protocol.specs.declared.actor.Actor.{Actor}
 use Rattle.mc_protocol.specs.declared.actor.Actor.TheVariants as actor
 use Rattle.mc_protocol.specs.declared.reply.Class.{Class}
+use Rattle.mc_protocol.specs.Lines.{Word}
+use Rattle.mc_protocol.specs.Words.{all_classes}
 use Rattle.mc_script.specs.declared.limits.TheConstants.{FLAGS_LIMIT, VARIABLES_LIMIT}
 use Rattle.mc_script.specs.declared.section.Label.{Label}
 use Rattle.mc_script.specs.declared.step.Step.{Step}
 use Rattle.mc_script.specs.declared.step.Step.TheVariants as step
 use Rattle.mc_script.specs.declared.step.Template.{Template}
 use Rattle.mc_script.specs.Script.{Names, Script, section_of}
-use Rattle.mc_script.specs.ScriptWords.{Word}
-use Rattle.mc_script.specs.Steps.{all_classes}
 use Rattle.mc_script.specs.Templates.{IsTemplate}
 use Rattle.mc_script.specs.WellFormed.{IsScript, IsStep, AreSteps, is_number_class}
 use Rattle.mc_code.specs.declared.instr.Instr.TheVariants as instr

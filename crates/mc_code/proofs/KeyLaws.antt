@@ -8,8 +8,8 @@ use Rattle.std.proofs.lemmas.List.Folds.{list_all-append}
 use Rattle.std.proofs.lemmas.Slice.Eq.{bytes_eq-Decides}
 use Rattle.mc_protocol.specs.declared.limits.TheConstants.{KEYS_LIMIT, KEY_BYTES_LIMIT}
 use Rattle.mc_script.specs.Script.{may_be_declared}
-use Rattle.mc_script.specs.ScriptWords.{Word}
 use Rattle.mc_protocol.specs.Names.{is_name, is_new, are_distinct, are_name_bytes}
+use Rattle.mc_protocol.specs.Lines.{Word}
 use Rattle.mc_code.specs.Image.{sized, counted}
 use Rattle.mc_code.specs.ImageReading.{bytes_in, small_in, key_in, keys_in}
 use Rattle.mc_code.proofs.FieldLaws.{then-some, only-then, some-same, IsBytes, Takes, Takes-then, small_takes, small_again, bytes_take, bytes_again}

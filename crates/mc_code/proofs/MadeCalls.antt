@@ -1,7 +1,7 @@
 -- The calls that a section makes, with their replies, are exchanges of a run.
 use Rattle.std.proofs.Common.{◌≡◌, ℕ, zero, suc, Bool, true, false, ◌&&◌, Some, List, [], ◌∷◌, ◌++◌, map, slice_get, slice_index_or, refl, ap, sym, subst, ◌∙◌, if◌then◌else◌}
 use Rattle.std.proofs.lemmas.List.{append-nil, append_assoc}
-use Rattle.mc_protocol.specs.Legal.{class_of}
+use Rattle.mc_protocol.specs.Legal.{class_of, is_fit_for}
 use Rattle.mc_protocol.specs.declared.actor.Actor.{Actor}
 use Rattle.mc_protocol.specs.declared.reply.Class.{Class}
 use Rattle.mc_protocol.specs.declared.reply.Reply.{Reply}
@@ -15,7 +15,7 @@ use Rattle.mc_code.specs.declared.kind.Kind.TheVariants as kind
 use Rattle.mc_code.specs.Calls.{IsCalling, MakesAll, exchange_of, template_of, no_template}
 use Rattle.mc_code.specs.Code.{Code, instructions_in}
 use Rattle.mc_code.specs.Paths.{Sends, entry_of}
-use Rattle.mc_code.specs.Runs.{Exchange, is_fit_for, IsRun, met_at, met_by_send, rests, slides, sends}
+use Rattle.mc_code.specs.Runs.{Exchange, IsRun, met_at, met_by_send, rests, slides, sends}
 use Rattle.mc_code.specs.Standing.{ComesTo, IsRightAlong, StandsAt, is_right, met_in}
 use Rattle.mc_code.specs.StandingLaws.{CallsStand, RightRunsAreCalled}
 use Rattle.mc_code.specs.States.{Tagged, nothing, State, begun, answered, Outcome, call, wrong_kind, given, with_argument, sending, wanted_by, is_same}

@@ -2,7 +2,7 @@
 use Rattle.std.proofs.Common.{◌≡◌, ℕ, zero, suc, ◌≤◌, Bool, true, false, not, ◌&&◌, Some, None, List, [], ◌∷◌, slice_get, slice_set, refl, ap, sym, subst, ◌∙◌, inl, inr, if◌then◌else◌, arith}
 use Rattle.std.specs.List.{All}
 use Rattle.std.proofs.lemmas.List.Elements.{All-head, All-tail}
-use Rattle.mc_protocol.specs.Legal.{class_of, shows_number}
+use Rattle.mc_protocol.specs.Legal.{class_of, shows_number, is_fit_for}
 use Rattle.mc_protocol.specs.declared.request.Verb.{Verb}
 use Rattle.mc_protocol.specs.declared.reply.Class.{Class}
 use Rattle.mc_protocol.specs.declared.reply.Class.TheVariants as class
@@ -16,9 +16,9 @@ use Rattle.mc_code.specs.declared.kind.Kind.TheVariants as kind
 use Rattle.mc_code.specs.NumberLaws.{kinds_of, HaveSameKinds, IsFit, EdgesLeadAlike, KindsFollowEdges}
 use Rattle.mc_code.specs.Paths.{Edge, LeadsForwards, Slides, Sends}
 use Rattle.mc_code.specs.RunLaws.{edges_of}
-use Rattle.mc_code.specs.Runs.{Exchange, is_fit_for, slid, IsRun, rests, slides, sends}
+use Rattle.mc_code.specs.Runs.{Exchange, slid, IsRun, rests, slides, sends}
 use Rattle.mc_code.specs.States.{Tagged, State, answered, bound, is_number, shown_of}
-use Rattle.mc_code.proofs.FirstItems.{head_is, rest_is}
+use Rattle.mc_protocol.proofs.FirstItems.{head_is, rest_is}
 use Rattle.mc_code.proofs.LookUps.{some_is}
 use Rattle.mc_code.proofs.Stopping.{RunBegins, rested, slid_first, sent_first, run_begins, slides_once, sends_once, slides_or_sends}
 

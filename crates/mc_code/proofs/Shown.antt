@@ -4,13 +4,14 @@ use Rattle.mc_protocol.specs.declared.request.Verb.{Verb}
 use Rattle.mc_protocol.specs.declared.request.Verb.TheVariants as verb
 use Rattle.mc_protocol.specs.declared.reply.Reply.{Reply}
 use Rattle.mc_protocol.specs.declared.reply.Reply.TheVariants as reply
+use Rattle.mc_protocol.specs.Legal.{is_fit_for}
 use Rattle.mc_script.specs.declared.step.Template.{Template}
 use Rattle.mc_code.specs.declared.instr.Instr.{Instr}
 use Rattle.mc_code.specs.declared.instr.Instr.TheVariants as instr
 use Rattle.mc_code.specs.declared.kind.Kind.{Kind}
 use Rattle.mc_code.specs.declared.kind.Kind.TheVariants as kind
 use Rattle.mc_code.specs.NumberLaws.{Holds, IsShownIn, NumbersWereShown, Shows}
-use Rattle.mc_code.specs.Runs.{Exchange, is_fit_for, slid, IsRun, rests, slides, sends}
+use Rattle.mc_code.specs.Runs.{Exchange, slid, IsRun, rests, slides, sends}
 use Rattle.mc_code.specs.States.{Tagged, State, answered, is_number, shown_of}
 use Rattle.mc_code.proofs.LookUps.{some_is}
 

@@ -7,13 +7,13 @@ use Rattle.mc_protocol.specs.declared.actor.Actor.TheVariants as actor
 use Rattle.mc_protocol.specs.declared.request.Verb.{Verb}
 use Rattle.mc_protocol.specs.declared.reply.Class.{Class}
 use Rattle.mc_protocol.specs.declared.reply.Class.TheVariants as class
+use Rattle.mc_protocol.specs.Lines.{Word}
+use Rattle.mc_protocol.specs.Words.{class_index}
 use Rattle.mc_script.specs.declared.section.Label.{Label}
 use Rattle.mc_script.specs.declared.step.Step.{Step}
 use Rattle.mc_script.specs.declared.step.Step.TheVariants as step
 use Rattle.mc_script.specs.declared.step.Template.{Template}
-use Rattle.mc_script.specs.Marks.{class_index}
 use Rattle.mc_script.specs.Script.{Names, Script}
-use Rattle.mc_script.specs.ScriptWords.{Word}
 use Rattle.mc_script.specs.WellFormed.{AreJumps, is_number_class, jumps_on_number, MayBind, IsStep, AreSteps, IsScript}
 use Rattle.mc_code.specs.Layout.{requests_of, templates_of, first_template}
 use Rattle.mc_code.specs.ScriptRuns.{clearing_steps, front_of, all_steps, moved, all_labels, jump_on}

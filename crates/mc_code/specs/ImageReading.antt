@@ -1,21 +1,20 @@
 -- What the reader of images answers. No public contract cites these: `Image` says what an image is, and the proofs join
 -- the two.
-use Rattle.std.specs.Prelude.{◌≡◌, ◌≢◌, ℕ, zero, suc, ◌^◌, ◌==◌, nat_le, nat_lt, Bool, ◌&&◌, Option, Some, None, Result, Ok, Err, List, [], ◌∷◌, ◌++◌, length, take, drop, if◌then◌else◌}
+use Rattle.std.specs.Prelude.{◌≡◌, ◌≢◌, ℕ, zero, suc, ◌^◌, ◌==◌, nat_le, nat_lt, Bool, ◌&&◌, Option, Some, None, Result, Ok, Err, List, [], ◌∷◌, ◌++◌, length, take, drop, slice_get, if◌then◌else◌}
 use Rattle.std.specs.Int.{Width, w16, w32, w64, byte_len, from_be_bytes}
 use Rattle.std.specs.Int.Bits.{bit_and}
-use Rattle.std.specs.List.{find}
 use Rattle.std.specs.Str.{bytes_eq}
 use Rattle.mc_protocol.specs.Fields.{fields_of}
 use Rattle.mc_protocol.specs.declared.request.Verb.{Verb}
-use Rattle.mc_protocol.specs.declared.request.Verb.TheVariants as verb
 use Rattle.mc_protocol.specs.declared.limits.TheConstants.{KEYS_LIMIT, KEY_BYTES_LIMIT, REQUESTS_LIMIT, REQUEST_BYTES_LIMIT, SCRIPT_BODY_LIMIT}
 use Rattle.mc_script.specs.declared.limits.TheConstants.{FLAGS_LIMIT, VARIABLES_LIMIT}
 use Rattle.mc_script.specs.declared.section.Budget.{Budget}
 use Rattle.mc_script.specs.declared.step.Argument.{Argument}
 use Rattle.mc_script.specs.declared.step.Argument.TheVariants as argument
 use Rattle.mc_script.specs.declared.step.Template.{Template}
-use Rattle.mc_script.specs.ScriptWords.{Word}
 use Rattle.mc_protocol.specs.Names.{is_new, is_name}
+use Rattle.mc_protocol.specs.Lines.{Word}
+use Rattle.mc_protocol.specs.Words.{all_verbs}
 use Rattle.mc_script.specs.Steps.{◌>>=◌}
 use Rattle.mc_script.specs.Templates.{has_fields}
 use Rattle.mc_code.specs.declared.fault.ImageFault.{ImageFault}
@@ -25,7 +24,7 @@ use Rattle.mc_code.specs.declared.instr.Instr.TheVariants as instr
 use Rattle.mc_code.specs.declared.read_template.Masks.{Masks}
 use Rattle.mc_code.specs.declared.limits.TheConstants.{TEMPLATES_LIMIT, INSTRUCTIONS_LIMIT, CLASS_COUNT}
 use Rattle.mc_code.specs.Code.{Section, Code}
-use Rattle.mc_code.specs.Image.{magic, verb_index}
+use Rattle.mc_code.specs.Image.{magic}
 
 -- what was returned, so seen, is what reading gives; no memory is taken
 abbrev pub Reads : {X Y : Type 0} → (X → Y) → Result X ImageFault → Option Y → Type 0
@@ -92,12 +91,8 @@ budget_in bytes =
 
 -- ---- templates
 
-abbrev pub all_verbs : List Verb
-all_verbs =
-    verb.Set ∷ verb.Add ∷ verb.Replace ∷ verb.Append ∷ verb.Prepend ∷ verb.Cas ∷ verb.Get ∷ verb.Gets ∷ verb.Incr ∷ verb.Decr ∷ verb.Delete ∷ verb.Touch ∷ []
-
 unfoldable pub verb_at : ℕ → Option Verb
-verb_at index = find (λ v. verb_index v == index) all_verbs
+verb_at index = slice_get all_verbs index
 
 unfoldable pub verb_in : List ℕ → Field Verb
 verb_in bytes = byte_in bytes >>= λ n. verb_at n.0 >>= λ v. Some (v, n.1)

@@ -1,17 +1,12 @@
 -- Runs of code: a section's instructions, from reply to reply, with what its variables hold.
-use Rattle.std.specs.Prelude.{◌≡◌, ℕ, true, ◌&&◌, Bool, Option, Some, None, List, [], ◌∷◌, slice_get}
-use Rattle.mc_protocol.specs.Legal.{class_of, is_legal, suits}
-use Rattle.mc_protocol.specs.declared.request.Verb.{Verb}
+use Rattle.std.specs.Prelude.{◌≡◌, ℕ, true, Option, Some, None, List, [], ◌∷◌, slice_get}
+use Rattle.mc_protocol.specs.Legal.{class_of, is_fit_for}
 use Rattle.mc_protocol.specs.declared.reply.Reply.{Reply}
 use Rattle.mc_script.specs.declared.step.Template.{Template}
 use Rattle.mc_code.specs.declared.instr.Instr.{Instr}
 use Rattle.mc_code.specs.declared.instr.Instr.TheVariants as instr
 use Rattle.mc_code.specs.Paths.{Slides, Sends}
 use Rattle.mc_code.specs.States.{State, answered, bound, Outcome, outside, ended, sending, binding}
-
--- a request of the verb may have this reply
-abbrev pub is_fit_for : Verb → Reply → Bool
-is_fit_for verb r = is_legal verb (class_of r) && suits verb r
 
 -- a request, with its reply
 abbrev pub Exchange : Type 0

@@ -1,21 +1,21 @@
 -- Runs of a script: a section's steps by lines and labels, after the requests that clear its keys.
 use Rattle.std.specs.Prelude.{◌≡◌, ℕ, ◌+◌, ◌==◌, true, Option, Some, None, List, [], ◌∷◌, ◌++◌, map, length, slice_get, if◌then◌else◌}
-use Rattle.mc_protocol.specs.Legal.{class_of}
+use Rattle.mc_protocol.specs.Legal.{class_of, is_fit_for}
 use Rattle.mc_protocol.specs.declared.actor.Actor.{Actor}
 use Rattle.mc_protocol.specs.declared.actor.Actor.TheVariants as actor
 use Rattle.mc_protocol.specs.declared.request.Verb.TheVariants as verb
 use Rattle.mc_protocol.specs.declared.reply.Class.{Class}
 use Rattle.mc_protocol.specs.declared.reply.Reply.{Reply}
+use Rattle.mc_protocol.specs.Lines.{Word}
+use Rattle.mc_protocol.specs.Words.{class_index}
 use Rattle.mc_script.specs.declared.section.Label.{Label}
 use Rattle.mc_script.specs.declared.step.Argument.TheVariants as argument
 use Rattle.mc_script.specs.declared.step.Step.{Step}
 use Rattle.mc_script.specs.declared.step.Step.TheVariants as step
 use Rattle.mc_script.specs.declared.step.Template.{Template}
-use Rattle.mc_script.specs.Marks.{class_index}
 use Rattle.mc_script.specs.Script.{Script, section_of}
-use Rattle.mc_script.specs.ScriptWords.{Word}
 use Rattle.mc_script.specs.WellFormed.{is_number_class}
-use Rattle.mc_code.specs.Runs.{Exchange, is_fit_for}
+use Rattle.mc_code.specs.Runs.{Exchange}
 use Rattle.mc_code.specs.States.{Tagged, State, begun, answered, bound, Outcome, ended, sending, binding}
 
 -- ---- the requests that clear the keys
