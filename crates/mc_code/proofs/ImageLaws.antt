@@ -10,8 +10,8 @@ use Rattle.mc_script.specs.Script.{may_be_declared}
 use Rattle.mc_code.specs.declared.instr.Instr.{Instr}
 use Rattle.mc_code.specs.declared.limits.TheConstants.{INSTRUCTIONS_LIMIT}
 use Rattle.mc_code.specs.Code.{IsInstr, Code, IsCode}
-use Rattle.mc_code.specs.Image.{magic, sized, counted, budget_bytes, template_bytes, instr_bytes, section_bytes, image_of, ImagesAreOfOneCode}
-use Rattle.mc_code.specs.ImageReading.{Field, Three, bytes_in, small_in, keys_in, budget_in, templates_in, instructions_in, magic_in, Declared, declared_in, each_in, code_of, ended_in, code_in}
+use Rattle.mc_code.specs.Image.{magic, with_length, with_count, budget_bytes, template_bytes, instr_bytes, section_bytes, image_of, ImagesAreOfOneCode}
+use Rattle.mc_code.specs.ImageReading.{Field, Three, bytes_in, small_in, keys_in, budget_in, templates_in, instructions_in, magic_in, Declared, declared_in, each_in, code_of, at_end, code_in}
 use Rattle.mc_code.proofs.FieldLaws.{then-some, only-then, some-same, IsBytes, Takes, Takes-then, bytes_take, bytes_again, small_takes, small_again}
 use Rattle.mc_code.proofs.KeyLaws.{keys_take, keys_again}
 use Rattle.mc_code.proofs.TemplateLaws.{templates_take, templates_again}
@@ -35,7 +35,7 @@ magic_again rest = rw (bytes_again 4 magic rest refl) refl
 -- ---- what is declared
 
 abbrev declared_text : Declared → List ℕ
-declared_text d = counted sized d.keys ++ d.flags ∷ d.vars ∷ []
+declared_text d = with_count with_length d.keys ++ d.flags ∷ d.vars ∷ []
 
 record AreDeclared (d : Declared) : Type 0 where
   some_key : not (length d.keys == 0) ≡ true
@@ -53,12 +53,12 @@ declared_takes bytes x fits e =
     let tf = small_takes 0 FLAGS_LIMIT k.0.1 f.0 tk.0.fits f.1 in
     let tv = small_takes 0 VARIABLES_LIMIT f.0.1 v.0 tf.0.fits v.1 in
     let numbers = Takes-then k.0.1 (f.0.0 ∷ []) f.0.1 (v.0.0 ∷ []) v.0.1 tf.0 tv.0 in
-    let all = Takes-then bytes (counted sized k.0.0) k.0.1 (f.0.0 ∷ v.0.0 ∷ []) v.0.1 tk.0 numbers in
+    let all = Takes-then bytes (with_count with_length k.0.0) k.0.1 (f.0.0 ∷ v.0.0 ∷ []) v.0.1 tk.0 numbers in
     let made : Declared = record { keys = k.0.0; flags = f.0.0; vars = v.0.0 } in
     subst (λ (y : Declared × List ℕ). Takes bytes (declared_text y.0) y.1 × AreDeclared y.0) (some-same (made, v.0.1) x v.2)
     (all, record { some_key = tk.1; keys = tk.2; flags = tf.2; vars = tv.2 })
 
-declared_again : (d : Declared) (rest : List ℕ) → AreDeclared d → declared_in (counted sized d.keys ++ (d.flags ∷ d.vars ∷ rest)) ≡ Some (d, rest)
+declared_again : (d : Declared) (rest : List ℕ) → AreDeclared d → declared_in (with_count with_length d.keys ++ (d.flags ∷ d.vars ∷ rest)) ≡ Some (d, rest)
 unfolding declared_in
 declared_again d rest h =
     rw (
@@ -108,7 +108,7 @@ budgets_law = record {
 abbrev AreInstructions : List Instr → Type 0
 AreInstructions is = (length is ≤ INSTRUCTIONS_LIMIT) × All IsInstr is
 
-sections_law : IsOne instructions_in (counted instr_bytes) AreInstructions
+sections_law : IsOne instructions_in (with_count instr_bytes) AreInstructions
 sections_law = record {
   takes = λ bytes x fits e. let t = instructions_take bytes x fits e in (t.0, (t.1, t.2));
   again = λ is rest h. instructions_again is rest h.0 h.1;
@@ -116,7 +116,7 @@ sections_law = record {
 
 -- ---- the whole
 
-ended-nil : {A : Type 0} (x y : A) (rest : List ℕ) → ended_in x rest ≡ Some y → (rest ≡ []) × (x ≡ y)
+ended-nil : {A : Type 0} (x y : A) (rest : List ℕ) → at_end x rest ≡ Some y → (rest ≡ []) × (x ≡ y)
 ended-nil x y [] e = (refl, some-same x y e)
 ended-nil x y (byte ∷ rest) e = absurd (cc)
 
@@ -137,17 +137,17 @@ code-read bytes c fits e =
     let h = td.1 in
     let tu = each_takes budget_in budget_bytes FitsBudget budgets_law d.0.1 u.0 td.0.fits u.1 in
     let ts = templates_take (length d.0.0.keys) d.0.0.flags d.0.0.vars u.0.1 t.0 h.flags h.vars tu.0.fits t.1 in
-    let ti = each_takes instructions_in (counted instr_bytes) AreInstructions sections_law t.0.1 s.0 ts.0.fits s.1 in
+    let ti = each_takes instructions_in (with_count instr_bytes) AreInstructions sections_law t.0.1 s.0 ts.0.fits s.1 in
     let front = budget_bytes u.0.0.0 ++ budget_bytes u.0.0.1 ++ budget_bytes u.0.0.2 in
-    let templates = counted template_bytes t.0.0 in
-    let sp = counted instr_bytes s.0.0.0 in
-    let sa = counted instr_bytes s.0.0.1 in
-    let sb = counted instr_bytes s.0.0.2 in
+    let templates = with_count template_bytes t.0.0 in
+    let sp = with_count instr_bytes s.0.0.0 in
+    let sa = with_count instr_bytes s.0.0.1 in
+    let sb = with_count instr_bytes s.0.0.2 in
     let two = Takes-then d.0.1 front u.0.1 templates t.0.1 tu.0 ts.0 in
     let three = Takes-then d.0.1 (front ++ templates) t.0.1 (sp ++ sa ++ sb) s.0.1 two ti.0 in
     let four = Takes-then m.0 (declared_text d.0.0) d.0.1 (front ++ templates ++ (sp ++ sa ++ sb)) s.0.1 td.0 three in
     let five = Takes-then bytes magic m.0 (declared_text d.0.0 ++ (front ++ templates ++ (sp ++ sa ++ sb))) s.0.1 tm four in
-    let keys = counted sized d.0.0.keys in
+    let keys = with_count with_length d.0.0.keys in
     let tail : front ++ templates ++ (sp ++ sa ++ sb) ≡ front ++ templates ++ sp ++ sa ++ sb = regroup front templates sp sa sb in
     let declared : declared_text d.0.0 ++ (front ++ templates ++ (sp ++ sa ++ sb))
     ≡ keys ++ (d.0.0.flags ∷ d.0.0.vars ∷ (front ++ templates ++ sp ++ sa ++ sb)) =
@@ -177,23 +177,23 @@ pub code-again : (c : Code) → IsCode c → code_in (image_of c) ≡ Some c
 unfolding code_in
 code-again c h =
     let d : Declared = record { keys = c.keys; flags = c.flags; vars = c.vars } in
-    let templates = counted template_bytes c.templates in
+    let templates = with_count template_bytes c.templates in
     let sp = section_bytes c.p in
     let sa = section_bytes c.a in
     let sb = section_bytes c.b in
     let sections = sp ++ (sa ++ (sb ++ [])) in
     let budgets = budget_bytes c.p.budget ++ (budget_bytes c.a.budget ++ (budget_bytes c.b.budget ++ (templates ++ sections))) in
-    let regrouped : image_of c ≡ magic ++ (counted sized c.keys ++ (c.flags ∷ c.vars ∷ budgets)) =
-    ap (λ (text : List ℕ). magic ++ (counted sized c.keys ++ (c.flags ∷ c.vars ∷ (budget_bytes c.p.budget ++ (budget_bytes c.a.budget ++ (budget_bytes c.b.budget ++ text))))))
+    let regrouped : image_of c ≡ magic ++ (with_count with_length c.keys ++ (c.flags ∷ c.vars ∷ budgets)) =
+    ap (λ (text : List ℕ). magic ++ (with_count with_length c.keys ++ (c.flags ∷ c.vars ∷ (budget_bytes c.p.budget ++ (budget_bytes c.a.budget ++ (budget_bytes c.b.budget ++ text))))))
     (spread templates sp sa sb) in
     ap code_in regrouped
     ∙ rw (
-      magic_again (counted sized c.keys ++ (c.flags ∷ c.vars ∷ budgets)),
+      magic_again (with_count with_length c.keys ++ (c.flags ∷ c.vars ∷ budgets)),
       declared_again d budgets (record { some_key = h.some_key; keys = h.keys; flags = h.flags; vars = h.vars }),
       each_again budget_in budget_bytes FitsBudget budgets_law c.p.budget c.a.budget c.b.budget (templates ++ sections)
           (h.p.requests, h.p.bytes) (h.a.requests, h.a.bytes) (h.b.requests, h.b.bytes),
       templates_again (length c.keys) c.flags c.vars c.templates sections h.flags h.vars h.few h.templates,
-      each_again instructions_in (counted instr_bytes) AreInstructions sections_law c.p.instructions c.a.instructions c.b.instructions []
+      each_again instructions_in (with_count instr_bytes) AreInstructions sections_law c.p.instructions c.a.instructions c.b.instructions []
           (h.p.few, h.p.instructions) (h.a.few, h.a.instructions) (h.b.few, h.b.instructions),
     ) refl
 

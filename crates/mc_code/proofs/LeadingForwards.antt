@@ -21,7 +21,7 @@ use Rattle.mc_code.specs.declared.limits.TheConstants.{NO_ENTRY}
 use Rattle.mc_code.specs.Layout.{request_of, requests_of, size_of, size_of_all, code_place, after_label, label_place, entry_for, entries, step_code, code_from, templates_of, first_template, instructions_of}
 use Rattle.mc_code.specs.LayoutLaws.{EntriesAreLegal, LayoutsLeadForwards}
 use Rattle.mc_code.specs.Paths.{LeadsForwards, Slides, Sends, entry_of}
-use Rattle.mc_code.specs.ScriptRuns.{clearing_steps, front_of, all_steps, moved, all_labels, jump_on}
+use Rattle.mc_code.specs.ScriptRuns.{clearing_steps, front_of, all_steps, shift_label, all_labels, jump_on}
 use Rattle.mc_code.proofs.Kept.{code-length, place-below}
 use Rattle.mc_code.proofs.LookUps.{some_is, code_length, requests_before, next_place}
 use Rattle.mc_code.proofs.StepFacts.{IsLaid, entry_at, entry_is}
@@ -59,9 +59,9 @@ clearing_onward : (labels : List Label) (p key : ℕ) (keys : List Word) → Are
 clearing_onward labels p key [] = tt
 clearing_onward labels p key (_ ∷ keys) = (λ c index e. absurd (cc), clearing_onward labels (p + 1) (key + 1) keys)
 
-after_moved : (labels : List Label) (count p q index : ℕ) → q ≡ count + p → IsBehind labels p index → IsBehind (map (moved count) labels) q index
+after_moved : (labels : List Label) (count p q index : ℕ) → q ≡ count + p → IsBehind labels p index → IsBehind (map (shift_label count) labels) q index
 after_moved labels count p q index place (label, at, after) =
-    (moved count label, slice_get-map (moved count) labels index ∙ ap (option_map (moved count)) at, omega (arith, place, after))
+    (shift_label count label, slice_get-map (shift_label count) labels index ∙ ap (option_map (shift_label count)) at, omega (arith, place, after))
 
 jump_after : (v : Verb) (labels : List Label) (place least : ℕ) (jumps : List (Class × ℕ)) → AreJumps v labels place least jumps
     → (c : Class) (index : ℕ) → jump_on c jumps ≡ Some index → IsBehind labels place index
@@ -74,7 +74,7 @@ jump_after v labels place least (jump ∷ jumps) are c index on =
     by_class true on others = subst (IsBehind labels place) (some_is jump.1 index on) are.2
     by_class false on others = others on
 
-step_onward : (names : Names) (labels : List Label) (count p q : ℕ) (s : Step) → q ≡ count + p → IsStep names labels p s → IsOnward (map (moved count) labels) q s
+step_onward : (names : Names) (labels : List Label) (count p q : ℕ) (s : Step) → q ≡ count + p → IsStep names labels p s → IsOnward (map (shift_label count) labels) q s
 step_onward names labels count p q (step.Send t jumps bind) place is =
     λ c index on. after_moved labels count p q index place (jump_after t.verb labels p 0 jumps is.1 c index on)
 step_onward names labels count p q (step.Bind variable) place is = tt
@@ -82,7 +82,7 @@ step_onward names labels count p q (step.Goto label) place is = after_moved labe
 step_onward names labels count p q step.Halt place is = tt
 
 steps_onward : (names : Names) (labels : List Label) (count p q : ℕ) (steps : List Step) → q ≡ count + p → AreSteps names labels p steps
-    → AreOnward (map (moved count) labels) q steps
+    → AreOnward (map (shift_label count) labels) q steps
 steps_onward names labels count p q [] place are = tt
 steps_onward names labels count p q (s ∷ steps) place are =
     (step_onward names labels count p q s place are.0, steps_onward names labels count (p + 1) (q + 1) steps (omega (arith, place)) are.1)

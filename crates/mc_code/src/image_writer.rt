@@ -34,7 +34,7 @@ pub fn encode(code: &Code, out: &mut Vec<u8>) -> Result<(), OutOfMemory>
 fn push_keys(keys: &[Bytes], out: &mut Vec<u8>) -> Result<(), OutOfMemory>
     requires few { length keys.now ≤ 255 }
     requires short { All (λ key. length key ≤ 255) keys.now }
-    ensures { OnOk result (out.new.items ≡ out.old.items ++ image.counted image.sized keys.now) }
+    ensures { OnOk result (out.new.items ≡ out.old.items ++ image.with_count image.with_length keys.now) }
 {
     out.push(keys.len() as u8)?;
     'keys: for key in keys {
@@ -46,7 +46,7 @@ fn push_keys(keys: &[Bytes], out: &mut Vec<u8>) -> Result<(), OutOfMemory>
 /// Appends the number of the bytes, and the bytes.
 fn push_sized(bytes: &[u8], out: &mut Vec<u8>) -> Result<(), OutOfMemory>
     requires { length bytes.now ≤ 255 }
-    ensures { OnOk result (out.new.items ≡ out.old.items ++ image.sized bytes.now) }
+    ensures { OnOk result (out.new.items ≡ out.old.items ++ image.with_length bytes.now) }
 {
     append_all(out, &[&[bytes.len() as u8], bytes])
 }
@@ -80,7 +80,7 @@ fn budget_bytes(budget: Budget) -> [u8; 3]
 fn push_templates(templates: &[Template], out: &mut Vec<u8>) -> Result<(), OutOfMemory>
     requires few { length templates.now ≤ TEMPLATES_LIMIT }
     requires short { All (λ t. length t.body ≤ SCRIPT_BODY_LIMIT) templates.now }
-    ensures { OnOk result (out.new.items ≡ out.old.items ++ image.counted image.template_bytes templates.now) }
+    ensures { OnOk result (out.new.items ≡ out.old.items ++ image.with_count image.template_bytes templates.now) }
 {
     out.push(templates.len() as u8)?;
     'templates: for template in templates {

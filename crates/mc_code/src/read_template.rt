@@ -31,7 +31,7 @@ pub(crate) fn read_templates(
 }
 
 /// Takes a template. Whether its fields suit each other is decided once all of them are read.
-#[tactic(auto, unfolding(crate::specs::ImageReading::template_in, crate::specs::ImageReading::allowed))]
+#[tactic(auto, unfolding(crate::specs::ImageReading::template_in, crate::specs::ImageReading::template_if_valid))]
 fn read_template(alloc: Global, fields: &mut Fields, counts: Counts) -> Result<Template, ImageFault>
     requires { counts.flags ≤ FLAGS_LIMIT }
     ensures { reading.Says (λ template. (template, fields.new)) result
