@@ -34,19 +34,19 @@ in_a_row front m k f v p a b t x y z = simp append_assoc
 
 -- the pieces of an image
 image-pieces : (front : List ℕ) (c : Code)
-    → (((((((((front ++ magic) ++ with_count with_length c.keys) ++ (c.flags ∷ c.vars ∷ [])) ++ budget_bytes c.p.budget) ++ budget_bytes c.a.budget)
-    ++ budget_bytes c.b.budget) ++ with_count template_bytes c.templates) ++ section_bytes c.p) ++ section_bytes c.a) ++ section_bytes c.b
+    → (((((((((front ++ magic) ++ with_count with_length c.keys) ++ (c.flags ∷ c.vars ∷ [])) ++ budget_bytes c.sections.p.budget) ++ budget_bytes c.sections.a.budget)
+    ++ budget_bytes c.sections.b.budget) ++ with_count template_bytes c.templates) ++ section_bytes c.sections.p) ++ section_bytes c.sections.a) ++ section_bytes c.sections.b
     ≡ front ++ image_of c
 image-pieces front c =
-    in_a_row front magic (with_count with_length c.keys) c.flags c.vars (budget_bytes c.p.budget) (budget_bytes c.a.budget) (budget_bytes c.b.budget)
-    (with_count template_bytes c.templates) (section_bytes c.p) (section_bytes c.a) (section_bytes c.b)
+    in_a_row front magic (with_count with_length c.keys) c.flags c.vars (budget_bytes c.sections.p.budget) (budget_bytes c.sections.a.budget) (budget_bytes c.sections.b.budget)
+    (with_count template_bytes c.templates) (section_bytes c.sections.p) (section_bytes c.sections.a) (section_bytes c.sections.b)
 
 -- what was written, piece by piece, is the image
 pub image-written : (c : Code) (start first second third fourth fifth sixth seventh last : List ℕ) → start ≡ [] → first ≡ start ++ magic
     → second ≡ first ++ with_count with_length c.keys → third ≡ second ++ (c.flags ∷ c.vars ∷ [])
-    → fourth ≡ ((third ++ budget_bytes c.p.budget) ++ budget_bytes c.a.budget) ++ budget_bytes c.b.budget
+    → fourth ≡ ((third ++ budget_bytes c.sections.p.budget) ++ budget_bytes c.sections.a.budget) ++ budget_bytes c.sections.b.budget
     → fifth ≡ fourth ++ with_count template_bytes c.templates
-    → sixth ≡ fifth ++ section_bytes c.p → seventh ≡ sixth ++ section_bytes c.a → last ≡ seventh ++ section_bytes c.b
+    → sixth ≡ fifth ++ section_bytes c.sections.p → seventh ≡ sixth ++ section_bytes c.sections.a → last ≡ seventh ++ section_bytes c.sections.b
     → last ≡ image_of c
 image-written c start first second third fourth fifth sixth seventh last none e0 e1 e2 e3 e4 e5 e6 e7 =
     rw (e7, e6, e5, e4, e3, e2, e1, e0, none) (image-pieces [] c)

@@ -80,8 +80,8 @@ section_bytes s = with_count instr_bytes s.instructions
 abbrev pub image_of : Code → List ℕ
 image_of c =
     magic ++ with_count with_length c.keys ++ c.flags ∷ c.vars
-    ∷ (budget_bytes c.p.budget ++ budget_bytes c.a.budget ++ budget_bytes c.b.budget
-    ++ with_count template_bytes c.templates ++ section_bytes c.p ++ section_bytes c.a ++ section_bytes c.b)
+    ∷ (budget_bytes c.sections.p.budget ++ budget_bytes c.sections.a.budget ++ budget_bytes c.sections.b.budget
+    ++ with_count template_bytes c.templates ++ section_bytes c.sections.p ++ section_bytes c.sections.a ++ section_bytes c.sections.b)
 
 -- no two codes have the same image
 abbrev pub ImagesAreOfOneCode : Type 0

@@ -6,6 +6,7 @@ use Rattle.std.specs.Int.Bits.{bit_and}
 use Rattle.std.specs.Str.{bytes_eq}
 use Rattle.mc_protocol.specs.Fields.{fields_of}
 use Rattle.mc_protocol.specs.declared.request.Verb.{Verb}
+use Rattle.mc_protocol.specs.declared.sections.Sections.{Sections}
 use Rattle.mc_protocol.specs.declared.limits.TheConstants.{KEYS_LIMIT, KEY_BYTES_LIMIT, REQUESTS_LIMIT, REQUEST_BYTES_LIMIT, SCRIPT_BODY_LIMIT}
 use Rattle.mc_script.specs.declared.limits.TheConstants.{FLAGS_LIMIT, VARIABLES_LIMIT}
 use Rattle.mc_script.specs.declared.section.Budget.{Budget}
@@ -188,25 +189,24 @@ declared_in bytes =
     keys_in bytes >>= λ k. small_in 0 FLAGS_LIMIT k.1 >>= λ f. small_in 0 VARIABLES_LIMIT f.1
     >>= λ v. Some (record { keys = k.0; flags = f.0; vars = v.0 }, v.1)
 
-abbrev pub Three : Type 0 → Type 0
-Three A = A × A × A
-
 -- one for each section
-unfoldable pub each_in : {A : Type 0} → (List ℕ → Field A) → List ℕ → Field (Three A)
-each_in one_in bytes = one_in bytes >>= λ p. one_in p.1 >>= λ a. one_in a.1 >>= λ b. Some ((p.0, a.0, b.0), b.1)
+unfoldable pub each_in : {A : Type 0} → (List ℕ → Field A) → List ℕ → Field (Sections A)
+each_in one_in bytes = one_in bytes >>= λ p. one_in p.1 >>= λ a. one_in a.1 >>= λ b. Some (record { p = p.0; a = a.0; b = b.0 }, b.1)
 
 abbrev pub section_of : Budget → List Instr → Section
 section_of budget instructions = record { budget = budget; instructions = instructions }
 
-abbrev pub code_of : Declared → Three Budget → List Template → Three (List Instr) → Code
+abbrev pub code_of : Declared → Sections Budget → List Template → Sections (List Instr) → Code
 code_of d budgets templates instructions = record {
   keys = d.keys;
   flags = d.flags;
   vars = d.vars;
   templates = templates;
-  p = section_of budgets.0 instructions.0;
-  a = section_of budgets.1 instructions.1;
-  b = section_of budgets.2 instructions.2;
+  sections = record {
+    p = section_of budgets.p instructions.p;
+    a = section_of budgets.a instructions.a;
+    b = section_of budgets.b instructions.b;
+  };
 }
 
 abbrev pub at_end : {A : Type 0} → A → List ℕ → Option A

@@ -115,9 +115,7 @@ code_of s = record {
   flags = length s.names.flags;
   vars = length s.names.vars;
   templates = templates_of s;
-  p = section_code s actor.P;
-  a = section_code s actor.A;
-  b = section_code s actor.B;
+  sections = record { p = section_code s actor.P; a = section_code s actor.A; b = section_code s actor.B };
 }
 
 -- ---- limits

@@ -3,6 +3,7 @@ pub use Rattle.mc_protocol.specs.Fields
 pub use Rattle.mc_protocol.specs.Legal
 pub use Rattle.mc_protocol.specs.Lines
 pub use Rattle.mc_protocol.specs.Merge
+pub use Rattle.mc_protocol.specs.Sections
 pub use Rattle.mc_protocol.specs.Words
 pub use Rattle.mc_script.specs.Script
 pub use Rattle.mc_script.specs.ScriptWords

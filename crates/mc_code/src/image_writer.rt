@@ -9,7 +9,7 @@ ghost use Rattle.mc_code.specs.Image.{image_of};
 
 use crate::code::Section;
 use crate::{Code, Instr};
-use mc_protocol::{Bytes, OutOfMemory, Verb, append_all};
+use mc_protocol::{Actor, Bytes, OutOfMemory, Verb, append_all};
 use mc_script::{Argument, Budget, Template};
 
 /// Appends the image of code. Where memory runs out, `out` stays as it was.
@@ -23,9 +23,9 @@ pub fn encode(code: &Code, out: &mut Vec<u8>) -> Result<(), OutOfMemory>
     image.extend_from_slice(&[code.flags, code.vars])?;
     push_budgets(code, &mut image)?;
     push_templates(code.templates.as_slice(), &mut image)?;
-    push_section(&code.p, &mut image)?;
-    push_section(&code.a, &mut image)?;
-    push_section(&code.b, &mut image)?;
+    push_section(&code.sections.p, &mut image)?;
+    push_section(&code.sections.a, &mut image)?;
+    push_section(&code.sections.b, &mut image)?;
     out.extend_from_slice(image.as_slice())?;
     Ok(())
 }
@@ -53,15 +53,15 @@ fn push_sized(bytes: &[u8], out: &mut Vec<u8>) -> Result<(), OutOfMemory>
 
 /// Appends the budget of each section.
 fn push_budgets(code: &Code, out: &mut Vec<u8>) -> Result<(), OutOfMemory>
-    ensures { OnOk result (out.new.items ≡ out.old.items ++ image.budget_bytes code.now.p.budget
-        ++ image.budget_bytes code.now.a.budget ++ image.budget_bytes code.now.b.budget) }
+    ensures { OnOk result (out.new.items ≡ out.old.items ++ image.budget_bytes code.now.sections.p.budget
+        ++ image.budget_bytes code.now.sections.a.budget ++ image.budget_bytes code.now.sections.b.budget) }
 {
     append_all(
         out,
         &[
-            &budget_bytes(code.p.budget),
-            &budget_bytes(code.a.budget),
-            &budget_bytes(code.b.budget),
+            &budget_bytes(code.budget(Actor::P)),
+            &budget_bytes(code.budget(Actor::A)),
+            &budget_bytes(code.budget(Actor::B)),
         ],
     )
 }
