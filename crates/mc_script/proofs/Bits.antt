@@ -18,7 +18,7 @@ test-of (suc zero) power h p =
     ap (λ n. not (nat_eq n 0)) once ∙ above power p
 test-of (suc (suc bit)) power h p = absurd (omega (arith, h))
 
--- `mask & (1 << flag) != 0`, in so many bits
+-- `mask & (1 << flag) != 0` at this width
 pub bit-test : (width mask flag : ℕ) → flag < width → not (nat_eq (bit_and mask (1 * 2 ^ flag % 2 ^ width)) 0) ≡ (bit_at mask flag == 1)
 bit-test width mask flag lt =
     let one : 1 * 2 ^ flag ≡ 2 ^ flag = omega arith in

@@ -2,4 +2,4 @@ use Rattle.mc_script.proofs.Bits.{bit-test}
 use Rattle.mc_script.proofs.print_marks.has_flag.Goals as goal
 
 pub returns : goal.returns
-returns c = bit-test 32 c.args.mask c.args.flag c.requires
+returns c = bit-test 64 c.args.mask c.args.flag c.requires
