@@ -26,32 +26,32 @@ groups-joined names p a b first x y z sp sa sb last =
 
 -- the header and the names, the budgets, the sections, and `end`, one behind the other
 script_text-parts : (s : Script)
-    → ((((((lines_text (header ∷ names_lines s.names) ++ line_text (budget_line actor.P s.p.budget)) ++ line_text (budget_line actor.A s.a.budget))
-    ++ line_text (budget_line actor.B s.b.budget)) ++ lines_text (section_line actor.P ∷ section_lines s.names s.p))
-    ++ lines_text (section_line actor.A ∷ section_lines s.names s.a)) ++ lines_text (section_line actor.B ∷ section_lines s.names s.b)) ++ codes "end\n"
+    → ((((((lines_text (header ∷ names_lines s.names) ++ line_text (budget_line actor.P s.sections.p.budget)) ++ line_text (budget_line actor.A s.sections.a.budget))
+    ++ line_text (budget_line actor.B s.sections.b.budget)) ++ lines_text (section_line actor.P ∷ section_lines s.names s.sections.p))
+    ++ lines_text (section_line actor.A ∷ section_lines s.names s.sections.a)) ++ lines_text (section_line actor.B ∷ section_lines s.names s.sections.b)) ++ codes "end\n"
     ≡ script_text s
 script_text-parts s =
-    groups-joined (names_lines s.names) (section_lines s.names s.p) (section_lines s.names s.a) (section_lines s.names s.b) header
-    (budget_line actor.P s.p.budget) (budget_line actor.A s.a.budget) (budget_line actor.B s.b.budget)
+    groups-joined (names_lines s.names) (section_lines s.names s.sections.p) (section_lines s.names s.sections.a) (section_lines s.names s.sections.b) header
+    (budget_line actor.P s.sections.p.budget) (budget_line actor.A s.sections.a.budget) (budget_line actor.B s.sections.b.budget)
     (section_line actor.P) (section_line actor.A) (section_line actor.B) end_line
 
 -- the same, text by text
 script_text-from : (s : Script) (t0 t1 t2 t3 t4 t5 t6 t7 t8 : List ℕ) → t0 ≡ [] → t1 ≡ t0 ++ lines_text (header ∷ names_lines s.names)
-    → t2 ≡ t1 ++ line_text (budget_line actor.P s.p.budget) → t3 ≡ t2 ++ line_text (budget_line actor.A s.a.budget)
-    → t4 ≡ t3 ++ line_text (budget_line actor.B s.b.budget) → t5 ≡ t4 ++ lines_text (section_line actor.P ∷ section_lines s.names s.p)
-    → t6 ≡ t5 ++ lines_text (section_line actor.A ∷ section_lines s.names s.a)
-    → t7 ≡ t6 ++ lines_text (section_line actor.B ∷ section_lines s.names s.b) → t8 ≡ t7 ++ codes "end\n" → t8 ≡ script_text s
+    → t2 ≡ t1 ++ line_text (budget_line actor.P s.sections.p.budget) → t3 ≡ t2 ++ line_text (budget_line actor.A s.sections.a.budget)
+    → t4 ≡ t3 ++ line_text (budget_line actor.B s.sections.b.budget) → t5 ≡ t4 ++ lines_text (section_line actor.P ∷ section_lines s.names s.sections.p)
+    → t6 ≡ t5 ++ lines_text (section_line actor.A ∷ section_lines s.names s.sections.a)
+    → t7 ≡ t6 ++ lines_text (section_line actor.B ∷ section_lines s.names s.sections.b) → t8 ≡ t7 ++ codes "end\n" → t8 ≡ script_text s
 script_text-from s t0 t1 t2 t3 t4 t5 t6 t7 t8 e0 e1 e2 e3 e4 e5 e6 e7 e8 =
-    e8 ∙ ap (λ t. t ++ codes "end\n") (e7 ∙ ap (λ t. t ++ lines_text (section_line actor.B ∷ section_lines s.names s.b))
-    (e6 ∙ ap (λ t. t ++ lines_text (section_line actor.A ∷ section_lines s.names s.a))
-    (e5 ∙ ap (λ t. t ++ lines_text (section_line actor.P ∷ section_lines s.names s.p))
-    (e4 ∙ ap (λ t. t ++ line_text (budget_line actor.B s.b.budget)) (e3 ∙ ap (λ t. t ++ line_text (budget_line actor.A s.a.budget))
-    (e2 ∙ ap (λ t. t ++ line_text (budget_line actor.P s.p.budget)) (e1 ∙ ap (λ t. t ++ lines_text (header ∷ names_lines s.names)) e0)))))))
+    e8 ∙ ap (λ t. t ++ codes "end\n") (e7 ∙ ap (λ t. t ++ lines_text (section_line actor.B ∷ section_lines s.names s.sections.b))
+    (e6 ∙ ap (λ t. t ++ lines_text (section_line actor.A ∷ section_lines s.names s.sections.a))
+    (e5 ∙ ap (λ t. t ++ lines_text (section_line actor.P ∷ section_lines s.names s.sections.p))
+    (e4 ∙ ap (λ t. t ++ line_text (budget_line actor.B s.sections.b.budget)) (e3 ∙ ap (λ t. t ++ line_text (budget_line actor.A s.sections.a.budget))
+    (e2 ∙ ap (λ t. t ++ line_text (budget_line actor.P s.sections.p.budget)) (e1 ∙ ap (λ t. t ++ lines_text (header ∷ names_lines s.names)) e0)))))))
     ∙ script_text-parts s
 
 -- the same, of the script's parts
 pub script_text-made : (s : Script) (names : Names) (x y z : Budget) (p a b : Section) (t0 t1 t2 t3 t4 t5 t6 t7 t8 : List ℕ)
-    → names ≡ s.names → x ≡ s.p.budget → y ≡ s.a.budget → z ≡ s.b.budget → p ≡ s.p → a ≡ s.a → b ≡ s.b
+    → names ≡ s.names → x ≡ s.sections.p.budget → y ≡ s.sections.a.budget → z ≡ s.sections.b.budget → p ≡ s.sections.p → a ≡ s.sections.a → b ≡ s.sections.b
     → t0 ≡ [] → t1 ≡ t0 ++ lines_text (header ∷ names_lines names) → t2 ≡ t1 ++ line_text (budget_line actor.P x)
     → t3 ≡ t2 ++ line_text (budget_line actor.A y) → t4 ≡ t3 ++ line_text (budget_line actor.B z)
     → t5 ≡ t4 ++ lines_text (section_line actor.P ∷ section_lines names p) → t6 ≡ t5 ++ lines_text (section_line actor.A ∷ section_lines names a)
