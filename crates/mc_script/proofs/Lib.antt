@@ -12,6 +12,7 @@ pub mod Declared
 pub mod WholeScript
 pub mod ScriptRead
 pub mod Readings
+pub mod Bits
 pub mod Masks
 pub mod JumpLists
 pub mod Formed

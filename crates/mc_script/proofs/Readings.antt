@@ -1,18 +1,33 @@
--- What a reader's answer says, where what it read is a value exactly where a text spells it.
-use Rattle.std.proofs.Common.{◌≡◌, ◌≢◌, Option, Some, Result, Ok, Err}
+-- What the answer of the reader says: it is a script exactly where the text spells one, and that script is well formed.
+use Rattle.std.proofs.Common.{◌≢◌, ℕ, List, Result, Ok, Err}
 use Rattle.std.specs.Result.{IfOk, IfErr}
+use Rattle.mc_protocol.specs.declared.lines.Separator.TheVariants.{SpaceOrTab}
+use Rattle.mc_protocol.specs.Lines.{words_of_text}
 use Rattle.mc_script.specs.declared.fault.ScriptFault.{ScriptFault}
 use Rattle.mc_script.specs.declared.fault.ScriptKind.TheVariants as kind
 use Rattle.mc_script.specs.Reading.{Says}
+use Rattle.mc_script.specs.Script.{Script}
+use Rattle.mc_script.specs.ScriptText.{SpellsScript}
+use Rattle.mc_script.specs.TextReading.{script_in}
+use Rattle.mc_script.specs.WellFormed.{IsScript}
+use Rattle.mc_script.proofs.Formed.{script-formed}
+use Rattle.mc_script.proofs.ScriptRead.{script-read}
+use Rattle.mc_script.proofs.WholeScript.{script-spelled}
 
--- what was read is spelled
-pub IfOk-from_says : {V : Type 0} (Spells : V → Type 0) (read : Option V) (result : Result V ScriptFault) → ((v : V) → read ≡ Some v → Spells v)
-    → Says (λ v. v) result read → IfOk result Spells
-IfOk-from_says Spells read (Ok v) spelled h = spelled v h
-IfOk-from_says Spells read (Err e) spelled h = tt
+-- the script that is read is spelled
+pub read_is_spelled : (text : List ℕ) (result : Result Script ScriptFault) → Says (λ s. s) result (script_in (words_of_text SpaceOrTab text))
+    → IfOk result (SpellsScript text)
+read_is_spelled text (Ok s) h = script-spelled text s h
+read_is_spelled text (Err fault) h = tt
 
--- where reading failed, and not for want of memory, nothing is spelled
-pub IfErr-from_says : {V : Type 0} (Spells : V → Type 0) (read : Option V) (result : Result V ScriptFault) → ((v : V) → Spells v → read ≡ Some v)
-    → Says (λ v. v) result read → IfErr result (λ fault. fault.kind ≢ kind.OutOfMemory → (v : V) → Spells v → ⊥)
-IfErr-from_says Spells read (Ok v) reads h = tt
-IfErr-from_says Spells read (Err fault) reads h = λ real v s. let e = h real in let f = reads v s in cc
+-- and it is well formed
+pub read_is_formed : (text : List ℕ) (result : Result Script ScriptFault) → Says (λ s. s) result (script_in (words_of_text SpaceOrTab text))
+    → IfOk result IsScript
+read_is_formed text (Ok s) h = script-formed text s (script-spelled text s h)
+read_is_formed text (Err fault) h = tt
+
+-- where reading failed, and not for want of memory, no script is spelled
+pub unread_is_unspelled : (text : List ℕ) (result : Result Script ScriptFault) → Says (λ s. s) result (script_in (words_of_text SpaceOrTab text))
+    → IfErr result (λ fault. fault.kind ≢ kind.OutOfMemory → (s : Script) → SpellsScript text s → ⊥)
+unread_is_unspelled text (Ok s) h = tt
+unread_is_unspelled text (Err fault) h = λ real s spelled. let none = h real in let some = script-read text s spelled in cc

@@ -1,5 +1,6 @@
 -- The steps and jumps that are left, one further on.
-use Rattle.std.proofs.Common.{◌≡◌, ℕ, ◌+◌, ◌-◌, ◌≤◌, false, Option, Some, None, List, [], ◌∷◌, ◌++◌, length, take, drop, get_or, refl, sym, ap, subst, ◌∙◌, arith, length-append}
+use Rattle.std.proofs.Common.{◌≡◌, ℕ, ◌+◌, ◌-◌, ◌<◌, ◌≤◌, true, false, Option, Some, None, List, [], ◌∷◌, ◌++◌, length, take, drop, get_or, refl, sym, ap, subst, ◌∙◌, arith, length-append}
+use Rattle.std.proofs.lemmas.List.{drop_more}
 use Rattle.mc_protocol.specs.declared.reply.Class.{Class}
 use Rattle.mc_protocol.specs.Lines.{Word}
 use Rattle.mc_script.specs.declared.entry.Entry.{Entry}
@@ -33,18 +34,35 @@ steps-cons labels place (entry.Bind v) entries h = refl
 steps-cons labels place (entry.Goto name) entries h = refl
 steps-cons labels place entry.Halt entries h = refl
 
-pub steps-pushed : (labels : List Label) (steps more : List Step) (rest : List Entry) (e : Entry) (s : Step) (all : Option (List Step))
-    → 1 ≤ length rest → e ≡ get_or rest 0 e → is_label e ≡ false → step_in labels (length steps) e ≡ Some s → more ≡ steps ++ s ∷ []
-    → onto steps (steps_from labels (length steps) rest) ≡ all
-    → onto more (steps_from labels (length more) (take (length rest - 1) (drop 1 rest))) ≡ all
-steps-pushed labels steps more [] e s all some first step made grown h = absurd (omega arith)
-steps-pushed labels steps more (x ∷ rest) e s all some first step made grown h =
-    let cons = steps-cons labels (length steps) x rest (ap is_label (sym first) ∙ step) in
-    let here : step_in labels (length steps) x ≡ Some s = ap (step_in labels (length steps)) (sym first) ∙ made in
-    let P : List Entry → Type 0 = λ es. onto more (steps_from labels (length more) es) ≡ all in
-    subst P (sym (behind_first x rest))
-    (rw (grown, pushed-length steps s) (onto-push steps s (steps_from labels (length steps + 1) rest)
-    ∙ ap (λ o. onto steps (in_front o (steps_from labels (length steps + 1) rest))) (sym here) ∙ ap (onto steps) (sym cons) ∙ h))
+label-cons : (labels : List Label) (place : ℕ) (e : Entry) (entries : List Entry) → is_label e ≡ true
+    → steps_from labels place (e ∷ entries) ≡ steps_from labels place entries
+label-cons labels place (entry.Label name) entries h = refl
+label-cons labels place (entry.Send t marks) entries h = absurd (cc)
+label-cons labels place (entry.Bind v) entries h = absurd (cc)
+label-cons labels place (entry.Goto name) entries h = absurd (cc)
+label-cons labels place entry.Halt entries h = absurd (cc)
+
+-- the entries from this one on
+from-entry : (entries : List Entry) (k : ℕ) (e : Entry) → k < length entries → e ≡ get_or entries k e → drop k entries ≡ e ∷ drop (k + 1) entries
+from-entry entries k e below is = drop_more entries k e below ∙ ap (λ x. x ∷ drop (k + 1) entries) (sym is)
+
+pub label-passed : (labels : List Label) (steps : List Step) (entries : List Entry) (k : ℕ) (e : Entry) (all : Option (List Step))
+    → k < length entries → e ≡ get_or entries k e → is_label e ≡ true
+    → onto steps (steps_from labels (length steps) (drop k entries)) ≡ all
+    → onto steps (steps_from labels (length steps) (drop (k + 1) entries)) ≡ all
+label-passed labels steps entries k e all below is label h =
+    ap (onto steps) (sym (ap (steps_from labels (length steps)) (from-entry entries k e below is)
+    ∙ label-cons labels (length steps) e (drop (k + 1) entries) label)) ∙ h
+
+pub step-pushed : (labels : List Label) (steps more : List Step) (entries : List Entry) (k : ℕ) (e : Entry) (s : Step) (all : Option (List Step))
+    → k < length entries → e ≡ get_or entries k e → is_label e ≡ false → step_in labels (length steps) e ≡ Some s → more ≡ steps ++ s ∷ []
+    → onto steps (steps_from labels (length steps) (drop k entries)) ≡ all
+    → onto more (steps_from labels (length more) (drop (k + 1) entries)) ≡ all
+step-pushed labels steps more entries k e s all below is step made grown h =
+    let rest = drop (k + 1) entries in
+    rw (grown, pushed-length steps s) (onto-push steps s (steps_from labels (length steps + 1) rest)
+    ∙ ap (λ o. onto steps (in_front o (steps_from labels (length steps + 1) rest))) (sym made)
+    ∙ ap (onto steps) (sym (ap (steps_from labels (length steps)) (from-entry entries k e below is) ∙ steps-cons labels (length steps) e rest step)) ∙ h)
 
 -- ---- jumps
 

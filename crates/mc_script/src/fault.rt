@@ -1,5 +1,6 @@
 ghost use Rattle.std.specs.Prelude.{◌≡◌};
 ghost use Rattle.mc_script.specs.Kinds as kinds;
+ghost use Rattle.mc_script.specs.declared.fault.ScriptKind.TheVariants.{OutOfMemory};
 
 use std::alloc::{AllocError, AllocFailed};
 use thiserror::Error;
@@ -113,6 +114,7 @@ impl<T: Drop> From<AllocFailed<T>> for ScriptKind {
 pub struct ScriptFault {
     pub kind: ScriptKind,
     pub line: u32,
+    ghost memory: { kind ≡ OutOfMemory → line ≡ 0 },
 }
 
 impl ScriptFault {

@@ -7,7 +7,6 @@ ghost use Rattle.mc_script.specs.Reading as reading;
 ghost use Rattle.mc_script.specs.TextReading as whole;
 
 use crate::entry::{Entry, Mark, Sign};
-use crate::marks::sign_byte;
 use crate::section::Section;
 use crate::section_text::Numbered;
 use crate::{Budget, Jumps, Label, Mask, ScriptFault, ScriptKind, Step, Template};
@@ -37,8 +36,7 @@ fn labels_of(alloc: Global, entries: &[Numbered]) -> Result<Vec<Label>, OutOfMem
 {
     let mut labels = Vec::new(alloc);
     let mut place = 0;
-    let mut rest = entries;
-    'entries: while let [numbered, others @ ..] = rest {
+    'entries: for numbered in entries {
         match &numbered.entry {
             Entry::Label(name) => {
                 let name = name.copy(alloc)?;
@@ -46,7 +44,6 @@ fn labels_of(alloc: Global, entries: &[Numbered]) -> Result<Vec<Label>, OutOfMem
             }
             _ => place += 1,
         }
-        rest = others;
     }
     Ok(labels)
 }
@@ -56,15 +53,13 @@ fn steps_of(alloc: Global, labels: &[Label], entries: &[Numbered]) -> Result<Vec
     ensures { reading.Says (λ steps. steps.items) result (spec.steps_from labels.now 0 entries.now) }
 {
     let mut steps = Vec::new(alloc);
-    let mut rest = entries;
-    'entries: while let [numbered, others @ ..] = rest {
+    'entries: for numbered in entries {
         if !is_label(&numbered.entry) {
             match step_of(alloc, labels, steps.len(), &numbered.entry) {
                 Ok(step) => steps.push(step)?,
                 Err(kind) => return Err(ScriptFault::at(kind, numbered.line)),
             }
         }
-        rest = others;
     }
     Ok(steps)
 }
@@ -143,22 +138,12 @@ fn mask_of(sign: Sign, marks: &[Mark]) -> Mask
     ensures { result ≡ said.mask_of sign marks.now }
 {
     let mut mask = 0;
-    let mut rest = marks;
-    'marks: while let [mark, others @ ..] = rest {
-        mask = with_flag(mask, says(sign, mark));
-        rest = others;
+    'marks: for mark in marks {
+        if let Some(flag) = says(sign, mark) {
+            mask |= flag_mask(flag);
+        }
     }
     mask
-}
-
-fn with_flag(mask: Mask, flag: Option<u8>) -> Mask
-    requires { MatchOption flag (mask ≡ mask) (λ f. f < FLAGS_LIMIT) }
-    ensures { result ≡ said.with_flag mask flag }
-{
-    match flag {
-        Some(flag) => mask | flag_mask(flag),
-        None => mask,
-    }
 }
 
 fn flag_mask(flag: u8) -> Mask
@@ -174,13 +159,7 @@ fn says(sign: Sign, mark: &Mark) -> Option<u8>
     ensures below { MatchOption result (sign ≡ sign) (λ f. f < FLAGS_LIMIT) }
 {
     match mark {
-        Mark::Flag(other, flag) => {
-            if sign_byte(sign) == sign_byte(*other) {
-                Some(flag.index())
-            } else {
-                None
-            }
-        }
+        Mark::Flag(other, flag) if *other == sign => Some(flag.index()),
         _ => None,
     }
 }
@@ -189,12 +168,10 @@ fn says(sign: Sign, mark: &Mark) -> Option<u8>
 fn bound_by(marks: &[Mark]) -> Option<u8>
     ensures { result ≡ said.bound_by marks.now }
 {
-    let mut rest = marks;
-    'marks: while let [mark, others @ ..] = rest {
+    'marks: for mark in marks {
         if let Mark::Bind(variable) = mark {
             return Some(*variable);
         }
-        rest = others;
     }
     None
 }
@@ -226,14 +203,12 @@ fn jumps_of(
 fn target_of<'a>(class: Class, marks: &'a [Mark]) -> Option<&'a [u8]>
     ensures { MatchOption result (said.target_of class marks.now ≡ None) (λ name. said.target_of class marks.now ≡ Some name.now) }
 {
-    let mut rest = marks;
-    'marks: while let [mark, others @ ..] = rest {
+    'marks: for mark in marks {
         if let Mark::Jump(other, label) = mark {
-            if class.index() == other.index() {
+            if *other == class {
                 return Some(label.as_slice());
             }
         }
-        rest = others;
     }
     None
 }

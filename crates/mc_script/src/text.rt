@@ -13,15 +13,19 @@ use crate::names::Names;
 use crate::resolve::resolve;
 use crate::section_text::{Numbered, read_section};
 use crate::{Budget, FLAGS_LIMIT, Script, ScriptFault, ScriptKind, VARIABLES_LIMIT};
-use mc_protocol::{Actor, Separator, WordLine, WordLines};
+use mc_protocol::{Actor, Sections, Separator, WordLine, WordLines};
 use std::alloc::Global;
 
 /// Reads a script. The fault is that of the first faulty line, on it of the leftmost faulty word, and of that the kind
 /// that comes first; that a label is unknown or stands before its use is reported only where nothing else is wrong.
+/// Want of memory is the fault of line 0.
+#[tactic(auto, using(crate::proofs::Readings::read_is_spelled, crate::proofs::Readings::read_is_formed, crate::proofs::Readings::unread_is_unspelled))]
 pub fn parse(alloc: Global, text: &[u8]) -> Result<Script, ScriptFault>
     ensures found { IfOk result (SpellsScript text.now) }
+    ensures kept { IfOk result IsScript }
     ensures none { IfErr result (λ fault. fault.kind ≢ ScriptKind.OutOfMemory
         → (script : spec.Script) → SpellsScript text.now script → ⊥) }
+    ensures memory { IfErr result (λ fault. fault.kind ≡ ScriptKind.OutOfMemory → fault.line ≡ 0) }
 {
     read_script(alloc, text)
 }
@@ -130,5 +134,8 @@ fn resolve_all(
     let p = resolve(alloc, budgets.p, &bodies.p)?;
     let a = resolve(alloc, budgets.a, &bodies.a)?;
     let b = resolve(alloc, budgets.b, &bodies.b)?;
-    Ok(Script { names, p, a, b })
+    Ok(Script {
+        names,
+        sections: Sections { p, a, b },
+    })
 }
