@@ -10,7 +10,7 @@ use Rattle.mc_code.specs.Layout.{code_place, templates_of, first_template, instr
 use Rattle.mc_code.specs.Runs.{Exchange, IsRun, met_at}
 use Rattle.mc_code.specs.ScriptRuns.{all_steps, all_labels, ScriptComesTo}
 use Rattle.mc_code.specs.Standing.{ComesTo}
-use Rattle.mc_code.specs.States.{Tagged, State, begun, Outcome}
+use Rattle.mc_code.specs.States.{Tagged, State, initial_state, Outcome}
 use Rattle.mc_code.proofs.Backwards.{comes_to_too}
 use Rattle.mc_code.proofs.Forwards.{forwards}
 use Rattle.mc_code.proofs.StepFacts.{same_outcome}
@@ -19,7 +19,7 @@ use Rattle.mc_code.proofs.WellLaid.{script_laid}
 -- what the instructions of a section do
 abbrev CodeComesTo : script.Script → Actor → List Tagged → List Exchange → State → Outcome → Type 0
 CodeComesTo s k variables exchanges st outcome =
-    (p : ℕ) × IsRun (templates_of s) (instructions_of s k) 0 (begun variables) exchanges p st
+    (p : ℕ) × IsRun (templates_of s) (instructions_of s k) 0 (initial_state variables) exchanges p st
     × (met_at (templates_of s) (slice_get (instructions_of s k) p) st ≡ Some outcome)
 
 comes_to_same : (s : script.Script) → IsScript s → (k : Actor) (variables : List Tagged) (exchanges : List Exchange) (st : State) (outcome : Outcome)
@@ -36,7 +36,7 @@ comes_to_same s is k variables exchanges st outcome = (there, back)
 
     back : CodeComesTo s k variables exchanges st outcome → ScriptComesTo s k variables exchanges st outcome
     back (r, run, met) =
-        comes_to_too (all_labels s k) (all_steps s k) (templates_of s) (first_template s k) (script_laid s is k) (begun variables) st exchanges outcome r run met
+        comes_to_too (all_labels s k) (all_steps s k) (templates_of s) (first_template s k) (script_laid s is k) (initial_state variables) st exchanges outcome r run met
 
 -- the layout of a script agrees with it
 pub code_agrees : (s : script.Script) → IsScript s → Agrees s (code_of s)

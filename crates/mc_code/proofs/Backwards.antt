@@ -1,6 +1,6 @@
 -- A run of a script's code is one of the script.
 use Rattle.std.proofs.Common.{◌≡◌, ◌⊎◌, inl, inr, ℕ, ◌+◌, Bool, true, false, Option, Some, None, List, [], ◌∷◌, slice_get, refl, ap, sym, subst, ◌∙◌, if◌then◌else◌, arith}
-use Rattle.mc_protocol.specs.Legal.{class_of}
+use Rattle.mc_protocol.specs.Legal.{class_of, is_fit_for}
 use Rattle.mc_protocol.specs.declared.reply.Class.{Class}
 use Rattle.mc_protocol.specs.declared.reply.Reply.{Reply}
 use Rattle.mc_script.specs.declared.section.Label.{Label}
@@ -12,10 +12,10 @@ use Rattle.mc_code.specs.declared.instr.Instr.{Instr}
 use Rattle.mc_code.specs.declared.instr.Instr.TheVariants as instr
 use Rattle.mc_code.specs.Layout.{code_place, after_label, label_place, entry_for, entries}
 use Rattle.mc_code.specs.Paths.{Slides, Sends}
-use Rattle.mc_code.specs.Runs.{Exchange, is_fit_for, slid, met_at, IsRun, rests, slides, sends}
-use Rattle.mc_code.specs.ScriptRuns.{IsScriptRun, jump_on, place_of_label, place_of, next_of, taken, met_at_step}
+use Rattle.mc_code.specs.Runs.{Exchange, after_slide, met_at, IsRun, rests, slides, sends}
+use Rattle.mc_code.specs.ScriptRuns.{IsScriptRun, jump_on, place_of_label, place_of, next_of, bind_reply, met_at_step}
 use Rattle.mc_code.specs.ScriptRuns as script_run
-use Rattle.mc_code.specs.States.{State, answered, bound, Outcome, nothing_to_bind, is_number}
+use Rattle.mc_code.specs.States.{State, after_reply, after_bind, Outcome, nothing_to_bind, is_number}
 use Rattle.mc_code.proofs.LookUps.{some_is, number_at, code_of_all, first_of_step, second_of_step, after_steps, next_place}
 use Rattle.mc_code.proofs.StepFacts.{HasLabel, Binds, IsLaid, entry_is, fit_is_legal, number_shown, same_outcome}
 
@@ -28,7 +28,7 @@ Goes labels steps p st exchanges st' outcome =
 abbrev IsAtBind : List Label → List Step → ℕ → ℕ → State → ℕ → State → Type 0
 IsAtBind labels steps first x st p u =
     (v : ℕ) × (slice_get (code_of_all labels steps first) x ≡ Some (instr.Bind v)) × (is_number st.last.0 ≡ true)
-    × (code_place steps p ≡ x + 1) × (bound v st ≡ u)
+    × (code_place steps p ≡ x + 1) × (after_bind v st ≡ u)
 
 -- where the script is when its code is at this place in this state
 abbrev IsAt : List Label → List Step → ℕ → ℕ → State → ℕ → State → Type 0
@@ -44,7 +44,7 @@ Follows labels steps first x st exchanges st' outcome =
 slid_from_step : (labels : List Label) (steps : List Step) (templates : List Template) (first : ℕ) → IsLaid labels steps templates first
     → (p q : ℕ) (st st' : State) (exchanges : List Exchange) (outcome : Outcome) (i : Instr) (o : Option Step) → slice_get steps p ≡ o
     → slice_get (code_of_all labels steps first) (code_place steps p) ≡ Some i → Slides i (code_place steps p) q
-    → Follows labels steps first q (slid i st) exchanges st' outcome → Goes labels steps p st exchanges st' outcome
+    → Follows labels steps first q (after_slide i st) exchanges st' outcome → Goes labels steps p st exchanges st' outcome
 slid_from_step labels steps templates first laid p q st st' exchanges outcome i None e at leads others =
     absurd (subst (λ i. Slides i (code_place steps p) q) (some_is i instr.Halt (sym at ∙ after_steps labels steps first p e)) leads)
 slid_from_step labels steps templates first laid p q st st' exchanges outcome i (Some (step.Send t jumps bind)) e at leads others =
@@ -54,14 +54,14 @@ slid_from_step labels steps templates first laid p q st st' exchanges outcome i 
 slid_from_step labels steps templates first laid p q st st' exchanges outcome i (Some (step.Bind v)) e at leads others =
     let is = some_is i (instr.Bind v) (sym at ∙ first_of_step labels steps first p (step.Bind v) e (instr.Bind v) refl) in
     let here : q ≡ code_place steps p + 1 = subst (λ i. Slides i (code_place steps p) q) is leads in
-    let on = others (p + 1) (bound v st) (inl (here ∙ sym (next_place steps p (step.Bind v) e), ap (λ i. slid i st) is)) in
+    let on = others (p + 1) (after_bind v st) (inl (here ∙ sym (next_place steps p (step.Bind v) e), ap (λ i. after_slide i st) is)) in
     (on.0, script_run.binds e on.1, on.2)
 slid_from_step labels steps templates first laid p q st st' exchanges outcome i (Some (step.Goto label)) e at leads others =
     let goto = instr.Goto (label_place labels steps label) in
     let is = some_is i goto (sym at ∙ first_of_step labels steps first p (step.Goto label) e goto refl) in
     let here : q ≡ label_place labels steps label = subst (λ i. Slides i (code_place steps p) q) is leads in
     let has : HasLabel labels label = laid.fine p (step.Goto label) e in
-    let on = others has.0.place st (inl (here ∙ ap (after_label steps) has.1, ap (λ i. slid i st) is)) in
+    let on = others has.0.place st (inl (here ∙ ap (after_label steps) has.1, ap (λ i. after_slide i st) is)) in
     (on.0, script_run.goes e (ap place_of_label has.1) on.1, on.2)
 slid_from_step labels steps templates first laid p q st st' exchanges outcome i (Some step.Halt) e at leads others =
     let is = some_is i instr.Halt (sym at ∙ first_of_step labels steps first p step.Halt e instr.Halt refl) in
@@ -70,7 +70,7 @@ slid_from_step labels steps templates first laid p q st st' exchanges outcome i 
 slid_back : (labels : List Label) (steps : List Step) (templates : List Template) (first : ℕ) → IsLaid labels steps templates first
     → (x q : ℕ) (st st' : State) (exchanges : List Exchange) (outcome : Outcome) (i : Instr)
     → slice_get (code_of_all labels steps first) x ≡ Some i → Slides i x q
-    → Follows labels steps first q (slid i st) exchanges st' outcome → Follows labels steps first x st exchanges st' outcome
+    → Follows labels steps first q (after_slide i st) exchanges st' outcome → Follows labels steps first x st exchanges st' outcome
 slid_back labels steps templates first laid x q st st' exchanges outcome i at leads others p u (inl (here, same)) =
     subst (λ u. Goes labels steps p u exchanges st' outcome) same
     (slid_from_step labels steps templates first laid p q st st' exchanges outcome i (slice_get steps p) refl
@@ -78,7 +78,7 @@ slid_back labels steps templates first laid x q st st' exchanges outcome i at le
 slid_back labels steps templates first laid x q st st' exchanges outcome i at leads others p u (inr (v, bind, shown, next, same)) =
     let is = some_is i (instr.Bind v) (sym at ∙ bind) in
     let here : q ≡ x + 1 = subst (λ i. Slides i x q) is leads in
-    others p u (inl (here ∙ sym next, ap (λ i. slid i st) is ∙ same))
+    others p u (inl (here ∙ sym next, ap (λ i. after_slide i st) is ∙ same))
 
 -- ---- requests
 
@@ -87,7 +87,7 @@ landed : (labels : List Label) (steps : List Step) (first p q : ℕ) (t : Templa
     → slice_get steps p ≡ Some (step.Send t jumps bind) → is_fit_for t.verb r ≡ true
     → ((c : Class) (index : ℕ) → jump_on c jumps ≡ Some index → HasLabel labels index) → Binds t.verb jumps bind
     → jump_on (class_of r) jumps ≡ jump → q ≡ entry_for labels steps p bind (class_of r) jump
-    → (to : ℕ) × (next_of labels p jump ≡ Some to) × IsAt labels steps first q (answered t r st) to (taken bind (class_of r) (answered t r st))
+    → (to : ℕ) × (next_of labels p jump ≡ Some to) × IsAt labels steps first q (after_reply t r st) to (bind_reply bind (class_of r) (after_reply t r st))
 landed labels steps first p q t jumps r None None st at fit labelled may on leads = (p + 1, refl, inl (leads, refl))
 landed labels steps first p q t jumps r None (Some index) st at fit labelled may on leads =
     let has = labelled (class_of r) index on in
@@ -96,7 +96,7 @@ landed labels steps first p q t jumps r (Some v) None st at fit labelled may on 
     (p + 1, refl, by_class (is_number_class (class_of r)) refl leads)
   where
     by_class : (b : Bool) → is_number_class (class_of r) ≡ b → q ≡ (if b then code_place steps p + 1 else code_place steps (p + 1))
-        → IsAt labels steps first q (answered t r st) (p + 1) (if b then bound v (answered t r st) else answered t r st)
+        → IsAt labels steps first q (after_reply t r st) (p + 1) (if b then after_bind v (after_reply t r st) else after_reply t r st)
     by_class true number leads =
         let s = step.Send t jumps (Some v) in
         let after = next_place steps p s at in
@@ -107,7 +107,7 @@ landed labels steps first p q t jumps r (Some v) (Some index) st at fit labelled
     let has = labelled (class_of r) index on in
     (has.0.place, ap place_of_label has.1, inl (leads ∙ ap (after_label steps) has.1, by_class (is_number_class (class_of r)) refl))
   where
-    by_class : (b : Bool) → is_number_class (class_of r) ≡ b → answered t r st ≡ (if b then bound v (answered t r st) else answered t r st)
+    by_class : (b : Bool) → is_number_class (class_of r) ≡ b → after_reply t r st ≡ (if b then after_bind v (after_reply t r st) else after_reply t r st)
     by_class true number = let none = may.1 (class_of r) number in absurd (cc)
     by_class false number = refl
 
@@ -115,7 +115,7 @@ sent_from_request : (labels : List Label) (steps : List Step) (templates : List 
     → (p q : ℕ) (st st' : State) (exchanges : List Exchange) (outcome : Outcome) (i : Instr) (t : Template) (jumps : List (Class × ℕ)) (bind : Option ℕ) (r : Reply)
     → slice_get steps p ≡ Some (step.Send t jumps bind)
     → slice_get (code_of_all labels steps first) (code_place steps p) ≡ Some i → Sends templates i t (class_of r) q → is_fit_for t.verb r ≡ true
-    → Follows labels steps first q (answered t r st) exchanges st' outcome → Goes labels steps p st ((t, r) ∷ exchanges) st' outcome
+    → Follows labels steps first q (after_reply t r st) exchanges st' outcome → Goes labels steps p st ((t, r) ∷ exchanges) st' outcome
 sent_from_request labels steps templates first laid p q st st' exchanges outcome i t jumps bind r e at leads fit others =
     let s = step.Send t jumps bind in
     let send = instr.Send (number_at steps first p) (entries labels steps p t jumps bind) in
@@ -124,13 +124,13 @@ sent_from_request labels steps templates first laid p q st st' exchanges outcome
     let entry = here.2 ∙ entry_is labels steps p t jumps bind (class_of r) (fit_is_legal t.verb r fit) in
     let fine = laid.fine p s e in
     let to = landed labels steps first p q t jumps r bind (jump_on (class_of r) jumps) st e fit fine.0 fine.1 refl entry in
-    let on = others to.0 (taken bind (class_of r) (answered t r st)) to.2 in
+    let on = others to.0 (bind_reply bind (class_of r) (after_reply t r st)) to.2 in
     (on.0, script_run.sends {r = on.0} e fit to.1 on.1, on.2)
 
 sent_from_step : (labels : List Label) (steps : List Step) (templates : List Template) (first : ℕ) → IsLaid labels steps templates first
     → (p q : ℕ) (st st' : State) (exchanges : List Exchange) (outcome : Outcome) (i : Instr) (t : Template) (r : Reply) (o : Option Step) → slice_get steps p ≡ o
     → slice_get (code_of_all labels steps first) (code_place steps p) ≡ Some i → Sends templates i t (class_of r) q → is_fit_for t.verb r ≡ true
-    → Follows labels steps first q (answered t r st) exchanges st' outcome → Goes labels steps p st ((t, r) ∷ exchanges) st' outcome
+    → Follows labels steps first q (after_reply t r st) exchanges st' outcome → Goes labels steps p st ((t, r) ∷ exchanges) st' outcome
 sent_from_step labels steps templates first laid p q st st' exchanges outcome i t r None e at leads fit others =
     absurd (subst (λ i. Sends templates i t (class_of r) q) (some_is i instr.Halt (sym at ∙ after_steps labels steps first p e)) leads)
 sent_from_step labels steps templates first laid p q st st' exchanges outcome i t r (Some (step.Send u jumps bind)) e at leads fit others =
@@ -155,7 +155,7 @@ sent_from_step labels steps templates first laid p q st st' exchanges outcome i 
 sent_back : (labels : List Label) (steps : List Step) (templates : List Template) (first : ℕ) → IsLaid labels steps templates first
     → (x q : ℕ) (st st' : State) (exchanges : List Exchange) (outcome : Outcome) (i : Instr) (t : Template) (r : Reply)
     → slice_get (code_of_all labels steps first) x ≡ Some i → Sends templates i t (class_of r) q → is_fit_for t.verb r ≡ true
-    → Follows labels steps first q (answered t r st) exchanges st' outcome → Follows labels steps first x st ((t, r) ∷ exchanges) st' outcome
+    → Follows labels steps first q (after_reply t r st) exchanges st' outcome → Follows labels steps first x st ((t, r) ∷ exchanges) st' outcome
 sent_back labels steps templates first laid x q st st' exchanges outcome i t r at leads fit others p u (inl (here, same)) =
     subst (λ u. Goes labels steps p u ((t, r) ∷ exchanges) st' outcome) same
     (sent_from_step labels steps templates first laid p q st st' exchanges outcome i t r (slice_get steps p) refl

@@ -20,7 +20,7 @@ use Rattle.mc_code.specs.Runs as run
 use Rattle.mc_code.specs.ScriptRuns as walk
 use Rattle.mc_code.specs.ScriptRuns.{clearing}
 use Rattle.mc_code.specs.Standing.{StandsAt, IsRightAlong, is_right, met_in}
-use Rattle.mc_code.specs.States.{nothing, begun, unbound, State, Outcome, call}
+use Rattle.mc_code.specs.States.{nothing, initial_state, unbound, State, Outcome, call}
 use Rattle.mc_code.proofs.LookUps.{some_is}
 use Rattle.mc_code.proofs.StandingLemmas.{calls_once}
 use Rattle.mc_code.proofs.Stopping.{RunBegins, rested, slid_first, sent_first, run_begins}
@@ -200,16 +200,16 @@ pub counter_calls : CounterCalls
 counter_calls = record { right = right; own = own; not_other = λ other. apart (ap (λ (made : Call). made.template) (calls_once (code_of counter) actor.A [] [] _ _ own other)) }
   where
     own : IsCalling (code_of counter) actor.A [] [] (call_of 2 1)
-    own = record { p = 0; st = begun []; t = _; next = after_count 1; stands = run.rests; sends = refl; meets = refl }
+    own = record { p = 0; st = initial_state []; t = _; next = after_count 1; stands = run.rests; sends = refl; meets = refl }
 
     first : Instr
     first = instr.Send 2 (after_count 1)
 
-    at_first : (p : ℕ) (st : State) (outcome : Outcome) → RunBegins (code_of counter).templates (first ∷ instr.Halt ∷ []) 0 (begun []) [] p st
+    at_first : (p : ℕ) (st : State) (outcome : Outcome) → RunBegins (code_of counter).templates (first ∷ instr.Halt ∷ []) 0 (initial_state []) [] p st
         → met_in (code_of counter) actor.A p st ≡ Some outcome → is_right outcome ≡ true
     at_first p st outcome (rested place same none) met =
         let here : Some (call counts_up 1) ≡ Some outcome =
-        ap (λ p. met_in (code_of counter) actor.A p (begun [])) place ∙ ap (met_in (code_of counter) actor.A p) same ∙ met in
+        ap (λ p. met_in (code_of counter) actor.A p (initial_state [])) place ∙ ap (met_in (code_of counter) actor.A p) same ∙ met in
         sym (ap is_right (some_is (call counts_up 1) outcome here))
     at_first p st outcome (slid_first i q at leads run) met = absurd (subst (λ i. Slides i 0 q) (sym (some_is first i at)) leads)
     at_first p st outcome (sent_first i q t given rest at leads fit run is) met = absurd (cc)
@@ -228,12 +228,12 @@ jumper_outcomes = record {
     (3, walk.sends refl refl refl (walk.sends refl refl refl walk.rests), refl),
     (3, after_storing, refl),
   );
-  left = (begun (nothing ∷ []), (3, after_storing, refl), refl);
+  left = (initial_state (nothing ∷ []), (3, after_storing, refl), refl);
   not_stored = (
     (2, walk.sends refl refl refl (walk.sends refl refl refl walk.rests), refl),
     (2, after_failing, refl),
   );
-  touched = record { p = 2; st = begun (nothing ∷ []); t = touches; next = after_touch 3; stands = after_failing; sends = refl; meets = refl };
+  touched = record { p = 2; st = initial_state (nothing ∷ []); t = touches; next = after_touch 3; stands = after_failing; sends = refl; meets = refl };
   of_wrong_kind = λ number. (
     (3, walk.sends refl refl refl (walk.goes refl refl walk.rests), refl),
     (
@@ -248,14 +248,14 @@ jumper_outcomes = record {
     (4, run.sends (instr.Send 3 after_gets) refl (refl, refl, refl) refl (run.slides (instr.Goto 4) refl refl run.rests), refl),
   );
   never_bound = ((0, walk.rests, refl), (0, run.rests, refl));
-  not_right = λ right. apart (right [] [] (begun (nothing ∷ [])) (unbound swaps) refl (0, run.rests, refl));
+  not_right = λ right. apart (right [] [] (initial_state (nothing ∷ [])) (unbound swaps) refl (0, run.rests, refl));
 }
   where
-    after_storing : StandsAt (code_of jumper) actor.P (nothing ∷ []) ((clearing 0, reply.NotFound) ∷ (stores_five, reply.Stored) ∷ []) 3 (begun (nothing ∷ []))
+    after_storing : StandsAt (code_of jumper) actor.P (nothing ∷ []) ((clearing 0, reply.NotFound) ∷ (stores_five, reply.Stored) ∷ []) 3 (initial_state (nothing ∷ []))
     after_storing = run.sends (instr.Send 0 (after_delete 1)) refl (refl, refl, refl) refl
         (run.sends (instr.Send 1 after_jump) refl (refl, refl, refl) refl run.rests)
 
-    after_failing : StandsAt (code_of jumper) actor.P (nothing ∷ []) ((clearing 0, reply.NotFound) ∷ (stores_five, reply.NotStored) ∷ []) 2 (begun (nothing ∷ []))
+    after_failing : StandsAt (code_of jumper) actor.P (nothing ∷ []) ((clearing 0, reply.NotFound) ∷ (stores_five, reply.NotStored) ∷ []) 2 (initial_state (nothing ∷ []))
     after_failing = run.sends (instr.Send 0 (after_delete 1)) refl (refl, refl, refl) refl
         (run.sends (instr.Send 1 after_jump) refl (refl, refl, refl) refl run.rests)
 

@@ -5,7 +5,7 @@ use Rattle.std.proofs.lemmas.Bool.{cases_lt, ltb-false, le-ltb, leb-true, le-leb
 use Rattle.std.proofs.lemmas.List.{take_at, drop_at, take-append-drop, length-append, length-take, get_or-drop, get_or-take, get_or_past}
 use Rattle.std.proofs.lemmas.Nat.{be_bytes_2, be_bytes_4, be_bytes_8, from_be_bytes-to_be_bytes_2, from_be_bytes-to_be_bytes_4, from_be_bytes-to_be_bytes_8}
 use Rattle.mc_script.specs.Steps.{◌>>=◌}
-use Rattle.mc_code.specs.Image.{sized}
+use Rattle.mc_code.specs.Image.{with_length}
 use Rattle.mc_code.specs.ImageReading.{bytes_in, byte_in, number_in, small_in, sized_in}
 
 -- ---- steps that gave a value
@@ -141,7 +141,7 @@ small_again least greatest n rest low high = rw (byte_again n rest, le-leb least
 -- ---- bytes after their number
 
 pub sized_takes : (least greatest : ℕ) (bytes : List ℕ) (x : List ℕ × List ℕ) → IsBytes bytes → sized_in least greatest bytes ≡ Some x
-    → Takes bytes (sized x.0) x.1
+    → Takes bytes (with_length x.0) x.1
 unfolding sized_in
 sized_takes least greatest bytes x fits e =
     let n = then-some (small_in least greatest bytes) (λ n. bytes_in n.0 n.1) x e in
@@ -150,7 +150,7 @@ sized_takes least greatest bytes x fits e =
     subst (λ (k : ℕ). Takes bytes (k ∷ x.0) x.1) (sym b.1) (Takes-then bytes (n.0.0 ∷ []) n.0.1 x.0 x.1 t.0 b.0)
 
 pub sized_again : (least greatest : ℕ) (text rest : List ℕ) → least ≤ length text → length text ≤ greatest
-    → sized_in least greatest (sized text ++ rest) ≡ Some (text, rest)
+    → sized_in least greatest (with_length text ++ rest) ≡ Some (text, rest)
 unfolding sized_in
 sized_again least greatest text rest low high =
     rw (small_again least greatest (length text) (text ++ rest) low high) (bytes_again (length text) text rest refl)

@@ -1,6 +1,6 @@
 -- A run of a script is one of its code.
 use Rattle.std.proofs.Common.{◌≡◌, ℕ, ◌+◌, Bool, true, false, Option, Some, None, List, ◌∷◌, slice_get, refl, sym, subst, if◌then◌else◌, arith}
-use Rattle.mc_protocol.specs.Legal.{class_of}
+use Rattle.mc_protocol.specs.Legal.{class_of, is_fit_for}
 use Rattle.mc_protocol.specs.declared.reply.Class.{Class}
 use Rattle.mc_protocol.specs.declared.reply.Reply.{Reply}
 use Rattle.mc_script.specs.declared.section.Label.{Label}
@@ -10,10 +10,10 @@ use Rattle.mc_script.specs.declared.step.Template.{Template}
 use Rattle.mc_script.specs.WellFormed.{is_number_class}
 use Rattle.mc_code.specs.declared.instr.Instr.TheVariants as instr
 use Rattle.mc_code.specs.Layout.{code_place, label_place, entry_for, entries}
-use Rattle.mc_code.specs.Runs.{Exchange, is_fit_for, IsRun}
+use Rattle.mc_code.specs.Runs.{Exchange, IsRun}
 use Rattle.mc_code.specs.Runs as run
-use Rattle.mc_code.specs.ScriptRuns.{IsScriptRun, rests, binds, goes, sends, jump_on, next_of, taken}
-use Rattle.mc_code.specs.States.{State, answered, bound}
+use Rattle.mc_code.specs.ScriptRuns.{IsScriptRun, rests, binds, goes, sends, jump_on, next_of, bind_reply}
+use Rattle.mc_code.specs.States.{State, after_reply, after_bind}
 use Rattle.mc_code.proofs.LookUps.{some_is, number_at, code_of_all, first_of_step, second_of_step, next_place}
 use Rattle.mc_code.proofs.StepFacts.{Binds, IsLaid, place_is, entry_is, fit_is_legal}
 
@@ -21,7 +21,7 @@ use Rattle.mc_code.proofs.StepFacts.{Binds, IsLaid, place_is, entry_is, fit_is_l
 entered : (labels : List Label) (steps : List Step) (templates : List Template) (first p q r : ℕ) (st st' : State) (exchanges : List Exchange)
     → (t : Template) (jumps : List (Class × ℕ)) (c : Class) (bind jump : Option ℕ) → slice_get steps p ≡ Some (step.Send t jumps bind)
     → Binds t.verb jumps bind → jump_on c jumps ≡ jump → next_of labels p jump ≡ Some q
-    → IsRun templates (code_of_all labels steps first) (code_place steps q) (taken bind c st) exchanges r st'
+    → IsRun templates (code_of_all labels steps first) (code_place steps q) (bind_reply bind c st) exchanges r st'
     → IsRun templates (code_of_all labels steps first) (entry_for labels steps p bind c jump) st exchanges r st'
 entered labels steps templates first p q r st st' exchanges t jumps c None None at may on next more =
     subst (λ x. IsRun templates (code_of_all labels steps first) (code_place steps x) st exchanges r st') (sym (some_is (p + 1) q next)) more
@@ -29,9 +29,9 @@ entered labels steps templates first p q r st st' exchanges t jumps c None (Some
     subst (λ x. IsRun templates (code_of_all labels steps first) x st exchanges r st') (sym (place_is labels steps index q next)) more
 entered labels steps templates first p q r st st' exchanges t jumps c (Some v) None at may on next more =
     by_class (is_number_class c)
-    (subst (λ x. IsRun templates (code_of_all labels steps first) (code_place steps x) (taken (Some v) c st) exchanges r st') (sym (some_is (p + 1) q next)) more)
+    (subst (λ x. IsRun templates (code_of_all labels steps first) (code_place steps x) (bind_reply (Some v) c st) exchanges r st') (sym (some_is (p + 1) q next)) more)
   where
-    by_class : (b : Bool) → IsRun templates (code_of_all labels steps first) (code_place steps (p + 1)) (if b then bound v st else st) exchanges r st'
+    by_class : (b : Bool) → IsRun templates (code_of_all labels steps first) (code_place steps (p + 1)) (if b then after_bind v st else st) exchanges r st'
         → IsRun templates (code_of_all labels steps first) (if b then code_place steps p + 1 else code_place steps (p + 1)) st exchanges r st'
     by_class true more =
         let after = next_place steps p (step.Send t jumps (Some v)) at in
@@ -42,7 +42,7 @@ entered labels steps templates first p q r st st' exchanges t jumps c (Some v) (
     (by_class (is_number_class c) refl more)
   where
     by_class : (b : Bool) → is_number_class c ≡ b
-        → IsRun templates (code_of_all labels steps first) (code_place steps q) (if b then bound v st else st) exchanges r st'
+        → IsRun templates (code_of_all labels steps first) (code_place steps q) (if b then after_bind v st else st) exchanges r st'
         → IsRun templates (code_of_all labels steps first) (code_place steps q) st exchanges r st'
     by_class true number more = let none = may.1 c number in absurd (cc)
     by_class false number more = more
@@ -51,14 +51,14 @@ sent : (labels : List Label) (steps : List Step) (templates : List Template) (fi
     → (p q r : ℕ) (st st' : State) (exchanges : List Exchange) (t : Template) (jumps : List (Class × ℕ)) (bind : Option ℕ) (reply : Reply)
     → slice_get steps p ≡ Some (step.Send t jumps bind) → is_fit_for t.verb reply ≡ true
     → next_of labels p (jump_on (class_of reply) jumps) ≡ Some q
-    → IsRun templates (code_of_all labels steps first) (code_place steps q) (taken bind (class_of reply) (answered t reply st)) exchanges r st'
+    → IsRun templates (code_of_all labels steps first) (code_place steps q) (bind_reply bind (class_of reply) (after_reply t reply st)) exchanges r st'
     → IsRun templates (code_of_all labels steps first) (code_place steps p) st ((t, reply) ∷ exchanges) r st'
 sent labels steps templates first laid p q r st st' exchanges t jumps bind reply at fit next more =
     let c = class_of reply in
     let s = step.Send t jumps bind in
     let legal = fit_is_legal t.verb reply fit in
     let send = instr.Send (number_at steps first p) (entries labels steps p t jumps bind) in
-    let on = entered labels steps templates first p q r (answered t reply st) st' exchanges t jumps c bind (jump_on c jumps) at (laid.fine p s at).1 refl next more in
+    let on = entered labels steps templates first p q r (after_reply t reply st) st' exchanges t jumps c bind (jump_on c jumps) at (laid.fine p s at).1 refl next more in
     run.sends send (first_of_step labels steps first p s at send refl)
     (laid.named p s t at refl, legal, sym (entry_is labels steps p t jumps bind c legal)) fit on
 

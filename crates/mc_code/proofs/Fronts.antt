@@ -3,9 +3,9 @@ use Rattle.std.proofs.Common.{◌≡◌, ℕ, ◌+◌, List, [], ◌∷◌, ◌+
 use Rattle.std.proofs.lemmas.Grind.{flat_map-append}
 use Rattle.mc_protocol.specs.declared.actor.Actor.{Actor}
 use Rattle.mc_protocol.specs.declared.actor.Actor.TheVariants as actor
+use Rattle.mc_protocol.specs.Lines.{Word}
 use Rattle.mc_script.specs.declared.step.Step.{Step}
 use Rattle.mc_script.specs.Script.{Script, section_of}
-use Rattle.mc_script.specs.ScriptWords.{Word}
 use Rattle.mc_code.specs.ScriptRuns.{clearing_steps, front_of, all_steps}
 use Rattle.mc_code.specs.Layout.{request_of, requests_of, size_of_all}
 use Rattle.mc_code.specs.Assembling.{cleared_keys}

@@ -3,15 +3,19 @@ use Rattle.std.proofs.Common.{◌≡◌, ℕ, ◌≤◌, ◌==◌, true, not, So
 use Rattle.std.specs.Str.{bytes_eq}
 use Rattle.std.proofs.lemmas.List.{append-nil}
 use Rattle.std.proofs.lemmas.Slice.Eq.{bytes_eq-Decides}
+use Rattle.mc_protocol.specs.declared.actor.Actor.{Actor}
+use Rattle.mc_protocol.specs.declared.actor.Actor.TheVariants as actor
+use Rattle.mc_protocol.specs.declared.sections.Sections.{Sections}
+use Rattle.mc_protocol.specs.Sections as sections
 use Rattle.mc_protocol.specs.declared.limits.TheConstants.{KEYS_LIMIT, KEY_BYTES_LIMIT, REQUESTS_LIMIT, REQUEST_BYTES_LIMIT}
 use Rattle.mc_script.specs.declared.limits.TheConstants.{FLAGS_LIMIT, VARIABLES_LIMIT}
 use Rattle.mc_script.specs.declared.section.Budget.{Budget}
 use Rattle.mc_script.specs.Script.{may_be_declared}
 use Rattle.mc_code.specs.declared.instr.Instr.{Instr}
 use Rattle.mc_code.specs.declared.limits.TheConstants.{INSTRUCTIONS_LIMIT}
-use Rattle.mc_code.specs.Code.{IsInstr, Code, IsCode}
-use Rattle.mc_code.specs.Image.{magic, sized, counted, budget_bytes, template_bytes, instr_bytes, section_bytes, image_of, ImagesAreOfOneCode}
-use Rattle.mc_code.specs.ImageReading.{Field, Three, bytes_in, small_in, keys_in, budget_in, templates_in, instructions_in, magic_in, Declared, declared_in, each_in, code_of, ended_in, code_in}
+use Rattle.mc_code.specs.Code.{IsInstr, Section, IsSection, Code, IsCode}
+use Rattle.mc_code.specs.Image.{magic, with_length, with_count, budget_bytes, template_bytes, instr_bytes, section_bytes, image_of, ImagesAreOfOneCode}
+use Rattle.mc_code.specs.ImageReading.{Field, bytes_in, small_in, keys_in, budget_in, templates_in, instructions_in, magic_in, Declared, declared_in, each_in, code_of, at_end, code_in}
 use Rattle.mc_code.proofs.FieldLaws.{then-some, only-then, some-same, IsBytes, Takes, Takes-then, bytes_take, bytes_again, small_takes, small_again}
 use Rattle.mc_code.proofs.KeyLaws.{keys_take, keys_again}
 use Rattle.mc_code.proofs.TemplateLaws.{templates_take, templates_again}
@@ -35,7 +39,7 @@ magic_again rest = rw (bytes_again 4 magic rest refl) refl
 -- ---- what is declared
 
 abbrev declared_text : Declared → List ℕ
-declared_text d = counted sized d.keys ++ d.flags ∷ d.vars ∷ []
+declared_text d = with_count with_length d.keys ++ d.flags ∷ d.vars ∷ []
 
 record AreDeclared (d : Declared) : Type 0 where
   some_key : not (length d.keys == 0) ≡ true
@@ -53,12 +57,12 @@ declared_takes bytes x fits e =
     let tf = small_takes 0 FLAGS_LIMIT k.0.1 f.0 tk.0.fits f.1 in
     let tv = small_takes 0 VARIABLES_LIMIT f.0.1 v.0 tf.0.fits v.1 in
     let numbers = Takes-then k.0.1 (f.0.0 ∷ []) f.0.1 (v.0.0 ∷ []) v.0.1 tf.0 tv.0 in
-    let all = Takes-then bytes (counted sized k.0.0) k.0.1 (f.0.0 ∷ v.0.0 ∷ []) v.0.1 tk.0 numbers in
+    let all = Takes-then bytes (with_count with_length k.0.0) k.0.1 (f.0.0 ∷ v.0.0 ∷ []) v.0.1 tk.0 numbers in
     let made : Declared = record { keys = k.0.0; flags = f.0.0; vars = v.0.0 } in
     subst (λ (y : Declared × List ℕ). Takes bytes (declared_text y.0) y.1 × AreDeclared y.0) (some-same (made, v.0.1) x v.2)
     (all, record { some_key = tk.1; keys = tk.2; flags = tf.2; vars = tv.2 })
 
-declared_again : (d : Declared) (rest : List ℕ) → AreDeclared d → declared_in (counted sized d.keys ++ (d.flags ∷ d.vars ∷ rest)) ≡ Some (d, rest)
+declared_again : (d : Declared) (rest : List ℕ) → AreDeclared d → declared_in (with_count with_length d.keys ++ (d.flags ∷ d.vars ∷ rest)) ≡ Some (d, rest)
 unfolding declared_in
 declared_again d rest h =
     rw (
@@ -74,8 +78,8 @@ record IsOne {A : Type 0} (one_in : List ℕ → Field A) (text : A → List ℕ
   again : (x : A) (rest : List ℕ) → P x → one_in (text x ++ rest) ≡ Some (x, rest)
 
 each_takes : {A : Type 0} (one_in : List ℕ → Field A) (text : A → List ℕ) (P : A → Type 0) (law : IsOne one_in text P)
-    → (bytes : List ℕ) (x : Three A × List ℕ) → IsBytes bytes → each_in one_in bytes ≡ Some x
-    → Takes bytes (text x.0.0 ++ text x.0.1 ++ text x.0.2) x.1 × P x.0.0 × P x.0.1 × P x.0.2
+    → (bytes : List ℕ) (x : Sections A × List ℕ) → IsBytes bytes → each_in one_in bytes ≡ Some x
+    → Takes bytes (text x.0.p ++ text x.0.a ++ text x.0.b) x.1 × P x.0.p × P x.0.a × P x.0.b
 unfolding each_in
 each_takes {A} one_in text P law bytes x fits e =
     let p = then-some (one_in bytes) _ x e in
@@ -86,15 +90,20 @@ each_takes {A} one_in text P law bytes x fits e =
     let tb = law.takes a.0.1 b.0 ta.0.fits b.1 in
     let two = Takes-then bytes (text p.0.0) p.0.1 (text a.0.0) a.0.1 tp.0 ta.0 in
     let three = Takes-then bytes (text p.0.0 ++ text a.0.0) a.0.1 (text b.0.0) b.0.1 two tb.0 in
-    let made : Three A × List ℕ = ((p.0.0, a.0.0, b.0.0), b.0.1) in
-    subst (λ (y : Three A × List ℕ). Takes bytes (text y.0.0 ++ text y.0.1 ++ text y.0.2) y.1 × P y.0.0 × P y.0.1 × P y.0.2) (some-same made x b.2)
+    let made : Sections A × List ℕ = (record { p = p.0.0; a = a.0.0; b = b.0.0 }, b.0.1) in
+    subst (λ (y : Sections A × List ℕ). Takes bytes (text y.0.p ++ text y.0.a ++ text y.0.b) y.1 × P y.0.p × P y.0.a × P y.0.b) (some-same made x b.2)
     (three, tp.1, ta.1, tb.1)
 
 each_again : {A : Type 0} (one_in : List ℕ → Field A) (text : A → List ℕ) (P : A → Type 0) (law : IsOne one_in text P)
-    → (p a b : A) (rest : List ℕ) → P p → P a → P b → each_in one_in (text p ++ (text a ++ (text b ++ rest))) ≡ Some ((p, a, b), rest)
+    → (p a b : A) (rest : List ℕ) → P p → P a → P b → each_in one_in (text p ++ (text a ++ (text b ++ rest))) ≡ Some (record { p = p; a = a; b = b }, rest)
 unfolding each_in
 each_again {A} one_in text P law p a b rest hp ha hb =
     rw (law.again p (text a ++ (text b ++ rest)) hp, law.again a (text b ++ rest) ha, law.again b rest hb) refl
+
+for_each : (P : Section → Type 0) (all : Sections Section) → P all.p → P all.a → P all.b → (actor : Actor) → P (sections.section_of all actor)
+for_each P all p a b actor.P = p
+for_each P all p a b actor.A = a
+for_each P all p a b actor.B = b
 
 abbrev FitsBudget : Budget → Type 0
 FitsBudget budget = (budget.requests ≤ REQUESTS_LIMIT) × (budget.bytes ≤ REQUEST_BYTES_LIMIT)
@@ -108,7 +117,7 @@ budgets_law = record {
 abbrev AreInstructions : List Instr → Type 0
 AreInstructions is = (length is ≤ INSTRUCTIONS_LIMIT) × All IsInstr is
 
-sections_law : IsOne instructions_in (counted instr_bytes) AreInstructions
+sections_law : IsOne instructions_in (with_count instr_bytes) AreInstructions
 sections_law = record {
   takes = λ bytes x fits e. let t = instructions_take bytes x fits e in (t.0, (t.1, t.2));
   again = λ is rest h. instructions_again is rest h.0 h.1;
@@ -116,7 +125,7 @@ sections_law = record {
 
 -- ---- the whole
 
-ended-nil : {A : Type 0} (x y : A) (rest : List ℕ) → ended_in x rest ≡ Some y → (rest ≡ []) × (x ≡ y)
+ended-nil : {A : Type 0} (x y : A) (rest : List ℕ) → at_end x rest ≡ Some y → (rest ≡ []) × (x ≡ y)
 ended-nil x y [] e = (refl, some-same x y e)
 ended-nil x y (byte ∷ rest) e = absurd (cc)
 
@@ -137,17 +146,17 @@ code-read bytes c fits e =
     let h = td.1 in
     let tu = each_takes budget_in budget_bytes FitsBudget budgets_law d.0.1 u.0 td.0.fits u.1 in
     let ts = templates_take (length d.0.0.keys) d.0.0.flags d.0.0.vars u.0.1 t.0 h.flags h.vars tu.0.fits t.1 in
-    let ti = each_takes instructions_in (counted instr_bytes) AreInstructions sections_law t.0.1 s.0 ts.0.fits s.1 in
-    let front = budget_bytes u.0.0.0 ++ budget_bytes u.0.0.1 ++ budget_bytes u.0.0.2 in
-    let templates = counted template_bytes t.0.0 in
-    let sp = counted instr_bytes s.0.0.0 in
-    let sa = counted instr_bytes s.0.0.1 in
-    let sb = counted instr_bytes s.0.0.2 in
+    let ti = each_takes instructions_in (with_count instr_bytes) AreInstructions sections_law t.0.1 s.0 ts.0.fits s.1 in
+    let front = budget_bytes u.0.0.p ++ budget_bytes u.0.0.a ++ budget_bytes u.0.0.b in
+    let templates = with_count template_bytes t.0.0 in
+    let sp = with_count instr_bytes s.0.0.p in
+    let sa = with_count instr_bytes s.0.0.a in
+    let sb = with_count instr_bytes s.0.0.b in
     let two = Takes-then d.0.1 front u.0.1 templates t.0.1 tu.0 ts.0 in
     let three = Takes-then d.0.1 (front ++ templates) t.0.1 (sp ++ sa ++ sb) s.0.1 two ti.0 in
     let four = Takes-then m.0 (declared_text d.0.0) d.0.1 (front ++ templates ++ (sp ++ sa ++ sb)) s.0.1 td.0 three in
     let five = Takes-then bytes magic m.0 (declared_text d.0.0 ++ (front ++ templates ++ (sp ++ sa ++ sb))) s.0.1 tm four in
-    let keys = counted sized d.0.0.keys in
+    let keys = with_count with_length d.0.0.keys in
     let tail : front ++ templates ++ (sp ++ sa ++ sb) ≡ front ++ templates ++ sp ++ sa ++ sb = regroup front templates sp sa sb in
     let declared : declared_text d.0.0 ++ (front ++ templates ++ (sp ++ sa ++ sb))
     ≡ keys ++ (d.0.0.flags ∷ d.0.0.vars ∷ (front ++ templates ++ sp ++ sa ++ sb)) =
@@ -164,9 +173,10 @@ code-read bytes c fits e =
       vars = h.vars;
       few = ts.1;
       templates = ts.2;
-      p = record { requests = tu.1.0; bytes = tu.1.1; few = ti.1.0; instructions = ti.1.1 };
-      a = record { requests = tu.2.0; bytes = tu.2.1; few = ti.2.0; instructions = ti.2.1 };
-      b = record { requests = tu.3.0; bytes = tu.3.1; few = ti.3.0; instructions = ti.3.1 };
+      sections = for_each IsSection made.sections
+          (record { requests = tu.1.0; bytes = tu.1.1; few = ti.1.0; instructions = ti.1.1 })
+          (record { requests = tu.2.0; bytes = tu.2.1; few = ti.2.0; instructions = ti.2.1 })
+          (record { requests = tu.3.0; bytes = tu.3.1; few = ti.3.0; instructions = ti.3.1 });
     } in
     subst (λ (k : Code). (image_of k ≡ bytes) × IsCode k) end.1 (sym whole, is)
 
@@ -177,24 +187,24 @@ pub code-again : (c : Code) → IsCode c → code_in (image_of c) ≡ Some c
 unfolding code_in
 code-again c h =
     let d : Declared = record { keys = c.keys; flags = c.flags; vars = c.vars } in
-    let templates = counted template_bytes c.templates in
-    let sp = section_bytes c.p in
-    let sa = section_bytes c.a in
-    let sb = section_bytes c.b in
+    let templates = with_count template_bytes c.templates in
+    let sp = section_bytes c.sections.p in
+    let sa = section_bytes c.sections.a in
+    let sb = section_bytes c.sections.b in
     let sections = sp ++ (sa ++ (sb ++ [])) in
-    let budgets = budget_bytes c.p.budget ++ (budget_bytes c.a.budget ++ (budget_bytes c.b.budget ++ (templates ++ sections))) in
-    let regrouped : image_of c ≡ magic ++ (counted sized c.keys ++ (c.flags ∷ c.vars ∷ budgets)) =
-    ap (λ (text : List ℕ). magic ++ (counted sized c.keys ++ (c.flags ∷ c.vars ∷ (budget_bytes c.p.budget ++ (budget_bytes c.a.budget ++ (budget_bytes c.b.budget ++ text))))))
+    let budgets = budget_bytes c.sections.p.budget ++ (budget_bytes c.sections.a.budget ++ (budget_bytes c.sections.b.budget ++ (templates ++ sections))) in
+    let regrouped : image_of c ≡ magic ++ (with_count with_length c.keys ++ (c.flags ∷ c.vars ∷ budgets)) =
+    ap (λ (text : List ℕ). magic ++ (with_count with_length c.keys ++ (c.flags ∷ c.vars ∷ (budget_bytes c.sections.p.budget ++ (budget_bytes c.sections.a.budget ++ (budget_bytes c.sections.b.budget ++ text))))))
     (spread templates sp sa sb) in
     ap code_in regrouped
     ∙ rw (
-      magic_again (counted sized c.keys ++ (c.flags ∷ c.vars ∷ budgets)),
+      magic_again (with_count with_length c.keys ++ (c.flags ∷ c.vars ∷ budgets)),
       declared_again d budgets (record { some_key = h.some_key; keys = h.keys; flags = h.flags; vars = h.vars }),
-      each_again budget_in budget_bytes FitsBudget budgets_law c.p.budget c.a.budget c.b.budget (templates ++ sections)
-          (h.p.requests, h.p.bytes) (h.a.requests, h.a.bytes) (h.b.requests, h.b.bytes),
+      each_again budget_in budget_bytes FitsBudget budgets_law c.sections.p.budget c.sections.a.budget c.sections.b.budget (templates ++ sections)
+          ((h.sections actor.P).requests, (h.sections actor.P).bytes) ((h.sections actor.A).requests, (h.sections actor.A).bytes) ((h.sections actor.B).requests, (h.sections actor.B).bytes),
       templates_again (length c.keys) c.flags c.vars c.templates sections h.flags h.vars h.few h.templates,
-      each_again instructions_in (counted instr_bytes) AreInstructions sections_law c.p.instructions c.a.instructions c.b.instructions []
-          (h.p.few, h.p.instructions) (h.a.few, h.a.instructions) (h.b.few, h.b.instructions),
+      each_again instructions_in (with_count instr_bytes) AreInstructions sections_law c.sections.p.instructions c.sections.a.instructions c.sections.b.instructions []
+          ((h.sections actor.P).few, (h.sections actor.P).instructions) ((h.sections actor.A).few, (h.sections actor.A).instructions) ((h.sections actor.B).few, (h.sections actor.B).instructions),
     ) refl
 
 -- bytes that can't be read are no image

@@ -3,7 +3,7 @@ use Rattle.std.proofs.Common.{◌≡◌, ℕ, zero, suc, ◌≤◌, Some, List, 
 use Rattle.std.specs.List.{flat_map}
 use Rattle.std.proofs.lemmas.List.{append-nil}
 use Rattle.std.proofs.lemmas.List.Concat.{flat_map-cons}
-use Rattle.mc_code.specs.Image.{counted}
+use Rattle.mc_code.specs.Image.{with_count}
 use Rattle.mc_code.specs.ImageReading.{Field, small_in, items_in, counted_in}
 use Rattle.mc_code.proofs.FieldLaws.{then-some, some-same, IsBytes, Takes, Takes-then, small_takes, small_again}
 
@@ -58,7 +58,7 @@ items_again {A} f text P law (x ∷ xs) items rest p =
 
 pub counted_takes : {A : Type 0} (f : List A → List ℕ → Field A) (text : A → List ℕ) (P : List A → Type 0) (law : IsItem f text P)
     → (least greatest : ℕ) (bytes : List ℕ) (y : List A × List ℕ) → IsBytes bytes → P [] → counted_in least greatest f bytes ≡ Some y
-    → Takes bytes (counted text y.0) y.1 × (least ≤ length y.0) × (length y.0 ≤ greatest) × P y.0
+    → Takes bytes (with_count text y.0) y.1 × (least ≤ length y.0) × (length y.0 ≤ greatest) × P y.0
 counted_takes {A} f text P law least greatest bytes y fits p e =
     let n = then-some (small_in least greatest bytes) (λ n. items_in f n.0 [] n.1) y e in
     let t = small_takes least greatest bytes n.0 fits n.1 in
@@ -75,6 +75,6 @@ counted_takes {A} f text P law least greatest bytes y fits p e =
 
 pub counted_again : {A : Type 0} (f : List A → List ℕ → Field A) (text : A → List ℕ) (P : List A → Type 0) (law : IsItem f text P)
     → (least greatest : ℕ) (xs : List A) (rest : List ℕ) → P xs → least ≤ length xs → length xs ≤ greatest
-    → counted_in least greatest f (counted text xs ++ rest) ≡ Some (xs, rest)
+    → counted_in least greatest f (with_count text xs ++ rest) ≡ Some (xs, rest)
 counted_again f text P law least greatest xs rest p low high =
     rw (small_again least greatest (length xs) (flat_map text xs ++ rest) low high) (items_again f text P law xs [] rest p)

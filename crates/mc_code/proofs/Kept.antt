@@ -8,14 +8,14 @@ use Rattle.mc_protocol.specs.Legal.{is_legal}
 use Rattle.mc_protocol.specs.declared.actor.Actor.{Actor}
 use Rattle.mc_protocol.specs.declared.actor.Actor.TheVariants as actor
 use Rattle.mc_protocol.specs.declared.reply.Class.{Class}
+use Rattle.mc_protocol.specs.Lines.{Word}
+use Rattle.mc_protocol.specs.Words.{all_classes}
 use Rattle.mc_script.specs.declared.limits.TheConstants.{FLAGS_LIMIT, VARIABLES_LIMIT}
 use Rattle.mc_script.specs.declared.section.Label.{Label}
 use Rattle.mc_script.specs.declared.step.Step.{Step}
 use Rattle.mc_script.specs.declared.step.Step.TheVariants as step
 use Rattle.mc_script.specs.declared.step.Template.{Template}
 use Rattle.mc_script.specs.Script.{Names, Script, section_of}
-use Rattle.mc_script.specs.ScriptWords.{Word}
-use Rattle.mc_script.specs.Steps.{all_classes}
 use Rattle.mc_script.specs.Templates.{IsTemplate}
 use Rattle.mc_script.specs.WellFormed.{IsScript, IsStep, AreSteps, is_number_class}
 use Rattle.mc_code.specs.declared.instr.Instr.TheVariants as instr
@@ -219,22 +219,25 @@ code-of-script s h templates instructions = record {
   vars = declared-few (length s.names.vars) VARIABLES_LIMIT _ _ h.declared.vars;
   few = templates;
   templates = templates-fit s h;
-  p = section-code s actor.P h templates (instructions actor.P);
-  a = section-code s actor.A h templates (instructions actor.A);
-  b = section-code s actor.B h templates (instructions actor.B);
+  sections = each;
 }
+  where
+    each : (actor : Actor) → code.IsSection (code.section_of (code_of s) actor)
+    each actor.P = section-code s actor.P h templates (instructions actor.P)
+    each actor.A = section-code s actor.A h templates (instructions actor.A)
+    each actor.B = section-code s actor.B h templates (instructions actor.B)
 
 -- the same of what is made of equal parts
 pub parts-kept : (s : Script) (keys : List Word) (flags vars : ℕ) (templates : List Template) (p a b : code.Section)
     → keys ≡ s.names.keys → flags ≡ length s.names.flags → vars ≡ length s.names.vars → templates ≡ templates_of s
     → p ≡ section_code s actor.P → a ≡ section_code s actor.A → b ≡ section_code s actor.B
     → IsScript s → template_count s ≤ TEMPLATES_LIMIT → ((actor : Actor) → instruction_count s actor ≤ INSTRUCTIONS_LIMIT)
-    → code.IsCode (record { keys = keys; flags = flags; vars = vars; templates = templates; p = p; a = a; b = b })
+    → code.IsCode (record { keys = keys; flags = flags; vars = vars; templates = templates; sections = record { p = p; a = a; b = b } })
 parts-kept s keys flags vars templates p a b k f v t ep ea eb h few instructions =
     rw (k, f, v, t, ep, ea, eb) (code-of-script s h few instructions)
 
 pub parts-agree : (s : Script) (keys : List Word) (flags vars : ℕ) (templates : List Template) (p a b : code.Section)
     → keys ≡ s.names.keys → flags ≡ length s.names.flags → vars ≡ length s.names.vars → templates ≡ templates_of s
     → p ≡ section_code s actor.P → a ≡ section_code s actor.A → b ≡ section_code s actor.B → IsScript s
-    → Agrees s (record { keys = keys; flags = flags; vars = vars; templates = templates; p = p; a = a; b = b })
+    → Agrees s (record { keys = keys; flags = flags; vars = vars; templates = templates; sections = record { p = p; a = a; b = b } })
 parts-agree s keys flags vars templates p a b k f v t ep ea eb h = rw (k, f, v, t, ep, ea, eb) (code_agrees s h)

@@ -8,9 +8,9 @@ use Rattle.std.proofs.lemmas.List.Folds.{list_all-append}
 use Rattle.std.proofs.lemmas.Slice.Eq.{bytes_eq-Decides}
 use Rattle.mc_protocol.specs.declared.limits.TheConstants.{KEYS_LIMIT, KEY_BYTES_LIMIT}
 use Rattle.mc_script.specs.Script.{may_be_declared}
-use Rattle.mc_script.specs.ScriptWords.{Word}
 use Rattle.mc_protocol.specs.Names.{is_name, is_new, are_distinct, are_name_bytes}
-use Rattle.mc_code.specs.Image.{sized, counted}
+use Rattle.mc_protocol.specs.Lines.{Word}
+use Rattle.mc_code.specs.Image.{with_length, with_count}
 use Rattle.mc_code.specs.ImageReading.{bytes_in, small_in, key_in, keys_in}
 use Rattle.mc_code.proofs.FieldLaws.{then-some, only-then, some-same, IsBytes, Takes, Takes-then, small_takes, small_again, bytes_take, bytes_again}
 use Rattle.mc_code.proofs.ItemLaws.{IsItem, counted_takes, counted_again}
@@ -78,7 +78,7 @@ named-length key e =
     (some-byte key q.0, leb-true _ _ q.1)
 
 key_takes : (keys : List Word) (bytes : List ℕ) (x : Word × List ℕ) → IsBytes bytes → AreKeys keys → key_in keys bytes ≡ Some x
-    → Takes bytes (sized x.0) x.1 × AreKeys (keys ++ x.0 ∷ [])
+    → Takes bytes (with_length x.0) x.1 × AreKeys (keys ++ x.0 ∷ [])
 unfolding key_in
 key_takes keys bytes x fits p e =
     let n = then-some (small_in 1 KEY_BYTES_LIMIT bytes) _ x e in
@@ -88,9 +88,9 @@ key_takes keys bytes x fits p e =
     let t = small_takes 1 KEY_BYTES_LIMIT bytes n.0 fits n.1 in
     let b = bytes_take n.0.0 n.0.1 k.0 t.0.fits k.1 in
     let taken = subst (λ (i : ℕ). Takes bytes (i ∷ k.0.0) k.0.1) (sym b.1) (Takes-then bytes (n.0.0 ∷ []) n.0.1 k.0.0 k.0.1 t.0 b.0) in
-    subst (λ (y : Word × List ℕ). Takes bytes (sized y.0) y.1 × AreKeys (keys ++ y.0 ∷ [])) (some-same k.0 x g.1) (taken, keys-push keys k.0.0 p h.0 h.1)
+    subst (λ (y : Word × List ℕ). Takes bytes (with_length y.0) y.1 × AreKeys (keys ++ y.0 ∷ [])) (some-same k.0 x g.1) (taken, keys-push keys k.0.0 p h.0 h.1)
 
-key_again : (keys : List Word) (key : Word) (others : List Word) (rest : List ℕ) → AreKeys (keys ++ key ∷ others) → key_in keys (sized key ++ rest) ≡ Some (key, rest)
+key_again : (keys : List Word) (key : Word) (others : List Word) (rest : List ℕ) → AreKeys (keys ++ key ∷ others) → key_in keys (with_length key ++ rest) ≡ Some (key, rest)
 unfolding key_in
 key_again keys key others rest p =
     let named = key-named keys key others p in
@@ -98,7 +98,7 @@ key_again keys key others rest p =
     let within = named-length key named in
     rw (small_again 1 KEY_BYTES_LIMIT (length key) (key ++ rest) within.0 within.1, bytes_again (length key) key rest refl, named, new) refl
 
-keys_law : IsItem key_in sized AreKeys
+keys_law : IsItem key_in with_length AreKeys
 keys_law = record { takes = key_takes; again = key_again }
 
 -- ---- all keys
@@ -112,16 +112,16 @@ one-key [] e = absurd (cc)
 one-key (key ∷ keys) e = omega arith
 
 pub keys_take : (bytes : List ℕ) (x : List Word × List ℕ) → IsBytes bytes → keys_in bytes ≡ Some x
-    → Takes bytes (counted sized x.0) x.1 × (not (length x.0 == 0) ≡ true) × (may_be_declared KEYS_LIMIT KEY_BYTES_LIMIT x.0 ≡ true)
+    → Takes bytes (with_count with_length x.0) x.1 × (not (length x.0 == 0) ≡ true) × (may_be_declared KEYS_LIMIT KEY_BYTES_LIMIT x.0 ≡ true)
 unfolding keys_in
 keys_take bytes x fits e =
-    let t = counted_takes key_in sized AreKeys keys_law 1 KEYS_LIMIT bytes x fits (refl, refl) e in
+    let t = counted_takes key_in with_length AreKeys keys_law 1 KEYS_LIMIT bytes x fits (refl, refl) e in
     (t.0, some-key x.0 t.1, and_from _ _ (and_from (leb (length x.0) KEYS_LIMIT) _ (le-leb _ _ t.2) t.3.0) t.3.1)
 
 pub keys_again : (keys : List Word) (rest : List ℕ) → not (length keys == 0) ≡ true → may_be_declared KEYS_LIMIT KEY_BYTES_LIMIT keys ≡ true
-    → keys_in (counted sized keys ++ rest) ≡ Some (keys, rest)
+    → keys_in (with_count with_length keys ++ rest) ≡ Some (keys, rest)
 unfolding keys_in
 keys_again keys rest some p =
     let both = and_parts (leb (length keys) KEYS_LIMIT && list_all (is_name KEY_BYTES_LIMIT) keys) (are_distinct keys) p in
     let each = and_parts (leb (length keys) KEYS_LIMIT) (list_all (is_name KEY_BYTES_LIMIT) keys) both.0 in
-    counted_again key_in sized AreKeys keys_law 1 KEYS_LIMIT keys rest (each.1, both.1) (one-key keys some) (leb-true _ _ each.0)
+    counted_again key_in with_length AreKeys keys_law 1 KEYS_LIMIT keys rest (each.1, both.1) (one-key keys some) (leb-true _ _ each.0)

@@ -6,17 +6,17 @@ use Rattle.mc_protocol.specs.declared.actor.Actor.{Actor}
 use Rattle.mc_protocol.specs.declared.actor.Actor.TheVariants as actor
 use Rattle.mc_protocol.specs.declared.reply.Class.{Class}
 use Rattle.mc_protocol.specs.declared.request.Verb.TheVariants as verb
+use Rattle.mc_protocol.specs.Lines.{Word}
+use Rattle.mc_protocol.specs.Words.{all_classes}
 use Rattle.mc_script.specs.declared.section.Label.{Label}
 use Rattle.mc_script.specs.declared.step.Step.{Step}
 use Rattle.mc_script.specs.declared.step.Step.TheVariants as step
 use Rattle.mc_script.specs.declared.step.Template.{Template}
 use Rattle.mc_script.specs.Script.{Script, section_of}
-use Rattle.mc_script.specs.ScriptWords.{Word}
-use Rattle.mc_script.specs.Steps.{all_classes}
 use Rattle.mc_script.specs.WellFormed.{IsScript, AreLabels, is_number_class}
 use Rattle.mc_code.specs.declared.instr.Instr.TheVariants as instr
 use Rattle.mc_code.specs.declared.limits.TheConstants.{NO_ENTRY}
-use Rattle.mc_code.specs.ScriptRuns.{clearing, clearing_steps, moved, jump_on}
+use Rattle.mc_code.specs.ScriptRuns.{clearing, clearing_steps, shift_label, jump_on}
 use Rattle.mc_code.specs.Layout.{request_of, size_of, size_of_all, code_place, label_place, entry, entry_for, entries, bind_code, step_code, code_from, first_template, instructions_of}
 use Rattle.mc_code.specs.Assembling.{cleared_keys, Places, place_in, places_from, label_places, places_of, onward_from, entry_by, legal_entry, legal_entries, instructions_for, instructions_from, clearing_send, clearing_code}
 use Rattle.mc_code.proofs.Fronts.{clearing-length}
@@ -58,7 +58,7 @@ pub same-place : (keys : List Word) (steps : List Step) (p : ℕ) → p ≤ leng
 same-place keys steps p h = place-after 0 keys steps p ∙ sym (place-found (length keys) steps p h)
 
 same-label : (keys : List Word) (steps : List Step) (least : ℕ) (labels : List Label) → AreLabels (length steps) least labels → (index : ℕ)
-    → label_place (map (moved (length keys)) labels) (clearing_steps 0 keys ++ steps) index
+    → label_place (map (shift_label (length keys)) labels) (clearing_steps 0 keys ++ steps) index
     ≡ place_in (label_places (places_from (length keys) steps) labels) index
 same-label keys steps least [] h index = refl
 same-label keys steps least (label ∷ labels) h zero = same-place keys steps label.place h.2
@@ -143,14 +143,14 @@ front-same L S rest places key (word ∷ keys) h =
 -- ---- a section
 
 stands : (keys : List Word) (steps : List Step) (labels : List Label) → AreLabels (length steps) 0 labels
-    → Stands (map (moved (length keys)) labels) (clearing_steps 0 keys ++ steps) (length keys) (length steps) (places_of (length keys) steps labels)
+    → Stands (map (shift_label (length keys)) labels) (clearing_steps 0 keys ++ steps) (length keys) (length steps) (places_of (length keys) steps labels)
 stands keys steps labels h = record { step = same-place keys steps; label = same-label keys steps 0 labels h }
 
 laid : (keys : List Word) (steps : List Step) (labels : List Label) (first : ℕ) → AreLabels (length steps) 0 labels → first ≡ length keys
-    → code_from (map (moved (length keys)) labels) (clearing_steps 0 keys ++ steps) 0 0 (clearing_steps 0 keys ++ steps)
+    → code_from (map (shift_label (length keys)) labels) (clearing_steps 0 keys ++ steps) 0 0 (clearing_steps 0 keys ++ steps)
     ≡ clearing_code (places_of (length keys) steps labels).labels 0 keys ++ instructions_from (places_of (length keys) steps labels) first 0 steps
 laid keys steps labels first h e =
-    let L = map (moved (length keys)) labels in
+    let L = map (shift_label (length keys)) labels in
     let S = clearing_steps 0 keys ++ steps in
     let places = places_of (length keys) steps labels in
     let front = front-same L S steps places.labels 0 keys (λ j below. place-in-front 0 keys steps (j + 1) (omega arith)) in
@@ -163,7 +163,7 @@ laid keys steps labels first h e =
 
 -- a section that clears no key
 laid-bare : (steps : List Step) (labels : List Label) (first : ℕ) → AreLabels (length steps) 0 labels
-    → code_from (map (moved 0) labels) steps first 0 steps ≡ instructions_from (places_of 0 steps labels) first 0 steps
+    → code_from (map (shift_label 0) labels) steps first 0 steps ≡ instructions_from (places_of 0 steps labels) first 0 steps
 laid-bare steps labels first h = steps-same (stands [] steps labels h) first 0 steps (omega arith)
 
 pub section-laid : (s : Script) (actor : Actor) → IsScript s → (first : ℕ) → first ≡ first_template s actor + length (cleared_keys s actor)
@@ -172,13 +172,13 @@ pub section-laid : (s : Script) (actor : Actor) → IsScript s → (first : ℕ)
     ≡ instructions_of s actor
 section-laid s actor.P h first e =
     let n : length (clearing_steps 0 s.names.keys) ≡ length s.names.keys = clearing-length 0 s.names.keys in
-    let P : ℕ → Type 0 = λ k. clearing_code (places_of (length s.names.keys) s.p.steps s.p.labels).labels 0 s.names.keys
-    ++ instructions_from (places_of (length s.names.keys) s.p.steps s.p.labels) first 0 s.p.steps
-    ≡ code_from (map (moved k) s.p.labels) (clearing_steps 0 s.names.keys ++ s.p.steps) 0 0 (clearing_steps 0 s.names.keys ++ s.p.steps) in
-    subst P (sym n) (sym (laid s.names.keys s.p.steps s.p.labels first h.p.labels (omega (arith, e))))
+    let P : ℕ → Type 0 = λ k. clearing_code (places_of (length s.names.keys) s.sections.p.steps s.sections.p.labels).labels 0 s.names.keys
+    ++ instructions_from (places_of (length s.names.keys) s.sections.p.steps s.sections.p.labels) first 0 s.sections.p.steps
+    ≡ code_from (map (shift_label k) s.sections.p.labels) (clearing_steps 0 s.names.keys ++ s.sections.p.steps) 0 0 (clearing_steps 0 s.names.keys ++ s.sections.p.steps) in
+    subst P (sym n) (sym (laid s.names.keys s.sections.p.steps s.sections.p.labels first h.p.labels (omega (arith, e))))
 section-laid s actor.A h first e =
     let same : first ≡ first_template s actor.A = omega (arith, e) in
-    rw same (sym (laid-bare s.a.steps s.a.labels (first_template s actor.A) h.a.labels))
+    rw same (sym (laid-bare s.sections.a.steps s.sections.a.labels (first_template s actor.A) h.a.labels))
 section-laid s actor.B h first e =
     let same : first ≡ first_template s actor.B = omega (arith, e) in
-    rw same (sym (laid-bare s.b.steps s.b.labels (first_template s actor.B) h.b.labels))
+    rw same (sym (laid-bare s.sections.b.steps s.sections.b.labels (first_template s actor.B) h.b.labels))

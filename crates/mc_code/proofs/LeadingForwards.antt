@@ -7,13 +7,13 @@ use Rattle.mc_protocol.specs.declared.actor.Actor.{Actor}
 use Rattle.mc_protocol.specs.declared.actor.Actor.TheVariants as actor
 use Rattle.mc_protocol.specs.declared.request.Verb.{Verb}
 use Rattle.mc_protocol.specs.declared.reply.Class.{Class}
+use Rattle.mc_protocol.specs.Lines.{Word}
+use Rattle.mc_protocol.specs.Words.{class_index}
 use Rattle.mc_script.specs.declared.section.Label.{Label}
 use Rattle.mc_script.specs.declared.step.Step.{Step}
 use Rattle.mc_script.specs.declared.step.Step.TheVariants as step
 use Rattle.mc_script.specs.declared.step.Template.{Template}
-use Rattle.mc_script.specs.Marks.{class_index}
 use Rattle.mc_script.specs.Script.{Names, Script}
-use Rattle.mc_script.specs.ScriptWords.{Word}
 use Rattle.mc_script.specs.WellFormed.{AreJumps, AreSteps, IsBehind, IsScript, IsStep, is_number_class}
 use Rattle.mc_code.specs.declared.instr.Instr.{Instr}
 use Rattle.mc_code.specs.declared.instr.Instr.TheVariants as instr
@@ -21,7 +21,7 @@ use Rattle.mc_code.specs.declared.limits.TheConstants.{NO_ENTRY}
 use Rattle.mc_code.specs.Layout.{request_of, requests_of, size_of, size_of_all, code_place, after_label, label_place, entry_for, entries, step_code, code_from, templates_of, first_template, instructions_of}
 use Rattle.mc_code.specs.LayoutLaws.{EntriesAreLegal, LayoutsLeadForwards}
 use Rattle.mc_code.specs.Paths.{LeadsForwards, Slides, Sends, entry_of}
-use Rattle.mc_code.specs.ScriptRuns.{clearing_steps, front_of, all_steps, moved, all_labels, jump_on}
+use Rattle.mc_code.specs.ScriptRuns.{clearing_steps, front_of, all_steps, shift_label, all_labels, jump_on}
 use Rattle.mc_code.proofs.Kept.{code-length, place-below}
 use Rattle.mc_code.proofs.LookUps.{some_is, code_length, requests_before, next_place}
 use Rattle.mc_code.proofs.StepFacts.{IsLaid, entry_at, entry_is}
@@ -59,9 +59,9 @@ clearing_onward : (labels : List Label) (p key : ℕ) (keys : List Word) → Are
 clearing_onward labels p key [] = tt
 clearing_onward labels p key (_ ∷ keys) = (λ c index e. absurd (cc), clearing_onward labels (p + 1) (key + 1) keys)
 
-after_moved : (labels : List Label) (count p q index : ℕ) → q ≡ count + p → IsBehind labels p index → IsBehind (map (moved count) labels) q index
+after_moved : (labels : List Label) (count p q index : ℕ) → q ≡ count + p → IsBehind labels p index → IsBehind (map (shift_label count) labels) q index
 after_moved labels count p q index place (label, at, after) =
-    (moved count label, slice_get-map (moved count) labels index ∙ ap (option_map (moved count)) at, omega (arith, place, after))
+    (shift_label count label, slice_get-map (shift_label count) labels index ∙ ap (option_map (shift_label count)) at, omega (arith, place, after))
 
 jump_after : (v : Verb) (labels : List Label) (place least : ℕ) (jumps : List (Class × ℕ)) → AreJumps v labels place least jumps
     → (c : Class) (index : ℕ) → jump_on c jumps ≡ Some index → IsBehind labels place index
@@ -74,7 +74,7 @@ jump_after v labels place least (jump ∷ jumps) are c index on =
     by_class true on others = subst (IsBehind labels place) (some_is jump.1 index on) are.2
     by_class false on others = others on
 
-step_onward : (names : Names) (labels : List Label) (count p q : ℕ) (s : Step) → q ≡ count + p → IsStep names labels p s → IsOnward (map (moved count) labels) q s
+step_onward : (names : Names) (labels : List Label) (count p q : ℕ) (s : Step) → q ≡ count + p → IsStep names labels p s → IsOnward (map (shift_label count) labels) q s
 step_onward names labels count p q (step.Send t jumps bind) place is =
     λ c index on. after_moved labels count p q index place (jump_after t.verb labels p 0 jumps is.1 c index on)
 step_onward names labels count p q (step.Bind variable) place is = tt
@@ -82,7 +82,7 @@ step_onward names labels count p q (step.Goto label) place is = after_moved labe
 step_onward names labels count p q step.Halt place is = tt
 
 steps_onward : (names : Names) (labels : List Label) (count p q : ℕ) (steps : List Step) → q ≡ count + p → AreSteps names labels p steps
-    → AreOnward (map (moved count) labels) q steps
+    → AreOnward (map (shift_label count) labels) q steps
 steps_onward names labels count p q [] place are = tt
 steps_onward names labels count p q (s ∷ steps) place are =
     (step_onward names labels count p q s place are.0, steps_onward names labels count (p + 1) (q + 1) steps (omega (arith, place)) are.1)
@@ -90,10 +90,10 @@ steps_onward names labels count p q (s ∷ steps) place are =
 section_onward : (s : Script) → IsScript s → (k : Actor) → AreOnward (all_labels s k) 0 (all_steps s k)
 section_onward s is actor.P =
     let count = length (front_of s actor.P) in
-    onward_append (all_labels s actor.P) (front_of s actor.P) s.p.steps 0 count (omega arith) (clearing_onward (all_labels s actor.P) 0 0 s.names.keys)
-    (steps_onward s.names s.p.labels count 0 count s.p.steps (omega arith) is.p.steps)
-section_onward s is actor.A = steps_onward s.names s.a.labels 0 0 0 s.a.steps (omega arith) is.a.steps
-section_onward s is actor.B = steps_onward s.names s.b.labels 0 0 0 s.b.steps (omega arith) is.b.steps
+    onward_append (all_labels s actor.P) (front_of s actor.P) s.sections.p.steps 0 count (omega arith) (clearing_onward (all_labels s actor.P) 0 0 s.names.keys)
+    (steps_onward s.names s.sections.p.labels count 0 count s.sections.p.steps (omega arith) is.p.steps)
+section_onward s is actor.A = steps_onward s.names s.sections.a.labels 0 0 0 s.sections.a.steps (omega arith) is.a.steps
+section_onward s is actor.B = steps_onward s.names s.sections.b.labels 0 0 0 s.sections.b.steps (omega arith) is.b.steps
 
 -- ---- places
 

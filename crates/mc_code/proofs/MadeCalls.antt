@@ -1,7 +1,7 @@
 -- The calls that a section makes, with their replies, are exchanges of a run.
 use Rattle.std.proofs.Common.{◌≡◌, ℕ, zero, suc, Bool, true, false, ◌&&◌, Some, List, [], ◌∷◌, ◌++◌, map, slice_get, slice_index_or, refl, ap, sym, subst, ◌∙◌, if◌then◌else◌}
 use Rattle.std.proofs.lemmas.List.{append-nil, append_assoc}
-use Rattle.mc_protocol.specs.Legal.{class_of}
+use Rattle.mc_protocol.specs.Legal.{class_of, is_fit_for}
 use Rattle.mc_protocol.specs.declared.actor.Actor.{Actor}
 use Rattle.mc_protocol.specs.declared.reply.Class.{Class}
 use Rattle.mc_protocol.specs.declared.reply.Reply.{Reply}
@@ -15,10 +15,10 @@ use Rattle.mc_code.specs.declared.kind.Kind.TheVariants as kind
 use Rattle.mc_code.specs.Calls.{IsCalling, MakesAll, exchange_of, template_of, no_template}
 use Rattle.mc_code.specs.Code.{Code, instructions_in}
 use Rattle.mc_code.specs.Paths.{Sends, entry_of}
-use Rattle.mc_code.specs.Runs.{Exchange, is_fit_for, IsRun, met_at, met_by_send, rests, slides, sends}
+use Rattle.mc_code.specs.Runs.{Exchange, IsRun, met_at, met_by_send, rests, slides, sends}
 use Rattle.mc_code.specs.Standing.{ComesTo, IsRightAlong, StandsAt, is_right, met_in}
 use Rattle.mc_code.specs.StandingLaws.{CallsStand, RightRunsAreCalled}
-use Rattle.mc_code.specs.States.{Tagged, nothing, State, begun, answered, Outcome, call, wrong_kind, given, with_argument, sending, wanted_by, is_same}
+use Rattle.mc_code.specs.States.{Tagged, nothing, State, initial_state, after_reply, Outcome, call, wrong_kind, call_with, with_argument, send_outcome, wanted_by, is_same}
 use Rattle.mc_code.proofs.LookUps.{some_is}
 use Rattle.mc_code.proofs.RunLemmas.{run_sends, run_slides}
 use Rattle.mc_code.proofs.StandingLemmas.{template_is}
@@ -47,7 +47,7 @@ call_stands c actor variables before made reply x fit =
     let same : t ≡ x.t = found c.templates made.template x.t no_template named in
     let there : slice_get c.templates made.template ≡ Some t = named ∙ ap Some (sym same) in (
       entry_of x.next (class_of reply),
-      answered t reply x.st,
+      after_reply t reply x.st,
       run_sends x.stands (instr.Send made.template x.next) t reply x.sends (there, legal_is _ _ fit, refl) fit,
     )
 
@@ -61,12 +61,12 @@ all_stand c actor variables before ((made, reply) ∷ pairs) stands makes =
     (all_stand c actor variables (before ++ exchange ∷ []) pairs here makes.2)
 
 pub calls_stand : CallsStand
-calls_stand c actor variables pairs makes = all_stand c actor variables [] pairs (0, begun variables, rests) makes
+calls_stand c actor variables pairs makes = all_stand c actor variables [] pairs (0, initial_state variables, rests) makes
 
 -- ---- where nothing goes wrong
 
 -- a send to which the section rightly comes is a call
-right_send : (t : Template) (st : State) → is_right (sending t st) ≡ true → (number : ℕ) × (sending t st ≡ call t number)
+right_send : (t : Template) (st : State) → is_right (send_outcome t st) ≡ true → (number : ℕ) × (send_outcome t st ≡ call t number)
 right_send t st right = by_argument t.argument right
   where
     by_kind : (b : Bool) (m : ℕ) → is_right (if b then call t m else wrong_kind t) ≡ true
@@ -74,7 +74,7 @@ right_send t st right = by_argument t.argument right
     by_kind true m right = (m, refl)
     by_kind false m right = absurd (cc)
 
-    by_given : (x : Tagged) → is_right (given t x) ≡ true → (number : ℕ) × (given t x ≡ call t number)
+    by_given : (x : Tagged) → is_right (call_with t x) ≡ true → (number : ℕ) × (call_with t x ≡ call t number)
     by_given (kind.Unbound, m) right = absurd (cc)
     by_given (kind.Cas key, m) right = by_kind (is_same (kind.Cas key) (wanted_by t.verb t.key)) m right
     by_given (kind.Num, m) right = by_kind (is_same kind.Num (wanted_by t.verb t.key)) m right
@@ -92,9 +92,9 @@ call_at : (c : Code) (actor : Actor) (variables : List Tagged) (before : List Ex
     → StandsAt c actor variables before p st → slice_get (instructions_in c actor) p ≡ Some i → Sends c.templates i t class q
     → ((outcome : Outcome) → ComesTo c actor variables before st outcome → is_right outcome ≡ true) → IsCallingFor c actor variables before t
 call_at c actor variables before p q st (instr.Send n next) t class stands at leads right =
-    let met : met_in c actor p st ≡ Some (sending t st) =
+    let met : met_in c actor p st ≡ Some (send_outcome t st) =
     ap (λ o. met_at c.templates o st) at ∙ ap (λ o. Some (met_by_send o st)) leads.0 in
-    let sent = right_send t st (right (sending t st) (p, stands, met)) in (
+    let sent = right_send t st (right (send_outcome t st) (p, stands, met)) in (
       record { template = n; number = sent.0 },
       record { p = p; st = st; t = t; next = next; stands = stands; sends = at; meets = met ∙ ap Some sent.1 },
       found c.templates n t no_template leads.0,

@@ -1,6 +1,6 @@
 -- Runs: joined, longer by a move, what holds along them, and which are paths.
 use Rattle.std.proofs.Common.{◌≡◌, ℕ, Bool, true, false, Option, Some, None, List, [], ◌∷◌, ◌++◌, slice_get, slice_index_or, refl, ap, sym, subst, ◌∙◌, if◌then◌else◌}
-use Rattle.mc_protocol.specs.Legal.{class_of, is_legal}
+use Rattle.mc_protocol.specs.Legal.{class_of, is_legal, is_fit_for}
 use Rattle.mc_protocol.specs.declared.request.Verb.{Verb}
 use Rattle.mc_protocol.specs.declared.request.Verb.TheVariants as verb
 use Rattle.mc_protocol.specs.declared.reply.Class.{Class}
@@ -16,10 +16,10 @@ use Rattle.mc_code.specs.declared.kind.Kind.TheVariants as kind
 use Rattle.mc_code.specs.Code.{instructions_in}
 use Rattle.mc_code.specs.Paths.{Edge, Slides, Sends, IsPath, IsComplete}
 use Rattle.mc_code.specs.Paths as path
-use Rattle.mc_code.specs.Runs.{Exchange, is_fit_for, slid, IsRun, rests, slides, sends, met_by_send, met_at}
+use Rattle.mc_code.specs.Runs.{Exchange, after_slide, IsRun, rests, slides, sends, met_by_send, met_at}
 use Rattle.mc_code.specs.RunLaws.{edges_of, CompletePathsEnd, EndsAreComplete, PathsAreRuns}
-use Rattle.mc_code.specs.States.{Tagged, nothing, is_number, State, begun, answered, call, wrong_kind, nothing_to_bind, ended, given, with_argument, sending, wanted_by, is_same}
-use Rattle.mc_code.proofs.FirstItems.{head_is, rest_is}
+use Rattle.mc_code.specs.States.{Tagged, nothing, is_number, State, initial_state, after_reply, call, wrong_kind, nothing_to_bind, ended, call_with, with_argument, send_outcome, wanted_by, is_same}
+use Rattle.mc_protocol.proofs.FirstItems.{head_is, rest_is}
 
 -- ---- longer runs
 
@@ -31,7 +31,7 @@ run_append (sends i at leads fit run) more = sends i at leads fit (run_append ru
 
 pub run_slides : {templates : List Template} {section : List Instr} {p q r : ℕ} {st end : State} {xs : List Exchange}
     → IsRun templates section p st xs q end → (i : Instr) → slice_get section q ≡ Some i → Slides i q r
-    → IsRun templates section p st xs r (slid i end)
+    → IsRun templates section p st xs r (after_slide i end)
 run_slides rests i at leads = slides i at leads rests
 run_slides (slides j here on run) i at leads = slides j here on (run_slides run i at leads)
 run_slides (sends j here on fit run) i at leads = sends j here on fit (run_slides run i at leads)
@@ -39,7 +39,7 @@ run_slides (sends j here on fit run) i at leads = sends j here on fit (run_slide
 pub run_sends : {templates : List Template} {section : List Instr} {p q r : ℕ} {st end : State} {xs : List Exchange}
     → IsRun templates section p st xs q end → (i : Instr) (t : Template) (given : Reply) → slice_get section q ≡ Some i
     → Sends templates i t (class_of given) r → is_fit_for t.verb given ≡ true
-    → IsRun templates section p st (xs ++ (t, given) ∷ []) r (answered t given end)
+    → IsRun templates section p st (xs ++ (t, given) ∷ []) r (after_reply t given end)
 run_sends rests i t given at leads fit = sends i at leads fit rests
 run_sends (slides j here on run) i t given at leads fit = slides j here on (run_sends run i t given at leads fit)
 run_sends (sends j here on is_fit run) i t given at leads fit = sends j here on is_fit (run_sends run i t given at leads fit)
@@ -63,9 +63,9 @@ run_split templates section (x ∷ xs) ys (sends {p = p} {st = st} {exchanges = 
 
 -- what a place and a state keep with each move
 pub record IsKeptByRuns (templates : List Template) (section : List Instr) (H : ℕ → State → Type 0) : Type 0 where
-  pub slides_on : (i : Instr) (p q : ℕ) (st : State) → slice_get section p ≡ Some i → Slides i p q → H p st → H q (slid i st)
+  pub slides_on : (i : Instr) (p q : ℕ) (st : State) → slice_get section p ≡ Some i → Slides i p q → H p st → H q (after_slide i st)
   pub sends_on : (i : Instr) (p q : ℕ) (st : State) (t : Template) (given : Reply) → slice_get section p ≡ Some i
-      → Sends templates i t (class_of given) q → is_fit_for t.verb given ≡ true → H p st → H q (answered t given st)
+      → Sends templates i t (class_of given) q → is_fit_for t.verb given ≡ true → H p st → H q (after_reply t given st)
 
 -- it holds at the end of each run from where it holds
 pub kept_by_run : (templates : List Template) (section : List Instr) (H : ℕ → State → Type 0) → IsKeptByRuns templates section H
@@ -158,12 +158,12 @@ pub path_run : (templates : List Template) (section : List Instr) (number : ℕ)
     → (st : State) → AreOfRun templates section p st edges q
 path_run templates section number path.stays st = ([], st, rests, refl)
 path_run templates section number (path.slides i at leads more) st =
-    let on = path_run templates section number more (slid i st) in
+    let on = path_run templates section number more (after_slide i st) in
     (on.0, on.1, slides i at leads on.2, on.3)
 path_run templates section number (path.sends {q = q} {template = t} {class = c} i at leads more) st =
     let given = reply_with t.verb c number in
     let class_is = class_of_reply t.verb c number in
-    let on = path_run templates section number more (answered t given st) in (
+    let on = path_run templates section number more (after_reply t given st) in (
       (t, given) ∷ on.0,
       on.1,
       sends i at (subst (λ c. Sends templates i t c q) (sym class_is) leads) (reply_fits t.verb c number (sends_legal templates i t c q leads)) on.2,
@@ -175,7 +175,7 @@ paths_run templates section p q edges st is_path = path_run templates section 0 
 
 -- ---- the end of a section
 
-given_goes_on : (t : Template) (x : Tagged) → given t x ≡ ended → ⊥
+given_goes_on : (t : Template) (x : Tagged) → call_with t x ≡ ended → ⊥
 given_goes_on t (kind.Unbound, number) e = absurd (cc)
 given_goes_on t (kind.Cas key, number) e = by_kind (is_same (kind.Cas key) (wanted_by t.verb t.key)) e
   where
@@ -189,7 +189,7 @@ given_goes_on t (kind.Num, number) e = by_kind (is_same kind.Num (wanted_by t.ve
     by_kind false e = absurd (cc)
 
 -- a section that is about to send isn't done
-pub sending_goes_on : (t : Template) (st : State) → sending t st ≡ ended → ⊥
+pub sending_goes_on : (t : Template) (st : State) → send_outcome t st ≡ ended → ⊥
 sending_goes_on t st e = by_argument t.argument e
   where
     by_argument : (a : Argument) → with_argument t a st.variables ≡ ended → ⊥
@@ -204,7 +204,7 @@ ended_at_halt templates (Some (instr.Send n next)) st met = absurd (by_template 
   where
     by_template : (o : Option Template) → Some (met_by_send o st) ≡ Some ended → ⊥
     by_template None met = absurd (cc)
-    by_template (Some t) met = let same : sending t st ≡ ended = cc in sending_goes_on t st same
+    by_template (Some t) met = let same : send_outcome t st ≡ ended = cc in sending_goes_on t st same
 ended_at_halt templates (Some (instr.Bind v)) st met = absurd (by_number (is_number st.last.0) met)
   where
     by_number : (b : Bool) → (if b then None else Some (nothing_to_bind v)) ≡ Some ended → ⊥
@@ -220,5 +220,5 @@ ends_complete c actor variables exchanges st (p, run, met) =
 pub complete_ends : CompletePathsEnd
 complete_ends c actor variables edges (p, is_path, halt) =
     let section = instructions_in c actor in
-    let run : AreOfRun c.templates section 0 (begun variables) edges p = path_run c.templates section 0 is_path (begun variables) in
+    let run : AreOfRun c.templates section 0 (initial_state variables) edges p = path_run c.templates section 0 is_path (initial_state variables) in
     (run.0, run.1, (p, run.2, ap (λ o. met_at c.templates o run.1) halt), run.3)

@@ -2,7 +2,7 @@
 use Rattle.std.proofs.Common.{◌≡◌, ℕ, zero, suc, ◌≤◌, Bool, true, false, not, ◌&&◌, Some, None, List, [], ◌∷◌, slice_get, slice_set, refl, ap, sym, subst, ◌∙◌, inl, inr, if◌then◌else◌, arith}
 use Rattle.std.specs.List.{All}
 use Rattle.std.proofs.lemmas.List.Elements.{All-head, All-tail}
-use Rattle.mc_protocol.specs.Legal.{class_of, shows_number}
+use Rattle.mc_protocol.specs.Legal.{class_of, shows_number, is_fit_for}
 use Rattle.mc_protocol.specs.declared.request.Verb.{Verb}
 use Rattle.mc_protocol.specs.declared.reply.Class.{Class}
 use Rattle.mc_protocol.specs.declared.reply.Class.TheVariants as class
@@ -16,9 +16,9 @@ use Rattle.mc_code.specs.declared.kind.Kind.TheVariants as kind
 use Rattle.mc_code.specs.NumberLaws.{kinds_of, HaveSameKinds, IsFit, EdgesLeadAlike, KindsFollowEdges}
 use Rattle.mc_code.specs.Paths.{Edge, LeadsForwards, Slides, Sends}
 use Rattle.mc_code.specs.RunLaws.{edges_of}
-use Rattle.mc_code.specs.Runs.{Exchange, is_fit_for, slid, IsRun, rests, slides, sends}
-use Rattle.mc_code.specs.States.{Tagged, State, answered, bound, is_number, shown_of}
-use Rattle.mc_code.proofs.FirstItems.{head_is, rest_is}
+use Rattle.mc_code.specs.Runs.{Exchange, after_slide, IsRun, rests, slides, sends}
+use Rattle.mc_code.specs.States.{Tagged, State, after_reply, after_bind, is_number, shown_of}
+use Rattle.mc_protocol.proofs.FirstItems.{head_is, rest_is}
 use Rattle.mc_code.proofs.LookUps.{some_is}
 use Rattle.mc_code.proofs.Stopping.{RunBegins, rested, slid_first, sent_first, run_begins, slides_once, sends_once, slides_or_sends}
 
@@ -68,7 +68,7 @@ set_kinds (u ∷ xs) (v ∷ ys) (suc i) x y e f =
     ap (λ k. k ∷ kinds_of (slice_set xs i x)) (head_is u.0 v.0 (kinds_of xs) (kinds_of ys) e)
     ∙ ap (λ l. v.0 ∷ l) (set_kinds xs ys i x y (rest_is u.0 v.0 (kinds_of xs) (kinds_of ys) e) f)
 
-bound_alike : (v : ℕ) (st other : State) → HaveSameKinds st other → HaveSameKinds (bound v st) (bound v other)
+bound_alike : (v : ℕ) (st other : State) → HaveSameKinds st other → HaveSameKinds (after_bind v st) (after_bind v other)
 bound_alike v st other same = by_number (is_number st.last.0) (is_number other.last.0) (ap is_number same.1)
   where
     by_number : (b c : Bool) → b ≡ c
@@ -79,14 +79,14 @@ bound_alike v st other same = by_number (is_number st.last.0) (is_number other.l
     by_number false true e = absurd (cc)
     by_number false false e = same
 
-slid_alike : (i : Instr) (st other : State) → HaveSameKinds st other → HaveSameKinds (slid i st) (slid i other)
+slid_alike : (i : Instr) (st other : State) → HaveSameKinds st other → HaveSameKinds (after_slide i st) (after_slide i other)
 slid_alike (instr.Bind v) st other same = bound_alike v st other same
 slid_alike (instr.Goto place) st other same = same
 slid_alike (instr.Send t next) st other same = same
 slid_alike instr.Halt st other same = same
 
 answered_alike : (t : Template) (r s : Reply) (st other : State) → is_fit_for t.verb r ≡ true → is_fit_for t.verb s ≡ true → class_of r ≡ class_of s
-    → HaveSameKinds st other → HaveSameKinds (answered t r st) (answered t s other)
+    → HaveSameKinds st other → HaveSameKinds (after_reply t r st) (after_reply t s other)
 answered_alike t r s st other fit fit' e same =
     (same.0, shown_kind t.verb t.key r fit ∙ ap (kind_shown t.verb t.key) e ∙ sym (shown_kind t.verb t.key s fit'))
 
@@ -124,7 +124,7 @@ when_rested templates section forwards p st other end' ys same (sent_first i q t
     absurd (omega (arith, on, more))
 
 when_slid : (templates : List Template) (section : List Instr) → LeadsForwards templates section → (i : Instr) (p q s : ℕ) (st end : State) (xs : List Exchange)
-    → slice_get section p ≡ Some i → Slides i p q → q ≤ s → EndsAlike templates section q (slid i st) xs s end
+    → slice_get section p ≡ Some i → Slides i p q → q ≤ s → EndsAlike templates section q (after_slide i st) xs s end
     → (other end' : State) (ys : List Exchange) → HaveSameKinds st other → edges_of xs ≡ edges_of ys
     → RunBegins templates section p other ys s end' → HaveSameKinds end end'
 when_slid templates section forwards i p q s st end xs at leads more alike other end' ys same edges (rested e f g) =
@@ -133,15 +133,15 @@ when_slid templates section forwards i p q s st end xs at leads more alike other
 when_slid templates section forwards i p q s st end xs at leads more alike other end' ys same edges (slid_first j r there on run) =
     let one : j ≡ i = some_is j i (sym there ∙ at) in
     let place : r ≡ q = slides_once i p r q (subst (λ i. Slides i p r) one on) leads in
-    let moved = subst (λ i. IsRun templates section r (slid i other) ys s end') one run in
-    alike (slid i other) end' ys (slid_alike i st other same) edges (subst (λ q. IsRun templates section q (slid i other) ys s end') place moved)
+    let moved = subst (λ i. IsRun templates section r (after_slide i other) ys s end') one run in
+    alike (after_slide i other) end' ys (slid_alike i st other same) edges (subst (λ q. IsRun templates section q (after_slide i other) ys s end') place moved)
 when_slid templates section forwards i p q s st end xs at leads more alike other end' ys same edges (sent_first j u t r rest there on fit run is) =
     let one : j ≡ i = some_is j i (sym there ∙ at) in
     absurd (slides_or_sends templates i p q u t (class_of r) leads (subst (λ i. Sends templates i t (class_of r) u) one on))
 
 when_sent : (templates : List Template) (section : List Instr) → LeadsForwards templates section → (i : Instr) (p q s : ℕ) (st end : State) (t : Template) (r : Reply)
     (xs : List Exchange) → slice_get section p ≡ Some i → Sends templates i t (class_of r) q → is_fit_for t.verb r ≡ true
-    → EndsAlike templates section q (answered t r st) xs s end
+    → EndsAlike templates section q (after_reply t r st) xs s end
     → (other end' : State) (ys : List Exchange) → HaveSameKinds st other → (t, class_of r) ∷ edges_of xs ≡ edges_of ys
     → RunBegins templates section p other ys s end' → HaveSameKinds end end'
 when_sent templates section forwards i p q s st end t r xs at leads fit alike other end' ys same edges (rested e f g) =
@@ -161,9 +161,9 @@ when_sent templates section forwards i p q s st end t r xs at leads fit alike ot
     let place : u ≡ q = sends_once templates i t' (class_of r') u q (subst (λ i. Sends templates i t' (class_of r') u) one on) here in
     let fits = subst (λ (t : Template). is_fit_for t.verb r ≡ true) sent fit in
     let kinds = answered_alike t' r r' st other fits fit' classes same in
-    alike (answered t' r' other) end' rest
-    (subst (λ t. HaveSameKinds (answered t r st) (answered t' r' other)) (sym sent) kinds) others
-    (subst (λ q. IsRun templates section q (answered t' r' other) rest s end') place run)
+    alike (after_reply t' r' other) end' rest
+    (subst (λ t. HaveSameKinds (after_reply t r st) (after_reply t' r' other)) (sym sent) kinds) others
+    (subst (λ q. IsRun templates section q (after_reply t' r' other) rest s end') place run)
 
 ends_alike : (templates : List Template) (section : List Instr) → LeadsForwards templates section → {p q : ℕ} {st end : State} {xs : List Exchange}
     → IsRun templates section p st xs q end → EndsAlike templates section p st xs q end
@@ -186,7 +186,7 @@ AlsoLeads templates section p other ys q end = (end' : State) × IsRun templates
 
 sent_alike : (templates : List Template) (section : List Instr) (i : Instr) (p q s : ℕ) (st other end : State) (t : Template) (r : Reply) (xs : List Exchange)
     → slice_get section p ≡ Some i → Sends templates i t (class_of r) q → is_fit_for t.verb r ≡ true → HaveSameKinds st other
-    → ((other : State) (ys : List Exchange) → HaveSameKinds (answered t r st) other → edges_of xs ≡ edges_of ys → All IsFit ys
+    → ((other : State) (ys : List Exchange) → HaveSameKinds (after_reply t r st) other → edges_of xs ≡ edges_of ys → All IsFit ys
     → AlsoLeads templates section q other ys s end)
     → (ys : List Exchange) → (t, class_of r) ∷ edges_of xs ≡ edges_of ys → All IsFit ys → AlsoLeads templates section p other ys s end
 sent_alike templates section i p q s st other end t r xs at leads fit same others [] edges fits = absurd (cc)
@@ -198,7 +198,7 @@ sent_alike templates section i p q s st other end t r xs at leads fit same other
     let fit' : is_fit_for t'.verb r' ≡ true = All-head IsFit (t', r') ys fits in
     let here : Sends templates i t' (class_of r') q = subst (λ (e : Edge). Sends templates i e.0 e.1 q) first leads in
     let kinds = answered_alike t' r r' st other (subst (λ (t : Template). is_fit_for t.verb r ≡ true) sent fit) fit' classes same in
-    let more = others (answered t' r' other) ys (subst (λ t. HaveSameKinds (answered t r st) (answered t' r' other)) (sym sent) kinds) rest
+    let more = others (after_reply t' r' other) ys (subst (λ t. HaveSameKinds (after_reply t r st) (after_reply t' r' other)) (sym sent) kinds) rest
     (All-tail IsFit (t', r') ys fits) in
     (more.0, sends i at here fit' more.1, more.2)
 
@@ -208,7 +208,7 @@ lead_alike : (templates : List Template) (section : List Instr) → {p q : ℕ} 
 lead_alike templates section rests other [] same edges fits = (other, rests, same)
 lead_alike templates section rests other (y ∷ ys) same edges fits = absurd (cc)
 lead_alike templates section (slides {st = st} i at leads more) other ys same edges fits =
-    let on = lead_alike templates section more (slid i other) ys (slid_alike i st other same) edges fits in
+    let on = lead_alike templates section more (after_slide i other) ys (slid_alike i st other same) edges fits in
     (on.0, slides i at leads on.1, on.2)
 lead_alike templates section (sends {p = p} {q = q} {r = s} {st = st} {st' = end} {exchanges = xs} {t = t} {reply = r} i at leads fit more) other ys same edges fits =
     sent_alike templates section i p q s st other end t r xs at leads fit same (lead_alike templates section more) ys edges fits

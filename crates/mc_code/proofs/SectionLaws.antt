@@ -10,8 +10,8 @@ use Rattle.mc_code.specs.declared.instr.Instr.{Instr}
 use Rattle.mc_code.specs.declared.instr.Instr.TheVariants as instr
 use Rattle.mc_code.specs.declared.limits.TheConstants.{INSTRUCTIONS_LIMIT, CLASS_COUNT}
 use Rattle.mc_code.specs.Code.{is_byte, IsInstr}
-use Rattle.mc_code.specs.Image.{budget_bytes, instr_bytes, counted}
-use Rattle.mc_code.specs.ImageReading.{bytes_in, byte_in, number_in, small_in, budget_in, send_in, bind_in, goto_in, behind_sort, instr_in, instructions_in}
+use Rattle.mc_code.specs.Image.{budget_bytes, instr_bytes, with_count}
+use Rattle.mc_code.specs.ImageReading.{bytes_in, byte_in, number_in, small_in, budget_in, send_in, bind_in, goto_in, after_sort, instr_in, instructions_in}
 use Rattle.mc_code.proofs.FieldLaws.{then-some, only-then, some-same, IsBytes, Takes, Takes-then, bytes_take, bytes_again, byte_takes, byte_again, wide16, number_takes, number_again, small_takes, small_again}
 use Rattle.mc_code.proofs.ItemLaws.{IsItem, counted_takes, counted_again}
 use Rattle.mc_code.proofs.TemplateLaws.{middle}
@@ -77,8 +77,8 @@ halt_takes : (bytes : List ℕ) (x : Instr × List ℕ) → IsBytes bytes → So
 halt_takes bytes x fits e =
     subst (Behind 3 bytes) (some-same (instr.Halt, bytes) x e) ([], record { parts = refl; fits = fits }, refl, tt)
 
-after_takes : (sort : ℕ) (bytes : List ℕ) (x : Instr × List ℕ) → sort ≤ 3 → IsBytes bytes → behind_sort sort bytes ≡ Some x → Behind sort bytes x
-unfolding behind_sort
+after_takes : (sort : ℕ) (bytes : List ℕ) (x : Instr × List ℕ) → sort ≤ 3 → IsBytes bytes → after_sort sort bytes ≡ Some x → Behind sort bytes x
+unfolding after_sort
 after_takes zero bytes x le fits e = send_takes bytes x fits e
 after_takes (suc zero) bytes x le fits e = bind_takes bytes x fits e
 after_takes (suc (suc zero)) bytes x le fits e = goto_takes bytes x fits e
@@ -88,13 +88,13 @@ after_takes (suc (suc (suc (suc n)))) bytes x le fits e = absurd (omega arith)
 instr_takes : (bytes : List ℕ) (x : Instr × List ℕ) → IsBytes bytes → instr_in bytes ≡ Some x → Takes bytes (instr_bytes x.0) x.1 × IsInstr x.0
 unfolding instr_in
 instr_takes bytes x fits e =
-    let s = then-some (small_in 0 3 bytes) (λ sort. behind_sort sort.0 sort.1) x e in
+    let s = then-some (small_in 0 3 bytes) (λ sort. after_sort sort.0 sort.1) x e in
     let t = small_takes 0 3 bytes s.0 fits s.1 in
     let b = after_takes s.0.0 s.0.1 x t.2 t.0.fits s.2 in
     (subst (λ (text : List ℕ). Takes bytes text x.1) (sym b.2) (Takes-then bytes (s.0.0 ∷ []) s.0.1 b.0 x.1 t.0 b.1), b.3)
 
 instr_again : (i : Instr) (rest : List ℕ) → IsInstr i → instr_in (instr_bytes i ++ rest) ≡ Some (i, rest)
-unfolding instr_in behind_sort send_in bind_in goto_in
+unfolding instr_in after_sort send_in bind_in goto_in
 instr_again (instr.Send template next) rest h =
     rw (small_again 0 3 0 (template ∷ (next ++ rest)) (omega arith) (omega arith), byte_again template (next ++ rest), bytes_again CLASS_COUNT next rest h.1) refl
 instr_again (instr.Bind variable) rest h = rw (small_again 0 3 1 (variable ∷ rest) (omega arith) (omega arith), byte_again variable rest) refl
@@ -110,13 +110,13 @@ instructions_law = record {
 }
 
 pub instructions_take : (bytes : List ℕ) (x : List Instr × List ℕ) → IsBytes bytes → instructions_in bytes ≡ Some x
-    → Takes bytes (counted instr_bytes x.0) x.1 × (length x.0 ≤ INSTRUCTIONS_LIMIT) × All IsInstr x.0
+    → Takes bytes (with_count instr_bytes x.0) x.1 × (length x.0 ≤ INSTRUCTIONS_LIMIT) × All IsInstr x.0
 unfolding instructions_in
 instructions_take bytes x fits e =
     let t = counted_takes (λ _. instr_in) instr_bytes (All IsInstr) instructions_law 0 INSTRUCTIONS_LIMIT bytes x fits (All-nil IsInstr) e in
     (t.0, t.2, t.3)
 
 pub instructions_again : (is : List Instr) (rest : List ℕ) → length is ≤ INSTRUCTIONS_LIMIT → All IsInstr is
-    → instructions_in (counted instr_bytes is ++ rest) ≡ Some (is, rest)
+    → instructions_in (with_count instr_bytes is ++ rest) ≡ Some (is, rest)
 unfolding instructions_in
 instructions_again is rest few h = counted_again (λ _. instr_in) instr_bytes (All IsInstr) instructions_law 0 INSTRUCTIONS_LIMIT is rest h (omega arith) few

@@ -4,14 +4,15 @@ use Rattle.mc_protocol.specs.declared.request.Verb.{Verb}
 use Rattle.mc_protocol.specs.declared.request.Verb.TheVariants as verb
 use Rattle.mc_protocol.specs.declared.reply.Reply.{Reply}
 use Rattle.mc_protocol.specs.declared.reply.Reply.TheVariants as reply
+use Rattle.mc_protocol.specs.Legal.{is_fit_for}
 use Rattle.mc_script.specs.declared.step.Template.{Template}
 use Rattle.mc_code.specs.declared.instr.Instr.{Instr}
 use Rattle.mc_code.specs.declared.instr.Instr.TheVariants as instr
 use Rattle.mc_code.specs.declared.kind.Kind.{Kind}
 use Rattle.mc_code.specs.declared.kind.Kind.TheVariants as kind
 use Rattle.mc_code.specs.NumberLaws.{Holds, IsShownIn, NumbersWereShown, Shows}
-use Rattle.mc_code.specs.Runs.{Exchange, is_fit_for, slid, IsRun, rests, slides, sends}
-use Rattle.mc_code.specs.States.{Tagged, State, answered, is_number, shown_of}
+use Rattle.mc_code.specs.Runs.{Exchange, after_slide, IsRun, rests, slides, sends}
+use Rattle.mc_code.specs.States.{Tagged, State, after_reply, is_number, shown_of}
 use Rattle.mc_code.proofs.LookUps.{some_is}
 
 -- what stands at a place after one was set
@@ -94,14 +95,14 @@ before_bind v st true exchanges n key number (inr e) = inr e
 before_bind v st false exchanges n key number shown = shown
 
 before_slide : (i : Instr) (st : State) (exchanges : List Exchange) (n key number : ℕ)
-    → WasShown (slid i st) exchanges n key number → WasShown st exchanges n key number
+    → WasShown (after_slide i st) exchanges n key number → WasShown st exchanges n key number
 before_slide (instr.Bind v) st exchanges n key number shown = before_bind v st (is_number st.last.0) exchanges n key number shown
 before_slide (instr.Goto place) st exchanges n key number shown = shown
 before_slide (instr.Send t next) st exchanges n key number shown = shown
 before_slide instr.Halt st exchanges n key number shown = shown
 
 before_send : (t : Template) (r : Reply) (st : State) (exchanges : List Exchange) (n key number : ℕ) → is_fit_for t.verb r ≡ true
-    → WasShown (answered t r st) exchanges n key number → WasShown st ((t, r) ∷ exchanges) n key number
+    → WasShown (after_reply t r st) exchanges n key number → WasShown st ((t, r) ∷ exchanges) n key number
 before_send t r st exchanges n key number fit (inl e) = inl e
 before_send t r st exchanges n key number fit (inr (inl e)) = inr (inr (inl (shown_by t r key number fit e)))
 before_send t r st exchanges n key number fit (inr (inr e)) = inr (inr (inr e))

@@ -14,7 +14,7 @@ use Rattle.mc_code.specs.RunLaws.{edges_of}
 use Rattle.mc_code.specs.Runs.{met_by_send, met_at}
 use Rattle.mc_code.specs.Standing.{met_in, no_variables}
 use Rattle.mc_code.specs.StandingLaws.{CallsOnce, CallsOpen, LeavesOnce}
-use Rattle.mc_code.specs.States.{Tagged, nothing, State, call, wrong_kind, ended, given, with_argument, sending, wanted_by, is_same}
+use Rattle.mc_code.specs.States.{Tagged, nothing, State, call, wrong_kind, ended, call_with, with_argument, send_outcome, wanted_by, is_same}
 use Rattle.mc_code.proofs.LookUps.{some_is}
 use Rattle.mc_code.proofs.RunLemmas.{run_path}
 use Rattle.mc_code.proofs.Stopping.{stop_once, one_stop, StopsAt}
@@ -63,7 +63,7 @@ sent_is t u (argument.Variable v) variables n e = by_given (slice_index_or varia
     by_kind true m e = cc
     by_kind false m e = absurd (cc)
 
-    by_given : (x : Tagged) → given t x ≡ call u n → t ≡ u
+    by_given : (x : Tagged) → call_with t x ≡ call u n → t ≡ u
     by_given (kind.Unbound, m) e = absurd (cc)
     by_given (kind.Cas key, m) e = by_kind (is_same (kind.Cas key) (wanted_by t.verb t.key)) m e
     by_given (kind.Num, m) e = by_kind (is_same kind.Num (wanted_by t.verb t.key)) m e
@@ -71,7 +71,7 @@ sent_is t u (argument.Variable v) variables n e = by_given (slice_index_or varia
 pub template_is : (o : Option Template) (st : State) (t : Template) (n : ℕ) → Some (met_by_send o st) ≡ Some (call t n) → o ≡ Some t
 template_is None st t n e = absurd (cc)
 template_is (Some u) st t n e =
-    let same : sending u st ≡ call t n = some_is (sending u st) (call t n) e in
+    let same : send_outcome u st ≡ call t n = some_is (send_outcome u st) (call t n) e in
     ap Some (sent_is u t u.argument st.variables n same)
 
 pub calls_open : CallsOpen

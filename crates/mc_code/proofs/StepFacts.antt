@@ -1,6 +1,6 @@
 -- What the code of a step does, where the step's labels and its template are there.
 use Rattle.std.proofs.Common.{◌≡◌, ℕ, Bool, true, false, ◌&&◌, Option, Some, None, List, [], ◌∷◌, slice_get, refl, ap, ◌∙◌}
-use Rattle.mc_protocol.specs.Legal.{class_of, is_legal, suits}
+use Rattle.mc_protocol.specs.Legal.{class_of, is_legal, suits, is_fit_for}
 use Rattle.mc_protocol.specs.declared.request.Verb.{Verb}
 use Rattle.mc_protocol.specs.declared.request.Verb.TheVariants as verb
 use Rattle.mc_protocol.specs.declared.reply.Class.{Class}
@@ -17,7 +17,7 @@ use Rattle.mc_code.specs.declared.instr.Instr.{Instr}
 use Rattle.mc_code.specs.declared.instr.Instr.TheVariants as instr
 use Rattle.mc_code.specs.Layout.{request_of, code_place, after_label, label_place, entry_for, entry, entries}
 use Rattle.mc_code.specs.Paths.{entry_of}
-use Rattle.mc_code.specs.Runs.{is_fit_for, met_by_send, met_at}
+use Rattle.mc_code.specs.Runs.{met_by_send, met_at}
 use Rattle.mc_code.specs.ScriptRuns.{jump_on, place_of_label, place_of, met_at_step}
 use Rattle.mc_code.specs.States.{State, is_number, shown_of}
 use Rattle.mc_code.proofs.LookUps.{some_is, number_at, code_of_all, first_of_step, after_steps}

@@ -1,6 +1,6 @@
 -- Two runs by the same exchanges that stop are at one place, in one state.
 use Rattle.std.proofs.Common.{◌≡◌, ℕ, Bool, true, false, Some, None, List, [], ◌∷◌, slice_get, refl, ap, sym, subst, ◌∙◌, if◌then◌else◌}
-use Rattle.mc_protocol.specs.Legal.{class_of}
+use Rattle.mc_protocol.specs.Legal.{class_of, is_fit_for}
 use Rattle.mc_protocol.specs.declared.reply.Class.{Class}
 use Rattle.mc_protocol.specs.declared.reply.Reply.{Reply}
 use Rattle.mc_script.specs.declared.step.Template.{Template}
@@ -8,10 +8,10 @@ use Rattle.mc_code.specs.declared.instr.Instr.{Instr}
 use Rattle.mc_code.specs.declared.instr.Instr.TheVariants as instr
 use Rattle.mc_code.specs.Code.{instructions_in}
 use Rattle.mc_code.specs.Paths.{Slides, Sends}
-use Rattle.mc_code.specs.Runs.{Exchange, is_fit_for, slid, IsRun, rests, slides, sends, met_at}
+use Rattle.mc_code.specs.Runs.{Exchange, after_slide, IsRun, rests, slides, sends, met_at}
 use Rattle.mc_code.specs.RunLaws.{stops, StopsOnce}
-use Rattle.mc_code.specs.States.{State, answered, Outcome, nothing_to_bind, is_number}
-use Rattle.mc_code.proofs.FirstItems.{head_is, rest_is}
+use Rattle.mc_code.specs.States.{State, after_reply, Outcome, nothing_to_bind, is_number}
+use Rattle.mc_protocol.proofs.FirstItems.{head_is, rest_is}
 use Rattle.mc_code.proofs.LookUps.{some_is}
 
 -- no instruction leads on from the place without a reply
@@ -56,10 +56,10 @@ slides_or_sends templates instr.Halt p q r t c e f = e
 
 pub data RunBegins (templates : List Template) (section : List Instr) (p : ℕ) (st : State) (exchanges : List Exchange) (r : ℕ) (end : State) : Type 0 where
   rested : p ≡ r → st ≡ end → exchanges ≡ [] → RunBegins templates section p st exchanges r end
-  slid_first : (i : Instr) (q : ℕ) → slice_get section p ≡ Some i → Slides i p q → IsRun templates section q (slid i st) exchanges r end
+  slid_first : (i : Instr) (q : ℕ) → slice_get section p ≡ Some i → Slides i p q → IsRun templates section q (after_slide i st) exchanges r end
       → RunBegins templates section p st exchanges r end
   sent_first : (i : Instr) (q : ℕ) (t : Template) (given : Reply) (rest : List Exchange) → slice_get section p ≡ Some i
-      → Sends templates i t (class_of given) q → is_fit_for t.verb given ≡ true → IsRun templates section q (answered t given st) rest r end
+      → Sends templates i t (class_of given) q → is_fit_for t.verb given ≡ true → IsRun templates section q (after_reply t given st) rest r end
       → exchanges ≡ (t, given) ∷ rest → RunBegins templates section p st exchanges r end
 
 pub run_begins : {templates : List Template} {section : List Instr} {p r : ℕ} {st end : State} {exchanges : List Exchange}
@@ -86,21 +86,21 @@ when_rested templates section p st stop r end (slid_first i q at leads run) = ab
 when_rested templates section p st stop r end (sent_first i q t given rest at leads fit run is) = absurd (cc)
 
 when_slid : (templates : List Template) (section : List Instr) (i : Instr) (p q s : ℕ) (st mid : State) (exchanges : List Exchange)
-    → slice_get section p ≡ Some i → Slides i p q → IsOnlyStop templates section q (slid i st) exchanges s mid → (r : ℕ) (end : State) → StopsAt section r
+    → slice_get section p ≡ Some i → Slides i p q → IsOnlyStop templates section q (after_slide i st) exchanges s mid → (r : ℕ) (end : State) → StopsAt section r
     → RunBegins templates section p st exchanges r end → IsSame s r mid end
 when_slid templates section i p q s st mid exchanges at leads comes r end stop (rested e f g) =
     absurd (stop i q (ap (slice_get section) (sym e) ∙ at) (subst (λ p. Slides i p q) e leads))
 when_slid templates section i p q s st mid exchanges at leads comes r end stop (slid_first j t there on run) =
     let same : j ≡ i = some_is j i (sym there ∙ at) in
     let place : t ≡ q = slides_once i p t q (subst (λ i. Slides i p t) same on) leads in
-    let moved = subst (λ i. IsRun templates section t (slid i st) exchanges r end) same run in
-    comes r end (subst (λ q. IsRun templates section q (slid i st) exchanges r end) place moved) stop
+    let moved = subst (λ i. IsRun templates section t (after_slide i st) exchanges r end) same run in
+    comes r end (subst (λ q. IsRun templates section q (after_slide i st) exchanges r end) place moved) stop
 when_slid templates section i p q s st mid exchanges at leads comes r end stop (sent_first j u t given rest there on fit run is) =
     let same : j ≡ i = some_is j i (sym there ∙ at) in
     absurd (slides_or_sends templates i p q u t (class_of given) leads (subst (λ i. Sends templates i t (class_of given) u) same on))
 
 when_sent : (templates : List Template) (section : List Instr) (i : Instr) (p q s : ℕ) (st mid : State) (t : Template) (given : Reply) (exchanges : List Exchange)
-    → slice_get section p ≡ Some i → Sends templates i t (class_of given) q → IsOnlyStop templates section q (answered t given st) exchanges s mid
+    → slice_get section p ≡ Some i → Sends templates i t (class_of given) q → IsOnlyStop templates section q (after_reply t given st) exchanges s mid
     → (r : ℕ) (end : State) → StopsAt section r → RunBegins templates section p st ((t, given) ∷ exchanges) r end → IsSame s r mid end
 when_sent templates section i p q s st mid t given exchanges at leads comes r end stop (rested e f g) = absurd (cc)
 when_sent templates section i p q s st mid t given exchanges at leads comes r end stop (slid_first j u there on run) =
@@ -113,9 +113,9 @@ when_sent templates section i p q s st mid t given exchanges at leads comes r en
     let sent : Sends templates i t (class_of given) u =
     subst (λ (a : Exchange). Sends templates i a.0 (class_of a.1) u) exchange (subst (λ i. Sends templates i t' (class_of given') u) same on) in
     let place : u ≡ q = sends_once templates i t (class_of given) u q sent leads in
-    let first = subst (λ (a : Exchange). IsRun templates section u (answered a.0 a.1 st) rest r end) exchange run in
-    let more = subst (λ l. IsRun templates section u (answered t given st) l r end) others first in
-    comes r end (subst (λ q. IsRun templates section q (answered t given st) exchanges r end) place more) stop
+    let first = subst (λ (a : Exchange). IsRun templates section u (after_reply a.0 a.1 st) rest r end) exchange run in
+    let more = subst (λ l. IsRun templates section u (after_reply t given st) l r end) others first in
+    comes r end (subst (λ q. IsRun templates section q (after_reply t given st) exchanges r end) place more) stop
 
 pub one_stop : (templates : List Template) (section : List Instr) → {p q : ℕ} {st mid : State} {exchanges : List Exchange}
     → IsRun templates section p st exchanges q mid → StopsAt section q → IsOnlyStop templates section p st exchanges q mid

@@ -1,11 +1,12 @@
 -- The fields of a template: what is read was written, and what was written is read again.
-use Rattle.std.proofs.Common.{◌≡◌, ℕ, zero, suc, ◌^◌, ◌<◌, ◌≤◌, ◌==◌, true, ltb, leb, eqb, ◌&&◌, Option, Some, List, [], ◌∷◌, ◌++◌, length, refl, sym, ap, subst, ◌∙◌, arith}
+use Rattle.std.proofs.Common.{◌≡◌, ℕ, zero, suc, ◌+◌, ◌^◌, ◌<◌, ◌≤◌, true, ltb, leb, eqb, ◌&&◌, Option, Some, List, [], ◌∷◌, ◌++◌, length, slice_get, refl, sym, ap, subst, ◌∙◌, arith}
 use Rattle.std.specs.Int.{w32, w64, to_be_bytes}
 use Rattle.std.proofs.lemmas.Bool.{ltb-true, lt-ltb, leb-true, eqb-true, and_parts}
 use Rattle.mc_protocol.specs.declared.request.Fields.{Fields}
 use Rattle.mc_protocol.specs.declared.request.Fields.TheVariants as fields
 use Rattle.mc_protocol.specs.declared.request.Verb.{Verb}
 use Rattle.mc_protocol.specs.declared.request.Verb.TheVariants as verb
+use Rattle.mc_protocol.specs.Words.{all_verbs}
 use Rattle.mc_script.specs.declared.limits.TheConstants.{VARIABLES_LIMIT}
 use Rattle.mc_protocol.specs.declared.limits.TheConstants.{SCRIPT_BODY_LIMIT}
 use Rattle.mc_script.specs.declared.step.Argument.{Argument}
@@ -16,15 +17,27 @@ use Rattle.mc_script.specs.Steps.{◌>>=◌}
 use Rattle.mc_script.specs.Templates.{is_nothing, is_variable, is_amount, is_empty, has_fields}
 use Rattle.mc_code.specs.declared.read_template.Masks.{Masks}
 use Rattle.mc_code.specs.Image.{verb_index, argument_bytes, mask_bytes}
-use Rattle.mc_code.specs.ImageReading.{byte_in, number_in, small_in, all_verbs, verb_at, verb_in, argument_of, argument_in, masks_in}
-use Rattle.mc_protocol.proofs.Found.{find-passes}
+use Rattle.mc_code.specs.ImageReading.{byte_in, number_in, small_in, verb_at, verb_in, argument_of, argument_in, masks_in}
 use Rattle.mc_code.proofs.FieldLaws.{then-some, only-then, some-same, IsBytes, Takes, Takes-then, byte_takes, byte_again, wide32, wide64, number_takes, number_again, small_takes, small_again}
 
 -- ---- verbs
 
+-- the positions of these verbs, the first of which has this one
+abbrev Numbered : ℕ → List Verb → Type 0
+Numbered n [] = Unit {0}
+Numbered n (v ∷ verbs) = (verb_index v ≡ n) × Numbered (suc n) verbs
+
+all-numbered : Numbered 0 all_verbs
+all-numbered = (refl, (refl, (refl, (refl, (refl, (refl, (refl, (refl, (refl, (refl, (refl, (refl, tt))))))))))))
+
+index-of : (n index : ℕ) (v : Verb) (verbs : List Verb) → Numbered n verbs → slice_get verbs index ≡ Some v → verb_index v ≡ n + index
+index-of n index v [] h e = absurd (cc)
+index-of n zero v (u ∷ verbs) h e = ap verb_index (sym (some-same u v e)) ∙ h.0 ∙ omega arith
+index-of n (suc index) v (u ∷ verbs) h e = index-of (suc n) index v verbs h.1 e ∙ omega arith
+
 verb-index : (index : ℕ) (v : Verb) → verb_at index ≡ Some v → verb_index v ≡ index
 unfolding verb_at
-verb-index index v e = eqb-true _ _ (find-passes (λ u. verb_index u == index) all_verbs v e)
+verb-index index v e = index-of 0 index v all_verbs all-numbered e ∙ omega arith
 
 verb-at : (v : Verb) → verb_at (verb_index v) ≡ Some v
 unfolding verb_at

@@ -14,8 +14,8 @@ use Rattle.mc_script.specs.declared.step.Template.{Template}
 use Rattle.mc_script.specs.Templates.{has_fields, IsTemplate}
 use Rattle.mc_code.specs.declared.limits.TheConstants.{TEMPLATES_LIMIT}
 use Rattle.mc_code.specs.declared.read_template.Masks.{Masks}
-use Rattle.mc_code.specs.Image.{verb_index, argument_bytes, masks_bytes, template_bytes, sized, counted}
-use Rattle.mc_code.specs.ImageReading.{byte_in, number_in, sized_in, verb_in, argument_in, masks_in, template_of, are_masks, is_template, allowed, template_in, templates_in}
+use Rattle.mc_code.specs.Image.{verb_index, argument_bytes, masks_bytes, template_bytes, with_length, with_count}
+use Rattle.mc_code.specs.ImageReading.{byte_in, number_in, sized_in, verb_in, argument_in, masks_in, template_of, are_masks, is_template, template_if_valid, template_in, templates_in}
 use Rattle.mc_code.proofs.FieldLaws.{then-some, only-then, some-same, IsBytes, Takes, Takes-then, byte_takes, byte_again, wide32, number_takes, number_again, sized_takes, sized_again}
 use Rattle.mc_code.proofs.ItemLaws.{IsItem, counted_takes, counted_again}
 use Rattle.mc_code.proofs.TemplateFields.{verb_takes, verb_again, argument_takes, argument_again, masks_text, masks_take, masks_again, fields-suit}
@@ -66,8 +66,8 @@ record Allows (keys flags vars : ℕ) (v : Verb) (key item_flags : ℕ) (o : Opt
   stands : IsTemplate keys flags vars t
 
 allowed-some : (keys flags vars : ℕ) (v : Verb) (key item_flags : ℕ) (o : Option Argument) (body : List ℕ) (masks : Masks) (t : Template)
-    → allowed keys flags vars v key item_flags o body masks ≡ Some t → Allows keys flags vars v key item_flags o body masks t
-unfolding allowed
+    → template_if_valid keys flags vars v key item_flags o body masks ≡ Some t → Allows keys flags vars v key item_flags o body masks t
+unfolding template_if_valid
 allowed-some keys flags vars v key item_flags None body masks t e = absurd (cc)
 allowed-some keys flags vars v key item_flags (Some a) body masks t e =
     let made = template_of v key item_flags a body masks in
@@ -85,7 +85,7 @@ template_takes keys flags vars bytes x fits e =
     let a = then-some (argument_in vars f.0.1) _ x f.2 in
     let b = then-some (sized_in 0 SCRIPT_BODY_LIMIT a.0.1) _ x a.2 in
     let m = then-some (masks_in b.0.1) _ x b.2 in
-    let t = then-some (allowed keys flags vars v.0.0 k.0.0 f.0.0 a.0.0 b.0.0 m.0.0) _ x m.2 in
+    let t = then-some (template_if_valid keys flags vars v.0.0 k.0.0 f.0.0 a.0.0 b.0.0 m.0.0) _ x m.2 in
     let h = allowed-some keys flags vars v.0.0 k.0.0 f.0.0 a.0.0 b.0.0 m.0.0 t.0 t.1 in
     let tv = verb_takes bytes v.0 fits v.1 in
     let tk = byte_takes v.0.1 k.0 tv.fits k.1 in
@@ -97,8 +97,8 @@ template_takes keys flags vars bytes x fits e =
     let two = Takes-then bytes (verb_index v.0.0 ∷ []) v.0.1 (k.0.0 ∷ []) k.0.1 tv tk.0 in
     let three : Takes bytes front f.0.1 = Takes-then bytes (verb_index v.0.0 ∷ k.0.0 ∷ []) k.0.1 (to_be_bytes w32 f.0.0) f.0.1 two tf.0 in
     let four = Takes-then bytes front f.0.1 (argument_bytes h.a) a.0.1 three (ta.1 h.a h.is) in
-    let five = Takes-then bytes (front ++ argument_bytes h.a) a.0.1 (sized b.0.0) b.0.1 four tb in
-    let six = Takes-then bytes (front ++ argument_bytes h.a ++ sized b.0.0) b.0.1 (masks_text m.0.0) m.0.1 five tm in
+    let five = Takes-then bytes (front ++ argument_bytes h.a) a.0.1 (with_length b.0.0) b.0.1 four tb in
+    let six = Takes-then bytes (front ++ argument_bytes h.a ++ with_length b.0.0) b.0.1 (masks_text m.0.0) m.0.1 five tm in
     let made = template_of v.0.0 k.0.0 f.0.0 h.a b.0.0 m.0.0 in
     let whole : Takes bytes (template_bytes made) m.0.1 = six in
     subst (λ (y : Template × List ℕ). Takes bytes (template_bytes y.0) y.1 × IsTemplate keys flags vars y.0) (some-same (t.0, m.0.1) x t.2)
@@ -116,22 +116,22 @@ spread4 : (a b c d : List ℕ) → a ++ b ++ c ++ d ≡ a ++ (b ++ (c ++ d))
 spread4 a b c d = simp append_assoc
 
 spread : (t : Template) (rest : List ℕ) → template_bytes t ++ rest
-    ≡ verb_index t.verb ∷ t.key ∷ (to_be_bytes w32 t.flags ++ (argument_bytes t.argument ++ (sized t.body ++ (masks_bytes t ++ rest))))
+    ≡ verb_index t.verb ∷ t.key ∷ (to_be_bytes w32 t.flags ++ (argument_bytes t.argument ++ (with_length t.body ++ (masks_bytes t ++ rest))))
 spread t rest =
-    ap (λ (text : List ℕ). verb_index t.verb ∷ t.key ∷ (to_be_bytes w32 t.flags ++ text)) (spread4 (argument_bytes t.argument) (sized t.body) (masks_bytes t) rest)
+    ap (λ (text : List ℕ). verb_index t.verb ∷ t.key ∷ (to_be_bytes w32 t.flags ++ text)) (spread4 (argument_bytes t.argument) (with_length t.body) (masks_bytes t) rest)
 
 template_again : (keys flags vars : ℕ) (t : Template) (rest : List ℕ) → flags ≤ FLAGS_LIMIT → vars ≤ VARIABLES_LIMIT → IsTemplate keys flags vars t
     → template_in keys flags vars (template_bytes t ++ rest) ≡ Some (t, rest)
-unfolding template_in allowed
+unfolding template_in template_if_valid
 template_again keys flags vars t rest few-flags few-vars h =
     let s = fields-suit vars (fields_of t.verb) t.flags t.argument t.body h.fields in
     let masks : Masks = record { require_set = t.require_set; require_clear = t.require_clear; sets = t.sets; clears = t.clears } in
     let fit = λ (mask : ℕ) (below : mask < 2 ^ flags). mask-fits flags mask few-flags below in
     let m = masks_again masks rest (fit t.require_set h.require_set) (fit t.require_clear h.require_clear) (fit t.sets h.sets) (fit t.clears h.clears) in
     let b = sized_again 0 SCRIPT_BODY_LIMIT t.body (masks_text masks ++ rest) (omega arith) s.body_fits in
-    let a = argument_again vars t.argument (sized t.body ++ (masks_text masks ++ rest)) few-vars s.argument_fits in
-    let f = number_again w32 (2 ^ 32) wide32 t.flags (argument_bytes t.argument ++ (sized t.body ++ (masks_text masks ++ rest))) s.flags_fit in
-    let after = to_be_bytes w32 t.flags ++ (argument_bytes t.argument ++ (sized t.body ++ (masks_text masks ++ rest))) in
+    let a = argument_again vars t.argument (with_length t.body ++ (masks_text masks ++ rest)) few-vars s.argument_fits in
+    let f = number_again w32 (2 ^ 32) wide32 t.flags (argument_bytes t.argument ++ (with_length t.body ++ (masks_text masks ++ rest))) s.flags_fit in
+    let after = to_be_bytes w32 t.flags ++ (argument_bytes t.argument ++ (with_length t.body ++ (masks_text masks ++ rest))) in
     let regrouped : template_bytes t ++ rest ≡ verb_index t.verb ∷ t.key ∷ after = spread t rest in
     ap (template_in keys flags vars) regrouped
     ∙ rw (verb_again t.verb (t.key ∷ after), byte_again t.key after, f, a, b, m, template-passes keys flags vars t h) refl
@@ -151,7 +151,7 @@ templates_law keys flags vars few-flags few-vars = record {
 
 pub templates_take : (keys flags vars : ℕ) (bytes : List ℕ) (x : List Template × List ℕ) → flags ≤ FLAGS_LIMIT → vars ≤ VARIABLES_LIMIT
     → IsBytes bytes → templates_in keys flags vars bytes ≡ Some x
-    → Takes bytes (counted template_bytes x.0) x.1 × (length x.0 ≤ TEMPLATES_LIMIT) × All (IsTemplate keys flags vars) x.0
+    → Takes bytes (with_count template_bytes x.0) x.1 × (length x.0 ≤ TEMPLATES_LIMIT) × All (IsTemplate keys flags vars) x.0
 unfolding templates_in
 templates_take keys flags vars bytes x few-flags few-vars fits e =
     let t = counted_takes (λ _. template_in keys flags vars) template_bytes (All (IsTemplate keys flags vars)) (templates_law keys flags vars few-flags few-vars)
@@ -159,7 +159,7 @@ templates_take keys flags vars bytes x few-flags few-vars fits e =
     (t.0, t.2, t.3)
 
 pub templates_again : (keys flags vars : ℕ) (ts : List Template) (rest : List ℕ) → flags ≤ FLAGS_LIMIT → vars ≤ VARIABLES_LIMIT
-    → length ts ≤ TEMPLATES_LIMIT → All (IsTemplate keys flags vars) ts → templates_in keys flags vars (counted template_bytes ts ++ rest) ≡ Some (ts, rest)
+    → length ts ≤ TEMPLATES_LIMIT → All (IsTemplate keys flags vars) ts → templates_in keys flags vars (with_count template_bytes ts ++ rest) ≡ Some (ts, rest)
 unfolding templates_in
 templates_again keys flags vars ts rest few-flags few-vars few h =
     counted_again (λ _. template_in keys flags vars) template_bytes (All (IsTemplate keys flags vars)) (templates_law keys flags vars few-flags few-vars)

@@ -7,16 +7,16 @@ use Rattle.mc_protocol.specs.declared.actor.Actor.TheVariants as actor
 use Rattle.mc_protocol.specs.declared.request.Verb.{Verb}
 use Rattle.mc_protocol.specs.declared.reply.Class.{Class}
 use Rattle.mc_protocol.specs.declared.reply.Class.TheVariants as class
+use Rattle.mc_protocol.specs.Lines.{Word}
+use Rattle.mc_protocol.specs.Words.{class_index}
 use Rattle.mc_script.specs.declared.section.Label.{Label}
 use Rattle.mc_script.specs.declared.step.Step.{Step}
 use Rattle.mc_script.specs.declared.step.Step.TheVariants as step
 use Rattle.mc_script.specs.declared.step.Template.{Template}
-use Rattle.mc_script.specs.Marks.{class_index}
 use Rattle.mc_script.specs.Script.{Names, Script}
-use Rattle.mc_script.specs.ScriptWords.{Word}
 use Rattle.mc_script.specs.WellFormed.{AreJumps, is_number_class, jumps_on_number, MayBind, IsStep, AreSteps, IsScript}
 use Rattle.mc_code.specs.Layout.{requests_of, templates_of, first_template}
-use Rattle.mc_code.specs.ScriptRuns.{clearing_steps, front_of, all_steps, moved, all_labels, jump_on}
+use Rattle.mc_code.specs.ScriptRuns.{clearing_steps, front_of, all_steps, shift_label, all_labels, jump_on}
 use Rattle.mc_code.proofs.LookUps.{some_is, get_in_front, get_after, requests_before, template_found}
 use Rattle.mc_code.proofs.StepFacts.{HasLabel, Binds, IsFine, IsLaid}
 
@@ -99,15 +99,15 @@ no_jump (jump ∷ jumps) none c number =
 
 -- ---- steps
 
-label_moved : (labels : List Label) (count index : ℕ) → HasLabel labels index → HasLabel (map (moved count) labels) index
+label_moved : (labels : List Label) (count index : ℕ) → HasLabel labels index → HasLabel (map (shift_label count) labels) index
 label_moved labels count index has =
-    (moved count has.0, slice_get-map (moved count) labels index ∙ ap (option_map (moved count)) has.1)
+    (shift_label count has.0, slice_get-map (shift_label count) labels index ∙ ap (option_map (shift_label count)) has.1)
 
 binds_fine : (names : Names) (v : Verb) (jumps : List (Class × ℕ)) (bind : Option ℕ) → MayBind names v jumps bind → Binds v jumps bind
 binds_fine names v jumps None may = tt
 binds_fine names v jumps (Some variable) may = (may.1, no_jump jumps may.2)
 
-step_fine : (names : Names) (labels : List Label) (count place : ℕ) (s : Step) → IsStep names labels place s → IsFine (map (moved count) labels) s
+step_fine : (names : Names) (labels : List Label) (count place : ℕ) (s : Step) → IsStep names labels place s → IsFine (map (shift_label count) labels) s
 step_fine names labels count place (step.Send t jumps bind) is =
     (λ c index on. label_moved labels count index (jump_label t.verb labels place 0 jumps is.1 c index on), binds_fine names t.verb jumps bind is.2)
 step_fine names labels count place (step.Bind variable) is = tt
@@ -115,7 +115,7 @@ step_fine names labels count place (step.Goto label) is = label_moved labels cou
 step_fine names labels count place step.Halt is = tt
 
 steps_fine : (names : Names) (labels : List Label) (count place : ℕ) (steps : List Step) → AreSteps names labels place steps
-    → AreFine (map (moved count) labels) steps
+    → AreFine (map (shift_label count) labels) steps
 steps_fine names labels count place [] are = tt
 steps_fine names labels count place (s ∷ steps) are =
     (step_fine names labels count place s are.0, steps_fine names labels count (place + 1) steps are.1)
@@ -124,10 +124,10 @@ steps_fine names labels count place (s ∷ steps) are =
 
 section_fine : (s : Script) → IsScript s → (k : Actor) → AreFine (all_labels s k) (all_steps s k)
 section_fine s is actor.P =
-    fine_after (all_labels s actor.P) (front_of s actor.P) s.p.steps (front_fine (all_labels s actor.P) s actor.P)
-    (steps_fine s.names s.p.labels (length (front_of s actor.P)) 0 s.p.steps is.p.steps)
-section_fine s is actor.A = steps_fine s.names s.a.labels 0 0 s.a.steps is.a.steps
-section_fine s is actor.B = steps_fine s.names s.b.labels 0 0 s.b.steps is.b.steps
+    fine_after (all_labels s actor.P) (front_of s actor.P) s.sections.p.steps (front_fine (all_labels s actor.P) s actor.P)
+    (steps_fine s.names s.sections.p.labels (length (front_of s actor.P)) 0 s.sections.p.steps is.p.steps)
+section_fine s is actor.A = steps_fine s.names s.sections.a.labels 0 0 s.sections.a.steps is.a.steps
+section_fine s is actor.B = steps_fine s.names s.sections.b.labels 0 0 s.sections.b.steps is.b.steps
 
 named_at : (s : Script) (k : Actor) (n : ℕ) (t : Template) → slice_get (requests_of (all_steps s k)) n ≡ Some t
     → slice_get (templates_of s) (first_template s k + n) ≡ Some t

@@ -1,4 +1,4 @@
--- The number and the name of what stops the assembler, by which a script that is too large is told.
+-- The number and the name of each fault of the assembler, as a refusal shows them.
 use Rattle.std.specs.Prelude.{ℕ, List, codes}
 use Rattle.mc_code.specs.declared.fault.AsmFault.{AsmFault}
 use Rattle.mc_code.specs.declared.fault.AsmFault.TheVariants as fault

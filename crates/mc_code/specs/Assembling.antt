@@ -1,5 +1,5 @@
--- What the assembler's functions make, once it is known where each step and each label stands. No public contract cites
--- these: specs/Layout.antt says what the code of a script is, and the proofs join the two.
+-- What the assembler's functions make from the places of the steps and of the labels. No public contract cites these:
+-- specs/Layout.antt says what the code of a script is, and the proofs join the two.
 use Rattle.std.specs.Prelude.{ℕ, ◌+◌, Option, Some, None, List, [], ◌∷◌, ◌++◌, map, length, slice_index_or, if◌then◌else◌}
 use Rattle.mc_protocol.specs.Legal.{is_legal}
 use Rattle.mc_protocol.specs.declared.actor.Actor.{Actor}
@@ -7,12 +7,12 @@ use Rattle.mc_protocol.specs.declared.actor.Actor.TheVariants as actor
 use Rattle.mc_protocol.specs.declared.reply.Class.{Class}
 use Rattle.mc_protocol.specs.declared.request.Verb.{Verb}
 use Rattle.mc_protocol.specs.declared.request.Verb.TheVariants as verb
+use Rattle.mc_protocol.specs.Lines.{Word}
+use Rattle.mc_protocol.specs.Words.{all_classes}
 use Rattle.mc_script.specs.declared.section.Label.{Label}
 use Rattle.mc_script.specs.declared.step.Step.{Step}
 use Rattle.mc_script.specs.declared.step.Step.TheVariants as step
 use Rattle.mc_script.specs.Script.{Script}
-use Rattle.mc_script.specs.ScriptWords.{Word}
-use Rattle.mc_script.specs.Steps.{all_classes}
 use Rattle.mc_script.specs.WellFormed.{is_number_class}
 use Rattle.mc_code.specs.declared.emit.Onward.{Onward}
 use Rattle.mc_code.specs.declared.instr.Instr.{Instr}
@@ -52,7 +52,7 @@ places_of first steps labels =
 
 -- ---- instructions
 
--- a hit or a number goes to the bind, if there is one; what is left goes to the next step
+-- a hit or a number goes to the bind, if there is one; every other class goes to the next step
 abbrev pub onward_from : List ℕ → ℕ → Option ℕ → Onward
 onward_from places p None = record { number = place_in places (p + 1); other = place_in places (p + 1) }
 onward_from places p (Some variable) = record { number = place_in places p + 1; other = place_in places (p + 1) }

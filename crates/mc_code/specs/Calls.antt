@@ -3,13 +3,14 @@ use Rattle.std.specs.Prelude.{◌≡◌, ℕ, true, Some, List, [], ◌∷◌, �
 use Rattle.mc_protocol.specs.declared.actor.Actor.{Actor}
 use Rattle.mc_protocol.specs.declared.reply.Reply.{Reply}
 use Rattle.mc_protocol.specs.declared.request.Verb.TheVariants as verb
+use Rattle.mc_protocol.specs.Legal.{is_fit_for}
 use Rattle.mc_script.specs.declared.step.Argument.TheVariants as argument
 use Rattle.mc_script.specs.declared.step.Template.{Template}
 use Rattle.mc_code.specs.declared.instr.Call.{Call}
 use Rattle.mc_code.specs.declared.instr.Instr.TheVariants as instr
 use Rattle.mc_code.specs.Code.{Code, instructions_in}
 use Rattle.mc_code.specs.Paths.{Edge, IsPath}
-use Rattle.mc_code.specs.Runs.{Exchange, is_fit_for}
+use Rattle.mc_code.specs.Runs.{Exchange}
 use Rattle.mc_code.specs.Standing.{StandsAt, met_in}
 use Rattle.mc_code.specs.States.{Tagged, State, call}
 

@@ -2,13 +2,14 @@
 use Rattle.std.specs.Prelude.{◌≡◌, ℕ, ◌<◌, ◌≤◌, ◌==◌, true, not, List, length}
 use Rattle.std.specs.List.{All}
 use Rattle.mc_protocol.specs.declared.actor.Actor.{Actor}
-use Rattle.mc_protocol.specs.declared.actor.Actor.TheVariants as actor
 use Rattle.mc_protocol.specs.declared.limits.TheConstants.{KEYS_LIMIT, KEY_BYTES_LIMIT, REQUESTS_LIMIT, REQUEST_BYTES_LIMIT}
+use Rattle.mc_protocol.specs.declared.sections.Sections.{Sections}
+use Rattle.mc_protocol.specs.Sections as sections
+use Rattle.mc_protocol.specs.Lines.{Word}
 use Rattle.mc_script.specs.declared.limits.TheConstants.{FLAGS_LIMIT, VARIABLES_LIMIT}
 use Rattle.mc_script.specs.declared.section.Budget.{Budget}
 use Rattle.mc_script.specs.declared.step.Template.{Template}
 use Rattle.mc_script.specs.Script.{may_be_declared}
-use Rattle.mc_script.specs.ScriptWords.{Word}
 use Rattle.mc_script.specs.Templates.{IsTemplate}
 use Rattle.mc_code.specs.declared.instr.Instr.{Instr}
 use Rattle.mc_code.specs.declared.instr.Instr.TheVariants as instr
@@ -24,14 +25,10 @@ pub record Code : Type 0 where
   pub flags : ℕ
   pub vars : ℕ
   pub templates : List Template
-  pub p : Section
-  pub a : Section
-  pub b : Section
+  pub sections : Sections Section
 
 abbrev pub section_of : Code → Actor → Section
-section_of c actor.P = c.p
-section_of c actor.A = c.a
-section_of c actor.B = c.b
+section_of c actor = sections.section_of c.sections actor
 
 -- those of the actor's section
 abbrev pub instructions_in : Code → Actor → List Instr
@@ -63,6 +60,4 @@ pub record IsCode (c : Code) : Type 0 where
   pub vars : c.vars ≤ VARIABLES_LIMIT
   pub few : length c.templates ≤ TEMPLATES_LIMIT
   pub templates : All (IsTemplate (length c.keys) c.flags c.vars) c.templates
-  pub p : IsSection c.p
-  pub a : IsSection c.a
-  pub b : IsSection c.b
+  pub sections : (actor : Actor) → IsSection (section_of c actor)

@@ -23,7 +23,7 @@ use Rattle.mc_code.specs.Layout.{templates_of, instructions_of, code_of}
 use Rattle.mc_code.specs.Runs.{Exchange}
 use Rattle.mc_code.specs.ScriptRuns.{clearing, ScriptComesTo}
 use Rattle.mc_code.specs.Standing.{ComesTo, IsRightAlong, Leaves}
-use Rattle.mc_code.specs.States.{Tagged, nothing, State, begun, Outcome, call, unbound, wrong_kind, nothing_to_bind, ended}
+use Rattle.mc_code.specs.States.{Tagged, nothing, State, initial_state, Outcome, call, unbound, wrong_kind, nothing_to_bind, ended}
 
 -- a request on the first key, with no flags
 abbrev pub request : Verb → Argument → List ℕ → Template
@@ -66,9 +66,11 @@ counts_up = request verb.Incr (argument.Number 1) []
 abbrev pub counter : Script
 counter = record {
   names = record { keys = codes "a" ∷ []; flags = []; vars = [] };
-  p = section 2 26 (send stores_five ∷ []);
-  a = section 1 10 (send counts_up ∷ []);
-  b = section 1 10 (send counts_up ∷ []);
+  sections = record {
+    p = section 2 26 (send stores_five ∷ []);
+    a = section 1 10 (send counts_up ∷ []);
+    b = section 1 10 (send counts_up ∷ []);
+  };
 }
 
 -- where the classes of a deletion lead
@@ -110,13 +112,13 @@ pub record CounterIsImage : Type 0 where
 pub record CounterComesTo : Type 0 where
   pub script : IsScript counter
   -- P deletes the key first
-  pub clears : BothComeTo counter actor.P [] [] (begun []) (call (clearing 0) 0)
+  pub clears : BothComeTo counter actor.P [] [] (initial_state []) (call (clearing 0) 0)
   -- then it stores 5
-  pub stores : BothComeTo counter actor.P [] ((clearing 0, reply.NotFound) ∷ []) (begun []) (call stores_five 0)
+  pub stores : BothComeTo counter actor.P [] ((clearing 0, reply.NotFound) ∷ []) (initial_state []) (call stores_five 0)
   -- and is done, also where it stored nothing
-  pub done : BothComeTo counter actor.P [] ((clearing 0, reply.Deleted) ∷ (stores_five, reply.NotStored) ∷ []) (begun []) ended
+  pub done : BothComeTo counter actor.P [] ((clearing 0, reply.Deleted) ∷ (stores_five, reply.NotStored) ∷ []) (initial_state []) ended
   -- B counts up by 1
-  pub counts : BothComeTo counter actor.B [] [] (begun []) (call counts_up 1)
+  pub counts : BothComeTo counter actor.B [] [] (initial_state []) (call counts_up 1)
   -- and is done once it has the count
   pub counted : (count : ℕ)
       → BothComeTo counter actor.B [] ((counts_up, reply.Number count) ∷ []) (record { variables = []; last = (kind.Num, count) }) ended
@@ -149,13 +151,15 @@ touches = request verb.Touch argument.Nothing []
 abbrev pub swap : Script
 swap = record {
   names = record { keys = codes "a" ∷ []; flags = []; vars = codes "n" ∷ [] };
-  p = section 2 26 (send stores_five ∷ []);
-  a = record {
-    budget = record { requests = 2; bytes = 45 };
-    steps = step.Send reads ((class.Miss, 0) ∷ []) (Some 0) ∷ send swaps ∷ [];
-    labels = record { name = codes "out"; place = 2 } ∷ [];
+  sections = record {
+    p = section 2 26 (send stores_five ∷ []);
+    a = record {
+      budget = record { requests = 2; bytes = 45 };
+      steps = step.Send reads ((class.Miss, 0) ∷ []) (Some 0) ∷ send swaps ∷ [];
+      labels = record { name = codes "out"; place = 2 } ∷ [];
+    };
+    b = section 1 20 (step.Bind 0 ∷ send touches ∷ []);
   };
-  b = section 1 20 (step.Bind 0 ∷ send touches ∷ []);
 }
 
 -- a hit leads to the bind, and a miss to the end
@@ -175,11 +179,11 @@ pub record SwapComesTo : Type 0 where
   pub swapped : (number : ℕ) → BothComeTo swap actor.A (nothing ∷ []) ((reads, hit number) ∷ [])
       (record { variables = (kind.Cas 0, number) ∷ []; last = (kind.Cas 0, number) }) (call swaps number)
   -- a miss leads to the end
-  pub missed : BothComeTo swap actor.A (nothing ∷ []) ((reads, reply.Miss) ∷ []) (begun (nothing ∷ [])) ended
+  pub missed : BothComeTo swap actor.A (nothing ∷ []) ((reads, reply.Miss) ∷ []) (initial_state (nothing ∷ [])) ended
   -- no reply has shown B a number
-  pub nothing_shown : BothComeTo swap actor.B (nothing ∷ []) [] (begun (nothing ∷ [])) (nothing_to_bind 0)
+  pub nothing_shown : BothComeTo swap actor.B (nothing ∷ []) [] (initial_state (nothing ∷ [])) (nothing_to_bind 0)
   -- and it goes on
-  pub goes_on : BothComeTo swap actor.B (nothing ∷ []) [] (begun (nothing ∷ [])) (call touches 0)
+  pub goes_on : BothComeTo swap actor.B (nothing ∷ []) [] (initial_state (nothing ∷ [])) (call touches 0)
 
 -- ---- jumps, and numbers that don't fit
 
@@ -192,17 +196,19 @@ counts_by = request verb.Incr (argument.Variable 0) []
 abbrev pub jumper : Script
 jumper = record {
   names = record { keys = codes "a" ∷ []; flags = []; vars = codes "n" ∷ [] };
-  p = record {
-    budget = record { requests = 3; bytes = 37 };
-    steps = step.Send stores_five ((class.Stored, 0) ∷ []) None ∷ send touches ∷ [];
-    labels = record { name = codes "out"; place = 2 } ∷ [];
+  sections = record {
+    p = record {
+      budget = record { requests = 3; bytes = 37 };
+      steps = step.Send stores_five ((class.Stored, 0) ∷ []) None ∷ send touches ∷ [];
+      labels = record { name = codes "out"; place = 2 } ∷ [];
+    };
+    a = record {
+      budget = record { requests = 2; bytes = 37 };
+      steps = step.Send reads [] (Some 0) ∷ step.Goto 0 ∷ send touches ∷ send counts_by ∷ [];
+      labels = record { name = codes "on"; place = 3 } ∷ [];
+    };
+    b = section 1 37 (send swaps ∷ []);
   };
-  a = record {
-    budget = record { requests = 2; bytes = 37 };
-    steps = step.Send reads [] (Some 0) ∷ step.Goto 0 ∷ send touches ∷ send counts_by ∷ [];
-    labels = record { name = codes "on"; place = 3 } ∷ [];
-  };
-  b = section 1 37 (send swaps ∷ []);
 }
 
 -- where the classes of a touch lead
@@ -231,17 +237,17 @@ pub record JumperIsLaidOut : Type 0 where
 pub record JumperComesTo : Type 0 where
   pub script : IsScript jumper
   -- once it has stored, P is done, and leaves no number
-  pub stored : BothComeTo jumper actor.P (nothing ∷ []) ((clearing 0, reply.NotFound) ∷ (stores_five, reply.Stored) ∷ []) (begun (nothing ∷ [])) ended
+  pub stored : BothComeTo jumper actor.P (nothing ∷ []) ((clearing 0, reply.NotFound) ∷ (stores_five, reply.Stored) ∷ []) (initial_state (nothing ∷ [])) ended
   pub left : Leaves (code_of jumper) ((clearing 0, reply.NotFound) ∷ (stores_five, reply.Stored) ∷ []) (nothing ∷ [])
   -- else it goes on to its touch
   pub not_stored : BothComeTo jumper actor.P (nothing ∷ []) ((clearing 0, reply.NotFound) ∷ (stores_five, reply.NotStored) ∷ [])
-      (begun (nothing ∷ [])) (call touches 0)
+      (initial_state (nothing ∷ [])) (call touches 0)
   pub touched : IsCalling (code_of jumper) actor.P (nothing ∷ []) ((clearing 0, reply.NotFound) ∷ (stores_five, reply.NotStored) ∷ []) (call_of 2 0)
   -- after a hit A jumps to an increment by a cas unique
   pub of_wrong_kind : (number : ℕ) → BothComeTo jumper actor.A (nothing ∷ []) ((reads, hit number) ∷ [])
       (record { variables = (kind.Cas 0, number) ∷ []; last = (kind.Cas 0, number) }) (wrong_kind counts_by)
   -- after a miss its variable has no number
-  pub not_bound : BothComeTo jumper actor.A (nothing ∷ []) ((reads, reply.Miss) ∷ []) (begun (nothing ∷ [])) (unbound counts_by)
+  pub not_bound : BothComeTo jumper actor.A (nothing ∷ []) ((reads, reply.Miss) ∷ []) (initial_state (nothing ∷ [])) (unbound counts_by)
   -- nor has that of B
-  pub never_bound : BothComeTo jumper actor.B (nothing ∷ []) [] (begun (nothing ∷ [])) (unbound swaps)
+  pub never_bound : BothComeTo jumper actor.B (nothing ∷ []) [] (initial_state (nothing ∷ [])) (unbound swaps)
   pub not_right : IsRightAlong (code_of jumper) actor.B (nothing ∷ []) [] → ⊥

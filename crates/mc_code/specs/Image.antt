@@ -18,12 +18,12 @@ magic = codes "MCR1"
 -- ---- lists
 
 -- how many bytes there are, and the bytes
-abbrev pub sized : List ℕ → List ℕ
-sized bytes = length bytes ∷ bytes
+abbrev pub with_length : List ℕ → List ℕ
+with_length bytes = length bytes ∷ bytes
 
 -- how many there are, and each of them
-abbrev pub counted : {A : Type 0} → (A → List ℕ) → List A → List ℕ
-counted bytes_of xs = length xs ∷ flat_map bytes_of xs
+abbrev pub with_count : {A : Type 0} → (A → List ℕ) → List A → List ℕ
+with_count bytes_of xs = length xs ∷ flat_map bytes_of xs
 
 -- ---- budgets
 
@@ -62,7 +62,7 @@ masks_bytes t = mask_bytes t.require_set ++ mask_bytes t.require_clear ++ mask_b
 
 abbrev pub template_bytes : Template → List ℕ
 template_bytes t =
-    verb_index t.verb ∷ t.key ∷ (to_be_bytes w32 t.flags ++ argument_bytes t.argument ++ sized t.body ++ masks_bytes t)
+    verb_index t.verb ∷ t.key ∷ (to_be_bytes w32 t.flags ++ argument_bytes t.argument ++ with_length t.body ++ masks_bytes t)
 
 -- ---- sections
 
@@ -73,15 +73,15 @@ instr_bytes (instr.Goto place) = 2 ∷ place ∷ []
 instr_bytes instr.Halt = 3 ∷ []
 
 abbrev pub section_bytes : Section → List ℕ
-section_bytes s = counted instr_bytes s.instructions
+section_bytes s = with_count instr_bytes s.instructions
 
 -- ---- the whole image
 
 abbrev pub image_of : Code → List ℕ
 image_of c =
-    magic ++ counted sized c.keys ++ c.flags ∷ c.vars
-    ∷ (budget_bytes c.p.budget ++ budget_bytes c.a.budget ++ budget_bytes c.b.budget
-    ++ counted template_bytes c.templates ++ section_bytes c.p ++ section_bytes c.a ++ section_bytes c.b)
+    magic ++ with_count with_length c.keys ++ c.flags ∷ c.vars
+    ∷ (budget_bytes c.sections.p.budget ++ budget_bytes c.sections.a.budget ++ budget_bytes c.sections.b.budget
+    ++ with_count template_bytes c.templates ++ section_bytes c.sections.p ++ section_bytes c.sections.a ++ section_bytes c.sections.b)
 
 -- no two codes have the same image
 abbrev pub ImagesAreOfOneCode : Type 0

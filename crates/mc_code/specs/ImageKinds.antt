@@ -1,4 +1,4 @@
--- The number and the name of a kind, by which bytes that are no image are told.
+-- The number and the name of each kind of fault in an image, as a refusal shows them.
 use Rattle.std.specs.Prelude.{ℕ, List, codes}
 use Rattle.mc_code.specs.declared.fault.ImageKind.{ImageKind}
 use Rattle.mc_code.specs.declared.fault.ImageKind.TheVariants as kind

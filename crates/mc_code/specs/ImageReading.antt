@@ -1,21 +1,21 @@
--- What the reader of images answers. No public contract cites these: `Image` says what an image is, and the proofs join
--- the two.
-use Rattle.std.specs.Prelude.{◌≡◌, ◌≢◌, ℕ, zero, suc, ◌^◌, ◌==◌, nat_le, nat_lt, Bool, ◌&&◌, Option, Some, None, Result, Ok, Err, List, [], ◌∷◌, ◌++◌, length, take, drop, if◌then◌else◌}
+-- What the reader of images answers, field by field. No public contract cites these: `Image` says what an image is, and
+-- the proofs join the two.
+use Rattle.std.specs.Prelude.{◌≡◌, ◌≢◌, ℕ, zero, suc, ◌^◌, ◌==◌, nat_le, nat_lt, Bool, ◌&&◌, Option, Some, None, Result, Ok, Err, List, [], ◌∷◌, ◌++◌, length, take, drop, slice_get, if◌then◌else◌}
 use Rattle.std.specs.Int.{Width, w16, w32, w64, byte_len, from_be_bytes}
 use Rattle.std.specs.Int.Bits.{bit_and}
-use Rattle.std.specs.List.{find}
 use Rattle.std.specs.Str.{bytes_eq}
 use Rattle.mc_protocol.specs.Fields.{fields_of}
 use Rattle.mc_protocol.specs.declared.request.Verb.{Verb}
-use Rattle.mc_protocol.specs.declared.request.Verb.TheVariants as verb
+use Rattle.mc_protocol.specs.declared.sections.Sections.{Sections}
 use Rattle.mc_protocol.specs.declared.limits.TheConstants.{KEYS_LIMIT, KEY_BYTES_LIMIT, REQUESTS_LIMIT, REQUEST_BYTES_LIMIT, SCRIPT_BODY_LIMIT}
 use Rattle.mc_script.specs.declared.limits.TheConstants.{FLAGS_LIMIT, VARIABLES_LIMIT}
 use Rattle.mc_script.specs.declared.section.Budget.{Budget}
 use Rattle.mc_script.specs.declared.step.Argument.{Argument}
 use Rattle.mc_script.specs.declared.step.Argument.TheVariants as argument
 use Rattle.mc_script.specs.declared.step.Template.{Template}
-use Rattle.mc_script.specs.ScriptWords.{Word}
 use Rattle.mc_protocol.specs.Names.{is_new, is_name}
+use Rattle.mc_protocol.specs.Lines.{Word}
+use Rattle.mc_protocol.specs.Words.{all_verbs}
 use Rattle.mc_script.specs.Steps.{◌>>=◌}
 use Rattle.mc_script.specs.Templates.{has_fields}
 use Rattle.mc_code.specs.declared.fault.ImageFault.{ImageFault}
@@ -25,14 +25,14 @@ use Rattle.mc_code.specs.declared.instr.Instr.TheVariants as instr
 use Rattle.mc_code.specs.declared.read_template.Masks.{Masks}
 use Rattle.mc_code.specs.declared.limits.TheConstants.{TEMPLATES_LIMIT, INSTRUCTIONS_LIMIT, CLASS_COUNT}
 use Rattle.mc_code.specs.Code.{Section, Code}
-use Rattle.mc_code.specs.Image.{magic, verb_index}
+use Rattle.mc_code.specs.Image.{magic}
 
--- what was returned, so seen, is what reading gives; no memory is taken
+-- the result, seen through `view`, is what is read; the call takes no memory
 abbrev pub Reads : {X Y : Type 0} → (X → Y) → Result X ImageFault → Option Y → Type 0
 Reads view (Ok x) read = read ≡ Some (view x)
 Reads view (Err fault) read = (read ≡ None) × (fault.kind ≢ kind.OutOfMemory)
 
--- the same, unless memory ran out, whose fault has the offset 0
+-- the same, or memory ran out: that fault has the offset 0
 abbrev pub Says : {X Y : Type 0} → (X → Y) → Result X ImageFault → Option Y → Type 0
 Says view (Ok x) read = read ≡ Some (view x)
 Says view (Err fault) read = (fault.kind ≢ kind.OutOfMemory → read ≡ None) × (fault.kind ≡ kind.OutOfMemory → fault.offset ≡ 0)
@@ -63,7 +63,7 @@ sized_in least greatest bytes = small_in least greatest bytes >>= λ n. bytes_in
 
 -- ---- lists
 
--- so many items, after those that were read
+-- `n` more items, after `items`
 unfoldable pub items_in : {A : Type 0} → (List A → List ℕ → Field A) → ℕ → List A → List ℕ → Field (List A)
 items_in item_in zero items bytes = Some (items, bytes)
 items_in item_in (suc n) items bytes = item_in items bytes >>= λ x. items_in item_in n (items ++ x.0 ∷ []) x.1
@@ -92,17 +92,13 @@ budget_in bytes =
 
 -- ---- templates
 
-abbrev pub all_verbs : List Verb
-all_verbs =
-    verb.Set ∷ verb.Add ∷ verb.Replace ∷ verb.Append ∷ verb.Prepend ∷ verb.Cas ∷ verb.Get ∷ verb.Gets ∷ verb.Incr ∷ verb.Decr ∷ verb.Delete ∷ verb.Touch ∷ []
-
 unfoldable pub verb_at : ℕ → Option Verb
-verb_at index = find (λ v. verb_index v == index) all_verbs
+verb_at index = slice_get all_verbs index
 
 unfoldable pub verb_in : List ℕ → Field Verb
 verb_in bytes = byte_in bytes >>= λ n. verb_at n.0 >>= λ v. Some (v, n.1)
 
--- what a template has after its key, by its sort and number, where there are so many variables
+-- the argument of this sort with this number, where `vars` variables are declared
 unfoldable pub argument_of : ℕ → ℕ → ℕ → Option Argument
 argument_of vars sort number =
     if sort == 0 then (if number == 0 then Some argument.Nothing else None)
@@ -135,22 +131,22 @@ are_masks flags t =
     nat_lt t.require_set (2 ^ flags) && nat_lt t.require_clear (2 ^ flags) && nat_lt t.sets (2 ^ flags) && nat_lt t.clears (2 ^ flags)
     && bit_and t.require_set t.require_clear == 0 && bit_and t.sets t.clears == 0
 
--- the template may stand where there are so many keys, flags and variables
+-- whether the template may stand where `keys` keys, `flags` flags and `vars` variables are declared
 unfoldable pub is_template : ℕ → ℕ → ℕ → Template → Bool
 is_template keys flags vars t =
     nat_lt t.key keys && has_fields vars (fields_of t.verb) t.flags t.argument t.body && are_masks flags t
 
--- the template, where it has an argument and may stand
-unfoldable pub allowed : ℕ → ℕ → ℕ → Verb → ℕ → ℕ → Option Argument → List ℕ → Masks → Option Template
-allowed keys flags vars v key item_flags None body masks = None
-allowed keys flags vars v key item_flags (Some a) body masks =
+-- the template of these fields, if it has an argument and may stand
+unfoldable pub template_if_valid : ℕ → ℕ → ℕ → Verb → ℕ → ℕ → Option Argument → List ℕ → Masks → Option Template
+template_if_valid keys flags vars v key item_flags None body masks = None
+template_if_valid keys flags vars v key item_flags (Some a) body masks =
     if is_template keys flags vars (template_of v key item_flags a body masks) then Some (template_of v key item_flags a body masks) else None
 
 unfoldable pub template_in : ℕ → ℕ → ℕ → List ℕ → Field Template
 template_in keys flags vars bytes =
     verb_in bytes >>= λ v. byte_in v.1 >>= λ key. number_in w32 key.1 >>= λ item_flags. argument_in vars item_flags.1
     >>= λ a. sized_in 0 SCRIPT_BODY_LIMIT a.1 >>= λ body. masks_in body.1
-    >>= λ masks. allowed keys flags vars v.0 key.0 item_flags.0 a.0 body.0 masks.0 >>= λ t. Some (t, masks.1)
+    >>= λ masks. template_if_valid keys flags vars v.0 key.0 item_flags.0 a.0 body.0 masks.0 >>= λ t. Some (t, masks.1)
 
 unfoldable pub templates_in : ℕ → ℕ → ℕ → List ℕ → Field (List Template)
 templates_in keys flags vars bytes = counted_in 0 TEMPLATES_LIMIT (λ _. template_in keys flags vars) bytes
@@ -166,13 +162,13 @@ bind_in bytes = byte_in bytes >>= λ v. Some (instr.Bind v.0, v.1)
 unfoldable pub goto_in : List ℕ → Field Instr
 goto_in bytes = byte_in bytes >>= λ p. Some (instr.Goto p.0, p.1)
 
-unfoldable pub behind_sort : ℕ → List ℕ → Field Instr
-behind_sort sort bytes =
+unfoldable pub after_sort : ℕ → List ℕ → Field Instr
+after_sort sort bytes =
     if sort == 0 then send_in bytes
     else (if sort == 1 then bind_in bytes else (if sort == 2 then goto_in bytes else Some (instr.Halt, bytes)))
 
 unfoldable pub instr_in : List ℕ → Field Instr
-instr_in bytes = small_in 0 3 bytes >>= λ sort. behind_sort sort.0 sort.1
+instr_in bytes = small_in 0 3 bytes >>= λ sort. after_sort sort.0 sort.1
 
 unfoldable pub instructions_in : List ℕ → Field (List Instr)
 instructions_in bytes = counted_in 0 INSTRUCTIONS_LIMIT (λ _. instr_in) bytes
@@ -193,34 +189,33 @@ declared_in bytes =
     keys_in bytes >>= λ k. small_in 0 FLAGS_LIMIT k.1 >>= λ f. small_in 0 VARIABLES_LIMIT f.1
     >>= λ v. Some (record { keys = k.0; flags = f.0; vars = v.0 }, v.1)
 
-abbrev pub Three : Type 0 → Type 0
-Three A = A × A × A
-
 -- one for each section
-unfoldable pub each_in : {A : Type 0} → (List ℕ → Field A) → List ℕ → Field (Three A)
-each_in one_in bytes = one_in bytes >>= λ p. one_in p.1 >>= λ a. one_in a.1 >>= λ b. Some ((p.0, a.0, b.0), b.1)
+unfoldable pub each_in : {A : Type 0} → (List ℕ → Field A) → List ℕ → Field (Sections A)
+each_in one_in bytes = one_in bytes >>= λ p. one_in p.1 >>= λ a. one_in a.1 >>= λ b. Some (record { p = p.0; a = a.0; b = b.0 }, b.1)
 
 abbrev pub section_of : Budget → List Instr → Section
 section_of budget instructions = record { budget = budget; instructions = instructions }
 
-abbrev pub code_of : Declared → Three Budget → List Template → Three (List Instr) → Code
+abbrev pub code_of : Declared → Sections Budget → List Template → Sections (List Instr) → Code
 code_of d budgets templates instructions = record {
   keys = d.keys;
   flags = d.flags;
   vars = d.vars;
   templates = templates;
-  p = section_of budgets.0 instructions.0;
-  a = section_of budgets.1 instructions.1;
-  b = section_of budgets.2 instructions.2;
+  sections = record {
+    p = section_of budgets.p instructions.p;
+    a = section_of budgets.a instructions.a;
+    b = section_of budgets.b instructions.b;
+  };
 }
 
-abbrev pub ended_in : {A : Type 0} → A → List ℕ → Option A
-ended_in x [] = Some x
-ended_in x (_ ∷ _) = None
+abbrev pub at_end : {A : Type 0} → A → List ℕ → Option A
+at_end x [] = Some x
+at_end x (_ ∷ _) = None
 
 -- the code of the bytes, which nothing follows
 unfoldable pub code_in : List ℕ → Option Code
 code_in bytes =
     magic_in bytes >>= λ m. declared_in m >>= λ d. each_in budget_in d.1
     >>= λ budgets. templates_in (length d.0.keys) d.0.flags d.0.vars budgets.1 >>= λ t. each_in instructions_in t.1
-    >>= λ s. ended_in (code_of d.0 budgets.0 t.0 s.0) s.1
+    >>= λ s. at_end (code_of d.0 budgets.0 t.0 s.0) s.1

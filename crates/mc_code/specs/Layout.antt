@@ -5,12 +5,12 @@ use Rattle.mc_protocol.specs.Legal.{is_legal}
 use Rattle.mc_protocol.specs.declared.actor.Actor.{Actor}
 use Rattle.mc_protocol.specs.declared.actor.Actor.TheVariants as actor
 use Rattle.mc_protocol.specs.declared.reply.Class.{Class}
+use Rattle.mc_protocol.specs.Words.{all_classes}
 use Rattle.mc_script.specs.declared.section.Label.{Label}
 use Rattle.mc_script.specs.declared.step.Step.{Step}
 use Rattle.mc_script.specs.declared.step.Step.TheVariants as step
 use Rattle.mc_script.specs.declared.step.Template.{Template}
 use Rattle.mc_script.specs.Script as script
-use Rattle.mc_script.specs.Steps.{all_classes}
 use Rattle.mc_script.specs.WellFormed.{is_number_class}
 use Rattle.mc_code.specs.declared.fault.AsmFault.{AsmFault}
 use Rattle.mc_code.specs.declared.fault.AsmFault.TheVariants as fault
@@ -115,9 +115,7 @@ code_of s = record {
   flags = length s.names.flags;
   vars = length s.names.vars;
   templates = templates_of s;
-  p = section_code s actor.P;
-  a = section_code s actor.A;
-  b = section_code s actor.B;
+  sections = record { p = section_code s actor.P; a = section_code s actor.A; b = section_code s actor.B };
 }
 
 -- ---- limits

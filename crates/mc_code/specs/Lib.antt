@@ -1,7 +1,10 @@
 -- What the public contracts cite.
 pub use Rattle.mc_protocol.specs.Fields
 pub use Rattle.mc_protocol.specs.Legal
+pub use Rattle.mc_protocol.specs.Lines
 pub use Rattle.mc_protocol.specs.Merge
+pub use Rattle.mc_protocol.specs.Sections
+pub use Rattle.mc_protocol.specs.Words
 pub use Rattle.mc_script.specs.Script
 pub use Rattle.mc_script.specs.ScriptWords
 pub use Rattle.mc_script.specs.Templates

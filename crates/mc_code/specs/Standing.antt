@@ -4,13 +4,13 @@ use Rattle.mc_protocol.specs.declared.actor.Actor.{Actor}
 use Rattle.mc_protocol.specs.declared.actor.Actor.TheVariants as actor
 use Rattle.mc_code.specs.Code.{Code, instructions_in}
 use Rattle.mc_code.specs.Runs.{Exchange, IsRun, met_at}
-use Rattle.mc_code.specs.States.{Tagged, nothing, State, begun, Outcome, call, unbound, wrong_kind, nothing_to_bind, outside, ended}
+use Rattle.mc_code.specs.States.{Tagged, nothing, State, initial_state, Outcome, call, unbound, wrong_kind, nothing_to_bind, outside, ended}
 
 -- ---- where a section stands
 
 -- begun with these variables, the section stands after these exchanges at this place, in this state
 abbrev pub StandsAt : Code → Actor → List Tagged → List Exchange → ℕ → State → Type 0
-StandsAt c actor variables exchanges p st = IsRun c.templates (instructions_in c actor) 0 (begun variables) exchanges p st
+StandsAt c actor variables exchanges p st = IsRun c.templates (instructions_in c actor) 0 (initial_state variables) exchanges p st
 
 -- what the section comes to at this place in this state, if anything
 abbrev pub met_in : Code → Actor → ℕ → State → Option Outcome

@@ -42,17 +42,17 @@ pub record State : Type 0 where
   pub variables : List Tagged
   pub last : Tagged
 
--- before a section's first reply
-abbrev pub begun : List Tagged → State
-begun variables = record { variables = variables; last = nothing }
+-- the state before a section's first reply
+abbrev pub initial_state : List Tagged → State
+initial_state variables = record { variables = variables; last = nothing }
 
--- once the reply to the request came
-abbrev pub answered : Template → Reply → State → State
-answered t r st = record { variables = st.variables; last = shown_of t.key r }
+-- the state after the reply to the request
+abbrev pub after_reply : Template → Reply → State → State
+after_reply t r st = record { variables = st.variables; last = shown_of t.key r }
 
 -- the variable takes what the last reply showed, and stays as it was where that was nothing
-abbrev pub bound : ℕ → State → State
-bound variable st =
+abbrev pub after_bind : ℕ → State → State
+after_bind variable st =
     if is_number st.last.0 then record { variables = slice_set st.variables variable st.last; last = st.last } else st
 
 -- ---- what a section comes to
@@ -76,20 +76,20 @@ abbrev pub wanted_by : Verb → ℕ → Kind
 wanted_by verb.Cas key = kind.Cas key
 wanted_by _ key = kind.Num
 
-abbrev pub given : Template → Tagged → Outcome
-given t (kind.Unbound, number) = unbound t
-given t (kind.Cas key, number) = if is_same (kind.Cas key) (wanted_by t.verb t.key) then call t number else wrong_kind t
-given t (kind.Num, number) = if is_same kind.Num (wanted_by t.verb t.key) then call t number else wrong_kind t
+abbrev pub call_with : Template → Tagged → Outcome
+call_with t (kind.Unbound, number) = unbound t
+call_with t (kind.Cas key, number) = if is_same (kind.Cas key) (wanted_by t.verb t.key) then call t number else wrong_kind t
+call_with t (kind.Num, number) = if is_same kind.Num (wanted_by t.verb t.key) then call t number else wrong_kind t
 
 abbrev pub with_argument : Template → Argument → List Tagged → Outcome
 with_argument t argument.Nothing variables = call t 0
 with_argument t (argument.Number number) variables = call t number
-with_argument t (argument.Variable variable) variables = given t (slice_index_or variables variable nothing)
+with_argument t (argument.Variable variable) variables = call_with t (slice_index_or variables variable nothing)
 
 -- what a send comes to: the request's number is its own, or its variable's
-abbrev pub sending : Template → State → Outcome
-sending t st = with_argument t t.argument st.variables
+abbrev pub send_outcome : Template → State → Outcome
+send_outcome t st = with_argument t t.argument st.variables
 
 -- what a bind comes to, if anything
-abbrev pub binding : ℕ → State → Option Outcome
-binding variable st = if is_number st.last.0 then None else Some (nothing_to_bind variable)
+abbrev pub bind_outcome : ℕ → State → Option Outcome
+bind_outcome variable st = if is_number st.last.0 then None else Some (nothing_to_bind variable)

@@ -11,7 +11,7 @@ use crate::places::Places;
 use crate::size::{check_limits, cleared_keys, request_count};
 use crate::templates::templates_of;
 use crate::{AsmFault, Code};
-use mc_protocol::{Actor, Bytes, OutOfMemory};
+use mc_protocol::{Actor, Bytes, OutOfMemory, Sections};
 use mc_script::Script;
 use std::alloc::Global;
 
@@ -40,9 +40,7 @@ pub fn assemble(alloc: Global, script: &Script) -> Result<Code, AsmFault>
         flags: script.flags().len() as u8,
         vars: script.vars().len() as u8,
         templates,
-        p,
-        a,
-        b,
+        sections: Sections { p, a, b },
     })
 }
 

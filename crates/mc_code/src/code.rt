@@ -4,7 +4,7 @@ ghost use Rattle.mc_code.specs.Code as spec;
 ghost use Rattle.mc_code.specs.Requests as requests;
 
 use crate::{Call, Instr};
-use mc_protocol::{Actor, Bytes, OutOfMemory, Request};
+use mc_protocol::{Actor, Bytes, OutOfMemory, Request, Sections};
 use mc_script::{Budget, Template};
 use std::alloc::Global;
 use std::marker::Model;
@@ -34,9 +34,7 @@ pub struct Code {
     pub(crate) flags: u8,
     pub(crate) vars: u8,
     pub(crate) templates: Vec<Template>,
-    pub(crate) p: Section,
-    pub(crate) a: Section,
-    pub(crate) b: Section,
+    pub(crate) sections: Sections<Section>,
 }
 
 impl Model for Code {
@@ -44,9 +42,9 @@ impl Model for Code {
 
     ghost Value = { spec.Code };
 
-    ghost view = { λ c. record { keys = c.keys.items; flags = c.flags; vars = c.vars; templates = c.templates.items; p = c.p; a = c.a; b = c.b } };
+    ghost view = { λ c. record { keys = c.keys.items; flags = c.flags; vars = c.vars; templates = c.templates.items; sections = c.sections } };
 
-    ghost invariant = { λ c. spec.IsCode (record { keys = c.keys.items; flags = c.flags; vars = c.vars; templates = c.templates.items; p = c.p; a = c.a; b = c.b }) };
+    ghost invariant = { λ c. spec.IsCode (record { keys = c.keys.items; flags = c.flags; vars = c.vars; templates = c.templates.items; sections = c.sections }) };
 }
 
 impl Code {
@@ -74,9 +72,10 @@ impl Code {
 
     /// The most that a section may send.
     pub fn budget(&self, actor: Actor) -> Budget
-        ensures { result ≡ (spec.section_of self.now actor).budget }
+        ensures budget { result ≡ (spec.section_of self.now actor).budget }
+        ensures kept { spec.IsCode self.now }
     {
-        self.part(actor).budget
+        self.sections.get(actor).budget
     }
 
     /// The templates of the requests. An instruction or a call names one by its index.
@@ -91,7 +90,7 @@ impl Code {
     pub fn section(&self, actor: Actor) -> &[Instr]
         ensures { result.now ≡ (spec.section_of self.now actor).instructions }
     {
-        self.part(actor).instructions.as_slice()
+        self.sections.get(actor).instructions.as_slice()
     }
 
     /// The request of a call: that of its template, with the call's number. Its key and its body are copies, for which
@@ -108,16 +107,5 @@ impl Code {
             body: template.body.copy(alloc)?,
             number: call.number,
         })
-    }
-
-    /// The section of an actor.
-    fn part(&self, actor: Actor) -> &Section
-        ensures { result.now ≡ spec.section_of self.now actor }
-    {
-        match actor {
-            Actor::P => &self.p,
-            Actor::A => &self.a,
-            Actor::B => &self.b,
-        }
     }
 }

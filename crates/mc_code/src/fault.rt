@@ -75,10 +75,10 @@ pub enum ImageKind {
     #[error("expected more bytes")]
     Short,
     /// A number is too small or too large, or a key has a byte that no key has, or a key stands twice.
-    #[error("expected a number within its limits, or a key that is new and has 1 to 40 bytes `a` to `z`, `0` to `9`, `-`")]
+    #[error("expected a number within its limits, or a new key of 1 to 40 bytes `a` to `z`, `0` to `9`, `-`")]
     Range,
     /// The fields of a template don't suit its verb, or name a key, a flag or a variable that is not declared.
-    #[error("expected a template whose verb has these fields, and whose key, variable and flags are there")]
+    #[error("expected a template whose fields suit its verb, and whose key, variable and flags are declared")]
     Template,
     /// More bytes follow the last instruction.
     #[error("expected no more bytes")]

@@ -11,6 +11,7 @@ use crate::read_section::{read_budget, read_instructions};
 use crate::read_template::read_templates;
 use crate::well_formed::Counts;
 use crate::{Code, ImageFault, ImageKind, Instr};
+use mc_protocol::Sections;
 use mc_script::Budget;
 use std::alloc::Global;
 
@@ -42,9 +43,11 @@ pub fn decode(alloc: Global, bytes: &[u8]) -> Result<Code, ImageFault>
         flags: declared.flags,
         vars: declared.vars,
         templates,
-        p: section_of(budgets.p, instructions.p),
-        a: section_of(budgets.a, instructions.a),
-        b: section_of(budgets.b, instructions.b),
+        sections: Sections {
+            p: section_of(budgets.p, instructions.p),
+            a: section_of(budgets.a, instructions.a),
+            b: section_of(budgets.b, instructions.b),
+        },
     })
 }
 
@@ -71,42 +74,29 @@ fn read_magic(fields: &mut Fields) -> Result<(), ImageFault>
     Ok(())
 }
 
-/// The budgets of the sections.
-#[derive(Clone, Copy)]
-struct Budgets {
-    p: Budget,
-    a: Budget,
-    b: Budget,
-}
-
 /// Takes the budget of each section.
 #[tactic(auto, unfolding(crate::specs::ImageReading::each_in))]
-fn read_budgets(fields: &mut Fields) -> Result<Budgets, ImageFault>
-    ensures { reading.Reads (λ budgets. ((budgets.p, budgets.a, budgets.b), fields.new)) result
+fn read_budgets(fields: &mut Fields) -> Result<Sections<Budget>, ImageFault>
+    ensures { reading.Reads (λ budgets. (budgets, fields.new)) result
         (reading.each_in reading.budget_in fields.old) }
 {
     let p = read_budget(fields)?;
     let a = read_budget(fields)?;
     let b = read_budget(fields)?;
-    Ok(Budgets { p, a, b })
-}
-
-/// The instructions of the sections.
-#[derive(Drop)]
-struct Instructions {
-    p: Vec<Instr>,
-    a: Vec<Instr>,
-    b: Vec<Instr>,
+    Ok(Sections { p, a, b })
 }
 
 /// Takes the instructions of each section.
 #[tactic(auto, unfolding(crate::specs::ImageReading::each_in))]
-fn read_all_instructions(alloc: Global, fields: &mut Fields) -> Result<Instructions, ImageFault>
-    ensures { reading.Says (λ all. ((all.p.items, all.a.items, all.b.items), fields.new)) result
+fn read_all_instructions(
+    alloc: Global,
+    fields: &mut Fields,
+) -> Result<Sections<Vec<Instr>>, ImageFault>
+    ensures { reading.Says (λ all. (record { p = all.p.items; a = all.a.items; b = all.b.items }, fields.new)) result
         (reading.each_in reading.instructions_in fields.old) }
 {
     let p = read_instructions(alloc, fields)?;
     let a = read_instructions(alloc, fields)?;
     let b = read_instructions(alloc, fields)?;
-    Ok(Instructions { p, a, b })
+    Ok(Sections { p, a, b })
 }

@@ -9,7 +9,7 @@ ghost use Rattle.mc_code.specs.Image.{image_of};
 
 use crate::code::Section;
 use crate::{Code, Instr};
-use mc_protocol::{Bytes, OutOfMemory, Verb, append_all};
+use mc_protocol::{Actor, Bytes, OutOfMemory, Verb, append_all};
 use mc_script::{Argument, Budget, Template};
 
 /// Appends the image of code. Where memory runs out, `out` stays as it was.
@@ -23,9 +23,9 @@ pub fn encode(code: &Code, out: &mut Vec<u8>) -> Result<(), OutOfMemory>
     image.extend_from_slice(&[code.flags, code.vars])?;
     push_budgets(code, &mut image)?;
     push_templates(code.templates.as_slice(), &mut image)?;
-    push_section(&code.p, &mut image)?;
-    push_section(&code.a, &mut image)?;
-    push_section(&code.b, &mut image)?;
+    push_section(&code.sections.p, &mut image)?;
+    push_section(&code.sections.a, &mut image)?;
+    push_section(&code.sections.b, &mut image)?;
     out.extend_from_slice(image.as_slice())?;
     Ok(())
 }
@@ -34,7 +34,7 @@ pub fn encode(code: &Code, out: &mut Vec<u8>) -> Result<(), OutOfMemory>
 fn push_keys(keys: &[Bytes], out: &mut Vec<u8>) -> Result<(), OutOfMemory>
     requires few { length keys.now ≤ 255 }
     requires short { All (λ key. length key ≤ 255) keys.now }
-    ensures { OnOk result (out.new.items ≡ out.old.items ++ image.counted image.sized keys.now) }
+    ensures { OnOk result (out.new.items ≡ out.old.items ++ image.with_count image.with_length keys.now) }
 {
     out.push(keys.len() as u8)?;
     'keys: for key in keys {
@@ -46,22 +46,22 @@ fn push_keys(keys: &[Bytes], out: &mut Vec<u8>) -> Result<(), OutOfMemory>
 /// Appends the number of the bytes, and the bytes.
 fn push_sized(bytes: &[u8], out: &mut Vec<u8>) -> Result<(), OutOfMemory>
     requires { length bytes.now ≤ 255 }
-    ensures { OnOk result (out.new.items ≡ out.old.items ++ image.sized bytes.now) }
+    ensures { OnOk result (out.new.items ≡ out.old.items ++ image.with_length bytes.now) }
 {
     append_all(out, &[&[bytes.len() as u8], bytes])
 }
 
 /// Appends the budget of each section.
 fn push_budgets(code: &Code, out: &mut Vec<u8>) -> Result<(), OutOfMemory>
-    ensures { OnOk result (out.new.items ≡ out.old.items ++ image.budget_bytes code.now.p.budget
-        ++ image.budget_bytes code.now.a.budget ++ image.budget_bytes code.now.b.budget) }
+    ensures { OnOk result (out.new.items ≡ out.old.items ++ image.budget_bytes code.now.sections.p.budget
+        ++ image.budget_bytes code.now.sections.a.budget ++ image.budget_bytes code.now.sections.b.budget) }
 {
     append_all(
         out,
         &[
-            &budget_bytes(code.p.budget),
-            &budget_bytes(code.a.budget),
-            &budget_bytes(code.b.budget),
+            &budget_bytes(code.budget(Actor::P)),
+            &budget_bytes(code.budget(Actor::A)),
+            &budget_bytes(code.budget(Actor::B)),
         ],
     )
 }
@@ -80,7 +80,7 @@ fn budget_bytes(budget: Budget) -> [u8; 3]
 fn push_templates(templates: &[Template], out: &mut Vec<u8>) -> Result<(), OutOfMemory>
     requires few { length templates.now ≤ TEMPLATES_LIMIT }
     requires short { All (λ t. length t.body ≤ SCRIPT_BODY_LIMIT) templates.now }
-    ensures { OnOk result (out.new.items ≡ out.old.items ++ image.counted image.template_bytes templates.now) }
+    ensures { OnOk result (out.new.items ≡ out.old.items ++ image.with_count image.template_bytes templates.now) }
 {
     out.push(templates.len() as u8)?;
     'templates: for template in templates {

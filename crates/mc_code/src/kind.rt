@@ -2,7 +2,7 @@
 /// What kind of number a variable has. A number may be sent only where a number of its kind is asked for.
 #[derive(Clone, Copy, Debug, PartialEq, Eq)]
 pub enum Kind {
-    /// It has none.
+    /// No number.
     Unbound,
     /// The cas unique of the key with this index, as a `gets` showed it.
     Cas(u8),

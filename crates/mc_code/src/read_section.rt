@@ -44,7 +44,7 @@ pub(crate) fn read_instructions(
 }
 
 /// Takes an instruction.
-#[tactic(auto, unfolding(crate::specs::ImageReading::instr_in, crate::specs::ImageReading::behind_sort))]
+#[tactic(auto, unfolding(crate::specs::ImageReading::instr_in, crate::specs::ImageReading::after_sort))]
 fn read_instr(fields: &mut Fields) -> Result<Instr, ImageFault>
     ensures { reading.Reads (λ instr. (instr, fields.new)) result (reading.instr_in fields.old) }
 {
@@ -56,7 +56,7 @@ fn read_instr(fields: &mut Fields) -> Result<Instr, ImageFault>
     }
 }
 
-/// Takes what a send has after its sort.
+/// Takes the fields of a send after its sort.
 #[tactic(auto, unfolding(crate::specs::ImageReading::send_in))]
 fn read_send(fields: &mut Fields) -> Result<Instr, ImageFault>
     ensures { reading.Reads (λ instr. (instr, fields.new)) result (reading.send_in fields.old) }
@@ -68,7 +68,7 @@ fn read_send(fields: &mut Fields) -> Result<Instr, ImageFault>
     Ok(Instr::Send { template, next })
 }
 
-/// Takes what a bind has after its sort.
+/// Takes the variable of a bind.
 #[tactic(auto, unfolding(crate::specs::ImageReading::bind_in))]
 fn read_bind(fields: &mut Fields) -> Result<Instr, ImageFault>
     ensures { reading.Reads (λ instr. (instr, fields.new)) result (reading.bind_in fields.old) }
@@ -77,7 +77,7 @@ fn read_bind(fields: &mut Fields) -> Result<Instr, ImageFault>
     Ok(Instr::Bind(variable))
 }
 
-/// Takes what a goto has after its sort.
+/// Takes the place of a goto.
 #[tactic(auto, unfolding(crate::specs::ImageReading::goto_in))]
 fn read_goto(fields: &mut Fields) -> Result<Instr, ImageFault>
     ensures { reading.Reads (λ instr. (instr, fields.new)) result (reading.goto_in fields.old) }

@@ -31,7 +31,7 @@ pub(crate) fn read_templates(
 }
 
 /// Takes a template. Whether its fields suit each other is decided once all of them are read.
-#[tactic(auto, unfolding(crate::specs::ImageReading::template_in, crate::specs::ImageReading::allowed))]
+#[tactic(auto, unfolding(crate::specs::ImageReading::template_in, crate::specs::ImageReading::template_if_valid))]
 fn read_template(alloc: Global, fields: &mut Fields, counts: Counts) -> Result<Template, ImageFault>
     requires { counts.flags ≤ FLAGS_LIMIT }
     ensures { reading.Says (λ template. (template, fields.new)) result
@@ -82,21 +82,7 @@ fn read_verb(fields: &mut Fields) -> Result<Verb, ImageFault>
 fn verb_at(index: u8) -> Option<Verb>
     ensures { result ≡ reading.verb_at index }
 {
-    match index {
-        0 => Some(Verb::Set),
-        1 => Some(Verb::Add),
-        2 => Some(Verb::Replace),
-        3 => Some(Verb::Append),
-        4 => Some(Verb::Prepend),
-        5 => Some(Verb::Cas),
-        6 => Some(Verb::Get),
-        7 => Some(Verb::Gets),
-        8 => Some(Verb::Incr),
-        9 => Some(Verb::Decr),
-        10 => Some(Verb::Delete),
-        11 => Some(Verb::Touch),
-        _ => None,
-    }
+    Verb::ALL.get(usize::from(index)).copied()
 }
 
 /// Takes the sort of an argument, and its number. `None` says that the number doesn't suit the sort.

@@ -6,17 +6,17 @@ pub fn paths_split()
     ensures { PathsSplit }
 {}
 
-/// What a run of code sends, and the classes of its replies, are a path of the code.
+/// The requests of a run of code, with the classes of their replies, are a path of the code.
 pub fn runs_are_paths()
     ensures { RunsArePaths }
 {}
 
-/// Each path of code is what some run sends, and the classes of its replies.
+/// Each path of code is the requests of some run, with the classes of their replies.
 pub fn paths_are_runs()
     ensures { PathsAreRuns }
 {}
 
-/// What a section sent that is done, and the classes of its replies, are a complete path.
+/// The requests of a section that is done, with the classes of their replies, are a complete path.
 pub fn ends_are_complete()
     ensures { EndsAreComplete }
 {}

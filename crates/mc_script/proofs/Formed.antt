@@ -216,7 +216,7 @@ pub script-formed : (text : List ℕ) (s : Script) → SpellsScript text s → I
 script-formed text s h =
     record {
       declared = h.declared;
-      p = section-formed s.names actor.P h.p_budget h.p s.p h.p_allowed h.p_spelled;
-      a = section-formed s.names actor.A h.a_budget h.a s.a h.a_allowed h.a_spelled;
-      b = section-formed s.names actor.B h.b_budget h.b s.b h.b_allowed h.b_spelled;
+      p = section-formed s.names actor.P h.p_budget h.p s.sections.p h.p_allowed h.p_spelled;
+      a = section-formed s.names actor.A h.a_budget h.a s.sections.a h.a_allowed h.a_spelled;
+      b = section-formed s.names actor.B h.b_budget h.b s.sections.b h.b_allowed h.b_spelled;
     }

@@ -262,20 +262,20 @@ section-line a = line-from (actor_word a) [] (more (actor_word a) [] (actor-whol
 script-are-lines : (s : Script) → IsScript s → are_lines (script_lines s) ≡ true
 script-are-lines s h =
     let k = known s.names h.declared in
-    let p = section_lines s.names s.p in
-    let a = section_lines s.names s.a in
-    let b = section_lines s.names s.b in
-    let tail = all-append is_line b (end_line ∷ []) (section-lines s.names s.b k h.b) refl in
-    let from_a = all-append is_line a (section_line actor.B ∷ (b ++ end_line ∷ [])) (section-lines s.names s.a k h.a)
+    let p = section_lines s.names s.sections.p in
+    let a = section_lines s.names s.sections.a in
+    let b = section_lines s.names s.sections.b in
+    let tail = all-append is_line b (end_line ∷ []) (section-lines s.names s.sections.b k h.b) refl in
+    let from_a = all-append is_line a (section_line actor.B ∷ (b ++ end_line ∷ [])) (section-lines s.names s.sections.a k h.a)
     (cons (section_line actor.B) (b ++ end_line ∷ []) (section-line actor.B) tail) in
-    let from_p = all-append is_line p (section_line actor.A ∷ (a ++ section_line actor.B ∷ (b ++ end_line ∷ []))) (section-lines s.names s.p k h.p)
+    let from_p = all-append is_line p (section_line actor.A ∷ (a ++ section_line actor.B ∷ (b ++ end_line ∷ []))) (section-lines s.names s.sections.p k h.p)
     (cons (section_line actor.A) (a ++ section_line actor.B ∷ (b ++ end_line ∷ [])) (section-line actor.A) from_a) in
     let body = cons (section_line actor.P) (p ++ section_line actor.A ∷ (a ++ section_line actor.B ∷ (b ++ end_line ∷ []))) (section-line actor.P) from_p in
-    let bp = budget_line actor.P s.p.budget in
-    let ba = budget_line actor.A s.a.budget in
-    let bb = budget_line actor.B s.b.budget in
-    let budgets = cons bp (ba ∷ bb ∷ body_lines p a b) (budget-is-line actor.P s.names s.p h.p)
-    (cons ba (bb ∷ body_lines p a b) (budget-is-line actor.A s.names s.a h.a) (cons bb (body_lines p a b) (budget-is-line actor.B s.names s.b h.b) body)) in
+    let bp = budget_line actor.P s.sections.p.budget in
+    let ba = budget_line actor.A s.sections.a.budget in
+    let bb = budget_line actor.B s.sections.b.budget in
+    let budgets = cons bp (ba ∷ bb ∷ body_lines p a b) (budget-is-line actor.P s.names s.sections.p h.p)
+    (cons ba (bb ∷ body_lines p a b) (budget-is-line actor.A s.names s.sections.a h.a) (cons bb (body_lines p a b) (budget-is-line actor.B s.names s.sections.b h.b) body)) in
     let keys = names_line (codes "keys") s.names.keys in
     let flags = names_line (codes "flags") s.names.flags in
     let vars = names_line (codes "vars") s.names.vars in
@@ -290,20 +290,20 @@ pub printed_scripts : PrintedScriptsAreSpelled
 printed_scripts s h =
     let k = known s.names h.declared in
     record {
-      p_budget = budget_line actor.P s.p.budget;
-      a_budget = budget_line actor.A s.a.budget;
-      b_budget = budget_line actor.B s.b.budget;
-      p = section_lines s.names s.p;
-      a = section_lines s.names s.a;
-      b = section_lines s.names s.b;
+      p_budget = budget_line actor.P s.sections.p.budget;
+      a_budget = budget_line actor.A s.sections.a.budget;
+      b_budget = budget_line actor.B s.sections.b.budget;
+      p = section_lines s.names s.sections.p;
+      a = section_lines s.names s.sections.a;
+      b = section_lines s.names s.sections.b;
       lines = lines_fall_apart (script_lines s) (script-are-lines s h);
       declared = h.declared;
-      p_allowed = budget-spells actor.P s.names s.p h.p;
-      a_allowed = budget-spells actor.A s.names s.a h.a;
-      b_allowed = budget-spells actor.B s.names s.b h.b;
-      p_spelled = section-spells s.names s.p k h.p;
-      a_spelled = section-spells s.names s.a k h.a;
-      b_spelled = section-spells s.names s.b k h.b;
+      p_allowed = budget-spells actor.P s.names s.sections.p h.p;
+      a_allowed = budget-spells actor.A s.names s.sections.a h.a;
+      b_allowed = budget-spells actor.B s.names s.sections.b h.b;
+      p_spelled = section-spells s.names s.sections.p k h.p;
+      a_spelled = section-spells s.names s.sections.a k h.a;
+      b_spelled = section-spells s.names s.sections.b k h.b;
     }
 
 pub read_again : PrintedScriptsAreReadAgain

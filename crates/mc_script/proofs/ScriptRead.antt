@@ -48,14 +48,14 @@ budgets-read line second third p a b rest x y z =
 script-read-lines : (text : List ℕ) (s : Script) (h : SpellsScript text s)
     → script_in (header ∷ (names_lines s.names ++ h.p_budget ∷ h.a_budget ∷ h.b_budget ∷ body_lines h.p h.a h.b)) ≡ Some s
 script-read-lines text s h =
-    let B = section-read s.names (codes "end") h.b [] s.b (no-entry-end s.names) h.b_spelled in
-    let A = section-read s.names (codes "B") h.a (h.b ++ end_line ∷ []) s.a (no-entry-b s.names) h.a_spelled in
-    let P = section-read s.names (codes "A") h.p (h.a ++ section_line actor.B ∷ (h.b ++ end_line ∷ [])) s.p (no-entry-a s.names) h.p_spelled in
+    let B = section-read s.names (codes "end") h.b [] s.sections.b (no-entry-end s.names) h.b_spelled in
+    let A = section-read s.names (codes "B") h.a (h.b ++ end_line ∷ []) s.sections.a (no-entry-b s.names) h.a_spelled in
+    let P = section-read s.names (codes "A") h.p (h.a ++ section_line actor.B ∷ (h.b ++ end_line ∷ [])) s.sections.p (no-entry-a s.names) h.p_spelled in
     let body = body_lines h.p h.a h.b in
-    let names = names-read-at s.names h.p_budget s.p.budget (h.a_budget ∷ h.b_budget ∷ body) h.declared h.p_allowed in
-    let budgets = budgets-read h.p_budget h.a_budget h.b_budget s.p.budget s.a.budget s.b.budget body h.p_allowed h.a_allowed h.b_allowed in
+    let names = names-read-at s.names h.p_budget s.sections.p.budget (h.a_budget ∷ h.b_budget ∷ body) h.declared h.p_allowed in
+    let budgets = budgets-read h.p_budget h.a_budget h.b_budget s.sections.p.budget s.sections.a.budget s.sections.b.budget body h.p_allowed h.a_allowed h.b_allowed in
     let bodies : bodies_in s.names body ≡ Some (h.p_spelled.entries, h.a_spelled.entries, h.b_spelled.entries) = rw (P.0, A.0, B.0) refl in
-    let made : resolved_in s.names (budgets_of s.p.budget s.a.budget s.b.budget) h.p_spelled.entries h.a_spelled.entries h.b_spelled.entries ≡ Some s =
+    let made : resolved_in s.names (budgets_of s.sections.p.budget s.sections.a.budget s.sections.b.budget) h.p_spelled.entries h.a_spelled.entries h.b_spelled.entries ≡ Some s =
     rw (P.1, A.1, B.1) refl in
     rw (names, budgets, bodies) made
 

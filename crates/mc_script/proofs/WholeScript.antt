@@ -203,12 +203,12 @@ record SpelledBodies (names : Names) (budgets : Budgets) (lines : List Words) (s
   a : List Words
   b : List Words
   lines_are : lines ≡ body_lines p a b
-  p_spelled : SpellsSection names p s.p
-  a_spelled : SpellsSection names a s.a
-  b_spelled : SpellsSection names b s.b
-  p_budget : s.p.budget ≡ budgets.p
-  a_budget : s.a.budget ≡ budgets.a
-  b_budget : s.b.budget ≡ budgets.b
+  p_spelled : SpellsSection names p s.sections.p
+  a_spelled : SpellsSection names a s.sections.a
+  b_spelled : SpellsSection names b s.sections.b
+  p_budget : s.sections.p.budget ≡ budgets.p
+  a_budget : s.sections.a.budget ≡ budgets.a
+  b_budget : s.sections.b.budget ≡ budgets.b
   names_are : s.names ≡ names
 
 bodies-joined : (names : Names) (budgets : Budgets) (lines l lp la lb : List Words) (p a b : List Entry) (x y z : Section)
@@ -292,9 +292,9 @@ script-joined text l names line behind budgets onward s h (n, declared) (second,
       p_allowed = subst (SpellsBudget actor.P line) (sym bodies.p_budget) p;
       a_allowed = subst (SpellsBudget actor.A second) (sym bodies.a_budget) a;
       b_allowed = subst (SpellsBudget actor.B third) (sym bodies.b_budget) b;
-      p_spelled = subst (S bodies.p s.p) (sym bodies.names_are) bodies.p_spelled;
-      a_spelled = subst (S bodies.a s.a) (sym bodies.names_are) bodies.a_spelled;
-      b_spelled = subst (S bodies.b s.b) (sym bodies.names_are) bodies.b_spelled;
+      p_spelled = subst (S bodies.p s.sections.p) (sym bodies.names_are) bodies.p_spelled;
+      a_spelled = subst (S bodies.a s.sections.a) (sym bodies.names_are) bodies.a_spelled;
+      b_spelled = subst (S bodies.b s.sections.b) (sym bodies.names_are) bodies.b_spelled;
     }
 
 pub script-spelled : (text : List ℕ) (s : Script) → script_in (words_of_text SpaceOrTab text) ≡ Some s → SpellsScript text s

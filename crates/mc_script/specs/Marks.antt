@@ -4,7 +4,7 @@ use Rattle.std.specs.Int.Bits.{bit_or}
 use Rattle.std.specs.List.{list_all, list_any, fold}
 use Rattle.mc_protocol.specs.Legal.{is_legal, same}
 use Rattle.mc_protocol.specs.Words.{class_word}
-pub use Rattle.mc_protocol.specs.Words.{class_index}
+use Rattle.mc_protocol.specs.Words.{class_index}
 use Rattle.mc_protocol.specs.declared.request.Verb.{Verb}
 use Rattle.mc_protocol.specs.declared.request.Verb.TheVariants as verb
 use Rattle.mc_protocol.specs.declared.reply.Class.{Class}

@@ -123,8 +123,8 @@ budget_line a budget = codes "budget" ∷ actor_word a ∷ decimal budget.reques
 
 abbrev pub script_lines : Script → List Words
 script_lines s =
-    header ∷ (names_lines s.names ++ budget_line actor.P s.p.budget ∷ budget_line actor.A s.a.budget ∷ budget_line actor.B s.b.budget
-    ∷ body_lines (section_lines s.names s.p) (section_lines s.names s.a) (section_lines s.names s.b))
+    header ∷ (names_lines s.names ++ budget_line actor.P s.sections.p.budget ∷ budget_line actor.A s.sections.a.budget ∷ budget_line actor.B s.sections.b.budget
+    ∷ body_lines (section_lines s.names s.sections.p) (section_lines s.names s.sections.a) (section_lines s.names s.sections.b))
 
 abbrev pub script_text : Script → List ℕ
 script_text s = lines_text (script_lines s)

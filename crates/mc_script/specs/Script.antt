@@ -2,10 +2,11 @@
 use Rattle.std.specs.Prelude.{◌≡◌, ℕ, ◌==◌, nat_le, Bool, true, not, ◌&&◌, List, length}
 use Rattle.std.specs.List.{list_all}
 use Rattle.mc_protocol.specs.declared.actor.Actor.{Actor}
-use Rattle.mc_protocol.specs.declared.actor.Actor.TheVariants as actor
+use Rattle.mc_protocol.specs.declared.sections.Sections.{Sections}
 use Rattle.mc_protocol.specs.declared.limits.TheConstants.{KEYS_LIMIT, KEY_BYTES_LIMIT}
 use Rattle.mc_protocol.specs.Lines.{Word}
 use Rattle.mc_protocol.specs.Names.{is_name, are_distinct}
+use Rattle.mc_protocol.specs.Sections as sections
 use Rattle.mc_script.specs.declared.limits.TheConstants.{FLAGS_LIMIT, VARIABLES_LIMIT, NAME_BYTES_LIMIT}
 use Rattle.mc_script.specs.declared.section.Budget.{Budget}
 use Rattle.mc_script.specs.declared.section.Label.{Label}
@@ -36,11 +37,7 @@ pub record AreDeclared (names : Names) : Type 0 where
 
 pub record Script : Type 0 where
   pub names : Names
-  pub p : Section
-  pub a : Section
-  pub b : Section
+  pub sections : Sections Section
 
 abbrev pub section_of : Script → Actor → Section
-section_of s actor.P = s.p
-section_of s actor.A = s.a
-section_of s actor.B = s.b
+section_of s actor = sections.section_of s.sections actor

@@ -57,12 +57,12 @@ pub record SpellsScript (text : List ℕ) (s : Script) : Type 0 where
   pub lines : words_of_text SpaceOrTab text
       ≡ header ∷ (names_lines s.names ++ p_budget ∷ a_budget ∷ b_budget ∷ body_lines p a b)
   pub declared : AreDeclared s.names
-  pub p_allowed : SpellsBudget actor.P p_budget s.p.budget
-  pub a_allowed : SpellsBudget actor.A a_budget s.a.budget
-  pub b_allowed : SpellsBudget actor.B b_budget s.b.budget
-  pub p_spelled : SpellsSection s.names p s.p
-  pub a_spelled : SpellsSection s.names a s.a
-  pub b_spelled : SpellsSection s.names b s.b
+  pub p_allowed : SpellsBudget actor.P p_budget s.sections.p.budget
+  pub a_allowed : SpellsBudget actor.A a_budget s.sections.a.budget
+  pub b_allowed : SpellsBudget actor.B b_budget s.sections.b.budget
+  pub p_spelled : SpellsSection s.names p s.sections.p
+  pub a_spelled : SpellsSection s.names a s.sections.a
+  pub b_spelled : SpellsSection s.names b s.sections.b
 
 -- a text spells at most one script
 abbrev pub SpellsOneScript : Type 0

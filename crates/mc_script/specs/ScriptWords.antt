@@ -3,7 +3,7 @@ use Rattle.std.specs.Prelude.{ℕ, nat_le, Bool, ◌&&◌, ◌||◌, List, [], �
 use Rattle.std.specs.List.{list_all}
 use Rattle.mc_protocol.specs.declared.limits.TheConstants.{SCRIPT_BODY_LIMIT}
 use Rattle.mc_protocol.specs.Decimals.{is_digit}
-pub use Rattle.mc_protocol.specs.Lines.{Word}
+use Rattle.mc_protocol.specs.Lines.{Word}
 use Rattle.mc_protocol.specs.Names.{is_name}
 use Rattle.mc_script.specs.declared.limits.TheConstants.{NAME_BYTES_LIMIT}
 

@@ -3,7 +3,7 @@ use Rattle.std.specs.Prelude.{ℕ, ◌+◌, nat_lt, ◌&&◌, Option, Some, None
 use Rattle.std.specs.List.{position}
 use Rattle.std.specs.Str.{bytes_eq}
 use Rattle.mc_protocol.specs.declared.reply.Class.{Class}
-pub use Rattle.mc_protocol.specs.Words.{all_classes}
+use Rattle.mc_protocol.specs.Words.{all_classes}
 use Rattle.mc_protocol.specs.Lines.{Word}
 use Rattle.mc_script.specs.declared.entry.Entry.{Entry}
 use Rattle.mc_script.specs.declared.entry.Entry.TheVariants as entry

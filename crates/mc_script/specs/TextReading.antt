@@ -130,7 +130,7 @@ bodies_in names lines =
     >>= λ a. entries_in names (codes "end") [] 0 [] a.1 >>= λ b. ended_in (p.0, a.0, b.0) b.1
 
 abbrev pub script_of : Names → Section → Section → Section → Script
-script_of names p a b = record { names = names; p = p; a = a; b = b }
+script_of names p a b = record { names = names; sections = record { p = p; a = a; b = b } }
 
 -- the script of its lines
 abbrev pub resolved_in : Names → Budgets → List Entry → List Entry → List Entry → Option Script

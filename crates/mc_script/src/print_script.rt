@@ -60,14 +60,12 @@ fn print_names(word: &[u8], names: &[Bytes], out: &mut Vec<u8>) -> Result<(), Ou
     out.extend_from_slice(b"\n")
 }
 
-// Appends words, each behind a space.
+// Appends words, with a space before each.
 fn print_words(words: &[Bytes], out: &mut Vec<u8>) -> Result<(), OutOfMemory>
     ensures { OnOk result (out.new.items ≡ out.old.items ++ printed.behind_text words.now) }
 {
-    let mut rest = words;
-    'words: while let [word, others @ ..] = rest {
+    'words: for word in words {
         append_all(out, &[b" ", word.as_slice()])?;
-        rest = others;
     }
     Ok(())
 }

@@ -13,7 +13,7 @@ use crate::names::Names;
 use crate::resolve::resolve;
 use crate::section_text::{Numbered, read_section};
 use crate::{Budget, FLAGS_LIMIT, Script, ScriptFault, ScriptKind, VARIABLES_LIMIT};
-use mc_protocol::{Actor, Separator, WordLine, WordLines};
+use mc_protocol::{Actor, Sections, Separator, WordLine, WordLines};
 use std::alloc::Global;
 
 /// Reads a script. The fault is that of the first faulty line, on it of the leftmost faulty word, and of that the kind
@@ -134,5 +134,8 @@ fn resolve_all(
     let p = resolve(alloc, budgets.p, &bodies.p)?;
     let a = resolve(alloc, budgets.a, &bodies.a)?;
     let b = resolve(alloc, budgets.b, &bodies.b)?;
-    Ok(Script { names, p, a, b })
+    Ok(Script {
+        names,
+        sections: Sections { p, a, b },
+    })
 }

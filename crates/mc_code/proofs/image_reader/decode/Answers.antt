@@ -49,9 +49,7 @@ invariant_of-result c =
       flags = c.declared.inside.flags;
       vars = c.declared.inside.vars;
       templates = c.in_ok-templates.templates.items;
-      p = c.section_of.result;
-      a = c.section_of-2.result;
-      b = c.section_of-3.result;
+      sections = record { p = c.section_of.result; a = c.section_of-2.result; b = c.section_of-3.result };
     } in
     let read : code_in c.args.bytes.now ≡ Some code = search rules in
     (code-read c.args.bytes.now code (λ i. omega (arith, c.type_inv.bytes i)) read).1
@@ -64,9 +62,7 @@ returns-clause-found c =
       flags = c.declared.inside.flags;
       vars = c.declared.inside.vars;
       templates = c.in_ok-templates.templates.items;
-      p = c.section_of.result;
-      a = c.section_of-2.result;
-      b = c.section_of-3.result;
+      sections = record { p = c.section_of.result; a = c.section_of-2.result; b = c.section_of-3.result };
     } in
     let read : code_in c.args.bytes.now ≡ Some code = search rules in
     (code-read c.args.bytes.now code (λ i. omega (arith, c.type_inv.bytes i)) read).0
@@ -79,9 +75,7 @@ returns-clause-kept c =
       flags = c.declared.inside.flags;
       vars = c.declared.inside.vars;
       templates = c.in_ok-templates.templates.items;
-      p = c.section_of.result;
-      a = c.section_of-2.result;
-      b = c.section_of-3.result;
+      sections = record { p = c.section_of.result; a = c.section_of-2.result; b = c.section_of-3.result };
     } in
     let read : code_in c.args.bytes.now ≡ Some code = search rules in
     (code-read c.args.bytes.now code (λ i. omega (arith, c.type_inv.bytes i)) read).1
@@ -94,9 +88,7 @@ returns-clause-read c =
       flags = c.declared.inside.flags;
       vars = c.declared.inside.vars;
       templates = c.in_ok-templates.templates.items;
-      p = c.section_of.result;
-      a = c.section_of-2.result;
-      b = c.section_of-3.result;
+      sections = record { p = c.section_of.result; a = c.section_of-2.result; b = c.section_of-3.result };
     } in
     let read : code_in c.args.bytes.now ≡ Some code = search rules in
     read-as c.args.bytes.now code read

@@ -1,6 +1,16 @@
 use Rattle.std.proofs.Common.{refl}
+use Rattle.mc_protocol.specs.declared.actor.Actor.TheVariants as actor
 use Rattle.mc_code.proofs.WrittenImage.{image-written}
 use Rattle.mc_code.proofs.image_writer.encode.Goals as goal
+
+pub push_section-requires : goal.push_section-requires
+push_section-requires c = (c.code.invariant.sections actor.P).few
+
+pub push_section-requires-2 : goal.push_section-requires-2
+push_section-requires-2 c = (c.code.invariant.sections actor.A).few
+
+pub push_section-requires-3 : goal.push_section-requires-3
+push_section-requires-3 c = (c.code.invariant.sections actor.B).few
 
 pub returns-clause-ok : goal.returns-clause-ok
 returns-clause-ok c =
