@@ -15,6 +15,7 @@ pub mod ScriptRead
 pub mod Readings
 pub mod Masks
 pub mod JumpLists
+pub mod Targets
 pub mod Formed
 pub mod PrintedTexts
 pub mod PrintedLines
