@@ -172,13 +172,13 @@ pub section-laid : (s : Script) (actor : Actor) → IsScript s → (first : ℕ)
     ≡ instructions_of s actor
 section-laid s actor.P h first e =
     let n : length (clearing_steps 0 s.names.keys) ≡ length s.names.keys = clearing-length 0 s.names.keys in
-    let P : ℕ → Type 0 = λ k. clearing_code (places_of (length s.names.keys) s.p.steps s.p.labels).labels 0 s.names.keys
-    ++ instructions_from (places_of (length s.names.keys) s.p.steps s.p.labels) first 0 s.p.steps
-    ≡ code_from (map (moved k) s.p.labels) (clearing_steps 0 s.names.keys ++ s.p.steps) 0 0 (clearing_steps 0 s.names.keys ++ s.p.steps) in
-    subst P (sym n) (sym (laid s.names.keys s.p.steps s.p.labels first h.p.labels (omega (arith, e))))
+    let P : ℕ → Type 0 = λ k. clearing_code (places_of (length s.names.keys) s.sections.p.steps s.sections.p.labels).labels 0 s.names.keys
+    ++ instructions_from (places_of (length s.names.keys) s.sections.p.steps s.sections.p.labels) first 0 s.sections.p.steps
+    ≡ code_from (map (moved k) s.sections.p.labels) (clearing_steps 0 s.names.keys ++ s.sections.p.steps) 0 0 (clearing_steps 0 s.names.keys ++ s.sections.p.steps) in
+    subst P (sym n) (sym (laid s.names.keys s.sections.p.steps s.sections.p.labels first h.p.labels (omega (arith, e))))
 section-laid s actor.A h first e =
     let same : first ≡ first_template s actor.A = omega (arith, e) in
-    rw same (sym (laid-bare s.a.steps s.a.labels (first_template s actor.A) h.a.labels))
+    rw same (sym (laid-bare s.sections.a.steps s.sections.a.labels (first_template s actor.A) h.a.labels))
 section-laid s actor.B h first e =
     let same : first ≡ first_template s actor.B = omega (arith, e) in
-    rw same (sym (laid-bare s.b.steps s.b.labels (first_template s actor.B) h.b.labels))
+    rw same (sym (laid-bare s.sections.b.steps s.sections.b.labels (first_template s actor.B) h.b.labels))

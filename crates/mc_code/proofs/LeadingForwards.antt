@@ -90,10 +90,10 @@ steps_onward names labels count p q (s ∷ steps) place are =
 section_onward : (s : Script) → IsScript s → (k : Actor) → AreOnward (all_labels s k) 0 (all_steps s k)
 section_onward s is actor.P =
     let count = length (front_of s actor.P) in
-    onward_append (all_labels s actor.P) (front_of s actor.P) s.p.steps 0 count (omega arith) (clearing_onward (all_labels s actor.P) 0 0 s.names.keys)
-    (steps_onward s.names s.p.labels count 0 count s.p.steps (omega arith) is.p.steps)
-section_onward s is actor.A = steps_onward s.names s.a.labels 0 0 0 s.a.steps (omega arith) is.a.steps
-section_onward s is actor.B = steps_onward s.names s.b.labels 0 0 0 s.b.steps (omega arith) is.b.steps
+    onward_append (all_labels s actor.P) (front_of s actor.P) s.sections.p.steps 0 count (omega arith) (clearing_onward (all_labels s actor.P) 0 0 s.names.keys)
+    (steps_onward s.names s.sections.p.labels count 0 count s.sections.p.steps (omega arith) is.p.steps)
+section_onward s is actor.A = steps_onward s.names s.sections.a.labels 0 0 0 s.sections.a.steps (omega arith) is.a.steps
+section_onward s is actor.B = steps_onward s.names s.sections.b.labels 0 0 0 s.sections.b.steps (omega arith) is.b.steps
 
 -- ---- places
 

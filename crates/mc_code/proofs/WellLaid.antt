@@ -124,10 +124,10 @@ steps_fine names labels count place (s ∷ steps) are =
 
 section_fine : (s : Script) → IsScript s → (k : Actor) → AreFine (all_labels s k) (all_steps s k)
 section_fine s is actor.P =
-    fine_after (all_labels s actor.P) (front_of s actor.P) s.p.steps (front_fine (all_labels s actor.P) s actor.P)
-    (steps_fine s.names s.p.labels (length (front_of s actor.P)) 0 s.p.steps is.p.steps)
-section_fine s is actor.A = steps_fine s.names s.a.labels 0 0 s.a.steps is.a.steps
-section_fine s is actor.B = steps_fine s.names s.b.labels 0 0 s.b.steps is.b.steps
+    fine_after (all_labels s actor.P) (front_of s actor.P) s.sections.p.steps (front_fine (all_labels s actor.P) s actor.P)
+    (steps_fine s.names s.sections.p.labels (length (front_of s actor.P)) 0 s.sections.p.steps is.p.steps)
+section_fine s is actor.A = steps_fine s.names s.sections.a.labels 0 0 s.sections.a.steps is.a.steps
+section_fine s is actor.B = steps_fine s.names s.sections.b.labels 0 0 s.sections.b.steps is.b.steps
 
 named_at : (s : Script) (k : Actor) (n : ℕ) (t : Template) → slice_get (requests_of (all_steps s k)) n ≡ Some t
     → slice_get (templates_of s) (first_template s k + n) ≡ Some t

@@ -66,9 +66,11 @@ counts_up = request verb.Incr (argument.Number 1) []
 abbrev pub counter : Script
 counter = record {
   names = record { keys = codes "a" ∷ []; flags = []; vars = [] };
-  p = section 2 26 (send stores_five ∷ []);
-  a = section 1 10 (send counts_up ∷ []);
-  b = section 1 10 (send counts_up ∷ []);
+  sections = record {
+    p = section 2 26 (send stores_five ∷ []);
+    a = section 1 10 (send counts_up ∷ []);
+    b = section 1 10 (send counts_up ∷ []);
+  };
 }
 
 -- where the classes of a deletion lead
@@ -149,13 +151,15 @@ touches = request verb.Touch argument.Nothing []
 abbrev pub swap : Script
 swap = record {
   names = record { keys = codes "a" ∷ []; flags = []; vars = codes "n" ∷ [] };
-  p = section 2 26 (send stores_five ∷ []);
-  a = record {
-    budget = record { requests = 2; bytes = 45 };
-    steps = step.Send reads ((class.Miss, 0) ∷ []) (Some 0) ∷ send swaps ∷ [];
-    labels = record { name = codes "out"; place = 2 } ∷ [];
+  sections = record {
+    p = section 2 26 (send stores_five ∷ []);
+    a = record {
+      budget = record { requests = 2; bytes = 45 };
+      steps = step.Send reads ((class.Miss, 0) ∷ []) (Some 0) ∷ send swaps ∷ [];
+      labels = record { name = codes "out"; place = 2 } ∷ [];
+    };
+    b = section 1 20 (step.Bind 0 ∷ send touches ∷ []);
   };
-  b = section 1 20 (step.Bind 0 ∷ send touches ∷ []);
 }
 
 -- a hit leads to the bind, and a miss to the end
@@ -192,17 +196,19 @@ counts_by = request verb.Incr (argument.Variable 0) []
 abbrev pub jumper : Script
 jumper = record {
   names = record { keys = codes "a" ∷ []; flags = []; vars = codes "n" ∷ [] };
-  p = record {
-    budget = record { requests = 3; bytes = 37 };
-    steps = step.Send stores_five ((class.Stored, 0) ∷ []) None ∷ send touches ∷ [];
-    labels = record { name = codes "out"; place = 2 } ∷ [];
+  sections = record {
+    p = record {
+      budget = record { requests = 3; bytes = 37 };
+      steps = step.Send stores_five ((class.Stored, 0) ∷ []) None ∷ send touches ∷ [];
+      labels = record { name = codes "out"; place = 2 } ∷ [];
+    };
+    a = record {
+      budget = record { requests = 2; bytes = 37 };
+      steps = step.Send reads [] (Some 0) ∷ step.Goto 0 ∷ send touches ∷ send counts_by ∷ [];
+      labels = record { name = codes "on"; place = 3 } ∷ [];
+    };
+    b = section 1 37 (send swaps ∷ []);
   };
-  a = record {
-    budget = record { requests = 2; bytes = 37 };
-    steps = step.Send reads [] (Some 0) ∷ step.Goto 0 ∷ send touches ∷ send counts_by ∷ [];
-    labels = record { name = codes "on"; place = 3 } ∷ [];
-  };
-  b = section 1 37 (send swaps ∷ []);
 }
 
 -- where the classes of a touch lead

@@ -6,6 +6,7 @@ pub mod Legal
 pub mod Lines
 pub mod Merge
 pub mod Names
+pub mod Sections
 pub mod Texts
 pub mod TextLines
 pub mod WordLines

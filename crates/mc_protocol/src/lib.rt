@@ -19,6 +19,7 @@ mod names;
 mod render;
 mod reply;
 mod request;
+mod sections;
 mod word_lines;
 
 pub use actor::Actor;
@@ -36,6 +37,7 @@ pub use names::{index_of, is_key, is_name, is_new};
 pub use render::{append_all, render_reply, render_request, render_value, request_len};
 pub use reply::{Class, Reply};
 pub use request::{Fields, Request, Verb};
+pub use sections::Sections;
 use std::alloc::AllocError;
 pub use word_lines::{WordLine, WordLines, is_word};
 

@@ -1,5 +1,5 @@
 //! Values that the tests need, and their parts.
-use mc_protocol::{Actor, Bytes, Class, Fields, OutOfMemory, Reply, Request, Verb};
+use mc_protocol::{Actor, Bytes, Class, Fields, OutOfMemory, Reply, Request, Sections, Verb};
 use std::alloc::Global;
 use std::test::Fail;
 
@@ -52,6 +52,20 @@ fn knows_words_and_fields(rt: HostRuntime) {
             && Verb::Delete.word() == "delete"
             && Actor::P != Actor::A
             && Reply::Miss.class() == Class::Miss
+    );
+}
+
+#[test]
+fn gets_the_value_of_a_section(rt: HostRuntime) {
+    let words = Sections {
+        p: b"prefix",
+        a: b"first!",
+        b: b"second",
+    };
+    assert!(rt;
+        words.get(Actor::P) == b"prefix"
+            && words.get(Actor::A) == b"first!"
+            && words.get(Actor::B) == b"second"
     );
 }
 

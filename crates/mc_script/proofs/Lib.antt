@@ -13,6 +13,7 @@ pub mod NewNames
 pub mod WholeScript
 pub mod ScriptRead
 pub mod Readings
+pub mod Bits
 pub mod Masks
 pub mod JumpLists
 pub mod Targets

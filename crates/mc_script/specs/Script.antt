@@ -1,15 +1,18 @@
 -- What a script is: the names that it declares, and three sections.
-use Rattle.std.specs.Prelude.{◌≡◌, ℕ, ◌==◌, nat_le, Bool, true, not, ◌&&◌, List, length}
+use Rattle.std.specs.Prelude.{◌≡◌, ℕ, ◌==◌, nat_le, Bool, true, not, ◌&&◌, List, length, max}
 use Rattle.std.specs.List.{list_all}
 use Rattle.mc_protocol.specs.declared.actor.Actor.{Actor}
-use Rattle.mc_protocol.specs.declared.actor.Actor.TheVariants as actor
+use Rattle.mc_protocol.specs.declared.sections.Sections.{Sections}
 use Rattle.mc_protocol.specs.declared.limits.TheConstants.{KEYS_LIMIT, KEY_BYTES_LIMIT}
 use Rattle.mc_protocol.specs.Lines.{Word}
 use Rattle.mc_protocol.specs.Names.{is_name, are_distinct}
+use Rattle.mc_protocol.specs.Sections as sections
 use Rattle.mc_script.specs.declared.limits.TheConstants.{FLAGS_LIMIT, VARIABLES_LIMIT, NAME_BYTES_LIMIT}
 use Rattle.mc_script.specs.declared.section.Budget.{Budget}
 use Rattle.mc_script.specs.declared.section.Label.{Label}
 use Rattle.mc_script.specs.declared.step.Step.{Step}
+use Rattle.mc_script.specs.declared.version.Version.{Version}
+use Rattle.mc_script.specs.Versions.{least_version}
 
 -- the keys, the flags and the variables, each by its name
 pub record Names : Type 0 where
@@ -36,11 +39,15 @@ pub record AreDeclared (names : Names) : Type 0 where
 
 pub record Script : Type 0 where
   pub names : Names
-  pub p : Section
-  pub a : Section
-  pub b : Section
+  pub sections : Sections Section
 
 abbrev pub section_of : Script → Actor → Section
-section_of s actor.P = s.p
-section_of s actor.A = s.a
-section_of s actor.B = s.b
+section_of s actor = sections.section_of s.sections actor
+
+-- the number of steps of the longest section
+abbrev pub longest : Script → ℕ
+longest s = max (length s.sections.p.steps) (max (length s.sections.a.steps) (length s.sections.b.steps))
+
+-- the version whose text is printed of the script
+abbrev pub version_of : Script → Version
+version_of s = least_version (length s.names.flags) (longest s)

@@ -74,6 +74,6 @@ pub record IsSection (names : Names) (s : Section) : Type 0 where
 
 pub record IsScript (s : Script) : Type 0 where
   pub declared : AreDeclared s.names
-  pub p : IsSection s.names s.p
-  pub a : IsSection s.names s.a
-  pub b : IsSection s.names s.b
+  pub p : IsSection s.names s.sections.p
+  pub a : IsSection s.names s.sections.a
+  pub b : IsSection s.names s.sections.b

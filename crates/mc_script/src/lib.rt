@@ -24,6 +24,7 @@ mod section_text;
 mod step;
 mod text;
 mod text_laws;
+mod version;
 mod words;
 
 pub use fault::{ScriptFault, ScriptKind};
@@ -35,4 +36,5 @@ pub use section::{Budget, Label};
 pub use step::{Argument, Jumps, Step, Template};
 pub use text::parse;
 pub use text_laws::texts_spell_one_script;
+pub use version::Version;
 pub use words::is_body;

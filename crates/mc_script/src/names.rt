@@ -1,4 +1,5 @@
-ghost use Rattle.std.specs.Prelude.{◌≡◌};
+ghost use Rattle.std.specs.Prelude.{◌≡◌, ◌≤◌, length};
+ghost use Rattle.mc_script.specs.declared.limits.TheConstants.{FLAGS_LIMIT};
 ghost use Rattle.mc_script.specs.Script as spec;
 ghost use Rattle.mc_protocol.specs.Names as names;
 
@@ -41,7 +42,8 @@ impl Names {
     }
 
     pub(crate) fn flags(&self) -> &[Bytes]
-        ensures { result.now ≡ self.now.flags }
+        ensures names { result.now ≡ self.now.flags }
+        ensures few { length result.now ≤ FLAGS_LIMIT }
     {
         self.flags.as_slice()
     }

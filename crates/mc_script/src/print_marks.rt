@@ -1,5 +1,6 @@
-ghost use Rattle.std.specs.Prelude.{◌≡◌, ◌==◌, ◌++◌, ◌∷◌, [], OnOk};
+ghost use Rattle.std.specs.Prelude.{◌≡◌, ◌<◌, ◌≤◌, ◌==◌, ◌++◌, ◌∷◌, [], OnOk, length};
 ghost use Rattle.std.specs.Int.{bit_at};
+ghost use Rattle.mc_script.specs.declared.limits.TheConstants.{FLAGS_LIMIT};
 ghost use Rattle.mc_script.specs.Marks as spec;
 ghost use Rattle.mc_script.specs.PrintedScript as printed;
 
@@ -28,7 +29,7 @@ pub(crate) fn label_at(labels: &[Label], index: usize) -> &[u8]
     }
 }
 
-/// Appends the marks of a request, each behind a space.
+/// Appends the marks of a request, with a space before each.
 pub(crate) fn print_marks(
     names: &Names,
     labels: &[Label],
@@ -51,6 +52,7 @@ fn print_all_flags(
     template: &Template,
     out: &mut Vec<u8>,
 ) -> Result<(), OutOfMemory>
+    requires { length names.now ≤ FLAGS_LIMIT }
     ensures { OnOk result (out.new.items ≡ out.old.items
         ++ printed.behind_text (printed.all_flag_words names.now template.now)) }
 {
@@ -60,46 +62,34 @@ fn print_all_flags(
     print_flags(Sign::Clears, template.clears, names, out)
 }
 
-// Appends the flags of the mask behind their sign, in the order of their names.
+// Appends the flags of the mask after their sign, in the order of their declaration.
 fn print_flags(
     sign: Sign,
     mask: Mask,
     names: &[Bytes],
     out: &mut Vec<u8>,
 ) -> Result<(), OutOfMemory>
+    requires { length names.now ≤ FLAGS_LIMIT }
     ensures { OnOk result (out.new.items ≡ out.old.items
         ++ printed.behind_text (printed.flag_words sign mask 0 names.now)) }
 {
-    let mut left = mask;
-    let mut rest = names;
-    'flags: while let [name, others @ ..] = rest {
-        print_first(sign, left, name.as_slice(), out)?;
-        left /= 2;
-        rest = others;
+    'flags: for (flag, name) in names.iter().enumerate() {
+        if has_flag(mask, flag) {
+            print_flag(sign, name.as_slice(), out)?;
+        }
     }
     Ok(())
 }
 
-// Whether the first flag is in the mask.
-fn has_first(mask: Mask) -> bool
-    ensures { result ≡ (bit_at mask 0 == 1) }
+// Whether the flag is in the mask.
+fn has_flag(mask: Mask, flag: usize) -> bool
+    requires { flag < FLAGS_LIMIT }
+    ensures { result ≡ (bit_at mask flag == 1) }
 {
-    mask % 2 == 1
+    mask & (1 << flag) != 0
 }
 
-// Appends the first flag of the mask, if it has it.
-fn print_first(sign: Sign, mask: Mask, name: &[u8], out: &mut Vec<u8>) -> Result<(), OutOfMemory>
-    ensures { OnOk result (out.new.items ≡ out.old.items
-        ++ printed.behind_text (printed.flag_words sign mask 0 (name.now ∷ []))) }
-{
-    if has_first(mask) {
-        print_flag(sign, name, out)
-    } else {
-        Ok(())
-    }
-}
-
-// Appends a flag behind a space and its sign.
+// Appends a space, the sign and the name of a flag.
 fn print_flag(sign: Sign, name: &[u8], out: &mut Vec<u8>) -> Result<(), OutOfMemory>
     ensures { OnOk result (out.new.items ≡ out.old.items ++ 32 ∷ spec.sign_byte sign ∷ name.now) }
 {
@@ -128,15 +118,13 @@ fn print_jumps(
     ensures { OnOk result (out.new.items ≡ out.old.items
         ++ printed.behind_text (printed.jump_words labels.now jumps.now)) }
 {
-    let mut rest = jumps;
-    'jumps: while let [jump, others @ ..] = rest {
-        print_jump(labels, jump.0, jump.1, out)?;
-        rest = others;
+    'jumps: for (class, label) in jumps {
+        print_jump(labels, *class, *label, out)?;
     }
     Ok(())
 }
 
-// Appends a jump behind a space.
+// Appends a space and a jump.
 fn print_jump(
     labels: &[Label],
     class: Class,

@@ -24,7 +24,7 @@ pub(crate) fn print_section(
     print_steps(names, &section.labels, &section.steps, out)
 }
 
-// Appends the steps, each behind the labels of its place, and the labels of the end.
+// Appends the steps, with the labels of its place before each, and the labels of the end.
 fn print_steps(
     names: &Names,
     labels: &[Label],
@@ -34,27 +34,21 @@ fn print_steps(
     ensures { OnOk result (out.new.items ≡ out.old.items
         ++ printed.lines_text (printed.step_lines names.now labels.now 0 steps.now)) }
 {
-    let mut place = 0;
-    let mut rest = steps;
-    'steps: while let [step, others @ ..] = rest {
+    'steps: for (place, step) in steps.iter().enumerate() {
         print_labels(place, labels, out)?;
         print_step(names, labels, step, out)?;
-        place += 1;
-        rest = others;
     }
-    print_labels(place, labels, out)
+    print_labels(steps.len(), labels, out)
 }
 
 // Appends the labels of this place.
 fn print_labels(place: usize, labels: &[Label], out: &mut Vec<u8>) -> Result<(), OutOfMemory>
     ensures { OnOk result (out.new.items ≡ out.old.items ++ printed.lines_text (printed.label_lines place labels.now)) }
 {
-    let mut rest = labels;
-    'labels: while let [label, others @ ..] = rest {
+    'labels: for label in labels {
         if label.place == place {
             append_all(out, &[label.name.as_slice(), b":\n"])?;
         }
-        rest = others;
     }
     Ok(())
 }
@@ -105,7 +99,7 @@ fn print_request(
     out.extend_from_slice(b"\n")
 }
 
-// Appends the flags and the body, where the verb has them, each behind a space.
+// Appends the flags and the body, where the verb has them, with a space before each.
 fn print_item(template: &Template, out: &mut Vec<u8>) -> Result<(), OutOfMemory>
     ensures { OnOk result (out.new.items ≡ out.old.items ++ printed.behind_text
         (printed.item_words (fields_of template.now.verb) template.now.flags template.now.body)) }
@@ -120,7 +114,7 @@ fn print_item(template: &Template, out: &mut Vec<u8>) -> Result<(), OutOfMemory>
     }
 }
 
-// Appends the number or the variable, if there is one, behind a space.
+// Appends a space and the number or the variable, if there is one.
 fn print_argument(names: &Names, argument: Argument, out: &mut Vec<u8>) -> Result<(), OutOfMemory>
     ensures { OnOk result (out.new.items ≡ out.old.items
         ++ printed.behind_text (printed.argument_words names.now argument)) }

@@ -5,7 +5,7 @@ ghost use Rattle.mc_script.specs.WellFormed.{IsScript};
 use crate::names::Names;
 use crate::section::Section;
 use crate::{Budget, Label, Step};
-use mc_protocol::{Actor, Bytes};
+use mc_protocol::{Actor, Bytes, Sections};
 use std::marker::Model;
 
 /// A script: the names that it declares, and its three sections. Each value is one that a text can spell. Contracts see
@@ -13,9 +13,7 @@ use std::marker::Model;
 #[derive(Debug, Drop)]
 pub struct Script {
     pub(crate) names: Names,
-    pub(crate) p: Section,
-    pub(crate) a: Section,
-    pub(crate) b: Section,
+    pub(crate) sections: Sections<Section>,
 }
 
 impl Model for Script {
@@ -24,9 +22,9 @@ impl Model for Script {
 
     ghost Value = { spec.Script };
 
-    ghost view = { λ s. record { names = s.names; p = s.p; a = s.a; b = s.b } };
+    ghost view = { λ s. record { names = s.names; sections = s.sections } };
 
-    ghost invariant = { λ s. IsScript (record { names = s.names; p = s.p; a = s.a; b = s.b }) };
+    ghost invariant = { λ s. IsScript (record { names = s.names; sections = s.sections }) };
 }
 
 impl Script {
@@ -85,10 +83,6 @@ impl Script {
         ensures section { result.now ≡ spec.section_of self.now actor }
         ensures kept { IsScript self.now }
     {
-        match actor {
-            Actor::P => &self.p,
-            Actor::A => &self.a,
-            Actor::B => &self.b,
-        }
+        self.sections.get(actor)
     }
 }

@@ -2,7 +2,7 @@
 
 use mc_protocol::{Actor, Bytes, Class, Verb};
 use mc_script::ScriptKind::Header;
-use mc_script::{Argument, Budget, Jumps, Label, Script, Step, Template, parse};
+use mc_script::{Argument, Budget, Jumps, Label, Mask, Script, Step, Template, parse};
 use std::test::Fail;
 
 // Each kind of step and of mark, a label above all steps, and some at the end of a section.
@@ -105,7 +105,7 @@ fn is_template(
     flags: u32,
     argument: Argument,
     body: &str,
-    masks: [u32; 4],
+    masks: [Mask; 4],
 ) -> bool {
     template.verb == verb
         && template.key == key

@@ -1,7 +1,6 @@
 -- What is appended is the pieces, which were joined by cloning each byte.
-use Rattle.std.proofs.Common.{◌≡◌, ℕ, List, map, sym, ◌∙◌, rules}
-use Rattle.std.specs.List.{concat, flat_map}
-use Rattle.std.proofs.lemmas.Result.{on_ok_weaker}
+use Rattle.std.proofs.Common.{◌≡◌, map, ◌∙◌, rules}
+use Rattle.std.specs.List.{flat_map}
 use Rattle.std.proofs.lemmas.List.Concat.{concat_is}
 use Rattle.std.proofs.lemmas.List.Folds.{flat_map-map}
 use Rattle.std.proofs.lemmas.List.Elements.{same_from_all_zip}

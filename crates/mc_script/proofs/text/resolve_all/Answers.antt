@@ -6,4 +6,4 @@ invariant_of-result c =
     let p = rw c.deref.ensures.value at c.in_ok-p.ensures in
     let a = rw c.deref-2.ensures.value at c.in_ok-a.ensures in
     let b = rw c.deref-3.ensures.value at c.in_ok-b.ensures in
-    c.requires record { names = c.args.names; p = c.in_ok-p.p; a = c.in_ok-a.a; b = c.in_ok-b.b } (rw (p, a, b) refl)
+    c.requires record { names = c.args.names; sections = record { p = c.in_ok-p.p; a = c.in_ok-a.a; b = c.in_ok-b.b } } (rw (p, a, b) refl)
