@@ -1,5 +1,5 @@
 -- Names that differ, and whether one more may be declared after others.
-use Rattle.std.proofs.Common.{◌≡◌, ◌≢◌, Bor, Some, None, ℕ, ◌+◌, ◌<◌, ◌≤◌, true, false, Bool, not, ◌&&◌, nat_le, nat_lt, List, [], ◌∷◌, ◌++◌, length, get_or, take, drop, map, refl, sym, ap, subst, ◌∙◌, arith, length-append}
+use Rattle.std.proofs.Common.{◌≡◌, ◌≢◌, Bor, Some, None, ℕ, ◌+◌, ◌<◌, ◌≤◌, true, false, Bool, ◌&&◌, nat_le, nat_lt, List, [], ◌∷◌, ◌++◌, length, get_or, take, drop, map, refl, sym, ap, subst, ◌∙◌, arith, length-append}
 use Rattle.std.specs.List.{list_all, list_any}
 use Rattle.std.specs.Str.{bytes_eq}
 use Rattle.std.proofs.lemmas.Bool.{leb-true, le-leb, lt-ltb, ltb-true, not-true, not_from_false, false_from_ne_true, both_ways, or_parts, or_from, and_parts, and_from}

@@ -29,6 +29,8 @@ use Rattle.mc_script.specs.declared.section.Budget.{Budget}
 use Rattle.mc_script.specs.declared.step.Argument.{Argument}
 use Rattle.mc_script.specs.declared.step.Argument.TheVariants as argument
 use Rattle.mc_script.specs.declared.step.Template.{Template}
+use Rattle.mc_script.specs.declared.version.Version.{Version}
+use Rattle.mc_script.specs.declared.version.Version.TheVariants as version
 use Rattle.mc_script.specs.Script.{Names, may_be_declared}
 use Rattle.mc_script.specs.ScriptWords.{is_body, is_label_name}
 use Rattle.mc_script.specs.Marks.{may_stand, are_twins, is_number_jump}
@@ -61,15 +63,21 @@ body_in (first ∷ body) = if first == 61 then (if is_body body then Some body e
 
 -- ---- declarations
 
-abbrev pub is_header : Words → Bool
-is_header [] = false
-is_header (word ∷ []) = false
-is_header (word ∷ version ∷ []) = bytes_eq word (codes "script") && bytes_eq version (codes "1")
-is_header (word ∷ version ∷ _ ∷ _) = false
+-- the version with this word
+abbrev pub version_of_word : Word → Option Version
+version_of_word word =
+    if bytes_eq word (codes "1") then Some version.One else (if bytes_eq word (codes "2") then Some version.Two else None)
 
-abbrev pub header_in : List Words → Option (List Words)
+-- the version of a header
+abbrev pub header_version : Words → Option Version
+header_version [] = None
+header_version (word ∷ []) = None
+header_version (word ∷ number ∷ []) = if bytes_eq word (codes "script") then version_of_word number else None
+header_version (word ∷ number ∷ _ ∷ _) = None
+
+abbrev pub header_in : List Words → Option (Version × List Words)
 header_in [] = None
-header_in (line ∷ lines) = if is_header line then Some lines else None
+header_in (line ∷ lines) = header_version line >>= λ v. Some (v, lines)
 
 -- the name may be declared after these
 abbrev pub may_follow_names : ℕ → ℕ → List Word → Word → Bool

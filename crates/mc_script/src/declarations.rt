@@ -7,7 +7,7 @@ ghost use Rattle.mc_script.specs.Reading as reading;
 
 use crate::lines::next_due;
 use crate::words::read_number;
-use crate::{Budget, NAME_BYTES_LIMIT, ScriptFault, ScriptKind};
+use crate::{Budget, NAME_BYTES_LIMIT, ScriptFault, ScriptKind, Version};
 use mc_protocol::{
     Actor, Bytes, KEY_BYTES_LIMIT, KEYS_LIMIT, REQUEST_BYTES_LIMIT, REQUESTS_LIMIT, WordLine,
     WordLines, is_name, is_word,
@@ -59,28 +59,37 @@ fn has_name(names: &[Bytes], word: &[u8]) -> bool
     names.iter().any(|name| is_word(word, name.as_slice()))
 }
 
-/// Takes the header, `script 1`.
-pub(crate) fn take_header(alloc: Global, lines: &mut WordLines) -> Result<(), ScriptFault>
-    ensures { reading.Says (λ _. lines.new.words) result (reading.header_in lines.old.words) }
+/// Takes the header: `script`, and the version.
+pub(crate) fn take_header(alloc: Global, lines: &mut WordLines) -> Result<Version, ScriptFault>
+    ensures { reading.Says (λ version. (version, lines.new.words)) result (reading.header_in lines.old.words) }
 {
     match lines.next(alloc)? {
-        Some(line) => {
-            if is_header(line.words()) {
-                Ok(())
-            } else {
-                Err(ScriptFault::at(ScriptKind::Header, line.number()))
-            }
-        }
+        Some(line) => match header_version(line.words()) {
+            Some(version) => Ok(version),
+            None => Err(ScriptFault::at(ScriptKind::Header, line.number())),
+        },
         None => Err(ScriptFault::at(ScriptKind::Header, 1)),
     }
 }
 
-fn is_header(words: &[&[u8]]) -> bool
-    ensures { result ≡ reading.is_header (map (λ w. w.now) words.now) }
+// The version of a header.
+fn header_version(words: &[&[u8]]) -> Option<Version>
+    ensures { result ≡ reading.header_version (map (λ w. w.now) words.now) }
 {
     match words {
-        [word, version] => is_word(word, b"script") && is_word(version, b"1"),
-        _ => false,
+        [word, number] if is_word(word, b"script") => version_of_word(number),
+        _ => None,
+    }
+}
+
+// The version with this word.
+fn version_of_word(word: &[u8]) -> Option<Version>
+    ensures { result ≡ reading.version_of_word word.now }
+{
+    match word {
+        b"1" => Some(Version::One),
+        b"2" => Some(Version::Two),
+        _ => None,
     }
 }
 
