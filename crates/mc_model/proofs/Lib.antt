@@ -8,6 +8,7 @@ pub mod Outcomes
 pub mod Readings
 pub mod NumberWords
 pub mod BodyWords
+pub mod FieldWords
 pub mod RequestWords
 pub mod ReplyWords
 pub mod PrintedWords

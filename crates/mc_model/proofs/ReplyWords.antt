@@ -10,12 +10,12 @@ use Rattle.mc_protocol.specs.Lines.{Word}
 use Rattle.mc_protocol.specs.Decimals.{SpellsNumber, MAX_32, MAX_64}
 use Rattle.mc_protocol.specs.Words.{all_classes}
 use Rattle.mc_protocol.proofs.Found.{find-passes}
-use Rattle.mc_model.specs.declared.words.WordsFault.TheVariants as fault
 use Rattle.mc_model.specs.Words.{SpellsShown, SpellsReply, class_word}
-use Rattle.mc_model.specs.Reading.{◌>>=◌, class_of_word, number_in, flags_in, body_in, bare_in, shown_number_in, hit_in, count_in, after_class, reply_in}
+use Rattle.mc_model.specs.Reading.{◌>>=◌, at_end, last_number_in, flags_and_body_in, class_of_word, flags_in, body_in, shown_number_in, hit_in, count_in, after_class, reply_in}
 use Rattle.mc_model.proofs.Outcomes.{steps-ok, ok-same}
-use Rattle.mc_model.proofs.NumberWords.{number-spelled, number-read}
-use Rattle.mc_model.proofs.BodyWords.{body-spelled, body-read}
+use Rattle.mc_model.proofs.NumberWords.{number-read}
+use Rattle.mc_model.proofs.BodyWords.{body-read}
+use Rattle.mc_model.proofs.FieldWords.{at_end-ok, last_number-spelled, flags_and_body-spelled}
 
 -- ---- classes
 
@@ -39,32 +39,30 @@ word-of_class word c h = (bytes_eq-Decides (class_word c) word).0 (find-passes (
 
 -- ---- replies with nothing after their word
 
-bare-spelled : (c : Class) (made : Reply) → ((words : List Word) → words ≡ class_word c ∷ [] → SpellsReply words made) → (word : Word) (words : List Word) (r : Reply) → class_word c ≡ word → bare_in made words ≡ Ok r → SpellsReply (word ∷ words) r
-bare-spelled c made spells word [] r w h = subst (SpellsReply (word ∷ [])) (ok-same made r h) (spells (word ∷ []) (rw w refl))
-bare-spelled c made spells word (other ∷ others) r w h = absurd (cc)
+bare-spelled : (c : Class) (made : Reply) → ((words : List Word) → words ≡ class_word c ∷ [] → SpellsReply words made) → (word : Word) (words : List Word) (r : Reply) → class_word c ≡ word → at_end made words ≡ Ok r → SpellsReply (word ∷ words) r
+bare-spelled c made spells word words r w h =
+    let e = at_end-ok made words r h in
+    subst (SpellsReply (word ∷ words)) e.1 (spells (word ∷ words) (rw (w, e.0) refl))
 
 -- ---- hits
 
 shown-spelled : (words : List Word) (n : Option ℕ) → shown_number_in words ≡ Ok n → SpellsShown words n
 shown-spelled [] n h = subst (SpellsShown []) (ok-same None n h) refl
-shown-spelled (number ∷ []) n h =
-    let p = steps-ok (number_in MAX_64 number) (λ m. Ok (Some m)) n h in
-    subst (SpellsShown (number ∷ [])) (ok-same (Some p.0) n p.2) (number, refl, number-spelled MAX_64 number p.0 p.1)
-shown-spelled (number ∷ word ∷ words) n h = absurd (let p = steps-ok (number_in MAX_64 number) (λ m. Err fault.Form) n h in cc)
+shown-spelled (number ∷ others) n h =
+    let p = steps-ok (last_number_in (number ∷ others)) (λ m. Ok (Some m)) n h in
+    subst (SpellsShown (number ∷ others)) (ok-same (Some p.0) n p.2) (last_number-spelled (number ∷ others) p.0 p.1)
 
 shown-read : (words : List Word) (n : Option ℕ) → SpellsShown words n → shown_number_in words ≡ Ok n
 shown-read words None e = rw e refl
 shown-read words (Some n) (word, e, number) = rw (e, number-read MAX_64 word n number) refl
 
 hit-spelled : (word : Word) (words : List Word) (r : Reply) → class_word class.Hit ≡ word → hit_in words ≡ Ok r → SpellsReply (word ∷ words) r
-hit-spelled word [] r w h = absurd (cc)
-hit-spelled word (flags ∷ []) r w h = absurd (let p = steps-ok (flags_in flags) (λ f. Err fault.Form) r h in cc)
-hit-spelled word (flags ∷ body ∷ shown) r w h =
-    let p = steps-ok (flags_in flags) (λ f. body_in body >>= λ b. shown_number_in shown >>= λ n. Ok (reply.Hit f b n)) r h in
-    let q = steps-ok (body_in body) (λ b. shown_number_in shown >>= λ n. Ok (reply.Hit p.0 b n)) r p.2 in
-    let s = steps-ok (shown_number_in shown) (λ n. Ok (reply.Hit p.0 q.0 n)) r q.2 in
-    subst (SpellsReply (word ∷ flags ∷ body ∷ shown)) (ok-same (reply.Hit p.0 q.0 s.0) r s.2)
-    (flags, body, shown, ap (λ x. x ∷ flags ∷ body ∷ shown) (sym w), number-spelled MAX_32 flags p.0 p.1, body-spelled body q.0 q.1, shown-spelled shown s.0 s.1)
+hit-spelled word words r w h =
+    let p = steps-ok (flags_and_body_in words) (λ x. shown_number_in x.2 >>= λ n. Ok (reply.Hit x.0 x.1 n)) r h in
+    let i = flags_and_body-spelled words p.0 p.1 in
+    let s = steps-ok (shown_number_in p.0.2) (λ n. Ok (reply.Hit p.0.0 p.0.1 n)) r p.2 in
+    subst (SpellsReply (word ∷ words)) (ok-same (reply.Hit p.0.0 p.0.1 s.0) r s.2)
+    (i.flags, i.body, p.0.2, ap (λ x. x ∷ words) (sym w) ∙ ap (λ o. class_word class.Hit ∷ o) i.split, i.number, i.bytes, shown-spelled p.0.2 s.0 s.1)
 
 hit-read : (f b : Word) (shown : List Word) (flags : ℕ) (body : List ℕ) (cas : Option ℕ) → flags_in f ≡ Ok flags → body_in b ≡ Ok body → shown_number_in shown ≡ Ok cas → hit_in (f ∷ b ∷ shown) ≡ Ok (reply.Hit flags body cas)
 hit-read f b shown flags body cas p q s = rw (p, q, s) refl
@@ -72,11 +70,10 @@ hit-read f b shown flags body cas p q s = rw (p, q, s) refl
 -- ---- numbers that were counted
 
 count-spelled : (word : Word) (words : List Word) (r : Reply) → class_word class.Number ≡ word → count_in words ≡ Ok r → SpellsReply (word ∷ words) r
-count-spelled word [] r w h = absurd (cc)
-count-spelled word (number ∷ []) r w h =
-    let p = steps-ok (number_in MAX_64 number) (λ n. Ok (reply.Number n)) r h in
-    subst (SpellsReply (word ∷ number ∷ [])) (ok-same (reply.Number p.0) r p.2) (number, ap (λ x. x ∷ number ∷ []) (sym w), number-spelled MAX_64 number p.0 p.1)
-count-spelled word (number ∷ other ∷ others) r w h = absurd (let p = steps-ok (number_in MAX_64 number) (λ n. Err fault.Form) r h in cc)
+count-spelled word words r w h =
+    let p = steps-ok (last_number_in words) (λ n. Ok (reply.Number n)) r h in
+    let n = last_number-spelled words p.0 p.1 in
+    subst (SpellsReply (word ∷ words)) (ok-same (reply.Number p.0) r p.2) (n.0, ap (λ x. x ∷ words) (sym w) ∙ ap (λ o. class_word class.Number ∷ o) n.1, n.2)
 
 count-read : (word : Word) (n : ℕ) → SpellsNumber MAX_64 word n → count_in (word ∷ []) ≡ Ok (reply.Number n)
 count-read word n s = rw (number-read MAX_64 word n s) refl

@@ -13,10 +13,11 @@ use Rattle.mc_protocol.specs.Decimals.{are_digits, MAX_32, MAX_64}
 use Rattle.mc_protocol.proofs.OfWords.{verb_of-word, word-of_verb}
 use Rattle.mc_model.specs.declared.words.WordsFault.TheVariants as fault
 use Rattle.mc_model.specs.Words.{SpellsBody, SpellsFields, SpellsRequest}
-use Rattle.mc_model.specs.Reading.{◌>>=◌, body_in, flags_in, fields_in, key_alone_in, item_in, after_verb, request_in, number_in, swap_in, amount_in}
+use Rattle.mc_model.specs.Reading.{◌>>=◌, at_end, last_number_in, flags_and_body_in, fields_in, key_alone_in, item_in, after_verb, request_in, swap_in, amount_in}
 use Rattle.mc_model.proofs.Outcomes.{then-ok, steps-ok, ok-same}
-use Rattle.mc_model.proofs.NumberWords.{number-spelled, number-read}
-use Rattle.mc_model.proofs.BodyWords.{body-spelled, body-read}
+use Rattle.mc_model.proofs.NumberWords.{number-read}
+use Rattle.mc_model.proofs.BodyWords.{body-read}
+use Rattle.mc_model.proofs.FieldWords.{at_end-ok, last_number-spelled, flags_and_body-spelled}
 
 -- ---- what comes after the key, by its shape
 
@@ -25,46 +26,34 @@ abbrev SpellsAfter : Fields → Verb → List ℕ → List Word → Request → 
 SpellsAfter shape verb key words r = (r.verb ≡ verb) × (r.key ≡ key) × SpellsFields shape words r
 
 key_alone-spelled : (verb : Verb) (key : List ℕ) (words : List Word) (r : Request) → key_alone_in verb key words ≡ Ok r → SpellsAfter fields.KeyAlone verb key words r
-key_alone-spelled verb key [] r h = subst (SpellsAfter fields.KeyAlone verb key []) (ok-same _ r h) (refl, refl, (refl, refl, refl, refl))
-key_alone-spelled verb key (word ∷ words) r h = absurd (cc)
+key_alone-spelled verb key words r h =
+    let e = at_end-ok _ words r h in
+    subst (SpellsAfter fields.KeyAlone verb key words) e.1 (refl, refl, (e.0, refl, refl, refl))
 
 item-spelled : (verb : Verb) (key : List ℕ) (words : List Word) (r : Request) → item_in verb key words ≡ Ok r → SpellsAfter fields.Item verb key words r
-item-spelled verb key [] r h = absurd (cc)
-item-spelled verb key (flags ∷ []) r h = absurd (let p = steps-ok (flags_in flags) (λ f. Err fault.Form) r h in cc)
-item-spelled verb key (flags ∷ body ∷ []) r h =
+item-spelled verb key words r h =
     let made : ℕ → List ℕ → Request = λ f b. record { verb = verb; key = key; flags = f; body = b; number = 0 } in
-    let p = steps-ok (flags_in flags) (λ f. body_in body >>= λ b. Ok (made f b)) r h in
-    let q = steps-ok (body_in body) (λ b. Ok (made p.0 b)) r p.2 in
-    subst (SpellsAfter fields.Item verb key (flags ∷ body ∷ [])) (ok-same (made p.0 q.0) r q.2) (refl, refl, (flags, body, refl, number-spelled MAX_32 flags p.0 p.1, body-spelled body q.0 q.1, refl))
-item-spelled verb key (flags ∷ body ∷ word ∷ words) r h =
-    absurd (let p = steps-ok (flags_in flags) (λ f. body_in body >>= λ b. Err fault.Form) r h in let q = steps-ok (body_in body) (λ b. Err fault.Form) r p.2 in cc)
+    let p = steps-ok (flags_and_body_in words) (λ x. at_end (made x.0 x.1) x.2) r h in
+    let i = flags_and_body-spelled words p.0 p.1 in
+    let e = at_end-ok (made p.0.0 p.0.1) p.0.2 r p.2 in
+    subst (SpellsAfter fields.Item verb key words) e.1 (refl, refl, (i.flags, i.body, i.split ∙ ap (λ o. i.flags ∷ i.body ∷ o) e.0, i.number, i.bytes, refl))
 
 swap-spelled : (verb : Verb) (key : List ℕ) (words : List Word) (r : Request) → swap_in verb key words ≡ Ok r → SpellsAfter fields.Swap verb key words r
-swap-spelled verb key [] r h = absurd (cc)
-swap-spelled verb key (flags ∷ []) r h = absurd (let p = steps-ok (flags_in flags) (λ f. Err fault.Form) r h in cc)
-swap-spelled verb key (flags ∷ body ∷ []) r h =
-    absurd (let p = steps-ok (flags_in flags) (λ f. body_in body >>= λ b. Err fault.Form) r h in let q = steps-ok (body_in body) (λ b. Err fault.Form) r p.2 in cc)
-swap-spelled verb key (flags ∷ body ∷ number ∷ []) r h =
+swap-spelled verb key words r h =
     let made : ℕ → List ℕ → ℕ → Request = λ f b n. record { verb = verb; key = key; flags = f; body = b; number = n } in
-    let p = steps-ok (flags_in flags) (λ f. body_in body >>= λ b. number_in MAX_64 number >>= λ n. Ok (made f b n)) r h in
-    let q = steps-ok (body_in body) (λ b. number_in MAX_64 number >>= λ n. Ok (made p.0 b n)) r p.2 in
-    let s = steps-ok (number_in MAX_64 number) (λ n. Ok (made p.0 q.0 n)) r q.2 in
-    subst (SpellsAfter fields.Swap verb key (flags ∷ body ∷ number ∷ [])) (ok-same (made p.0 q.0 s.0) r s.2)
-    (refl, refl, (flags, body, number, refl, number-spelled MAX_32 flags p.0 p.1, body-spelled body q.0 q.1, number-spelled MAX_64 number s.0 s.1))
-swap-spelled verb key (flags ∷ body ∷ number ∷ word ∷ words) r h =
-    absurd (
-    let p = steps-ok (flags_in flags) (λ f. body_in body >>= λ b. number_in MAX_64 number >>= λ n. Err fault.Form) r h in
-    let q = steps-ok (body_in body) (λ b. number_in MAX_64 number >>= λ n. Err fault.Form) r p.2 in
-    let s = steps-ok (number_in MAX_64 number) (λ n. Err fault.Form) r q.2 in
-    cc)
+    let p = steps-ok (flags_and_body_in words) (λ x. last_number_in x.2 >>= λ n. Ok (made x.0 x.1 n)) r h in
+    let i = flags_and_body-spelled words p.0 p.1 in
+    let q = steps-ok (last_number_in p.0.2) (λ n. Ok (made p.0.0 p.0.1 n)) r p.2 in
+    let n = last_number-spelled p.0.2 q.0 q.1 in
+    subst (SpellsAfter fields.Swap verb key words) (ok-same (made p.0.0 p.0.1 q.0) r q.2)
+    (refl, refl, (i.flags, i.body, n.0, i.split ∙ ap (λ o. i.flags ∷ i.body ∷ o) n.1, i.number, i.bytes, n.2))
 
 amount-spelled : (verb : Verb) (key : List ℕ) (words : List Word) (r : Request) → amount_in verb key words ≡ Ok r → SpellsAfter fields.Amount verb key words r
-amount-spelled verb key [] r h = absurd (cc)
-amount-spelled verb key (number ∷ []) r h =
+amount-spelled verb key words r h =
     let made : ℕ → Request = λ n. record { verb = verb; key = key; flags = 0; body = []; number = n } in
-    let p = steps-ok (number_in MAX_64 number) (λ n. Ok (made n)) r h in
-    subst (SpellsAfter fields.Amount verb key (number ∷ [])) (ok-same (made p.0) r p.2) (refl, refl, (number, refl, refl, refl, number-spelled MAX_64 number p.0 p.1))
-amount-spelled verb key (number ∷ word ∷ words) r h = absurd (let p = steps-ok (number_in MAX_64 number) (λ n. Err fault.Form) r h in cc)
+    let q = steps-ok (last_number_in words) (λ n. Ok (made n)) r h in
+    let n = last_number-spelled words q.0 q.1 in
+    subst (SpellsAfter fields.Amount verb key words) (ok-same (made q.0) r q.2) (refl, refl, (n.0, n.1, refl, refl, n.2))
 
 fields-spelled : (shape : Fields) (verb : Verb) (key : List ℕ) (words : List Word) (r : Request) → fields_in shape verb key words ≡ Ok r → SpellsAfter shape verb key words r
 fields-spelled fields.KeyAlone verb key words r h = key_alone-spelled verb key words r h

@@ -90,27 +90,35 @@ unfoldable pub body_in : Word → Result (List ℕ) WordsFault
 body_in [] = Err fault.Form
 body_in (first ∷ text) = if first == 61 then (bytes_in text >>= within_limit) else Err fault.Form
 
+-- what was read, where no word follows
+abbrev pub at_end : {A : Type 0} → A → List Word → Result A WordsFault
+at_end x [] = Ok x
+at_end x (_ ∷ _) = Err fault.Form
+
+-- a number that is the last word
+abbrev pub last_number_in : List Word → Result ℕ WordsFault
+last_number_in [] = Err fault.Form
+last_number_in (number ∷ others) = number_in MAX_64 number >>= λ n. at_end n others
+
+-- flags and a body, and the words that follow
+abbrev pub flags_and_body_in : List Word → Result (ℕ × List ℕ × List Word) WordsFault
+flags_and_body_in [] = Err fault.Form
+flags_and_body_in (flags ∷ []) = flags_in flags >>= λ f. Err fault.Form
+flags_and_body_in (flags ∷ body ∷ others) = flags_in flags >>= λ f. body_in body >>= λ b. Ok (f, b, others)
+
 abbrev pub key_alone_in : Verb → List ℕ → List Word → Result Request WordsFault
-key_alone_in verb key [] = Ok (record { verb = verb; key = key; flags = 0; body = []; number = 0 })
-key_alone_in verb key (_ ∷ _) = Err fault.Form
+key_alone_in verb key words = at_end (record { verb = verb; key = key; flags = 0; body = []; number = 0 }) words
 
 abbrev pub item_in : Verb → List ℕ → List Word → Result Request WordsFault
-item_in verb key [] = Err fault.Form
-item_in verb key (flags ∷ []) = flags_in flags >>= λ f. Err fault.Form
-item_in verb key (flags ∷ body ∷ []) = flags_in flags >>= λ f. body_in body >>= λ b. Ok (record { verb = verb; key = key; flags = f; body = b; number = 0 })
-item_in verb key (flags ∷ body ∷ _ ∷ _) = flags_in flags >>= λ f. body_in body >>= λ b. Err fault.Form
+item_in verb key words =
+    flags_and_body_in words >>= λ x. at_end (record { verb = verb; key = key; flags = x.0; body = x.1; number = 0 }) x.2
 
 abbrev pub swap_in : Verb → List ℕ → List Word → Result Request WordsFault
-swap_in verb key [] = Err fault.Form
-swap_in verb key (flags ∷ []) = flags_in flags >>= λ f. Err fault.Form
-swap_in verb key (flags ∷ body ∷ []) = flags_in flags >>= λ f. body_in body >>= λ b. Err fault.Form
-swap_in verb key (flags ∷ body ∷ number ∷ []) = flags_in flags >>= λ f. body_in body >>= λ b. number_in MAX_64 number >>= λ n. Ok (record { verb = verb; key = key; flags = f; body = b; number = n })
-swap_in verb key (flags ∷ body ∷ number ∷ _ ∷ _) = flags_in flags >>= λ f. body_in body >>= λ b. number_in MAX_64 number >>= λ n. Err fault.Form
+swap_in verb key words =
+    flags_and_body_in words >>= λ x. last_number_in x.2 >>= λ n. Ok (record { verb = verb; key = key; flags = x.0; body = x.1; number = n })
 
 abbrev pub amount_in : Verb → List ℕ → List Word → Result Request WordsFault
-amount_in verb key [] = Err fault.Form
-amount_in verb key (number ∷ []) = number_in MAX_64 number >>= λ n. Ok (record { verb = verb; key = key; flags = 0; body = []; number = n })
-amount_in verb key (number ∷ _ ∷ _) = number_in MAX_64 number >>= λ n. Err fault.Form
+amount_in verb key words = last_number_in words >>= λ n. Ok (record { verb = verb; key = key; flags = 0; body = []; number = n })
 
 abbrev pub fields_in : Fields → Verb → List ℕ → List Word → Result Request WordsFault
 fields_in fields.KeyAlone verb key words = key_alone_in verb key words
@@ -131,37 +139,28 @@ request_in (word ∷ words) = after_verb (verb_of word) words
 unfoldable pub class_of_word : Word → Option Class
 class_of_word word = find (λ c. bytes_eq (class_word c) word) all_classes
 
-abbrev pub bare_in : Reply → List Word → Result Reply WordsFault
-bare_in r [] = Ok r
-bare_in r (_ ∷ _) = Err fault.Form
-
 abbrev pub shown_number_in : List Word → Result (Option ℕ) WordsFault
 shown_number_in [] = Ok None
-shown_number_in (number ∷ []) = number_in MAX_64 number >>= λ n. Ok (Some n)
-shown_number_in (number ∷ _ ∷ _) = number_in MAX_64 number >>= λ n. Err fault.Form
+shown_number_in (number ∷ others) = last_number_in (number ∷ others) >>= λ n. Ok (Some n)
 
 abbrev pub hit_in : List Word → Result Reply WordsFault
-hit_in [] = Err fault.Form
-hit_in (flags ∷ []) = flags_in flags >>= λ f. Err fault.Form
-hit_in (flags ∷ body ∷ shown) = flags_in flags >>= λ f. body_in body >>= λ b. shown_number_in shown >>= λ n. Ok (reply.Hit f b n)
+hit_in words = flags_and_body_in words >>= λ x. shown_number_in x.2 >>= λ n. Ok (reply.Hit x.0 x.1 n)
 
 abbrev pub count_in : List Word → Result Reply WordsFault
-count_in [] = Err fault.Form
-count_in (number ∷ []) = number_in MAX_64 number >>= λ n. Ok (reply.Number n)
-count_in (number ∷ _ ∷ _) = number_in MAX_64 number >>= λ n. Err fault.Form
+count_in words = last_number_in words >>= λ n. Ok (reply.Number n)
 
 abbrev pub after_class : Option Class → List Word → Result Reply WordsFault
 after_class None words = Err fault.Form
-after_class (Some class.Stored) words = bare_in reply.Stored words
-after_class (Some class.NotStored) words = bare_in reply.NotStored words
-after_class (Some class.Exists) words = bare_in reply.Exists words
-after_class (Some class.NotFound) words = bare_in reply.NotFound words
+after_class (Some class.Stored) words = at_end reply.Stored words
+after_class (Some class.NotStored) words = at_end reply.NotStored words
+after_class (Some class.Exists) words = at_end reply.Exists words
+after_class (Some class.NotFound) words = at_end reply.NotFound words
 after_class (Some class.Hit) words = hit_in words
-after_class (Some class.Miss) words = bare_in reply.Miss words
-after_class (Some class.Deleted) words = bare_in reply.Deleted words
-after_class (Some class.Touched) words = bare_in reply.Touched words
+after_class (Some class.Miss) words = at_end reply.Miss words
+after_class (Some class.Deleted) words = at_end reply.Deleted words
+after_class (Some class.Touched) words = at_end reply.Touched words
 after_class (Some class.Number) words = count_in words
-after_class (Some class.NotNumber) words = bare_in reply.NotNumber words
+after_class (Some class.NotNumber) words = at_end reply.NotNumber words
 
 unfoldable pub reply_in : List Word → Result Reply WordsFault
 reply_in [] = Err fault.Form

@@ -82,9 +82,7 @@ fn request_in(alloc: Global, words: &[&[u8]]) -> Result<Request, WordsFault>
 fn key_alone(alloc: Global, verb: Verb, key: Bytes, fields: &[&[u8]]) -> Result<Request, WordsFault>
     ensures exact { reading.Gives (λ r. r) result (reading.key_alone_in verb key (map (λ w. w.now) fields.now)) }
 {
-    if !fields.is_empty() {
-        return Err(WordsFault::Form);
-    }
+    end_of(fields)?;
     Ok(Request {
         verb,
         key,
@@ -98,17 +96,8 @@ fn key_alone(alloc: Global, verb: Verb, key: Bytes, fields: &[&[u8]]) -> Result<
 fn item(alloc: Global, verb: Verb, key: Bytes, fields: &[&[u8]]) -> Result<Request, WordsFault>
     ensures exact { reading.Gives (λ r. r) result (reading.item_in verb key (map (λ w. w.now) fields.now)) }
 {
-    let [flags, rest @ ..] = fields else {
-        return Err(WordsFault::Form);
-    };
-    let flags = read_flags(flags)?;
-    let [body, rest @ ..] = rest else {
-        return Err(WordsFault::Form);
-    };
-    let body = read_body(alloc, body)?;
-    if !rest.is_empty() {
-        return Err(WordsFault::Form);
-    }
+    let (flags, body, others) = read_flags_and_body(alloc, fields)?;
+    end_of(others)?;
     Ok(Request {
         verb,
         key,
@@ -122,21 +111,8 @@ fn item(alloc: Global, verb: Verb, key: Bytes, fields: &[&[u8]]) -> Result<Reque
 fn swap(alloc: Global, verb: Verb, key: Bytes, fields: &[&[u8]]) -> Result<Request, WordsFault>
     ensures exact { reading.Gives (λ r. r) result (reading.swap_in verb key (map (λ w. w.now) fields.now)) }
 {
-    let [flags, rest @ ..] = fields else {
-        return Err(WordsFault::Form);
-    };
-    let flags = read_flags(flags)?;
-    let [body, rest @ ..] = rest else {
-        return Err(WordsFault::Form);
-    };
-    let body = read_body(alloc, body)?;
-    let [cas, rest @ ..] = rest else {
-        return Err(WordsFault::Form);
-    };
-    let cas = read_number(u64::MAX, cas)?;
-    if !rest.is_empty() {
-        return Err(WordsFault::Form);
-    }
+    let (flags, body, others) = read_flags_and_body(alloc, fields)?;
+    let cas = read_last_number(others)?;
     Ok(Request {
         verb,
         key,
@@ -150,13 +126,7 @@ fn swap(alloc: Global, verb: Verb, key: Bytes, fields: &[&[u8]]) -> Result<Reque
 fn amount(alloc: Global, verb: Verb, key: Bytes, fields: &[&[u8]]) -> Result<Request, WordsFault>
     ensures exact { reading.Gives (λ r. r) result (reading.amount_in verb key (map (λ w. w.now) fields.now)) }
 {
-    let [number, rest @ ..] = fields else {
-        return Err(WordsFault::Form);
-    };
-    let number = read_number(u64::MAX, number)?;
-    if !rest.is_empty() {
-        return Err(WordsFault::Form);
-    }
+    let number = read_last_number(fields)?;
     Ok(Request {
         verb,
         key,
@@ -164,6 +134,48 @@ fn amount(alloc: Global, verb: Verb, key: Bytes, fields: &[&[u8]]) -> Result<Req
         body: Bytes::new(Vec::new(alloc)),
         number,
     })
+}
+
+/// Sees that no word is left.
+fn end_of(words: &[&[u8]]) -> Result<(), WordsFault>
+    ensures exact { result ≡ reading.at_end tt (map (λ w. w.now) words.now) }
+{
+    if words.is_empty() {
+        Ok(())
+    } else {
+        Err(WordsFault::Form)
+    }
+}
+
+/// Reads a number of 64 bits, which is the last word.
+fn read_last_number(words: &[&[u8]]) -> Result<u64, WordsFault>
+    ensures exact { result ≡ reading.last_number_in (map (λ w. w.now) words.now) }
+{
+    let [number, others @ ..] = words else {
+        return Err(WordsFault::Form);
+    };
+    let number = read_number(u64::MAX, number)?;
+    end_of(others)?;
+    Ok(number)
+}
+
+/// Reads flags and a body, and gives the words after them.
+fn read_flags_and_body<'w, 'a>(
+    alloc: Global,
+    words: &'w [&'a [u8]],
+) -> Result<(u32, Bytes, &'w [&'a [u8]]), WordsFault>
+    ensures exact { reading.Gives (λ x. (x.0, x.1, map (λ w. w.now) x.2.now)) result
+        (reading.flags_and_body_in (map (λ w. w.now) words.entry.now)) }
+{
+    let [flags, others @ ..] = words else {
+        return Err(WordsFault::Form);
+    };
+    let flags = read_flags(flags)?;
+    let [body, others @ ..] = others else {
+        return Err(WordsFault::Form);
+    };
+    let body = read_body(alloc, body)?;
+    Ok((flags, body, others))
 }
 
 /// Reads the flags, a number of 32 bits.
@@ -240,11 +252,9 @@ fn reply_in(alloc: Global, words: &[&[u8]]) -> Result<Reply, WordsFault>
 
 /// A reply with nothing after its word.
 fn bare(reply: Reply, fields: &[&[u8]]) -> Result<Reply, WordsFault>
-    ensures exact { result ≡ reading.bare_in reply (map (λ w. w.now) fields.now) }
+    ensures exact { result ≡ reading.at_end reply (map (λ w. w.now) fields.now) }
 {
-    if !fields.is_empty() {
-        return Err(WordsFault::Form);
-    }
+    end_of(fields)?;
     Ok(reply)
 }
 
@@ -252,42 +262,24 @@ fn bare(reply: Reply, fields: &[&[u8]]) -> Result<Reply, WordsFault>
 fn count(fields: &[&[u8]]) -> Result<Reply, WordsFault>
     ensures exact { result ≡ reading.count_in (map (λ w. w.now) fields.now) }
 {
-    let [number, rest @ ..] = fields else {
-        return Err(WordsFault::Form);
-    };
-    let number = read_number(u64::MAX, number)?;
-    if !rest.is_empty() {
-        return Err(WordsFault::Form);
-    }
-    Ok(Reply::Number(number))
+    Ok(Reply::Number(read_last_number(fields)?))
 }
 
 /// A hit: flags, a body, and the cas number if one is shown.
 fn hit(alloc: Global, fields: &[&[u8]]) -> Result<Reply, WordsFault>
     ensures exact { reading.Gives (λ r. r) result (reading.hit_in (map (λ w. w.now) fields.now)) }
 {
-    let [flags, rest @ ..] = fields else {
-        return Err(WordsFault::Form);
-    };
-    let flags = read_flags(flags)?;
-    let [body, rest @ ..] = rest else {
-        return Err(WordsFault::Form);
-    };
-    let body = read_body(alloc, body)?;
-    let cas = shown_number(rest)?;
+    let (flags, body, others) = read_flags_and_body(alloc, fields)?;
+    let cas = read_shown_number(others)?;
     Ok(Reply::Hit { flags, body, cas })
 }
 
 /// The cas number that the last word shows, if there is one.
-fn shown_number(words: &[&[u8]]) -> Result<Option<u64>, WordsFault>
+fn read_shown_number(words: &[&[u8]]) -> Result<Option<u64>, WordsFault>
     ensures exact { result ≡ reading.shown_number_in (map (λ w. w.now) words.now) }
 {
-    match words {
-        [] => Ok(None),
-        [number] => Ok(Some(read_number(u64::MAX, number)?)),
-        [number, ..] => {
-            read_number(u64::MAX, number)?;
-            Err(WordsFault::Form)
-        }
+    if words.is_empty() {
+        return Ok(None);
     }
+    Ok(Some(read_last_number(words)?))
 }
