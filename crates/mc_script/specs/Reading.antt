@@ -25,6 +25,8 @@ use Rattle.mc_script.specs.declared.fault.ScriptKind.TheVariants as kind
 use Rattle.mc_script.specs.declared.fault.ScriptFault.{ScriptFault}
 use Rattle.mc_script.specs.declared.fields.Parts.{Parts}
 use Rattle.mc_script.specs.declared.limits.TheConstants.{NAME_BYTES_LIMIT}
+use Rattle.mc_script.specs.declared.read_entry.Keyword.{Keyword}
+use Rattle.mc_script.specs.declared.read_entry.Keyword.TheVariants as keyword
 use Rattle.mc_script.specs.declared.section.Budget.{Budget}
 use Rattle.mc_script.specs.declared.step.Argument.{Argument}
 use Rattle.mc_script.specs.declared.step.Argument.TheVariants as argument
@@ -236,10 +238,6 @@ request_in names v key words =
     >>= λ parts. marks_in names v (list_any binds (drop (field_count (fields_of v)) words)) [] (drop (field_count (fields_of v)) words)
     >>= λ marks. Some (entry.Send (template_of v k parts) marks)
 
-abbrev pub behind_verb : Names → Option Verb → Word → Words → Option Entry
-behind_verb names None key words = None
-behind_verb names (Some v) key words = request_in names v key words
-
 abbrev pub bind_in : Names → Word → Words → Option Entry
 bind_in names name [] = index_of names.vars name >>= λ v. Some (entry.Bind v)
 bind_in names name (_ ∷ _) = None
@@ -257,13 +255,37 @@ before_colon word =
 abbrev pub label_named : Word → Option Entry
 label_named name = if is_label_name name then Some (entry.Label name) else None
 
-abbrev pub label_or_halt : Option Word → Word → Option Entry
-label_or_halt (Some name) word = label_named name
-label_or_halt None word = if bytes_eq word (codes "halt") then Some entry.Halt else None
+-- the name of the label that the line is, if it is one
+abbrev pub label_of : Words → Option Word
+label_of [] = None
+label_of (word ∷ []) = before_colon word
+label_of (word ∷ _ ∷ _) = None
+
+-- what the first word of a step says it is
+abbrev pub request_word : Word → Option Keyword
+request_word word = verb_of word >>= λ v. Some (keyword.Request v)
+
+abbrev pub keyword_of : Word → Option Keyword
+keyword_of word =
+    if bytes_eq word (codes "bind") then Some keyword.Bind
+    else (if bytes_eq word (codes "goto") then Some keyword.Goto
+    else (if bytes_eq word (codes "halt") then Some keyword.Halt else request_word word))
+
+-- the step with these words after the first
+abbrev pub step_words : Names → Keyword → Words → Option Entry
+step_words names keyword.Bind [] = None
+step_words names keyword.Bind (name ∷ others) = bind_in names name others
+step_words names keyword.Goto [] = None
+step_words names keyword.Goto (label ∷ others) = goto_in label others
+step_words names keyword.Halt [] = Some entry.Halt
+step_words names keyword.Halt (_ ∷ _) = None
+step_words names (keyword.Request v) [] = None
+step_words names (keyword.Request v) (key ∷ words) = request_in names v key words
+
+abbrev pub line_entry : Names → Option Word → Word → Words → Option Entry
+line_entry names (Some name) word others = label_named name
+line_entry names None word others = keyword_of word >>= λ k. step_words names k others
 
 unfoldable pub entry_in : Names → Words → Option Entry
 entry_in names [] = None
-entry_in names (word ∷ []) = label_or_halt (before_colon word) word
-entry_in names (word ∷ next ∷ others) =
-    if bytes_eq word (codes "bind") then bind_in names next others
-    else (if bytes_eq word (codes "goto") then goto_in next others else behind_verb names (verb_of word) next others)
+entry_in names (word ∷ others) = line_entry names (label_of (word ∷ others)) word others

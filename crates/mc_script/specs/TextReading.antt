@@ -20,7 +20,7 @@ use Rattle.mc_script.specs.Script.{Names, Section, Script}
 use Rattle.mc_script.specs.declared.step.Step.{Step}
 use Rattle.mc_script.specs.declared.step.Step.TheVariants as step
 use Rattle.mc_script.specs.Steps.{◌>>=◌, in_front, labels_from, steps_from, jumps_on, sends, goes, label_behind}
-use Rattle.mc_script.specs.Reading.{header_in, keys_in, optional_in, budget_in, before_colon, entry_in}
+use Rattle.mc_script.specs.Reading.{header_in, keys_in, optional_in, budget_in, entry_in}
 
 -- ---- sections
 
@@ -28,6 +28,10 @@ use Rattle.mc_script.specs.Reading.{header_in, keys_in, optional_in, budget_in, 
 abbrev pub may_follow : ℕ → ℕ → List Word → Entry → Bool
 may_follow limit count labels (entry.Label name) = is_new labels name
 may_follow limit count labels _ = nat_lt count limit
+
+-- an entry, where it may follow
+abbrev pub following : ℕ → ℕ → List Word → Option Entry → Option Entry
+following limit count labels read = read >>= λ e. if may_follow limit count labels e then Some e else None
 
 abbrev pub step_count : Entry → ℕ
 step_count (entry.Label name) = 0
@@ -43,8 +47,8 @@ abbrev pub entries_in : ℕ → Names → Word → List Entry → ℕ → List W
 entries_in limit names stop entries count labels [] = None
 entries_in limit names stop entries count labels (line ∷ lines) =
     if is_only stop line then Some (entries, lines)
-    else (entry_in names line >>= λ e.
-    if may_follow limit count labels e then entries_in limit names stop (entries ++ e ∷ []) (count + step_count e) (with_label labels e) lines else None)
+    else (following limit count labels (entry_in names line)
+    >>= λ e. entries_in limit names stop (entries ++ e ∷ []) (count + step_count e) (with_label labels e) lines)
 
 abbrev pub is_label : Entry → Bool
 is_label (entry.Label name) = true
@@ -92,29 +96,10 @@ abbrev pub section_in : Budget → List Entry → Option Section
 section_in budget entries =
     steps_from (labels_from 0 entries) 0 entries >>= λ steps. Some (record { budget = budget; steps = steps; labels = labels_from 0 entries })
 
--- the name of the label that the line is, if it is one
-abbrev pub label_of : Words → Option Word
-label_of [] = None
-label_of (word ∷ []) = before_colon word
-label_of (word ∷ _ ∷ _) = None
-
--- the same of an entry
+-- the name of the label that an entry is, if it is one
 abbrev pub label_named_by : Entry → Option Word
 label_named_by (entry.Label name) = Some name
 label_named_by _ = None
-
-abbrev pub may_follow_as : ℕ → ℕ → List Word → Option Word → Bool
-may_follow_as limit count labels (Some name) = is_new labels name
-may_follow_as limit count labels None = nat_lt count limit
-
--- how many steps there are, and which labels, with a line more
-abbrev pub count_with : ℕ → Option Word → ℕ
-count_with count (Some name) = count
-count_with count None = count + 1
-
-abbrev pub names_with : List Word → Option Word → List Word
-names_with labels (Some name) = labels ++ name ∷ []
-names_with labels None = labels
 
 -- ---- the whole text
 
