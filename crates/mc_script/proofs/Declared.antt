@@ -1,9 +1,15 @@
 -- Names that were read may be declared.
-use Rattle.std.proofs.Common.{◌≡◌, ℕ, ◌==◌, true, not, Some, List, [], ◌∷◌, length, drop, codes, ap, subst, arith}
+use Rattle.std.proofs.Common.{◌≡◌, ℕ, ◌≤◌, ◌==◌, nat_le, Bool, cond, ◌&&◌, true, false, not, Some, List, [], ◌∷◌, length, drop, codes, refl, ap, subst, arith}
+use Rattle.std.specs.List.{list_all}
+use Rattle.std.proofs.lemmas.Bool.{and_parts, and_from, leb-true, le-leb}
 use Rattle.std.proofs.lemmas.Bool.Decides.{nat_tests}
+use Rattle.mc_protocol.specs.Names.{is_name, are_distinct}
 use Rattle.mc_protocol.specs.declared.limits.TheConstants.{KEYS_LIMIT, KEY_BYTES_LIMIT}
 use Rattle.mc_protocol.specs.Lines.{Word, Words, begins_with}
-use Rattle.mc_script.specs.declared.limits.TheConstants.{NAME_BYTES_LIMIT}
+use Rattle.mc_script.specs.declared.limits.TheConstants.{NAME_BYTES_LIMIT, FLAGS_LIMIT, STEPS_LIMIT}
+use Rattle.mc_script.specs.declared.version.Version.{Version}
+use Rattle.mc_script.specs.declared.version.Version.TheVariants as version
+use Rattle.mc_script.specs.Versions.{flags_limit, steps_limit, has_room, least_version}
 use Rattle.mc_script.specs.Script.{may_be_declared}
 use Rattle.mc_script.specs.Reading.{names_in, keys_in, optional_in, then_line}
 use Rattle.mc_script.proofs.Outcomes.{then-some, cond-some, some-same, only-then}
@@ -48,3 +54,42 @@ optional-declared word limit line lines names next rest none h =
     let q = then-some (names_in limit NAME_BYTES_LIMIT (drop 1 line)) (λ ns. then_line ns lines) (names, next, rest) g in
     subst Q (behind q.0 names lines next rest q.2) (names-declared limit NAME_BYTES_LIMIT (drop 1 line) q.0 q.1).1)
     (λ g. subst Q (ap (λ t. t.0) (some-same ([], line, lines) (names, next, rest) g)) none)
+
+-- ---- limits
+
+pub declared-few : (limit bytes : ℕ) (names : List Word) → may_be_declared limit bytes names ≡ true → length names ≤ limit
+declared-few limit bytes names h =
+    leb-true (length names) limit (and_parts (nat_le (length names) limit) (list_all (is_name bytes) names) (and_parts (nat_le (length names) limit && list_all (is_name bytes) names) (are_distinct names) h).0).0
+
+-- declared within one limit, and so within another one that their number keeps
+pub declared-within : (limit other bytes : ℕ) (names : List Word) → length names ≤ limit → may_be_declared other bytes names ≡ true → may_be_declared limit bytes names ≡ true
+declared-within limit other bytes names few h =
+    let p = and_parts (nat_le (length names) other && list_all (is_name bytes) names) (are_distinct names) h in
+    let q = and_parts (nat_le (length names) other) (list_all (is_name bytes) names) p.0 in
+    and_from (nat_le (length names) limit && list_all (is_name bytes) names) (are_distinct names)
+    (and_from (nat_le (length names) limit) (list_all (is_name bytes) names) (le-leb (length names) limit few) q.1) p.1
+
+-- a version's limits are within those of all
+pub flags-within : (v : Version) → flags_limit v ≤ FLAGS_LIMIT
+flags-within version.One = omega arith
+flags-within version.Two = omega arith
+
+pub steps-within : (v : Version) → steps_limit v ≤ STEPS_LIMIT
+steps-within version.One = omega arith
+steps-within version.Two = omega arith
+
+pub none-declared : (v : Version) → may_be_declared (flags_limit v) NAME_BYTES_LIMIT [] ≡ true
+none-declared version.One = refl
+none-declared version.Two = refl
+
+room-of : (b : Bool) (flags longest : ℕ) → has_room version.One flags longest ≡ b → flags ≤ FLAGS_LIMIT → longest ≤ STEPS_LIMIT
+    → (flags ≤ flags_limit (cond b version.One version.Two)) × (longest ≤ steps_limit (cond b version.One version.Two))
+room-of true flags longest h f l =
+    let p = and_parts (nat_le flags (flags_limit version.One)) (nat_le longest (steps_limit version.One)) h in
+    (leb-true flags (flags_limit version.One) p.0, leb-true longest (steps_limit version.One) p.1)
+room-of false flags longest h f l = (f, l)
+
+-- what keeps the limits of all keeps those of the version that is written of it
+pub least-has-room : (flags longest : ℕ) → flags ≤ FLAGS_LIMIT → longest ≤ STEPS_LIMIT
+    → (flags ≤ flags_limit (least_version flags longest)) × (longest ≤ steps_limit (least_version flags longest))
+least-has-room flags longest f l = room-of (has_room version.One flags longest) flags longest refl f l

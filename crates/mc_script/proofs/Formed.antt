@@ -31,9 +31,11 @@ use Rattle.mc_script.specs.Script.{Names, Section, Script}
 use Rattle.mc_script.specs.Marks.{SpellsMark, may_stand, may_stand_together, have_no_twins, shows_numbers, is_bind, is_number_jump, bound_by}
 use Rattle.mc_script.specs.SectionText.{SpellEach, SpellsAmount, SpellsUnique, SpellsFields, SpellsRequest, SpellsEntry, SpellsSection}
 use Rattle.mc_script.specs.Steps.{in_front, sends, goes, marked, jumps_on, label_behind, labels_from, steps_from}
+use Rattle.mc_script.specs.declared.version.Version.{Version}
 use Rattle.mc_script.specs.ScriptText.{SpellsBudget, SpellsScript}
 use Rattle.mc_script.specs.Templates.{IsTemplate, has_fields, is_variable, is_amount}
 use Rattle.mc_script.specs.WellFormed.{IsStep, AreSteps, AreLabels, IsSection, IsScript, MayBind}
+use Rattle.mc_script.proofs.Declared.{steps-within}
 use Rattle.mc_script.proofs.Outcomes.{some-same}
 use Rattle.mc_script.proofs.Masks.{mask-below, masks-apart}
 use Rattle.mc_script.proofs.JumpLists.{label-behind, jumps-formed, no-number-jump}
@@ -198,25 +200,27 @@ labels-formed names (l ∷ lines) (entry.Halt ∷ entries) steps place e h =
 
 -- ---- the whole
 
-section-formed : (names : Names) (section : Actor) (budget : Words) (lines : List Words) (s : Section) → SpellsBudget section budget s.budget
-    → SpellsSection names lines s → IsSection names s
-section-formed names section budget lines s (r, y, e, n, m) p =
+section-formed : (v : Version) (names : Names) (section : Actor) (budget : Words) (lines : List Words) (s : Section) → SpellsBudget section budget s.budget
+    → SpellsSection v names lines s → IsSection names s
+section-formed v names section budget lines s (r, y, e, n, m) p =
     let total = steps-count s.labels 0 p.entries s.steps p.steps in
+    let few = p.few in
+    let within = steps-within v in
     let P : List Label → Type 0 = AreLabels (length s.steps) 0 in
     record {
       requests = n.small;
       bytes = m.small;
-      few = p.few;
+      few = omega (arith, few, within);
       steps = steps-formed names lines p.entries s.labels 0 s.steps p.spelled p.steps;
       labels = subst P (sym p.labels) (labels-formed names lines p.entries (length s.steps) 0 p.spelled (omega (arith, total)));
       distinct = p.distinct;
     }
 
 pub script-formed : (text : List ℕ) (s : Script) → SpellsScript text s → IsScript s
-script-formed text s h =
+script-formed text s (v, h) =
     record {
       declared = h.declared;
-      p = section-formed s.names actor.P h.p_budget h.p s.sections.p h.p_allowed h.p_spelled;
-      a = section-formed s.names actor.A h.a_budget h.a s.sections.a h.a_allowed h.a_spelled;
-      b = section-formed s.names actor.B h.b_budget h.b s.sections.b h.b_allowed h.b_spelled;
+      p = section-formed v s.names actor.P h.p_budget h.p s.sections.p h.p_allowed h.p_spelled;
+      a = section-formed v s.names actor.A h.a_budget h.a s.sections.a h.a_allowed h.a_spelled;
+      b = section-formed v s.names actor.B h.b_budget h.b s.sections.b h.b_allowed h.b_spelled;
     }

@@ -66,12 +66,12 @@ entry-label names (word ∷ next ∷ others) e h =
     (label_named_by e ≡ None) g (goto-no-label next others e) (verb-no-label names (verb_of word) next others e))
 
 -- whether an entry may follow, and what it adds, is known by its label
-may-follow : (count : ℕ) (labels : List Word) (e : Entry) → may_follow count labels e ≡ may_follow_as count labels (label_named_by e)
-may-follow count labels (entry.Label name) = refl
-may-follow count labels (entry.Send t marks) = refl
-may-follow count labels (entry.Bind v) = refl
-may-follow count labels (entry.Goto name) = refl
-may-follow count labels entry.Halt = refl
+may-follow : (limit count : ℕ) (labels : List Word) (e : Entry) → may_follow limit count labels e ≡ may_follow_as limit count labels (label_named_by e)
+may-follow limit count labels (entry.Label name) = refl
+may-follow limit count labels (entry.Send t marks) = refl
+may-follow limit count labels (entry.Bind v) = refl
+may-follow limit count labels (entry.Goto name) = refl
+may-follow limit count labels entry.Halt = refl
 
 added-steps : (count : ℕ) (e : Entry) → count + step_count e ≡ count_with count (label_named_by e)
 added-steps count (entry.Label name) = omega arith
@@ -88,43 +88,43 @@ added-labels labels (entry.Goto name) = refl
 added-labels labels entry.Halt = refl
 
 -- one line further on, the same is read
-pub entries-step : (names : Names) (stop : Word) (entries : List Entry) (count : ℕ) (labels : List Word) (line : Words) (lines : List Words) (e : Entry)
-    → is_only stop line ≡ false → entry_in names line ≡ Some e → may_follow_as count labels (label_of line) ≡ true
-    → entries_in names stop entries count labels (line ∷ lines)
-    ≡ entries_in names stop (entries ++ e ∷ []) (count_with count (label_of line)) (names_with labels (label_of line)) lines
-entries-step names stop entries count labels line lines e other read follows =
+pub entries-step : (limit : ℕ) (names : Names) (stop : Word) (entries : List Entry) (count : ℕ) (labels : List Word) (line : Words) (lines : List Words) (e : Entry)
+    → is_only stop line ≡ false → entry_in names line ≡ Some e → may_follow_as limit count labels (label_of line) ≡ true
+    → entries_in limit names stop entries count labels (line ∷ lines)
+    ≡ entries_in limit names stop (entries ++ e ∷ []) (count_with count (label_of line)) (names_with labels (label_of line)) lines
+entries-step limit names stop entries count labels line lines e other read follows =
     let named = entry-label names line e read in
-    let may : may_follow count labels e ≡ true = may-follow count labels e ∙ ap (may_follow_as count labels) named ∙ follows in
+    let may : may_follow limit count labels e ≡ true = may-follow limit count labels e ∙ ap (may_follow_as limit count labels) named ∙ follows in
     rw (other, read, may, added-steps count e, added-labels labels e, named) refl
 
-pub entries-unread : (names : Names) (stop : Word) (entries : List Entry) (count : ℕ) (labels : List Word) (line : Words) (lines : List Words)
-    → is_only stop line ≡ false → entry_in names line ≡ None → entries_in names stop entries count labels (line ∷ lines) ≡ None
-entries-unread names stop entries count labels line lines other read = rw (other, read) refl
+pub entries-unread : (limit : ℕ) (names : Names) (stop : Word) (entries : List Entry) (count : ℕ) (labels : List Word) (line : Words) (lines : List Words)
+    → is_only stop line ≡ false → entry_in names line ≡ None → entries_in limit names stop entries count labels (line ∷ lines) ≡ None
+entries-unread limit names stop entries count labels line lines other read = rw (other, read) refl
 
-pub entries-refused : (names : Names) (stop : Word) (entries : List Entry) (count : ℕ) (labels : List Word) (line : Words) (lines : List Words) (e : Entry)
-    → is_only stop line ≡ false → entry_in names line ≡ Some e → may_follow_as count labels (label_of line) ≡ false
-    → entries_in names stop entries count labels (line ∷ lines) ≡ None
-entries-refused names stop entries count labels line lines e other read follows =
-    let may : may_follow count labels e ≡ false = may-follow count labels e ∙ ap (may_follow_as count labels) (entry-label names line e read) ∙ follows in
+pub entries-refused : (limit : ℕ) (names : Names) (stop : Word) (entries : List Entry) (count : ℕ) (labels : List Word) (line : Words) (lines : List Words) (e : Entry)
+    → is_only stop line ≡ false → entry_in names line ≡ Some e → may_follow_as limit count labels (label_of line) ≡ false
+    → entries_in limit names stop entries count labels (line ∷ lines) ≡ None
+entries-refused limit names stop entries count labels line lines e other read follows =
+    let may : may_follow limit count labels e ≡ false = may-follow limit count labels e ∙ ap (may_follow_as limit count labels) (entry-label names line e read) ∙ follows in
     rw (other, read, may) refl
 
 -- the same, by what the code knows of the line
-pub reading-refused : (names : Names) (stop : Word) (entries : List Entry) (count : ℕ) (labels : List Word) (line words : Words) (all lines : List Words)
+pub reading-refused : (limit : ℕ) (names : Names) (stop : Word) (entries : List Entry) (count : ℕ) (labels : List Word) (line words : Words) (all lines : List Words)
     → (e : Entry) → (o : Option Word) → (target : Option (List Entry × List Words))
-    → entries_in names stop entries count labels all ≡ target → all ≡ line ∷ lines → is_only stop line ≡ false
-    → words ≡ line → entry_in names words ≡ Some e → label_of line ≡ o → may_follow_as count labels o ≡ false → target ≡ None
-reading-refused names stop entries count labels line words all lines e o target h d other w read label follows =
+    → entries_in limit names stop entries count labels all ≡ target → all ≡ line ∷ lines → is_only stop line ≡ false
+    → words ≡ line → entry_in names words ≡ Some e → label_of line ≡ o → may_follow_as limit count labels o ≡ false → target ≡ None
+reading-refused limit names stop entries count labels line words all lines e o target h d other w read label follows =
     let read-here : entry_in names line ≡ Some e = ap (entry_in names) (sym w) ∙ read in
-    sym h ∙ ap (entries_in names stop entries count labels) d
-    ∙ entries-refused names stop entries count labels line lines e other read-here (ap (may_follow_as count labels) label ∙ follows)
+    sym h ∙ ap (entries_in limit names stop entries count labels) d
+    ∙ entries-refused limit names stop entries count labels line lines e other read-here (ap (may_follow_as limit count labels) label ∙ follows)
 
-pub reading-step : (names : Names) (stop : Word) (entries more : List Entry) (count next : ℕ) (labels known : List Word) (line words : Words) (all lines : List Words)
+pub reading-step : (limit : ℕ) (names : Names) (stop : Word) (entries more : List Entry) (count next : ℕ) (labels known : List Word) (line words : Words) (all lines : List Words)
     → (e : Entry) → (o : Option Word) → (target : Option (List Entry × List Words))
-    → entries_in names stop entries count labels all ≡ target → all ≡ line ∷ lines → is_only stop line ≡ false
-    → words ≡ line → entry_in names words ≡ Some e → label_of line ≡ o → may_follow_as count labels o ≡ true
+    → entries_in limit names stop entries count labels all ≡ target → all ≡ line ∷ lines → is_only stop line ≡ false
+    → words ≡ line → entry_in names words ≡ Some e → label_of line ≡ o → may_follow_as limit count labels o ≡ true
     → more ≡ entries ++ e ∷ [] → next ≡ count_with count o → known ≡ names_with labels o
-    → entries_in names stop more next known lines ≡ target
-reading-step names stop entries more count next labels known line words all lines e o target h d other w read label follows m n k =
+    → entries_in limit names stop more next known lines ≡ target
+reading-step limit names stop entries more count next labels known line words all lines e o target h d other w read label follows m n k =
     let read-here : entry_in names line ≡ Some e = ap (entry_in names) (sym w) ∙ read in
-    let step = entries-step names stop entries count labels line lines e other read-here (ap (may_follow_as count labels) label ∙ follows) in
-    rw (m, n, k, ← label) (sym step ∙ ap (entries_in names stop entries count labels) (sym d) ∙ h)
+    let step = entries-step limit names stop entries count labels line lines e other read-here (ap (may_follow_as limit count labels) label ∙ follows) in
+    rw (m, n, k, ← label) (sym step ∙ ap (entries_in limit names stop entries count labels) (sym d) ∙ h)

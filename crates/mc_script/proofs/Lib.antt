@@ -9,6 +9,7 @@ pub mod SectionLines
 pub mod Sections
 pub mod Resolving
 pub mod Declared
+pub mod NewNames
 pub mod WholeScript
 pub mod ScriptRead
 pub mod Readings

@@ -1,14 +1,10 @@
 -- Lists of words.
-use Rattle.std.proofs.Common.{◌≡◌, ℕ, ◌-◌, Bool, ◌&&◌, ◌||◌, List, [], ◌∷◌, length, map, take, drop, refl, ap, sym, subst, arith}
-use Rattle.std.specs.List.{list_all, list_any}
+use Rattle.std.proofs.Common.{◌≡◌, ℕ, ◌-◌, Bool, ◌||◌, List, [], ◌∷◌, length, map, take, drop, refl, ap, sym, subst, arith}
+use Rattle.std.specs.List.{list_any}
 
 pub any_over_map : {X Y : Type 0} (p : X → Bool) (h : Y → X) (ys : List Y) → list_any p (map h ys) ≡ list_any (λ y. p (h y)) ys
 any_over_map p h [] = refl
 any_over_map p h (y ∷ ys) = ap (λ b. p (h y) || b) (any_over_map p h ys)
-
-pub all_over_map : {X Y : Type 0} (p : X → Bool) (h : Y → X) (ys : List Y) → list_all p (map h ys) ≡ list_all (λ y. p (h y)) ys
-all_over_map p h [] = refl
-all_over_map p h (y ∷ ys) = ap (λ b. p (h y) && b) (all_over_map p h ys)
 
 take_whole : {X : Type 0} (xs : List X) → take (length xs) xs ≡ xs
 take_whole [] = refl

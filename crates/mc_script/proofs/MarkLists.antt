@@ -1,5 +1,5 @@
 -- The marks of a request are read exactly where its words spell them, and they may stand together.
-use Rattle.std.proofs.Common.{◌≡◌, Bool, true, false, not, ◌&&◌, ◌||◌, cond, Some, None, List, [], ◌∷◌, ◌++◌, refl, sym, ap, subst, ◌∙◌}
+use Rattle.std.proofs.Common.{◌≡◌, Bool, true, false, not, ◌&&◌, ◌||◌, cond, Option, Some, None, List, [], ◌∷◌, ◌++◌, refl, sym, ap, subst, ◌∙◌}
 use Rattle.std.specs.List.{list_any, list_all}
 use Rattle.std.proofs.lemmas.Bool.{and_parts, and_from}
 use Rattle.mc_protocol.specs.declared.request.Verb.{Verb}
@@ -14,7 +14,7 @@ use Rattle.mc_script.specs.declared.entry.Sign.TheVariants as sign
 use Rattle.mc_script.specs.Script.{Names}
 use Rattle.mc_script.specs.Marks.{SpellsMark, may_stand, are_twins, have_no_twins, is_bind, is_number_jump, may_stand_together, sign_byte}
 use Rattle.mc_script.specs.SectionText.{SpellEach}
-use Rattle.mc_script.specs.Reading.{mark_in, marks_in, may_join, binds}
+use Rattle.mc_script.specs.Reading.{mark_in, marks_in, may_join, joining, binds}
 use Rattle.mc_script.proofs.Outcomes.{then-some, some-same, only-then}
 use Rattle.mc_script.proofs.MarkWords.{mark-spelled, mark-read}
 
@@ -46,6 +46,14 @@ push_assoc : {X : Type 0} (xs : List X) (x : X) (ys : List X) → (xs ++ x ∷ [
 push_assoc [] x ys = refl
 push_assoc (y ∷ xs) x ys = ap (λ zs. y ∷ zs) (push_assoc xs x ys)
 
+joined-mark : (v : Verb) (bound : Bool) (done : List Mark) (read : Option Mark) (m : Mark) → joining v bound done read ≡ Some m
+    → (read ≡ Some m) × (may_join v bound done m ≡ true)
+joined-mark v bound done read m h =
+    let p = then-some read (λ m. cond (may_join v bound done m) (Some m) None) m h in
+    let q = only-then (may_join v bound done p.0) (Some p.0) m p.2 in
+    let P : Mark → Type 0 = λ x. (read ≡ Some x) × (may_join v bound done x ≡ true) in
+    subst P (some-same p.0 m q.1) (p.1, q.0)
+
 marks-spelled-from : (names : Names) (v : Verb) (bound : Bool) (done : List Mark) (words : Words) (all : List Mark)
     → marks_in names v bound done words ≡ Some all → SpelledMarks names v bound done words all
 marks-spelled-from names v bound done [] all h = record {
@@ -55,14 +63,14 @@ marks-spelled-from names v bound done [] all h = record {
   joined = refl;
 }
 marks-spelled-from names v bound done (word ∷ words) all h =
-    let p = then-some (mark_in names word) (λ m. cond (may_join v bound done m) (marks_in names v bound (done ++ m ∷ []) words) None) all h in
-    let q = only-then (may_join v bound done p.0) (marks_in names v bound (done ++ p.0 ∷ []) words) all p.2 in
-    let r = marks-spelled-from names v bound (done ++ p.0 ∷ []) words all q.1 in
+    let p = then-some (joining v bound done (mark_in names word)) (λ m. marks_in names v bound (done ++ m ∷ []) words) all h in
+    let (read, may) = joined-mark v bound done (mark_in names word) p.0 p.1 in
+    let r = marks-spelled-from names v bound (done ++ p.0 ∷ []) words all p.2 in
     record {
       marks = p.0 ∷ r.marks;
       all_are = r.all_are ∙ push_assoc done p.0 r.marks;
-      spelled = (mark-spelled names word p.0 p.1, r.spelled);
-      joined = and_from (may_join v bound done p.0) (may_join_all v bound (done ++ p.0 ∷ []) r.marks) q.0 r.joined;
+      spelled = (mark-spelled names word p.0 read, r.spelled);
+      joined = and_from (may_join v bound done p.0) (may_join_all v bound (done ++ p.0 ∷ []) r.marks) may r.joined;
     }
 
 marks-read-from : (names : Names) (v : Verb) (bound : Bool) (done : List Mark) (words : Words) (marks : List Mark)

@@ -1,5 +1,5 @@
 -- The lines of sections as they are printed, and the whole text: they spell the section, and the script.
-use Rattle.std.proofs.Common.{◌≡◌, ℕ, ◌+◌, ◌<◌, ◌==◌, nat_le, Bool, true, false, cond, ⊎_elim, Some, List, [], ◌∷◌, ◌++◌, length, codes, decimal, refl, sym, ap, subst, ◌∙◌, arith}
+use Rattle.std.proofs.Common.{◌≡◌, ℕ, ◌+◌, ◌<◌, ◌≤◌, ◌==◌, nat_le, Bool, true, false, cond, ⊎_elim, Some, List, [], ◌∷◌, ◌++◌, length, codes, decimal, refl, sym, ap, subst, ◌∙◌, arith}
 use Rattle.std.specs.List.{list_all}
 use Rattle.std.proofs.lemmas.Bool.{and_parts, and_from, eqb-true, eq-eqb, ne_eqb, le-leb, lt-leb, cond_both, cases_order}
 use Rattle.mc_protocol.specs.declared.actor.Actor.{Actor}
@@ -11,17 +11,21 @@ use Rattle.mc_protocol.specs.Words.{actor_word}
 use Rattle.mc_protocol.proofs.Decimals.{decimal-spells}
 use Rattle.mc_script.specs.declared.entry.Entry.{Entry}
 use Rattle.mc_script.specs.declared.entry.Entry.TheVariants as entry
-use Rattle.mc_script.specs.declared.limits.TheConstants.{NAME_BYTES_LIMIT}
+use Rattle.mc_script.specs.declared.limits.TheConstants.{NAME_BYTES_LIMIT, FLAGS_LIMIT}
 use Rattle.mc_script.specs.declared.section.Label.{Label}
 use Rattle.mc_script.specs.declared.step.Step.{Step}
 use Rattle.mc_script.specs.declared.step.Step.TheVariants as step
-use Rattle.mc_script.specs.Script.{Names, Section, Script}
+use Rattle.mc_script.specs.declared.version.Version.{Version}
+use Rattle.mc_script.specs.declared.version.Version.TheVariants as version
+use Rattle.mc_script.specs.Versions.{steps_limit}
+use Rattle.mc_script.specs.Script.{Names, Section, Script, longest, version_of}
 use Rattle.mc_script.specs.ScriptWords.{is_label_name, label_word}
 use Rattle.mc_script.specs.ScriptText.{SpellsBudget, header, names_line, names_lines, section_line, end_line, body_lines}
 use Rattle.mc_script.specs.SectionText.{SpellEach, SpellsEntry, SpellsSection, label_names}
 use Rattle.mc_script.specs.Steps.{in_front, labels_from, steps_from}
 use Rattle.mc_script.specs.WellFormed.{AreSteps, AreLabels, IsSection, IsScript}
 use Rattle.mc_script.specs.PrintedScript.{label_lines, step_words, step_lines, section_lines, budget_line, script_lines, script_text, PrintedScriptsAreSpelled, PrintedScriptsAreReadAgain}
+use Rattle.mc_script.proofs.Declared.{declared-few, least-has-room}
 use Rattle.mc_script.proofs.PrintedLines.{is_whole, are_whole, is_line, are_lines, all-weaker, lines_fall_apart}
 use Rattle.mc_script.proofs.PrintedNames.{decimal-whole, named-whole, label-whole}
 use Rattle.mc_script.proofs.PrintedFlags.{each-append, all-append}
@@ -201,8 +205,9 @@ steps-again names labels place (s ∷ steps) distinct h =
     steps-before labels place place labels (step_entry names labels s ∷ rest) ∙ step-again names labels place s rest distinct h.0
     ∙ ap (λ o. in_front (Some s) o) (steps-again names labels (place + 1) steps distinct h.1)
 
-section-spells : (names : Names) (s : Section) → Known names → IsSection names s → SpellsSection names (section_lines names s) s
-section-spells names s k h =
+section-spells : (v : Version) (names : Names) (s : Section) → Known names → IsSection names s → length s.steps ≤ steps_limit v
+    → SpellsSection v names (section_lines names s) s
+section-spells v names s k h few =
     let all = label-names (length s.steps) 0 s.labels h.labels in
     record {
       entries = step_entries names s.labels 0 s.steps;
@@ -210,7 +215,7 @@ section-spells names s k h =
       labels = sym (labels-again names s.labels (length s.steps) 0 s.steps h.labels (omega arith) ∙ labels-start s.labels);
       distinct = h.distinct;
       steps = steps-again names s.labels 0 s.steps h.distinct h.steps;
-      few = h.few;
+      few = few;
     }
 
 section-lines : (names : Names) (s : Section) → Known names → IsSection names s → are_lines (section_lines names s) ≡ true
@@ -226,6 +231,10 @@ budget-spells a names s h = (
   decimal-spells REQUESTS_LIMIT s.budget.requests (omega arith) h.requests,
   decimal-spells REQUEST_BYTES_LIMIT s.budget.bytes (omega arith) h.bytes,
 )
+
+version-whole : (v : Version) → is_line (header v) ≡ true
+version-whole version.One = refl
+version-whole version.Two = refl
 
 actor-whole : (a : Actor) → is_whole (actor_word a) ≡ true
 actor-whole actor.P = refl
@@ -283,12 +292,19 @@ script-are-lines s h =
     (all-append is_line keys flags (names-are-lines (codes "keys") KEY_BYTES_LIMIT s.names.keys refl k.key_names)
     (names-are-lines (codes "flags") NAME_BYTES_LIMIT s.names.flags refl k.flag_names))
     (names-are-lines (codes "vars") NAME_BYTES_LIMIT s.names.vars refl k.var_names) in
-    cons header (names_lines s.names ++ bp ∷ ba ∷ bb ∷ body_lines p a b) refl
+    cons (header (version_of s)) (names_lines s.names ++ bp ∷ ba ∷ bb ∷ body_lines p a b) (version-whole (version_of s))
     (all-append is_line (names_lines s.names) (bp ∷ ba ∷ bb ∷ body_lines p a b) names budgets)
 
 pub printed_scripts : PrintedScriptsAreSpelled
 printed_scripts s h =
     let k = known s.names h.declared in
+    let v = version_of s in
+    let flags = length s.names.flags in
+    let p = h.p.few in
+    let a = h.a.few in
+    let b = h.b.few in
+    let within = least-has-room flags (longest s) (declared-few FLAGS_LIMIT NAME_BYTES_LIMIT s.names.flags h.declared.flags) (omega (arith, p, a, b)) in
+    let long = within.1 in
     record {
       p_budget = budget_line actor.P s.sections.p.budget;
       a_budget = budget_line actor.A s.sections.a.budget;
@@ -298,13 +314,14 @@ printed_scripts s h =
       b = section_lines s.names s.sections.b;
       lines = lines_fall_apart (script_lines s) (script-are-lines s h);
       declared = h.declared;
+      few_flags = within.0;
       p_allowed = budget-spells actor.P s.names s.sections.p h.p;
       a_allowed = budget-spells actor.A s.names s.sections.a h.a;
       b_allowed = budget-spells actor.B s.names s.sections.b h.b;
-      p_spelled = section-spells s.names s.sections.p k h.p;
-      a_spelled = section-spells s.names s.sections.a k h.a;
-      b_spelled = section-spells s.names s.sections.b k h.b;
+      p_spelled = section-spells v s.names s.sections.p k h.p (omega (arith, long));
+      a_spelled = section-spells v s.names s.sections.a k h.a (omega (arith, long));
+      b_spelled = section-spells v s.names s.sections.b k h.b (omega (arith, long));
     }
 
 pub read_again : PrintedScriptsAreReadAgain
-read_again s t h spelled = one_script (script_text s) t s spelled (printed_scripts s h)
+read_again s t h spelled = one_script (script_text s) t s spelled (version_of s, printed_scripts s h)

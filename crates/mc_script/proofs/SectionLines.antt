@@ -8,7 +8,6 @@ use Rattle.mc_protocol.specs.Lines.{Word, Words, is_only}
 use Rattle.mc_protocol.specs.Names.{is_new, are_distinct}
 use Rattle.mc_script.specs.declared.entry.Entry.{Entry}
 use Rattle.mc_script.specs.declared.entry.Entry.TheVariants as entry
-use Rattle.mc_script.specs.declared.limits.TheConstants.{STEPS_LIMIT}
 use Rattle.mc_script.specs.Script.{Names}
 use Rattle.mc_script.specs.SectionText.{SpellEach, SpellsEntry}
 use Rattle.mc_script.specs.Steps.{◌>>=◌}
@@ -43,17 +42,17 @@ other-line names stop line e none read =
 
 -- ---- line by line
 
-pub may_follow_all : ℕ → List Word → List Entry → Bool
-may_follow_all count labels [] = true
-may_follow_all count labels (e ∷ entries) = may_follow count labels e && may_follow_all (count + step_count e) (with_label labels e) entries
+pub may_follow_all : ℕ → ℕ → List Word → List Entry → Bool
+may_follow_all limit count labels [] = true
+may_follow_all limit count labels (e ∷ entries) = may_follow limit count labels e && may_follow_all limit (count + step_count e) (with_label labels e) entries
 
-pub record SpelledEntries (names : Names) (stop : Word) (done : List Entry) (count : ℕ) (labels : List Word) (lines : List Words) (all : List Entry) (rest : List Words) : Type 0 where
+pub record SpelledEntries (limit : ℕ) (names : Names) (stop : Word) (done : List Entry) (count : ℕ) (labels : List Word) (lines : List Words) (all : List Entry) (rest : List Words) : Type 0 where
   pub entries : List Entry
   pub body : List Words
   pub all_are : all ≡ done ++ entries
   pub lines_are : lines ≡ body ++ (stop ∷ []) ∷ rest
   pub spelled : SpellEach (SpellsEntry names) body entries
-  pub follow : may_follow_all count labels entries ≡ true
+  pub follow : may_follow_all limit count labels entries ≡ true
 
 append_nil : {X : Type 0} (xs : List X) → xs ++ [] ≡ xs
 append_nil [] = refl
@@ -63,14 +62,14 @@ push_assoc : {X : Type 0} (xs : List X) (x : X) (ys : List X) → (xs ++ x ∷ [
 push_assoc [] x ys = refl
 push_assoc (y ∷ xs) x ys = ap (λ zs. y ∷ zs) (push_assoc xs x ys)
 
-pub entries-spelled : (names : Names) (stop : Word) (done : List Entry) (count : ℕ) (labels : List Word) (lines : List Words) (all : List Entry) (rest : List Words)
-    → entries_in names stop done count labels lines ≡ Some (all, rest) → SpelledEntries names stop done count labels lines all rest
+pub entries-spelled : (limit : ℕ) (names : Names) (stop : Word) (done : List Entry) (count : ℕ) (labels : List Word) (lines : List Words) (all : List Entry) (rest : List Words)
+    → entries_in limit names stop done count labels lines ≡ Some (all, rest) → SpelledEntries limit names stop done count labels lines all rest
 unfolding may_follow_all
-entries-spelled names stop done count labels [] all rest h = absurd (cc)
-entries-spelled names stop done count labels (line ∷ lines) all rest h =
-    let next : Entry → Option (List Entry × List Words) = λ e. entries_in names stop (done ++ e ∷ []) (count + step_count e) (with_label labels e) lines in
-    let onward : Option (List Entry × List Words) = entry_in names line >>= λ e. cond (may_follow count labels e) (next e) None in
-    cond-cases (is_only stop line) (Some (done, lines)) onward (all, rest) (SpelledEntries names stop done count labels (line ∷ lines) all rest) h
+entries-spelled limit names stop done count labels [] all rest h = absurd (cc)
+entries-spelled limit names stop done count labels (line ∷ lines) all rest h =
+    let next : Entry → Option (List Entry × List Words) = λ e. entries_in limit names stop (done ++ e ∷ []) (count + step_count e) (with_label labels e) lines in
+    let onward : Option (List Entry × List Words) = entry_in names line >>= λ e. cond (may_follow limit count labels e) (next e) None in
+    cond-cases (is_only stop line) (Some (done, lines)) onward (all, rest) (SpelledEntries limit names stop done count labels (line ∷ lines) all rest) h
     (λ b g.
     let e = some-same (done, lines) (all, rest) g in
     record {
@@ -82,30 +81,30 @@ entries-spelled names stop done count labels (line ∷ lines) all rest h =
       follow = refl;
     })
     (λ _ g.
-    let p = then-some (entry_in names line) (λ e. cond (may_follow count labels e) (next e) None) (all, rest) g in
-    let q = only-then (may_follow count labels p.0) (next p.0) (all, rest) p.2 in
-    let r = entries-spelled names stop (done ++ p.0 ∷ []) (count + step_count p.0) (with_label labels p.0) lines all rest q.1 in
+    let p = then-some (entry_in names line) (λ e. cond (may_follow limit count labels e) (next e) None) (all, rest) g in
+    let q = only-then (may_follow limit count labels p.0) (next p.0) (all, rest) p.2 in
+    let r = entries-spelled limit names stop (done ++ p.0 ∷ []) (count + step_count p.0) (with_label labels p.0) lines all rest q.1 in
     record {
       entries = p.0 ∷ r.entries;
       body = line ∷ r.body;
       all_are = r.all_are ∙ push_assoc done p.0 r.entries;
       lines_are = ap (λ ls. line ∷ ls) r.lines_are;
       spelled = (entry-spelled names line p.0 p.1, r.spelled);
-      follow = and_from (may_follow count labels p.0) (may_follow_all (count + step_count p.0) (with_label labels p.0) r.entries) q.0 r.follow;
+      follow = and_from (may_follow limit count labels p.0) (may_follow_all limit (count + step_count p.0) (with_label labels p.0) r.entries) q.0 r.follow;
     })
 
-pub entries-read : (names : Names) (stop : Word) (done : List Entry) (count : ℕ) (labels : List Word) (body : List Words) (entries : List Entry) (rest : List Words)
-    → entry_in names (stop ∷ []) ≡ None → SpellEach (SpellsEntry names) body entries → may_follow_all count labels entries ≡ true
-    → entries_in names stop done count labels (body ++ (stop ∷ []) ∷ rest) ≡ Some (done ++ entries, rest)
+pub entries-read : (limit : ℕ) (names : Names) (stop : Word) (done : List Entry) (count : ℕ) (labels : List Word) (body : List Words) (entries : List Entry) (rest : List Words)
+    → entry_in names (stop ∷ []) ≡ None → SpellEach (SpellsEntry names) body entries → may_follow_all limit count labels entries ≡ true
+    → entries_in limit names stop done count labels (body ++ (stop ∷ []) ∷ rest) ≡ Some (done ++ entries, rest)
 unfolding may_follow_all
-entries-read names stop done count labels [] [] rest none s f = rw (only-itself stop) (ap (λ es. Some (es, rest)) (sym (append_nil done)))
-entries-read names stop done count labels [] (e ∷ entries) rest none s f = absurd s
-entries-read names stop done count labels (line ∷ body) [] rest none s f = absurd s
-entries-read names stop done count labels (line ∷ body) (e ∷ entries) rest none s f =
+entries-read limit names stop done count labels [] [] rest none s f = rw (only-itself stop) (ap (λ es. Some (es, rest)) (sym (append_nil done)))
+entries-read limit names stop done count labels [] (e ∷ entries) rest none s f = absurd s
+entries-read limit names stop done count labels (line ∷ body) [] rest none s f = absurd s
+entries-read limit names stop done count labels (line ∷ body) (e ∷ entries) rest none s f =
     let read = entry-read names line e s.0 in
-    let p = and_parts (may_follow count labels e) (may_follow_all (count + step_count e) (with_label labels e) entries) f in
+    let p = and_parts (may_follow limit count labels e) (may_follow_all limit (count + step_count e) (with_label labels e) entries) f in
     rw (other-line names stop line e none read, read, p.0)
-    (entries-read names stop (done ++ e ∷ []) (count + step_count e) (with_label labels e) body entries rest none s.1 p.1
+    (entries-read limit names stop (done ++ e ∷ []) (count + step_count e) (with_label labels e) body entries rest none s.1 p.1
     ∙ ap (λ es. Some (es, rest)) (push_assoc done e entries))
 
 -- ---- the rules one by one
@@ -122,8 +121,8 @@ entry_names (entry.Bind v ∷ entries) = entry_names entries
 entry_names (entry.Goto name ∷ entries) = entry_names entries
 entry_names (entry.Halt ∷ entries) = entry_names entries
 
-pub record Rules (count : ℕ) (labels : List Word) (entries : List Entry) : Type 0 where
-  pub few : count + step_total entries ≤ STEPS_LIMIT
+pub record Rules (limit count : ℕ) (labels : List Word) (entries : List Entry) : Type 0 where
+  pub few : count + step_total entries ≤ limit
   pub apart : list_all (is_new labels) (entry_names entries) ≡ true
   pub distinct : are_distinct (entry_names entries) ≡ true
 
@@ -188,16 +187,16 @@ all-new [] = refl
 all-new (name ∷ names) = all-new names
 
 -- with a step in front
-step-rules : (count : ℕ) (labels : List Word) (entries : List Entry) → nat_lt count STEPS_LIMIT ≡ true → Rules (count + 1) labels entries
-    → (count + (1 + step_total entries) ≤ STEPS_LIMIT)
-step-rules count labels entries h r = let f = r.few in omega arith
+step-rules : (limit count : ℕ) (labels : List Word) (entries : List Entry) → nat_lt count limit ≡ true → Rules limit (count + 1) labels entries
+    → (count + (1 + step_total entries) ≤ limit)
+step-rules limit count labels entries h r = let f = r.few in omega arith
 
-pub rules-from : (count : ℕ) (labels : List Word) (entries : List Entry) → count ≤ STEPS_LIMIT → may_follow_all count labels entries ≡ true → Rules count labels entries
+pub rules-from : (limit count : ℕ) (labels : List Word) (entries : List Entry) → count ≤ limit → may_follow_all limit count labels entries ≡ true → Rules limit count labels entries
 unfolding may_follow_all step_total entry_names
-rules-from count labels [] small h = record { few = omega arith; apart = refl; distinct = refl }
-rules-from count labels (entry.Label name ∷ entries) small h =
-    let p = and_parts (is_new labels name) (may_follow_all (count + 0) (labels ++ name ∷ []) entries) h in
-    let r = rules-from (count + 0) (labels ++ name ∷ []) entries (omega arith) p.1 in
+rules-from limit count labels [] small h = record { few = omega arith; apart = refl; distinct = refl }
+rules-from limit count labels (entry.Label name ∷ entries) small h =
+    let p = and_parts (is_new labels name) (may_follow_all limit (count + 0) (labels ++ name ∷ []) entries) h in
+    let r = rules-from limit (count + 0) (labels ++ name ∷ []) entries (omega arith) p.1 in
     let s = new-split labels name (entry_names entries) r.apart in
     let f = r.few in
     record {
@@ -205,55 +204,55 @@ rules-from count labels (entry.Label name ∷ entries) small h =
       apart = and_from (is_new labels name) (list_all (is_new labels) (entry_names entries)) p.0 s.0;
       distinct = and_from (is_new (entry_names entries) name) (are_distinct (entry_names entries)) (ap not s.1) r.distinct;
     }
-rules-from count labels (entry.Send t marks ∷ entries) small h =
-    let p = and_parts (nat_lt count STEPS_LIMIT) (may_follow_all (count + 1) labels entries) h in
-    let below = ltb-true count STEPS_LIMIT p.0 in
-    let r = rules-from (count + 1) labels entries (omega arith) p.1 in
-    record { few = step-rules count labels entries p.0 r; apart = r.apart; distinct = r.distinct }
-rules-from count labels (entry.Bind v ∷ entries) small h =
-    let p = and_parts (nat_lt count STEPS_LIMIT) (may_follow_all (count + 1) labels entries) h in
-    let below = ltb-true count STEPS_LIMIT p.0 in
-    let r = rules-from (count + 1) labels entries (omega arith) p.1 in
-    record { few = step-rules count labels entries p.0 r; apart = r.apart; distinct = r.distinct }
-rules-from count labels (entry.Goto name ∷ entries) small h =
-    let p = and_parts (nat_lt count STEPS_LIMIT) (may_follow_all (count + 1) labels entries) h in
-    let below = ltb-true count STEPS_LIMIT p.0 in
-    let r = rules-from (count + 1) labels entries (omega arith) p.1 in
-    record { few = step-rules count labels entries p.0 r; apart = r.apart; distinct = r.distinct }
-rules-from count labels (entry.Halt ∷ entries) small h =
-    let p = and_parts (nat_lt count STEPS_LIMIT) (may_follow_all (count + 1) labels entries) h in
-    let below = ltb-true count STEPS_LIMIT p.0 in
-    let r = rules-from (count + 1) labels entries (omega arith) p.1 in
-    record { few = step-rules count labels entries p.0 r; apart = r.apart; distinct = r.distinct }
+rules-from limit count labels (entry.Send t marks ∷ entries) small h =
+    let p = and_parts (nat_lt count limit) (may_follow_all limit (count + 1) labels entries) h in
+    let below = ltb-true count limit p.0 in
+    let r = rules-from limit (count + 1) labels entries (omega arith) p.1 in
+    record { few = step-rules limit count labels entries p.0 r; apart = r.apart; distinct = r.distinct }
+rules-from limit count labels (entry.Bind v ∷ entries) small h =
+    let p = and_parts (nat_lt count limit) (may_follow_all limit (count + 1) labels entries) h in
+    let below = ltb-true count limit p.0 in
+    let r = rules-from limit (count + 1) labels entries (omega arith) p.1 in
+    record { few = step-rules limit count labels entries p.0 r; apart = r.apart; distinct = r.distinct }
+rules-from limit count labels (entry.Goto name ∷ entries) small h =
+    let p = and_parts (nat_lt count limit) (may_follow_all limit (count + 1) labels entries) h in
+    let below = ltb-true count limit p.0 in
+    let r = rules-from limit (count + 1) labels entries (omega arith) p.1 in
+    record { few = step-rules limit count labels entries p.0 r; apart = r.apart; distinct = r.distinct }
+rules-from limit count labels (entry.Halt ∷ entries) small h =
+    let p = and_parts (nat_lt count limit) (may_follow_all limit (count + 1) labels entries) h in
+    let below = ltb-true count limit p.0 in
+    let r = rules-from limit (count + 1) labels entries (omega arith) p.1 in
+    record { few = step-rules limit count labels entries p.0 r; apart = r.apart; distinct = r.distinct }
 
-follow-step : (count : ℕ) (labels : List Word) (entries : List Entry) → count + (1 + step_total entries) ≤ STEPS_LIMIT
+follow-step : (limit count : ℕ) (labels : List Word) (entries : List Entry) → count + (1 + step_total entries) ≤ limit
     → (list_all (is_new labels) (entry_names entries) ≡ true) → (are_distinct (entry_names entries) ≡ true)
-    → (nat_lt count STEPS_LIMIT ≡ true) × Rules (count + 1) labels entries
-follow-step count labels entries few apart distinct =
-    (lt-ltb count STEPS_LIMIT (omega arith), record { few = omega arith; apart = apart; distinct = distinct })
+    → (nat_lt count limit ≡ true) × Rules limit (count + 1) labels entries
+follow-step limit count labels entries few apart distinct =
+    (lt-ltb count limit (omega arith), record { few = omega arith; apart = apart; distinct = distinct })
 
-pub follow-from : (count : ℕ) (labels : List Word) (entries : List Entry) → Rules count labels entries → may_follow_all count labels entries ≡ true
+pub follow-from : (limit count : ℕ) (labels : List Word) (entries : List Entry) → Rules limit count labels entries → may_follow_all limit count labels entries ≡ true
 unfolding may_follow_all step_total entry_names
-follow-from count labels [] r = refl
-follow-from count labels (entry.Label name ∷ entries) r =
+follow-from limit count labels [] r = refl
+follow-from limit count labels (entry.Label name ∷ entries) r =
     let a = and_parts (is_new labels name) (list_all (is_new labels) (entry_names entries)) r.apart in
     let d = and_parts (is_new (entry_names entries) name) (are_distinct (entry_names entries)) r.distinct in
     let f = r.few in
-    and_from (is_new labels name) (may_follow_all (count + 0) (labels ++ name ∷ []) entries) a.0
-    (follow-from (count + 0) (labels ++ name ∷ []) entries record {
+    and_from (is_new labels name) (may_follow_all limit (count + 0) (labels ++ name ∷ []) entries) a.0
+    (follow-from limit (count + 0) (labels ++ name ∷ []) entries record {
       few = omega arith;
       apart = new-join labels name (entry_names entries) a.1 (no-true (list_any (bytes_eq name) (entry_names entries)) d.0);
       distinct = d.1;
     })
-follow-from count labels (entry.Send t marks ∷ entries) r =
-    let s = follow-step count labels entries r.few r.apart r.distinct in
-    and_from (nat_lt count STEPS_LIMIT) (may_follow_all (count + 1) labels entries) s.0 (follow-from (count + 1) labels entries s.1)
-follow-from count labels (entry.Bind v ∷ entries) r =
-    let s = follow-step count labels entries r.few r.apart r.distinct in
-    and_from (nat_lt count STEPS_LIMIT) (may_follow_all (count + 1) labels entries) s.0 (follow-from (count + 1) labels entries s.1)
-follow-from count labels (entry.Goto name ∷ entries) r =
-    let s = follow-step count labels entries r.few r.apart r.distinct in
-    and_from (nat_lt count STEPS_LIMIT) (may_follow_all (count + 1) labels entries) s.0 (follow-from (count + 1) labels entries s.1)
-follow-from count labels (entry.Halt ∷ entries) r =
-    let s = follow-step count labels entries r.few r.apart r.distinct in
-    and_from (nat_lt count STEPS_LIMIT) (may_follow_all (count + 1) labels entries) s.0 (follow-from (count + 1) labels entries s.1)
+follow-from limit count labels (entry.Send t marks ∷ entries) r =
+    let s = follow-step limit count labels entries r.few r.apart r.distinct in
+    and_from (nat_lt count limit) (may_follow_all limit (count + 1) labels entries) s.0 (follow-from limit (count + 1) labels entries s.1)
+follow-from limit count labels (entry.Bind v ∷ entries) r =
+    let s = follow-step limit count labels entries r.few r.apart r.distinct in
+    and_from (nat_lt count limit) (may_follow_all limit (count + 1) labels entries) s.0 (follow-from limit (count + 1) labels entries s.1)
+follow-from limit count labels (entry.Goto name ∷ entries) r =
+    let s = follow-step limit count labels entries r.few r.apart r.distinct in
+    and_from (nat_lt count limit) (may_follow_all limit (count + 1) labels entries) s.0 (follow-from limit (count + 1) labels entries s.1)
+follow-from limit count labels (entry.Halt ∷ entries) r =
+    let s = follow-step limit count labels entries r.few r.apart r.distinct in
+    and_from (nat_lt count limit) (may_follow_all limit (count + 1) labels entries) s.0 (follow-from limit (count + 1) labels entries s.1)

@@ -1,9 +1,9 @@
 -- A text is read as a script exactly where it spells it.
-use Rattle.std.proofs.Common.{◌≡◌, ℕ, ◌==◌, true, not, Some, None, List, [], ◌∷◌, ◌++◌, length, drop, codes, refl, sym, ap, subst, ◌∙◌}
+use Rattle.std.proofs.Common.{◌≡◌, ℕ, ◌≤◌, ◌==◌, cond, true, not, Some, None, List, [], ◌∷◌, ◌++◌, length, drop, codes, refl, sym, ap, subst, ◌∙◌, arith}
 use Rattle.std.specs.Str.{bytes_eq}
-use Rattle.std.proofs.lemmas.Bool.{and_parts}
 use Rattle.mc_protocol.specs.declared.actor.Actor.{Actor}
 use Rattle.mc_protocol.specs.declared.actor.Actor.TheVariants as actor
+use Rattle.mc_protocol.specs.declared.sections.Sections.{Sections}
 use Rattle.mc_protocol.specs.declared.lines.Separator.TheVariants.{SpaceOrTab}
 use Rattle.mc_protocol.specs.Lines.{words_of_text, Word, Words, begins_with, is_only}
 use Rattle.mc_protocol.specs.declared.limits.TheConstants.{KEYS_LIMIT, KEY_BYTES_LIMIT, REQUESTS_LIMIT, REQUEST_BYTES_LIMIT}
@@ -12,34 +12,45 @@ use Rattle.mc_protocol.specs.Words.{actor_word}
 use Rattle.mc_script.specs.declared.entry.Entry.{Entry}
 use Rattle.mc_script.specs.declared.limits.TheConstants.{NAME_BYTES_LIMIT, FLAGS_LIMIT, VARIABLES_LIMIT}
 use Rattle.mc_script.specs.declared.section.Budget.{Budget}
-use Rattle.mc_script.specs.declared.text.Budgets.{Budgets}
+use Rattle.mc_script.specs.declared.version.Version.{Version}
+use Rattle.mc_script.specs.declared.version.Version.TheVariants as version
+use Rattle.mc_script.specs.Versions.{version_word, flags_limit, steps_limit}
 use Rattle.mc_script.specs.Script.{Names, Section, Script, AreDeclared}
-use Rattle.mc_script.specs.ScriptText.{SpellsScript, SpellsBudget, header, names_line, names_lines, section_line, end_line, body_lines}
+use Rattle.mc_script.specs.ScriptText.{SpellsInVersion, SpellsScript, SpellsBudget, header, names_line, names_lines, section_line, end_line, body_lines}
 use Rattle.mc_script.specs.SectionText.{SpellsSection}
 use Rattle.mc_script.specs.Steps.{◌>>=◌}
-use Rattle.mc_script.specs.Reading.{entry_in, is_header, header_in, names_in, keys_in, optional_in, then_line, number_in, numbers_in, amounts_in, budget_in}
+use Rattle.mc_script.specs.Reading.{entry_in, version_of_word, header_version, header_in, names_in, keys_in, optional_in, then_line, number_in, numbers_in, amounts_in, budget_in}
 use Rattle.mc_script.specs.TextReading.{line_in, names_of, all_names_in, next_budget_in, budgets_of, budgets_in, section_line_in, entries_in, ended_in, bodies_in, section_in, script_of, resolved_in, script_in}
 use Rattle.mc_script.proofs.Outcomes.{then-some, cond-cases, some-same, only-then}
 use Rattle.mc_script.proofs.FieldWords.{number-spelled, number-read}
-use Rattle.mc_script.proofs.Declared.{names-declared, keys-declared, optional-declared}
+use Rattle.mc_script.proofs.Declared.{names-declared, keys-declared, optional-declared, declared-few, declared-within, none-declared, flags-within}
 use Rattle.mc_script.proofs.SectionLines.{bytes-same, bytes-equal, only-line}
 use Rattle.mc_script.proofs.Sections.{section-spelled}
 
 -- ---- the header
 
-header-line : (line : Words) → is_header line ≡ true → line ≡ header
-header-line [] h = absurd (cc)
-header-line (word ∷ []) h = absurd (cc)
-header-line (word ∷ version ∷ []) h =
-    let p = and_parts (bytes_eq word (codes "script")) (bytes_eq version (codes "1")) h in
-    ap (λ w. w ∷ version ∷ []) (bytes-same word (codes "script") p.0) ∙ ap (λ v. codes "script" ∷ v ∷ []) (bytes-same version (codes "1") p.1)
-header-line (word ∷ version ∷ next ∷ others) h = absurd (cc)
+version-word : (word : Word) (v : Version) → version_of_word word ≡ Some v → word ≡ version_word v
+version-word word v h =
+    cond-cases (bytes_eq word (codes "1")) (Some version.One) (cond (bytes_eq word (codes "2")) (Some version.Two) None) v (word ≡ version_word v) h
+    (λ b g. bytes-same word (codes "1") b ∙ ap version_word (some-same version.One v g))
+    (λ _ g.
+    let p = only-then (bytes_eq word (codes "2")) (Some version.Two) v g in
+    bytes-same word (codes "2") p.0 ∙ ap version_word (some-same version.Two v p.1))
 
-header-spelled : (lines rest : List Words) → header_in lines ≡ Some rest → lines ≡ header ∷ rest
-header-spelled [] rest h = absurd (cc)
-header-spelled (line ∷ lines) rest h =
-    let p = only-then (is_header line) (Some lines) rest h in
-    ap (λ l. l ∷ lines) (header-line line p.0) ∙ ap (λ ls. header ∷ ls) (some-same lines rest p.1)
+header-line : (line : Words) (v : Version) → header_version line ≡ Some v → line ≡ header v
+header-line [] v h = absurd (cc)
+header-line (word ∷ []) v h = absurd (cc)
+header-line (word ∷ number ∷ []) v h =
+    let p = only-then (bytes_eq word (codes "script")) (version_of_word number) v h in
+    ap (λ w. w ∷ number ∷ []) (bytes-same word (codes "script") p.0) ∙ ap (λ w. codes "script" ∷ w ∷ []) (version-word number v p.1)
+header-line (word ∷ number ∷ next ∷ others) v h = absurd (cc)
+
+header-spelled : (lines : List Words) (v : Version) (rest : List Words) → header_in lines ≡ Some (v, rest) → lines ≡ header v ∷ rest
+header-spelled [] v rest h = absurd (cc)
+header-spelled (line ∷ lines) v rest h =
+    let p = then-some (header_version line) (λ v. Some (v, lines)) (v, rest) h in
+    let e = some-same (p.0, lines) (v, rest) p.2 in
+    ap (λ l. l ∷ lines) (header-line line p.0 p.1) ∙ ap (λ t. header t.0 ∷ t.1) e
 
 -- ---- names
 
@@ -95,39 +106,42 @@ rejoin : (a b c d : List Words) → a ++ (b ++ (c ++ d)) ≡ ((a ++ b) ++ c) ++ 
 rejoin a b c d = sym (append-assoc (a ++ b) c d ∙ append-assoc a b (c ++ d))
 
 -- the parts of what declares the names
-names-joined : (lines : List Words) (keys flags vars : List Word) (more : List Words) (first second last : Words) (behind onward rest : List Words)
+names-joined : (v : Version) (lines : List Words) (keys flags vars : List Word) (more : List Words) (first second last : Words) (behind onward rest : List Words)
     → keys_in lines ≡ Some (keys, more) → line_in more ≡ Some (first, behind)
-    → optional_in (codes "flags") FLAGS_LIMIT first behind ≡ Some (flags, second, onward)
+    → optional_in (codes "flags") (flags_limit v) first behind ≡ Some (flags, second, onward)
     → optional_in (codes "vars") VARIABLES_LIMIT second onward ≡ Some (vars, last, rest)
-    → (lines ≡ names_lines (names_of keys flags vars) ++ last ∷ rest) × AreDeclared (names_of keys flags vars)
-names-joined lines keys flags vars more first second last behind onward rest k l f v =
+    → (lines ≡ names_lines (names_of keys flags vars) ++ last ∷ rest) × AreDeclared (names_of keys flags vars) × (length flags ≤ flags_limit v)
+names-joined v lines keys flags vars more first second last behind onward rest k l f w =
     let declared = keys-declared lines keys more k in
     let tail : more ≡ names_line (codes "flags") flags ++ (names_line (codes "vars") vars ++ last ∷ rest) =
-    line-same more first behind l ∙ optional-line (codes "flags") FLAGS_LIMIT first behind flags second onward f
-    ∙ ap (λ ls. names_line (codes "flags") flags ++ ls) (optional-line (codes "vars") VARIABLES_LIMIT second onward vars last rest v) in (
+    line-same more first behind l ∙ optional-line (codes "flags") (flags_limit v) first behind flags second onward f
+    ∙ ap (λ ls. names_line (codes "flags") flags ++ ls) (optional-line (codes "vars") VARIABLES_LIMIT second onward vars last rest w) in
+    let few = optional-declared (codes "flags") (flags_limit v) first behind flags second onward (none-declared v) f in
+    let short = declared-few (flags_limit v) NAME_BYTES_LIMIT flags few in (
       keys-line lines keys more k ∙ ap (λ ls. names_line (codes "keys") keys ++ ls) tail
           ∙ rejoin (names_line (codes "keys") keys) (names_line (codes "flags") flags) (names_line (codes "vars") vars) (last ∷ rest),
       record {
         some = declared.0;
         keys = declared.1;
-        flags = optional-declared (codes "flags") FLAGS_LIMIT first behind flags second onward refl f;
-        vars = optional-declared (codes "vars") VARIABLES_LIMIT second onward vars last rest refl v;
+        flags = declared-within FLAGS_LIMIT (flags_limit v) NAME_BYTES_LIMIT flags (omega (arith, short, flags-within v)) few;
+        vars = optional-declared (codes "vars") VARIABLES_LIMIT second onward vars last rest refl w;
       },
+      short,
     )
 
-names-spelled : (lines : List Words) (names : Names) (line : Words) (rest : List Words) → all_names_in lines ≡ Some (names, line, rest)
-    → (lines ≡ names_lines names ++ line ∷ rest) × AreDeclared names
-names-spelled lines names line rest h =
-    let k = then-some (keys_in lines) (λ k. line_in k.1 >>= λ l. optional_in (codes "flags") FLAGS_LIMIT l.0 l.1
-    >>= λ f. optional_in (codes "vars") VARIABLES_LIMIT f.1 f.2 >>= λ v. Some (names_of k.0 f.0 v.0, v.1, v.2)) (names, line, rest) h in
-    let l = then-some (line_in k.0.1) (λ l. optional_in (codes "flags") FLAGS_LIMIT l.0 l.1
-    >>= λ f. optional_in (codes "vars") VARIABLES_LIMIT f.1 f.2 >>= λ v. Some (names_of k.0.0 f.0 v.0, v.1, v.2)) (names, line, rest) k.2 in
-    let f = then-some (optional_in (codes "flags") FLAGS_LIMIT l.0.0 l.0.1)
-    (λ f. optional_in (codes "vars") VARIABLES_LIMIT f.1 f.2 >>= λ v. Some (names_of k.0.0 f.0 v.0, v.1, v.2)) (names, line, rest) l.2 in
-    let v = then-some (optional_in (codes "vars") VARIABLES_LIMIT f.0.1 f.0.2) (λ v. Some (names_of k.0.0 f.0.0 v.0, v.1, v.2)) (names, line, rest) f.2 in
-    let P : Names × Words × List Words → Type 0 = λ t. (lines ≡ names_lines t.0 ++ t.1 ∷ t.2) × AreDeclared t.0 in
-    subst P (some-same (names_of k.0.0 f.0.0 v.0.0, v.0.1, v.0.2) (names, line, rest) v.2)
-    (names-joined lines k.0.0 f.0.0 v.0.0 k.0.1 l.0.0 f.0.1 v.0.1 l.0.1 f.0.2 v.0.2 k.1 l.1 f.1 v.1)
+names-spelled : (v : Version) (lines : List Words) (names : Names) (line : Words) (rest : List Words) → all_names_in v lines ≡ Some (names, line, rest)
+    → (lines ≡ names_lines names ++ line ∷ rest) × AreDeclared names × (length names.flags ≤ flags_limit v)
+names-spelled v lines names line rest h =
+    let k = then-some (keys_in lines) (λ k. line_in k.1 >>= λ l. optional_in (codes "flags") (flags_limit v) l.0 l.1
+    >>= λ f. optional_in (codes "vars") VARIABLES_LIMIT f.1 f.2 >>= λ w. Some (names_of k.0 f.0 w.0, w.1, w.2)) (names, line, rest) h in
+    let l = then-some (line_in k.0.1) (λ l. optional_in (codes "flags") (flags_limit v) l.0 l.1
+    >>= λ f. optional_in (codes "vars") VARIABLES_LIMIT f.1 f.2 >>= λ w. Some (names_of k.0.0 f.0 w.0, w.1, w.2)) (names, line, rest) k.2 in
+    let f = then-some (optional_in (codes "flags") (flags_limit v) l.0.0 l.0.1)
+    (λ f. optional_in (codes "vars") VARIABLES_LIMIT f.1 f.2 >>= λ w. Some (names_of k.0.0 f.0 w.0, w.1, w.2)) (names, line, rest) l.2 in
+    let w = then-some (optional_in (codes "vars") VARIABLES_LIMIT f.0.1 f.0.2) (λ w. Some (names_of k.0.0 f.0.0 w.0, w.1, w.2)) (names, line, rest) f.2 in
+    let P : Names × Words × List Words → Type 0 = λ t. (lines ≡ names_lines t.0 ++ t.1 ∷ t.2) × AreDeclared t.0 × (length t.0.flags ≤ flags_limit v) in
+    subst P (some-same (names_of k.0.0 f.0.0 w.0.0, w.0.1, w.0.2) (names, line, rest) w.2)
+    (names-joined v lines k.0.0 f.0.0 w.0.0 k.0.1 l.0.0 f.0.1 w.0.1 l.0.1 f.0.2 w.0.2 k.1 l.1 f.1 w.1)
 
 -- ---- budgets
 
@@ -198,28 +212,28 @@ ended x y [] h = (some-same x y h, refl)
 ended x y (line ∷ lines) h = absurd (cc)
 
 -- the three sections, and the end
-record SpelledBodies (names : Names) (budgets : Budgets) (lines : List Words) (s : Script) : Type 0 where
+record SpelledBodies (v : Version) (names : Names) (budgets : Sections Budget) (lines : List Words) (s : Script) : Type 0 where
   p : List Words
   a : List Words
   b : List Words
   lines_are : lines ≡ body_lines p a b
-  p_spelled : SpellsSection names p s.sections.p
-  a_spelled : SpellsSection names a s.sections.a
-  b_spelled : SpellsSection names b s.sections.b
+  p_spelled : SpellsSection v names p s.sections.p
+  a_spelled : SpellsSection v names a s.sections.a
+  b_spelled : SpellsSection v names b s.sections.b
   p_budget : s.sections.p.budget ≡ budgets.p
   a_budget : s.sections.a.budget ≡ budgets.a
   b_budget : s.sections.b.budget ≡ budgets.b
   names_are : s.names ≡ names
 
-bodies-joined : (names : Names) (budgets : Budgets) (lines l lp la lb : List Words) (p a b : List Entry) (x y z : Section)
-    → section_line_in lines ≡ Some l → entries_in names (codes "A") [] 0 [] l ≡ Some (p, lp)
-    → entries_in names (codes "B") [] 0 [] lp ≡ Some (a, la) → entries_in names (codes "end") [] 0 [] la ≡ Some (b, lb) → lb ≡ []
+bodies-joined : (v : Version) (names : Names) (budgets : Sections Budget) (lines l lp la lb : List Words) (p a b : List Entry) (x y z : Section)
+    → section_line_in lines ≡ Some l → entries_in (steps_limit v) names (codes "A") [] 0 [] l ≡ Some (p, lp)
+    → entries_in (steps_limit v) names (codes "B") [] 0 [] lp ≡ Some (a, la) → entries_in (steps_limit v) names (codes "end") [] 0 [] la ≡ Some (b, lb) → lb ≡ []
     → section_in budgets.p p ≡ Some x → section_in budgets.a a ≡ Some y → section_in budgets.b b ≡ Some z
-    → SpelledBodies names budgets lines (script_of names x y z)
-bodies-joined names budgets lines l lp la lb p a b x y z h i j k e f g m =
-    let P = section-spelled names (codes "A") budgets.p l p lp x i f in
-    let A = section-spelled names (codes "B") budgets.a lp a la y j g in
-    let B = section-spelled names (codes "end") budgets.b la b lb z k m in
+    → SpelledBodies v names budgets lines (script_of names x y z)
+bodies-joined v names budgets lines l lp la lb p a b x y z h i j k e f g m =
+    let P = section-spelled v names (codes "A") budgets.p l p lp x i f in
+    let A = section-spelled v names (codes "B") budgets.a lp a la y j g in
+    let B = section-spelled v names (codes "end") budgets.b la b lb z k m in
     record {
       p = P.body;
       a = A.body;
@@ -235,15 +249,15 @@ bodies-joined names budgets lines l lp la lb p a b x y z h i j k e f g m =
       names_are = refl;
     }
 
-bodies-spelled : (names : Names) (budgets : Budgets) (lines : List Words) (p a b : List Entry) (s : Script)
-    → bodies_in names lines ≡ Some (p, a, b) → resolved_in names budgets p a b ≡ Some s → SpelledBodies names budgets lines s
-bodies-spelled names budgets lines p a b s h made =
-    let l = then-some (section_line_in lines) (λ l. entries_in names (codes "A") [] 0 [] l >>= λ p. entries_in names (codes "B") [] 0 [] p.1
-    >>= λ a. entries_in names (codes "end") [] 0 [] a.1 >>= λ b. ended_in (p.0, a.0, b.0) b.1) (p, a, b) h in
-    let P = then-some (entries_in names (codes "A") [] 0 [] l.0) (λ p. entries_in names (codes "B") [] 0 [] p.1
-    >>= λ a. entries_in names (codes "end") [] 0 [] a.1 >>= λ b. ended_in (p.0, a.0, b.0) b.1) (p, a, b) l.2 in
-    let A = then-some (entries_in names (codes "B") [] 0 [] P.0.1) (λ a. entries_in names (codes "end") [] 0 [] a.1 >>= λ b. ended_in (P.0.0, a.0, b.0) b.1) (p, a, b) P.2 in
-    let B = then-some (entries_in names (codes "end") [] 0 [] A.0.1) (λ b. ended_in (P.0.0, A.0.0, b.0) b.1) (p, a, b) A.2 in
+bodies-spelled : (v : Version) (names : Names) (budgets : Sections Budget) (lines : List Words) (p a b : List Entry) (s : Script)
+    → bodies_in v names lines ≡ Some (p, a, b) → resolved_in names budgets p a b ≡ Some s → SpelledBodies v names budgets lines s
+bodies-spelled v names budgets lines p a b s h made =
+    let l = then-some (section_line_in lines) (λ l. entries_in (steps_limit v) names (codes "A") [] 0 [] l >>= λ p. entries_in (steps_limit v) names (codes "B") [] 0 [] p.1
+    >>= λ a. entries_in (steps_limit v) names (codes "end") [] 0 [] a.1 >>= λ b. ended_in (p.0, a.0, b.0) b.1) (p, a, b) h in
+    let P = then-some (entries_in (steps_limit v) names (codes "A") [] 0 [] l.0) (λ p. entries_in (steps_limit v) names (codes "B") [] 0 [] p.1
+    >>= λ a. entries_in (steps_limit v) names (codes "end") [] 0 [] a.1 >>= λ b. ended_in (p.0, a.0, b.0) b.1) (p, a, b) l.2 in
+    let A = then-some (entries_in (steps_limit v) names (codes "B") [] 0 [] P.0.1) (λ a. entries_in (steps_limit v) names (codes "end") [] 0 [] a.1 >>= λ b. ended_in (P.0.0, a.0, b.0) b.1) (p, a, b) P.2 in
+    let B = then-some (entries_in (steps_limit v) names (codes "end") [] 0 [] A.0.1) (λ b. ended_in (P.0.0, A.0.0, b.0) b.1) (p, a, b) A.2 in
     let E = ended (P.0.0, A.0.0, B.0.0) (p, a, b) B.0.1 B.2 in
     let x = then-some (section_in budgets.p p) (λ x. section_in budgets.a a >>= λ y. section_in budgets.b b >>= λ z. Some (script_of names x y z)) s made in
     let y = then-some (section_in budgets.a a) (λ y. section_in budgets.b b >>= λ z. Some (script_of names x.0 y z)) s x.2 in
@@ -251,13 +265,13 @@ bodies-spelled names budgets lines p a b s h made =
     let same-p : P.0.0 ≡ p = ap (λ t. t.0) E.0 in
     let same-a : A.0.0 ≡ a = ap (λ t. t.1) E.0 in
     let same-b : B.0.0 ≡ b = ap (λ t. t.2) E.0 in
-    subst (SpelledBodies names budgets lines) (some-same (script_of names x.0 y.0 z.0) s z.2)
-    (bodies-joined names budgets lines l.0 P.0.1 A.0.1 B.0.1 P.0.0 A.0.0 B.0.0 x.0 y.0 z.0 l.1 P.1 A.1 B.1 E.1
+    subst (SpelledBodies v names budgets lines) (some-same (script_of names x.0 y.0 z.0) s z.2)
+    (bodies-joined v names budgets lines l.0 P.0.1 A.0.1 B.0.1 P.0.0 A.0.0 B.0.0 x.0 y.0 z.0 l.1 P.1 A.1 B.1 E.1
     (ap (section_in budgets.p) same-p ∙ x.1) (ap (section_in budgets.a) same-a ∙ y.1) (ap (section_in budgets.b) same-b ∙ z.1))
 
 -- ---- the whole
 
-budgets-spelled : (line : Words) (lines : List Words) (budgets : Budgets) (rest : List Words) → budgets_in line lines ≡ Some (budgets, rest)
+budgets-spelled : (line : Words) (lines : List Words) (budgets : Sections Budget) (rest : List Words) → budgets_in line lines ≡ Some (budgets, rest)
     → (second : Words) × (third : Words) × (lines ≡ second ∷ third ∷ rest)
     × SpellsBudget actor.P line budgets.p × SpellsBudget actor.A second budgets.a × SpellsBudget actor.B third budgets.b
 budgets-spelled line lines budgets rest h =
@@ -267,18 +281,18 @@ budgets-spelled line lines budgets rest h =
     let (second, e, s) = next-budget actor.A lines a.0.0 a.0.1 a.1 in
     let (third, f, t) = next-budget actor.B a.0.1 b.0.0 b.0.1 b.1 in
     let same = some-same (budgets_of p.0 a.0.0 b.0.0, b.0.1) (budgets, rest) b.2 in
-    let P : Budgets × List Words → Type 0 = λ x. (second : Words) × (third : Words) × (lines ≡ second ∷ third ∷ x.1)
+    let P : Sections Budget × List Words → Type 0 = λ x. (second : Words) × (third : Words) × (lines ≡ second ∷ third ∷ x.1)
     × SpellsBudget actor.P line x.0.p × SpellsBudget actor.A second x.0.a × SpellsBudget actor.B third x.0.b in
     subst P same (second, third, e ∙ ap (λ ls. second ∷ ls) f, budget-spelled actor.P line p.0 p.1, s, t)
 
-script-joined : (text : List ℕ) (l : List Words) (names : Names) (line : Words) (behind : List Words) (budgets : Budgets) (onward : List Words) (s : Script)
-    → words_of_text SpaceOrTab text ≡ header ∷ l → (l ≡ names_lines names ++ line ∷ behind) × AreDeclared names
+script-joined : (v : Version) (text : List ℕ) (l : List Words) (names : Names) (line : Words) (behind : List Words) (budgets : Sections Budget) (onward : List Words) (s : Script)
+    → words_of_text SpaceOrTab text ≡ header v ∷ l → (l ≡ names_lines names ++ line ∷ behind) × AreDeclared names × (length names.flags ≤ flags_limit v)
     → (second : Words) × (third : Words) × (behind ≡ second ∷ third ∷ onward)
     × SpellsBudget actor.P line budgets.p × SpellsBudget actor.A second budgets.a × SpellsBudget actor.B third budgets.b
-    → SpelledBodies names budgets onward s → SpellsScript text s
-script-joined text l names line behind budgets onward s h (n, declared) (second, third, e, p, a, b) bodies =
+    → SpelledBodies v names budgets onward s → SpellsInVersion v text s
+script-joined v text l names line behind budgets onward s h (n, declared, few) (second, third, e, p, a, b) bodies =
     let N : Names → Type 0 = AreDeclared in
-    let S : List Words → Section → Names → Type 0 = λ ls x ns. SpellsSection ns ls x in
+    let S : List Words → Section → Names → Type 0 = λ ls x ns. SpellsSection v ns ls x in
     record {
       p_budget = line;
       a_budget = second;
@@ -286,9 +300,10 @@ script-joined text l names line behind budgets onward s h (n, declared) (second,
       p = bodies.p;
       a = bodies.a;
       b = bodies.b;
-      lines = h ∙ ap (λ ls. header ∷ ls) (n ∙ ap (λ ls. names_lines names ++ line ∷ ls) (e ∙ ap (λ ls. second ∷ third ∷ ls) bodies.lines_are)
+      lines = h ∙ ap (λ ls. header v ∷ ls) (n ∙ ap (λ ls. names_lines names ++ line ∷ ls) (e ∙ ap (λ ls. second ∷ third ∷ ls) bodies.lines_are)
           ∙ ap (λ ns. names_lines ns ++ line ∷ second ∷ third ∷ body_lines bodies.p bodies.a bodies.b) (sym bodies.names_are));
       declared = subst N (sym bodies.names_are) declared;
+      few_flags = subst (λ (ns : Names). length ns.flags ≤ flags_limit v) (sym bodies.names_are) few;
       p_allowed = subst (SpellsBudget actor.P line) (sym bodies.p_budget) p;
       a_allowed = subst (SpellsBudget actor.A second) (sym bodies.a_budget) a;
       b_allowed = subst (SpellsBudget actor.B third) (sym bodies.b_budget) b;
@@ -300,9 +315,12 @@ script-joined text l names line behind budgets onward s h (n, declared) (second,
 pub script-spelled : (text : List ℕ) (s : Script) → script_in (words_of_text SpaceOrTab text) ≡ Some s → SpellsScript text s
 script-spelled text s h =
     let lines = words_of_text SpaceOrTab text in
-    let l = then-some (header_in lines) (λ l. all_names_in l >>= λ n. budgets_in n.1 n.2 >>= λ d. bodies_in n.0 d.1 >>= λ e. resolved_in n.0 d.0 e.0 e.1 e.2) s h in
-    let n = then-some (all_names_in l.0) (λ n. budgets_in n.1 n.2 >>= λ d. bodies_in n.0 d.1 >>= λ e. resolved_in n.0 d.0 e.0 e.1 e.2) s l.2 in
-    let d = then-some (budgets_in n.0.1 n.0.2) (λ d. bodies_in n.0.0 d.1 >>= λ e. resolved_in n.0.0 d.0 e.0 e.1 e.2) s n.2 in
-    let e = then-some (bodies_in n.0.0 d.0.1) (λ e. resolved_in n.0.0 d.0.0 e.0 e.1 e.2) s d.2 in
-    script-joined text l.0 n.0.0 n.0.1 n.0.2 d.0.0 d.0.1 s (header-spelled lines l.0 l.1) (names-spelled l.0 n.0.0 n.0.1 n.0.2 n.1)
-    (budgets-spelled n.0.1 n.0.2 d.0.0 d.0.1 d.1) (bodies-spelled n.0.0 d.0.0 d.0.1 e.0.0 e.0.1 e.0.2 s e.1 e.2)
+    let l = then-some (header_in lines) (λ h. all_names_in h.0 h.1 >>= λ n. budgets_in n.1 n.2 >>= λ d. bodies_in h.0 n.0 d.1 >>= λ e. resolved_in n.0 d.0 e.0 e.1 e.2) s h in
+    let v = l.0.0 in
+    let n = then-some (all_names_in v l.0.1) (λ n. budgets_in n.1 n.2 >>= λ d. bodies_in v n.0 d.1 >>= λ e. resolved_in n.0 d.0 e.0 e.1 e.2) s l.2 in
+    let d = then-some (budgets_in n.0.1 n.0.2) (λ d. bodies_in v n.0.0 d.1 >>= λ e. resolved_in n.0.0 d.0 e.0 e.1 e.2) s n.2 in
+    let e = then-some (bodies_in v n.0.0 d.0.1) (λ e. resolved_in n.0.0 d.0.0 e.0 e.1 e.2) s d.2 in (
+      v,
+      script-joined v text l.0.1 n.0.0 n.0.1 n.0.2 d.0.0 d.0.1 s (header-spelled lines v l.0.1 l.1) (names-spelled v l.0.1 n.0.0 n.0.1 n.0.2 n.1)
+          (budgets-spelled n.0.1 n.0.2 d.0.0 d.0.1 d.1) (bodies-spelled v n.0.0 d.0.0 d.0.1 e.0.0 e.0.1 e.0.2 s e.1 e.2),
+    )

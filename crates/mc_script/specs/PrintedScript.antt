@@ -19,9 +19,9 @@ use Rattle.mc_script.specs.declared.step.Argument.TheVariants as argument
 use Rattle.mc_script.specs.declared.step.Step.{Step}
 use Rattle.mc_script.specs.declared.step.Step.TheVariants as step
 use Rattle.mc_script.specs.declared.step.Template.{Template}
-use Rattle.mc_script.specs.Script.{Names, Section, Script}
+use Rattle.mc_script.specs.Script.{Names, Section, Script, version_of}
 use Rattle.mc_script.specs.ScriptWords.{body_word, variable_word, label_word}
-use Rattle.mc_script.specs.ScriptText.{SpellsScript, header, names_lines, body_lines}
+use Rattle.mc_script.specs.ScriptText.{SpellsInVersion, SpellsScript, header, names_lines, body_lines}
 use Rattle.mc_script.specs.Marks.{sign_byte, jump_word, bind_word}
 use Rattle.mc_script.specs.SectionText.{halt_line, label_names}
 use Rattle.mc_script.specs.WellFormed.{IsScript}
@@ -123,7 +123,7 @@ budget_line a budget = codes "budget" ∷ actor_word a ∷ decimal budget.reques
 
 abbrev pub script_lines : Script → List Words
 script_lines s =
-    header ∷ (names_lines s.names ++ budget_line actor.P s.sections.p.budget ∷ budget_line actor.A s.sections.a.budget ∷ budget_line actor.B s.sections.b.budget
+    header (version_of s) ∷ (names_lines s.names ++ budget_line actor.P s.sections.p.budget ∷ budget_line actor.A s.sections.a.budget ∷ budget_line actor.B s.sections.b.budget
     ∷ body_lines (section_lines s.names s.sections.p) (section_lines s.names s.sections.a) (section_lines s.names s.sections.b))
 
 abbrev pub script_text : Script → List ℕ
@@ -131,9 +131,9 @@ script_text s = lines_text (script_lines s)
 
 -- ---- what is printed spells the script
 
--- a script is spelled by the text that is printed of it
+-- a script is spelled by the text that is printed of it, in the version that is written
 abbrev pub PrintedScriptsAreSpelled : Type 0
-PrintedScriptsAreSpelled = (s : Script) → IsScript s → SpellsScript (script_text s) s
+PrintedScriptsAreSpelled = (s : Script) → IsScript s → SpellsInVersion (version_of s) (script_text s) s
 
 -- a script that is read from the text that was printed of one is the same
 abbrev pub PrintedScriptsAreReadAgain : Type 0

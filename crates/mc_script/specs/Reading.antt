@@ -1,6 +1,6 @@
 -- What the readers of words and lines answer. No public contract cites these: the other definitions say what a text
 -- spells, and the proofs join the two.
-use Rattle.std.specs.Prelude.{◌≡◌, ◌≢◌, ℕ, ◌+◌, ◌-◌, ◌==◌, Bool, false, not, ◌&&◌, Option, Some, None, Result, Ok, Err, List, [], ◌∷◌, ◌++◌, length, take, drop, get_or, codes, if◌then◌else◌}
+use Rattle.std.specs.Prelude.{◌≡◌, ◌≢◌, ℕ, ◌+◌, ◌-◌, ◌==◌, nat_lt, Bool, false, not, ◌&&◌, Option, Some, None, Result, Ok, Err, List, [], ◌∷◌, ◌++◌, length, take, drop, get_or, codes, if◌then◌else◌}
 use Rattle.std.specs.List.{list_any, position}
 use Rattle.std.specs.Result.{result_ok}
 use Rattle.std.specs.Str.{bytes_eq}
@@ -13,7 +13,7 @@ use Rattle.mc_protocol.specs.declared.request.Verb.{Verb}
 use Rattle.mc_protocol.specs.declared.limits.TheConstants.{KEYS_LIMIT, KEY_BYTES_LIMIT, REQUESTS_LIMIT, REQUEST_BYTES_LIMIT}
 use Rattle.mc_protocol.specs.Lines.{Word, Words, begins_with}
 use Rattle.mc_protocol.specs.Decimals.{MAX_32, MAX_64, decimal_in}
-use Rattle.mc_protocol.specs.Names.{index_of}
+use Rattle.mc_protocol.specs.Names.{index_of, is_name, is_new}
 use Rattle.mc_script.specs.declared.entry.Entry.{Entry}
 use Rattle.mc_script.specs.declared.entry.Entry.TheVariants as entry
 use Rattle.mc_script.specs.declared.entry.Mark.{Mark}
@@ -29,6 +29,8 @@ use Rattle.mc_script.specs.declared.section.Budget.{Budget}
 use Rattle.mc_script.specs.declared.step.Argument.{Argument}
 use Rattle.mc_script.specs.declared.step.Argument.TheVariants as argument
 use Rattle.mc_script.specs.declared.step.Template.{Template}
+use Rattle.mc_script.specs.declared.version.Version.{Version}
+use Rattle.mc_script.specs.declared.version.Version.TheVariants as version
 use Rattle.mc_script.specs.Script.{Names, may_be_declared}
 use Rattle.mc_script.specs.ScriptWords.{is_body, is_label_name}
 use Rattle.mc_script.specs.Marks.{may_stand, are_twins, is_number_jump}
@@ -61,17 +63,27 @@ body_in (first ∷ body) = if first == 61 then (if is_body body then Some body e
 
 -- ---- declarations
 
-abbrev pub is_header : Words → Bool
-is_header [] = false
-is_header (word ∷ []) = false
-is_header (word ∷ version ∷ []) = bytes_eq word (codes "script") && bytes_eq version (codes "1")
-is_header (word ∷ version ∷ _ ∷ _) = false
+-- the version with this word
+abbrev pub version_of_word : Word → Option Version
+version_of_word word =
+    if bytes_eq word (codes "1") then Some version.One else (if bytes_eq word (codes "2") then Some version.Two else None)
 
-abbrev pub header_in : List Words → Option (List Words)
+-- the version of a header
+abbrev pub header_version : Words → Option Version
+header_version [] = None
+header_version (word ∷ []) = None
+header_version (word ∷ number ∷ []) = if bytes_eq word (codes "script") then version_of_word number else None
+header_version (word ∷ number ∷ _ ∷ _) = None
+
+abbrev pub header_in : List Words → Option (Version × List Words)
 header_in [] = None
-header_in (line ∷ lines) = if is_header line then Some lines else None
+header_in (line ∷ lines) = header_version line >>= λ v. Some (v, lines)
 
--- the names behind the first word of a line
+-- the name may be declared after these
+abbrev pub may_follow_names : ℕ → ℕ → List Word → Word → Bool
+may_follow_names limit bytes names name = is_name bytes name && is_new names name && nat_lt (length names) limit
+
+-- the names after the first word of a line
 unfoldable pub names_in : ℕ → ℕ → Words → Option (List Word)
 names_in limit bytes [] = None
 names_in limit bytes (name ∷ names) = if may_be_declared limit bytes (name ∷ names) then Some (name ∷ names) else None
@@ -189,15 +201,19 @@ abbrev pub binds : Word → Bool
 binds [] = false
 binds (first ∷ name) = first == 62
 
--- the mark may stand behind these, on a line that binds a variable or not
+-- the mark may stand after these, on a line that binds a variable or not
 abbrev pub may_join : Verb → Bool → List Mark → Mark → Bool
 may_join v bound marks m = may_stand v m && not (bound && is_number_jump m) && not (list_any (λ other. are_twins other m) marks)
 
--- the marks of these words, behind those that were read
+-- a mark, where it may stand after these
+abbrev pub joining : Verb → Bool → List Mark → Option Mark → Option Mark
+joining v bound marks read = read >>= λ m. if may_join v bound marks m then Some m else None
+
+-- the marks of these words, after those that were read
 abbrev pub marks_in : Names → Verb → Bool → List Mark → Words → Option (List Mark)
 marks_in names v bound marks [] = Some marks
 marks_in names v bound marks (word ∷ words) =
-    mark_in names word >>= λ m. if may_join v bound marks m then marks_in names v bound (marks ++ m ∷ []) words else None
+    joining v bound marks (mark_in names word) >>= λ m. marks_in names v bound (marks ++ m ∷ []) words
 
 -- ---- the lines of a section
 

@@ -1,5 +1,5 @@
 -- What a script is: the names that it declares, and three sections.
-use Rattle.std.specs.Prelude.{◌≡◌, ℕ, ◌==◌, nat_le, Bool, true, not, ◌&&◌, List, length}
+use Rattle.std.specs.Prelude.{◌≡◌, ℕ, ◌==◌, nat_le, Bool, true, not, ◌&&◌, List, length, max}
 use Rattle.std.specs.List.{list_all}
 use Rattle.mc_protocol.specs.declared.actor.Actor.{Actor}
 use Rattle.mc_protocol.specs.declared.sections.Sections.{Sections}
@@ -11,6 +11,8 @@ use Rattle.mc_script.specs.declared.limits.TheConstants.{FLAGS_LIMIT, VARIABLES_
 use Rattle.mc_script.specs.declared.section.Budget.{Budget}
 use Rattle.mc_script.specs.declared.section.Label.{Label}
 use Rattle.mc_script.specs.declared.step.Step.{Step}
+use Rattle.mc_script.specs.declared.version.Version.{Version}
+use Rattle.mc_script.specs.Versions.{least_version}
 
 -- the keys, the flags and the variables, each by its name
 pub record Names : Type 0 where
@@ -41,3 +43,11 @@ pub record Script : Type 0 where
 
 abbrev pub section_of : Script → Actor → Section
 section_of s actor = sections.section_of s.sections actor
+
+-- the number of steps of the longest section
+abbrev pub longest : Script → ℕ
+longest s = max (length s.sections.p.steps) (max (length s.sections.a.steps) (length s.sections.b.steps))
+
+-- the version whose text is printed of the script
+abbrev pub version_of : Script → Version
+version_of s = least_version (length s.names.flags) (longest s)

@@ -1,5 +1,5 @@
 -- The text of a script.
-use Rattle.std.specs.Prelude.{◌≡◌, ℕ, List, [], ◌∷◌, ◌++◌, codes}
+use Rattle.std.specs.Prelude.{◌≡◌, ℕ, ◌≤◌, List, [], ◌∷◌, ◌++◌, length, codes}
 use Rattle.mc_protocol.specs.declared.actor.Actor.{Actor}
 use Rattle.mc_protocol.specs.declared.actor.Actor.TheVariants as actor
 use Rattle.mc_protocol.specs.declared.lines.Separator.TheVariants.{SpaceOrTab}
@@ -8,6 +8,8 @@ use Rattle.mc_protocol.specs.declared.limits.TheConstants.{REQUESTS_LIMIT, REQUE
 use Rattle.mc_protocol.specs.Decimals.{SpellsNumber}
 use Rattle.mc_protocol.specs.Words.{actor_word}
 use Rattle.mc_script.specs.declared.section.Budget.{Budget}
+use Rattle.mc_script.specs.declared.version.Version.{Version}
+use Rattle.mc_script.specs.Versions.{version_word, flags_limit}
 use Rattle.mc_script.specs.Script.{Names, Script, AreDeclared}
 use Rattle.mc_script.specs.SectionText.{SpellsSection}
 
@@ -31,8 +33,9 @@ SpellsBudget actor line budget =
 
 -- ---- the whole text
 
-abbrev pub header : Words
-header = codes "script" ∷ codes "1" ∷ []
+-- `script`, and the version
+abbrev pub header : Version → Words
+header v = codes "script" ∷ version_word v ∷ []
 
 -- the line before the lines of a section
 abbrev pub section_line : Actor → Words
@@ -41,13 +44,13 @@ section_line actor = actor_word actor ∷ []
 abbrev pub end_line : Words
 end_line = codes "end" ∷ []
 
--- the lines of the three sections, each behind a line that names it, and `end`
+-- the lines of the three sections, each after a line that names it, and `end`
 abbrev pub body_lines : List Words → List Words → List Words → List Words
 body_lines p a b =
     section_line actor.P ∷ (p ++ section_line actor.A ∷ (a ++ section_line actor.B ∷ (b ++ end_line ∷ [])))
 
--- the text is the header, the declarations, the three budgets, and the sections
-pub record SpellsScript (text : List ℕ) (s : Script) : Type 0 where
+-- a text of this version is its header, the declarations, the three budgets, and the sections, within its limits
+pub record SpellsInVersion (v : Version) (text : List ℕ) (s : Script) : Type 0 where
   pub p_budget : Words
   pub a_budget : Words
   pub b_budget : Words
@@ -55,14 +58,19 @@ pub record SpellsScript (text : List ℕ) (s : Script) : Type 0 where
   pub a : List Words
   pub b : List Words
   pub lines : words_of_text SpaceOrTab text
-      ≡ header ∷ (names_lines s.names ++ p_budget ∷ a_budget ∷ b_budget ∷ body_lines p a b)
+      ≡ header v ∷ (names_lines s.names ++ p_budget ∷ a_budget ∷ b_budget ∷ body_lines p a b)
   pub declared : AreDeclared s.names
+  pub few_flags : length s.names.flags ≤ flags_limit v
   pub p_allowed : SpellsBudget actor.P p_budget s.sections.p.budget
   pub a_allowed : SpellsBudget actor.A a_budget s.sections.a.budget
   pub b_allowed : SpellsBudget actor.B b_budget s.sections.b.budget
-  pub p_spelled : SpellsSection s.names p s.sections.p
-  pub a_spelled : SpellsSection s.names a s.sections.a
-  pub b_spelled : SpellsSection s.names b s.sections.b
+  pub p_spelled : SpellsSection v s.names p s.sections.p
+  pub a_spelled : SpellsSection v s.names a s.sections.a
+  pub b_spelled : SpellsSection v s.names b s.sections.b
+
+-- the text spells the script in one version or the other
+abbrev pub SpellsScript : List ℕ → Script → Type 0
+SpellsScript text s = (v : Version) × SpellsInVersion v text s
 
 -- a text spells at most one script
 abbrev pub SpellsOneScript : Type 0

@@ -10,11 +10,12 @@ use Rattle.mc_protocol.specs.Decimals.{SpellsNumber, MAX_32, MAX_64}
 use Rattle.mc_script.specs.declared.entry.Entry.{Entry}
 use Rattle.mc_script.specs.declared.entry.Entry.TheVariants as entry
 use Rattle.mc_script.specs.declared.entry.Mark.{Mark}
-use Rattle.mc_script.specs.declared.limits.TheConstants.{STEPS_LIMIT}
 use Rattle.mc_script.specs.declared.section.Label.{Label}
 use Rattle.mc_script.specs.declared.step.Argument.{Argument}
 use Rattle.mc_script.specs.declared.step.Argument.TheVariants as argument
 use Rattle.mc_script.specs.declared.step.Template.{Template}
+use Rattle.mc_script.specs.declared.version.Version.{Version}
+use Rattle.mc_script.specs.Versions.{steps_limit}
 use Rattle.mc_script.specs.Script.{Names, Section}
 use Rattle.mc_script.specs.ScriptWords.{is_label_name, is_body, body_word, variable_word, label_word}
 use Rattle.mc_script.specs.Marks.{SpellsMark, may_stand_together}
@@ -109,11 +110,12 @@ SpellsEntry names line entry.Halt = line ≡ halt_line
 abbrev pub label_names : List Label → List Word
 label_names labels = map (λ label. label.name) labels
 
--- each line is a label or a step; the labels differ, and each that is used stands on a later line of the section
-pub record SpellsSection (names : Names) (lines : List Words) (s : Section) : Type 0 where
+-- the lines of a section in a text of this version: each is a label or a step; the labels differ, and each that is used
+-- stands on a later line of the section
+pub record SpellsSection (v : Version) (names : Names) (lines : List Words) (s : Section) : Type 0 where
   pub entries : List Entry
   pub spelled : SpellEach (SpellsEntry names) lines entries
   pub labels : s.labels ≡ labels_from 0 entries
   pub distinct : are_distinct (label_names s.labels) ≡ true
   pub steps : steps_from s.labels 0 entries ≡ Some s.steps
-  pub few : length s.steps ≤ STEPS_LIMIT
+  pub few : length s.steps ≤ steps_limit v

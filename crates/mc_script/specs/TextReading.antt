@@ -2,15 +2,17 @@
 use Rattle.std.specs.Prelude.{ℕ, ◌+◌, nat_lt, Bool, true, false, Option, Some, None, List, [], ◌∷◌, ◌++◌, codes, if◌then◌else◌}
 use Rattle.mc_protocol.specs.declared.actor.Actor.{Actor}
 use Rattle.mc_protocol.specs.declared.actor.Actor.TheVariants as actor
+use Rattle.mc_protocol.specs.declared.sections.Sections.{Sections}
 use Rattle.mc_protocol.specs.Lines.{Word, Words, is_only}
 use Rattle.mc_protocol.specs.Names.{is_new}
 use Rattle.mc_protocol.specs.Words.{all_classes}
 use Rattle.mc_script.specs.declared.entry.Entry.{Entry}
 use Rattle.mc_script.specs.declared.entry.Entry.TheVariants as entry
-use Rattle.mc_script.specs.declared.limits.TheConstants.{FLAGS_LIMIT, VARIABLES_LIMIT, STEPS_LIMIT}
+use Rattle.mc_script.specs.declared.limits.TheConstants.{VARIABLES_LIMIT}
 use Rattle.mc_script.specs.declared.section.Budget.{Budget}
 use Rattle.mc_script.specs.declared.section.Label.{Label}
-use Rattle.mc_script.specs.declared.text.Budgets.{Budgets}
+use Rattle.mc_script.specs.declared.version.Version.{Version}
+use Rattle.mc_script.specs.Versions.{flags_limit, steps_limit}
 use Rattle.mc_script.specs.Script.{Names, Section, Script}
 use Rattle.mc_script.specs.declared.step.Step.{Step}
 use Rattle.mc_script.specs.declared.step.Step.TheVariants as step
@@ -19,9 +21,10 @@ use Rattle.mc_script.specs.Reading.{header_in, keys_in, optional_in, budget_in, 
 
 -- ---- sections
 
-abbrev pub may_follow : ℕ → List Word → Entry → Bool
-may_follow count labels (entry.Label name) = is_new labels name
-may_follow count labels _ = nat_lt count STEPS_LIMIT
+-- the line may follow others in a section of at most `limit` steps: `count` steps, and these labels
+abbrev pub may_follow : ℕ → ℕ → List Word → Entry → Bool
+may_follow limit count labels (entry.Label name) = is_new labels name
+may_follow limit count labels _ = nat_lt count limit
 
 abbrev pub step_count : Entry → ℕ
 step_count (entry.Label name) = 0
@@ -31,14 +34,14 @@ abbrev pub with_label : List Word → Entry → List Word
 with_label labels (entry.Label name) = labels ++ name ∷ []
 with_label labels _ = labels
 
--- the lines up to the one that is this word alone, behind those that were read: so many steps, and these labels; and
--- the lines behind them
-abbrev pub entries_in : Names → Word → List Entry → ℕ → List Word → List Words → Option (List Entry × List Words)
-entries_in names stop entries count labels [] = None
-entries_in names stop entries count labels (line ∷ lines) =
+-- the lines up to the one that is this word alone, after those that were read: `count` steps of at most `limit`, and
+-- these labels; and the lines after them
+abbrev pub entries_in : ℕ → Names → Word → List Entry → ℕ → List Word → List Words → Option (List Entry × List Words)
+entries_in limit names stop entries count labels [] = None
+entries_in limit names stop entries count labels (line ∷ lines) =
     if is_only stop line then Some (entries, lines)
     else (entry_in names line >>= λ e.
-    if may_follow count labels e then entries_in names stop (entries ++ e ∷ []) (count + step_count e) (with_label labels e) lines else None)
+    if may_follow limit count labels e then entries_in limit names stop (entries ++ e ∷ []) (count + step_count e) (with_label labels e) lines else None)
 
 abbrev pub is_label : Entry → Bool
 is_label (entry.Label name) = true
@@ -73,9 +76,9 @@ abbrev pub label_named_by : Entry → Option Word
 label_named_by (entry.Label name) = Some name
 label_named_by _ = None
 
-abbrev pub may_follow_as : ℕ → List Word → Option Word → Bool
-may_follow_as count labels (Some name) = is_new labels name
-may_follow_as count labels None = nat_lt count STEPS_LIMIT
+abbrev pub may_follow_as : ℕ → ℕ → List Word → Option Word → Bool
+may_follow_as limit count labels (Some name) = is_new labels name
+may_follow_as limit count labels None = nat_lt count limit
 
 -- how many steps there are, and which labels, with a line more
 abbrev pub count_with : ℕ → Option Word → ℕ
@@ -97,20 +100,20 @@ abbrev pub names_of : List Word → List Word → List Word → Names
 names_of keys flags vars = record { keys = keys; flags = flags; vars = vars }
 
 -- the names that are declared, the line behind them, and the lines behind it
-abbrev pub all_names_in : List Words → Option (Names × Words × List Words)
-all_names_in lines =
-    keys_in lines >>= λ k. line_in k.1 >>= λ l. optional_in (codes "flags") FLAGS_LIMIT l.0 l.1
+abbrev pub all_names_in : Version → List Words → Option (Names × Words × List Words)
+all_names_in v lines =
+    keys_in lines >>= λ k. line_in k.1 >>= λ l. optional_in (codes "flags") (flags_limit v) l.0 l.1
     >>= λ f. optional_in (codes "vars") VARIABLES_LIMIT f.1 f.2 >>= λ v. Some (names_of k.0 f.0 v.0, v.1, v.2)
 
 abbrev pub next_budget_in : Actor → List Words → Option (Budget × List Words)
 next_budget_in actor [] = None
 next_budget_in actor (line ∷ lines) = budget_in actor line >>= λ b. Some (b, lines)
 
-abbrev pub budgets_of : Budget → Budget → Budget → Budgets
+abbrev pub budgets_of : Budget → Budget → Budget → Sections Budget
 budgets_of p a b = record { p = p; a = a; b = b }
 
 -- the three budgets, the first on this line
-abbrev pub budgets_in : Words → List Words → Option (Budgets × List Words)
+abbrev pub budgets_in : Words → List Words → Option (Sections Budget × List Words)
 budgets_in line lines =
     budget_in actor.P line >>= λ p. next_budget_in actor.A lines >>= λ a. next_budget_in actor.B a.1
     >>= λ b. Some (budgets_of p a.0 b.0, b.1)
@@ -124,20 +127,21 @@ ended_in x [] = Some x
 ended_in x (_ ∷ _) = None
 
 -- the lines of the three sections, which `end` and no other line follows
-abbrev pub bodies_in : Names → List Words → Option (List Entry × List Entry × List Entry)
-bodies_in names lines =
-    section_line_in lines >>= λ l. entries_in names (codes "A") [] 0 [] l >>= λ p. entries_in names (codes "B") [] 0 [] p.1
-    >>= λ a. entries_in names (codes "end") [] 0 [] a.1 >>= λ b. ended_in (p.0, a.0, b.0) b.1
+abbrev pub bodies_in : Version → Names → List Words → Option (List Entry × List Entry × List Entry)
+bodies_in v names lines =
+    section_line_in lines >>= λ l. entries_in (steps_limit v) names (codes "A") [] 0 [] l
+    >>= λ p. entries_in (steps_limit v) names (codes "B") [] 0 [] p.1
+    >>= λ a. entries_in (steps_limit v) names (codes "end") [] 0 [] a.1 >>= λ b. ended_in (p.0, a.0, b.0) b.1
 
 abbrev pub script_of : Names → Section → Section → Section → Script
 script_of names p a b = record { names = names; sections = record { p = p; a = a; b = b } }
 
 -- the script of its lines
-abbrev pub resolved_in : Names → Budgets → List Entry → List Entry → List Entry → Option Script
+abbrev pub resolved_in : Names → Sections Budget → List Entry → List Entry → List Entry → Option Script
 resolved_in names budgets p a b =
     section_in budgets.p p >>= λ x. section_in budgets.a a >>= λ y. section_in budgets.b b >>= λ z. Some (script_of names x y z)
 
 abbrev pub script_in : List Words → Option Script
 script_in lines =
-    header_in lines >>= λ l. all_names_in l >>= λ n. budgets_in n.1 n.2 >>= λ d. bodies_in n.0 d.1
+    header_in lines >>= λ h. all_names_in h.0 h.1 >>= λ n. budgets_in n.1 n.2 >>= λ d. bodies_in h.0 n.0 d.1
     >>= λ e. resolved_in n.0 d.0 e.0 e.1 e.2

@@ -1,90 +1,21 @@
-ghost use Rattle.std.specs.Prelude.{◌≡◌, ◌≤◌, map, List, IfOk, IfErr, OnOk, Option};
-ghost use Rattle.std.specs.List.{list_all, list_any};
+ghost use Rattle.std.specs.Prelude.{◌≡◌, ◌≤◌, true, false, map, List, IfOk, IfErr, OnOk, OnErr, Option};
+ghost use Rattle.std.specs.List.{list_any};
 ghost use Rattle.std.specs.Result.{result_ok};
 ghost use Rattle.std.specs.Str.{bytes_eq};
-ghost use Rattle.mc_script.specs.Script as spec;
 ghost use Rattle.mc_protocol.specs.Decimals as decimals;
-ghost use Rattle.mc_protocol.specs.Names as words;
 ghost use Rattle.mc_script.specs.Reading as reading;
 
 use crate::lines::next_due;
 use crate::words::read_number;
-use crate::{Budget, NAME_BYTES_LIMIT, ScriptFault, ScriptKind};
+use crate::{Budget, NAME_BYTES_LIMIT, ScriptFault, ScriptKind, Version};
 use mc_protocol::{
-    Actor, Bytes, KEY_BYTES_LIMIT, KEYS_LIMIT, OutOfMemory, REQUEST_BYTES_LIMIT, REQUESTS_LIMIT,
-    WordLine, WordLines, is_name, is_word,
+    Actor, Bytes, KEY_BYTES_LIMIT, KEYS_LIMIT, REQUEST_BYTES_LIMIT, REQUESTS_LIMIT, WordLine,
+    WordLines, is_name, is_word,
 };
 use std::alloc::Global;
 
-// Whether these may be declared together.
-fn may_be_declared(limit: usize, bytes: usize, names: &[&[u8]]) -> bool
-    ensures { result ≡ spec.may_be_declared limit bytes (map (λ w. w.now) names.now) }
-{
-    names.len() <= limit && are_named(bytes, names) && are_distinct(names)
-}
-
-fn are_named(bytes: usize, names: &[&[u8]]) -> bool
-    ensures { result ≡ list_all (words.is_name bytes) (map (λ w. w.now) names.now) }
-{
-    is_each_named(bytes, names)
-}
-
-fn is_each_named(bytes: usize, names: &[&[u8]]) -> bool
-    ensures { result ≡ list_all (λ w. words.is_name bytes w.now) names.now }
-{
-    names.iter().all(|name| is_name(bytes, name))
-}
-
-fn are_distinct(names: &[&[u8]]) -> bool
-    ensures { result ≡ words.are_distinct (map (λ w. w.now) names.now) }
-{
-    let mut rest = names;
-    'names: while let [name, others @ ..] = rest {
-        if !is_new(others, name) {
-            return false;
-        }
-        rest = others;
-    }
-    true
-}
-
-// Whether the word is none of these.
-fn is_new(names: &[&[u8]], word: &[u8]) -> bool
-    ensures { result ≡ words.is_new (map (λ w. w.now) names.now) word.now }
-{
-    !has(names, word)
-}
-
-fn has(names: &[&[u8]], word: &[u8]) -> bool
-    ensures { result ≡ list_any (bytes_eq word.now) (map (λ w. w.now) names.now) }
-{
-    is_any(names, word)
-}
-
-fn is_any(names: &[&[u8]], word: &[u8]) -> bool
-    ensures { result ≡ list_any (λ w. bytes_eq word.now w.now) names.now }
-{
-    names.iter().any(|name| is_word(word, name))
-}
-
-// The fault of the first of these names that can't be declared after the others.
-fn names_fault(limit: usize, bytes: usize, names: &[&[u8]]) -> ScriptKind {
-    for index in 0..names.len() {
-        let name = names[index];
-        if !is_name(bytes, name) {
-            return ScriptKind::Name;
-        }
-        if has(&names[..index], name) {
-            return ScriptKind::Duplicate;
-        }
-        if index >= limit {
-            return ScriptKind::TooMany;
-        }
-    }
-    ScriptKind::Line
-}
-
-// Reads the names after the first word of a line.
+/// Reads the names after the first word of a line: at most `limit`, each of at most `bytes` bytes. The fault is that of
+/// the first that can't be declared after those before it.
 #[tactic(auto, unfolding(crate::specs::Reading::names_in))]
 fn read_names(
     alloc: Global,
@@ -97,45 +28,68 @@ fn read_names(
     if words.is_empty() {
         return Err(ScriptKind::Line);
     }
-    if !may_be_declared(limit, bytes, words) {
-        return Err(names_fault(limit, bytes, words));
-    }
-    let names = copied(alloc, words)?;
-    Ok(names)
-}
-
-fn copied(alloc: Global, words: &[&[u8]]) -> Result<Vec<Bytes>, OutOfMemory>
-    ensures { IfOk result (λ names. names.items ≡ map (λ w. w.now) words.now) }
-{
-    let mut names = Vec::with_capacity(alloc, words.len())?;
+    let mut names = Vec::new(alloc);
     'words: for word in words {
+        check_name(limit, bytes, &names, word)?;
         names.push(Bytes::new(Vec::from_slice(alloc, word)?))?;
     }
     Ok(names)
 }
 
-/// Takes the header, `script 1`.
-pub(crate) fn take_header(alloc: Global, lines: &mut WordLines) -> Result<(), ScriptFault>
-    ensures { reading.Says (λ _. lines.new.words) result (reading.header_in lines.old.words) }
+/// Checks that the word may be declared after these names.
+fn check_name(limit: usize, bytes: usize, names: &[Bytes], word: &[u8]) -> Result<(), ScriptKind>
+    ensures ok { OnOk result (reading.may_follow_names limit bytes names.now word.now ≡ true) }
+    ensures err { OnErr result (reading.may_follow_names limit bytes names.now word.now ≡ false) }
+{
+    if !is_name(bytes, word) {
+        return Err(ScriptKind::Name);
+    }
+    if has_name(names, word) {
+        return Err(ScriptKind::Duplicate);
+    }
+    if names.len() >= limit {
+        return Err(ScriptKind::TooMany);
+    }
+    Ok(())
+}
+
+fn has_name(names: &[Bytes], word: &[u8]) -> bool
+    ensures { result ≡ list_any (bytes_eq word.now) names.now }
+{
+    names.iter().any(|name| is_word(word, name.as_slice()))
+}
+
+/// Takes the header: `script`, and the version.
+pub(crate) fn take_header(alloc: Global, lines: &mut WordLines) -> Result<Version, ScriptFault>
+    ensures { reading.Says (λ version. (version, lines.new.words)) result (reading.header_in lines.old.words) }
 {
     match lines.next(alloc)? {
-        Some(line) => {
-            if is_header(line.words()) {
-                Ok(())
-            } else {
-                Err(ScriptFault::at(ScriptKind::Header, line.number()))
-            }
-        }
+        Some(line) => match header_version(line.words()) {
+            Some(version) => Ok(version),
+            None => Err(ScriptFault::at(ScriptKind::Header, line.number())),
+        },
         None => Err(ScriptFault::at(ScriptKind::Header, 1)),
     }
 }
 
-fn is_header(words: &[&[u8]]) -> bool
-    ensures { result ≡ reading.is_header (map (λ w. w.now) words.now) }
+// The version of a header.
+fn header_version(words: &[&[u8]]) -> Option<Version>
+    ensures { result ≡ reading.header_version (map (λ w. w.now) words.now) }
 {
     match words {
-        [word, version] => is_word(word, b"script") && is_word(version, b"1"),
-        _ => false,
+        [word, number] if is_word(word, b"script") => version_of_word(number),
+        _ => None,
+    }
+}
+
+// The version with this word.
+fn version_of_word(word: &[u8]) -> Option<Version>
+    ensures { result ≡ reading.version_of_word word.now }
+{
+    match word {
+        b"1" => Some(Version::One),
+        b"2" => Some(Version::Two),
+        _ => None,
     }
 }
 

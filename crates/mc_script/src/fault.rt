@@ -8,7 +8,7 @@ use thiserror::Error;
 /// Why a text is no script.
 #[derive(Clone, Copy, Debug, Drop, PartialEq, Eq, Error)]
 pub enum ScriptKind {
-    #[error("expected `script 1`, `keys`, `flags`, `vars` and the budgets of P, A and B, in this order")]
+    #[error("expected `script 1` or `script 2`, `keys`, `flags`, `vars` and the budgets of P, A and B, in this order")]
     Header,
     #[error("expected a label, a request with its marks, `bind`, `goto`, `halt`, or the next section")]
     Line,
@@ -30,7 +30,7 @@ pub enum ScriptKind {
     Number,
     #[error("expected a body of at most 64 letters and digits")]
     Data,
-    #[error("expected at most 8 keys, 32 flags, 16 variables, and 64 steps in a section")]
+    #[error("expected at most 8 keys, 16 variables, 32 flags, and 64 steps in a section, in `script 2` 64 flags and 128 steps")]
     TooMany,
     #[error("expected a budget of at most 24 requests and 8192 bytes")]
     Budget,

@@ -1,4 +1,4 @@
-ghost use Rattle.std.specs.Prelude.{◌≡◌, ◌==◌, map, [], Option};
+ghost use Rattle.std.specs.Prelude.{◌≡◌, ◌==◌, Bool, true, false, map, [], Option, OnOk, OnErr};
 ghost use Rattle.std.specs.List.{list_any, position};
 ghost use Rattle.mc_script.specs.Marks as spec;
 ghost use Rattle.mc_script.specs.Reading as reading;
@@ -33,22 +33,44 @@ fn sign_of(byte: u8) -> Option<Sign>
     }
 }
 
-// Reads a mark.
-fn read_mark(alloc: Global, names: &Names, word: &[u8]) -> Result<Mark, ScriptKind>
-    ensures { reading.Gives result (reading.mark_in names.now word.now) }
+/// Reads a mark that is written after `marks`, on a line that binds a variable or not.
+fn read_mark(
+    alloc: Global,
+    names: &Names,
+    verb: Verb,
+    bound: bool,
+    marks: &[Mark],
+    word: &[u8],
+) -> Result<Mark, ScriptKind>
+    ensures { reading.Gives result (reading.joining verb bound marks.now (reading.mark_in names.now word.now)) }
 {
-    let [first, name @ ..] = word else {
-        return Err(ScriptKind::Line);
-    };
-    if *first == b'>' {
-        return read_bind_mark(names, name);
+    match word {
+        [b'>', name @ ..] => read_bind_mark(names, verb, marks, name),
+        [first, name @ ..] => {
+            let mark = read_flag_or_jump(alloc, names, sign_of(*first), name, word)?;
+            check_mark(verb, bound, marks, &mark)?;
+            Ok(mark)
+        }
+        [] => Err(ScriptKind::Line),
     }
-    read_flag_or_jump(alloc, names, sign_of(*first), name, word)
 }
 
-fn read_bind_mark(names: &Names, name: &[u8]) -> Result<Mark, ScriptKind>
-    ensures { reading.Gives result (reading.bind_mark_in names.now name.now) }
+/// Reads the name in `>VAR`. Where the verb shows no number, or the line binds a variable already, that is the fault
+/// also of a name that isn't declared.
+fn read_bind_mark(
+    names: &Names,
+    verb: Verb,
+    marks: &[Mark],
+    name: &[u8],
+) -> Result<Mark, ScriptKind>
+    ensures { (bound : Bool) → reading.Gives result (reading.joining verb bound marks.now (reading.bind_mark_in names.now name.now)) }
 {
+    if !shows_numbers(verb) {
+        return Err(ScriptKind::Line);
+    }
+    if has_bind_mark(marks) {
+        return Err(ScriptKind::Duplicate);
+    }
     match names.variable(name) {
         Some(variable) => Ok(Mark::Bind(variable)),
         None => Err(ScriptKind::UnknownVar),
@@ -113,17 +135,9 @@ pub(crate) fn read_marks(
 {
     let bound = has_bind(words);
     let mut marks = Vec::new(alloc);
-    let mut rest = words;
-    'words: while let [word, others @ ..] = rest {
-        let mark = match read_mark(alloc, names, word) {
-            Ok(mark) => mark,
-            Err(kind) => return Err(mark_fault(kind, verb, &marks)),
-        };
-        if !may_join(verb, bound, &marks, &mark) {
-            return Err(joining_fault(verb, bound, &mark));
-        }
+    'words: for word in words {
+        let mark = read_mark(alloc, names, verb, bound, &marks, word)?;
         marks.push(mark)?;
-        rest = others;
     }
     Ok(Marks::new(marks))
 }
@@ -150,25 +164,9 @@ fn binds(word: &[u8]) -> bool
     }
 }
 
-// The fault of a word that is no mark, behind these marks: where a variable can't be bound at all, that goes first.
-fn mark_fault(kind: ScriptKind, verb: Verb, marks: &[Mark]) -> ScriptKind
-    ensures { kind ≡ ScriptKind.OutOfMemory → result ≡ ScriptKind.OutOfMemory }
+fn has_bind_mark(marks: &[Mark]) -> bool
+    ensures { result ≡ list_any spec.is_bind marks.now }
 {
-    match kind {
-        ScriptKind::UnknownVar => {
-            if !shows_numbers(verb) {
-                ScriptKind::Line
-            } else if has_bind_mark(marks) {
-                ScriptKind::Duplicate
-            } else {
-                kind
-            }
-        }
-        _ => kind,
-    }
-}
-
-fn has_bind_mark(marks: &[Mark]) -> bool {
     marks.iter().any(|mark| is_bind(mark))
 }
 
@@ -181,20 +179,18 @@ fn is_bind(mark: &Mark) -> bool
     }
 }
 
-// The fault of a mark that may not join the others.
-fn joining_fault(verb: Verb, bound: bool, mark: &Mark) -> ScriptKind {
-    if may_stand(verb, mark) && !(bound && is_number_jump(mark)) {
-        ScriptKind::Duplicate
-    } else {
-        ScriptKind::Line
-    }
-}
-
-// Whether the mark may stand behind these, on a line that binds a variable or not.
-fn may_join(verb: Verb, bound: bool, marks: &[Mark], mark: &Mark) -> bool
-    ensures { result ≡ reading.may_join verb bound marks.now mark.now }
+/// Checks that the mark may be written after `marks`, on a line that binds a variable or not.
+fn check_mark(verb: Verb, bound: bool, marks: &[Mark], mark: &Mark) -> Result<(), ScriptKind>
+    ensures ok { OnOk result (reading.may_join verb bound marks.now mark.now ≡ true) }
+    ensures err { OnErr result (reading.may_join verb bound marks.now mark.now ≡ false) }
 {
-    may_stand(verb, mark) && !(bound && is_number_jump(mark)) && !has_twin(marks, mark)
+    if !may_stand(verb, mark) || bound && is_number_jump(mark) {
+        return Err(ScriptKind::Line);
+    }
+    if has_twin(marks, mark) {
+        return Err(ScriptKind::Duplicate);
+    }
+    Ok(())
 }
 
 fn may_stand(verb: Verb, mark: &Mark) -> bool

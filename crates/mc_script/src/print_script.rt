@@ -1,19 +1,21 @@
 ghost use Rattle.std.specs.Prelude.{◌≡◌, ◌++◌, ◌∷◌, IfOk, OnOk, OnErr};
-ghost use Rattle.mc_script.specs.ScriptText.{SpellsScript, header, names_line, names_lines};
+ghost use Rattle.mc_script.specs.Script as spec;
+ghost use Rattle.mc_script.specs.ScriptText.{SpellsInVersion, header, names_line, names_lines};
 ghost use Rattle.mc_script.specs.PrintedScript as printed;
 
 use crate::names::Names;
 use crate::print_section::print_section;
-use crate::{Budget, Script};
+use crate::{Budget, Script, Version};
 use itoa::Buffer;
 use mc_protocol::{Actor, Bytes, OutOfMemory, append_all};
 use std::alloc::Global;
 
 /// Appends the text of a script: one space between words, no line that doesn't count, marks in the order `?`, `!`, `+`,
-/// `-`, jumps, `>`. Want of memory leaves `out` as it was.
+/// `-`, jumps, `>`. It is a text of the first version whose limits the script keeps: `script 1` where it has at most 32
+/// flags, and at most 64 steps in each section, and `script 2` otherwise. Want of memory leaves `out` as it was.
 pub fn print(alloc: Global, script: &Script, out: &mut Vec<u8>) -> Result<(), OutOfMemory>
     ensures ok { OnOk result (out.new.items ≡ out.old.items ++ printed.script_text script.now) }
-    ensures spelled { OnOk result (SpellsScript (printed.script_text script.now) script.now) }
+    ensures spelled { OnOk result (SpellsInVersion (spec.version_of script.now) (printed.script_text script.now) script.now) }
     ensures err { OnErr result (out.new.items ≡ out.old.items) }
 {
     let text = text_of(alloc, script)?;
@@ -23,11 +25,11 @@ pub fn print(alloc: Global, script: &Script, out: &mut Vec<u8>) -> Result<(), Ou
 // The text of a script.
 fn text_of(alloc: Global, script: &Script) -> Result<Vec<u8>, OutOfMemory>
     ensures text { IfOk result (λ text. text.items ≡ printed.script_text script.now) }
-    ensures spelled { OnOk result (SpellsScript (printed.script_text script.now) script.now) }
+    ensures spelled { OnOk result (SpellsInVersion (spec.version_of script.now) (printed.script_text script.now) script.now) }
 {
     let mut text = Vec::new(alloc);
     let names = script.names();
-    print_declarations(names, &mut text)?;
+    print_declarations(version_of(script), names, &mut text)?;
     print_budget(Actor::P, script.budget(Actor::P), &mut text)?;
     print_budget(Actor::A, script.budget(Actor::A), &mut text)?;
     print_budget(Actor::B, script.budget(Actor::B), &mut text)?;
@@ -38,11 +40,22 @@ fn text_of(alloc: Global, script: &Script) -> Result<Vec<u8>, OutOfMemory>
     Ok(text)
 }
 
-// Appends the header, and the lines that declare names.
-fn print_declarations(names: &Names, out: &mut Vec<u8>) -> Result<(), OutOfMemory>
-    ensures { OnOk result (out.new.items ≡ out.old.items ++ printed.lines_text (header ∷ names_lines names.now)) }
+// The version whose text is printed of a script: the first one whose limits it keeps.
+fn version_of(script: &Script) -> Version
+    ensures { result ≡ spec.version_of script.now }
 {
-    out.extend_from_slice(b"script 1\n")?;
+    let p = script.steps(Actor::P).len();
+    let a = script.steps(Actor::A).len();
+    let b = script.steps(Actor::B).len();
+    Version::least(script.flags().len(), p.max(a.max(b)))
+}
+
+// Appends the header, and the lines that declare names.
+fn print_declarations(version: Version, names: &Names, out: &mut Vec<u8>) -> Result<(), OutOfMemory>
+    ensures { OnOk result (out.new.items ≡ out.old.items
+        ++ printed.lines_text (header version ∷ names_lines names.now)) }
+{
+    append_all(out, &[b"script ", version.word().as_bytes(), b"\n"])?;
     print_names(b"keys", names.keys(), out)?;
     print_names(b"flags", names.flags(), out)?;
     print_names(b"vars", names.vars(), out)

@@ -1,13 +1,13 @@
 ghost use Rattle.std.specs.Prelude.{◌≡◌, [], Some, None, MatchOption, nat_lt};
-ghost use Rattle.mc_script.specs.declared.limits.TheConstants.{STEPS_LIMIT};
 ghost use Rattle.mc_script.specs.Reading as reading;
 ghost use Rattle.mc_script.specs.TextReading as whole;
+ghost use Rattle.mc_script.specs.Versions.{steps_limit};
 
 use crate::entry::Entry;
 use crate::lines::next_due;
 use crate::names::Names;
 use crate::read_entry::{before_colon, begins_step, read_entry};
-use crate::{STEPS_LIMIT, ScriptFault, ScriptKind};
+use crate::{ScriptFault, ScriptKind, Version};
 use mc_protocol::{NameSet, WordLine, WordLines};
 use std::alloc::Global;
 use std::marker::Model;
@@ -27,15 +27,16 @@ impl Model for Numbered {
     ghost view = { λ n. n.entry };
 }
 
-/// Reads the lines of a section, and takes the line after them, which is the word `stop` alone.
+/// Reads the lines of a section of a text of this version, and takes the line after them, which is the word `stop` alone.
 pub(crate) fn read_section<'a>(
     alloc: Global,
+    version: Version,
     names: &Names,
     lines: &mut WordLines<'a>,
     stop: &[u8],
 ) -> Result<Vec<Numbered>, ScriptFault>
     ensures { reading.Says (λ entries. (entries.items, lines.new.words)) result
-        (whole.entries_in names.now stop.now [] 0 [] lines.old.words) }
+        (whole.entries_in (steps_limit version) names.now stop.now [] 0 [] lines.old.words) }
 {
     let mut entries = Vec::new(alloc);
     let mut count = 0;
@@ -48,7 +49,7 @@ pub(crate) fn read_section<'a>(
         let entry = match read_entry(alloc, names, line.words()) {
             Ok(entry) => entry,
             Err(kind) => return Err(ScriptFault::at(
-                entry_fault(kind, count, &line),
+                entry_fault(kind, version, count, &line),
                 line.number(),
             )),
         };
@@ -60,7 +61,7 @@ pub(crate) fn read_section<'a>(
                 labels.push(name)?;
             }
             None => {
-                if !has_room(count) {
+                if !has_room(version, count) {
                     return Err(ScriptFault::at(ScriptKind::TooMany, line.number()));
                 }
                 count += 1;
@@ -73,11 +74,11 @@ pub(crate) fn read_section<'a>(
     }
 }
 
-// Whether a step may stand after `count` others.
-fn has_room(count: usize) -> bool
-    ensures { result ≡ nat_lt count STEPS_LIMIT }
+// Whether a step may stand after `count` others in a text of this version.
+fn has_room(version: Version, count: usize) -> bool
+    ensures { result ≡ nat_lt count (steps_limit version) }
 {
-    count < STEPS_LIMIT
+    count < version.steps_limit()
 }
 
 // The name of the label that the line is, if it is one.
@@ -91,12 +92,12 @@ fn label_in<'a>(line: &WordLine<'a>) -> Option<&'a [u8]>
 }
 
 // The fault of a line after `count` steps: that it is one too many goes before its words.
-fn entry_fault(kind: ScriptKind, count: usize, line: &WordLine) -> ScriptKind
+fn entry_fault(kind: ScriptKind, version: Version, count: usize, line: &WordLine) -> ScriptKind
     ensures { kind ≡ ScriptKind.OutOfMemory → result ≡ ScriptKind.OutOfMemory }
 {
     match line.words() {
         [word, ..] => {
-            if !has_room(count) && begins_step(word) && kind != ScriptKind::OutOfMemory {
+            if !has_room(version, count) && begins_step(word) && kind != ScriptKind::OutOfMemory {
                 ScriptKind::TooMany
             } else {
                 kind

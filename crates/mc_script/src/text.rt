@@ -12,7 +12,7 @@ use crate::lines::{finish, next_due};
 use crate::names::Names;
 use crate::resolve::resolve;
 use crate::section_text::{Numbered, read_section};
-use crate::{Budget, FLAGS_LIMIT, Script, ScriptFault, ScriptKind, VARIABLES_LIMIT};
+use crate::{Budget, Script, ScriptFault, ScriptKind, VARIABLES_LIMIT, Version};
 use mc_protocol::{Actor, Sections, Separator, WordLine, WordLines};
 use std::alloc::Global;
 
@@ -34,34 +34,27 @@ fn read_script(alloc: Global, text: &[u8]) -> Result<Script, ScriptFault>
     ensures { reading.Says (λ script. script) result (whole.script_in (words_of_text SpaceOrTab text.now)) }
 {
     let mut lines = WordLines::new(text, Separator::SpaceOrTab);
-    take_header(alloc, &mut lines)?;
-    let (names, line) = take_names(alloc, &mut lines)?;
+    let version = take_header(alloc, &mut lines)?;
+    let (names, line) = take_names(alloc, version, &mut lines)?;
     let budgets = take_budgets(alloc, &mut lines, &line)?;
-    let bodies = take_bodies(alloc, &names, &mut lines)?;
+    let bodies = take_bodies(alloc, version, &names, &mut lines)?;
     resolve_all(alloc, names, budgets, &bodies)
 }
 
-// Takes the names that are declared, and the line after them.
+// Takes the names that a text of this version declares, and the line after them.
 fn take_names<'a>(
     alloc: Global,
+    version: Version,
     lines: &mut WordLines<'a>,
 ) -> Result<(Names, WordLine<'a>), ScriptFault>
-    ensures { reading.Says (λ r. (r.0, r.1.words, lines.new.words)) result (whole.all_names_in lines.old.words) }
+    ensures { reading.Says (λ r. (r.0, r.1.words, lines.new.words)) result (whole.all_names_in version lines.old.words) }
 {
     let keys = take_keys(alloc, lines)?;
     let line = next_due(alloc, lines, ScriptKind::Header)?;
-    let (flags, line) = read_optional(alloc, lines, b"flags", FLAGS_LIMIT, line)?;
+    let (flags, line) = read_optional(alloc, lines, b"flags", version.flags_limit(), line)?;
     let (vars, line) = read_optional(alloc, lines, b"vars", VARIABLES_LIMIT, line)?;
     let names = Names::new(keys, flags, vars);
     Ok((names, line))
-}
-
-/// The budgets of the sections.
-#[derive(Clone, Copy)]
-struct Budgets {
-    p: Budget,
-    a: Budget,
-    b: Budget,
 }
 
 // Takes the three budgets, of which the first line is taken already.
@@ -69,13 +62,13 @@ fn take_budgets(
     alloc: Global,
     lines: &mut WordLines,
     first: &WordLine,
-) -> Result<Budgets, ScriptFault>
+) -> Result<Sections<Budget>, ScriptFault>
     ensures { reading.Says (λ budgets. (budgets, lines.new.words)) result (whole.budgets_in first.now.words lines.old.words) }
 {
     let p = read_budget(Actor::P, first)?;
     let a = take_budget(alloc, Actor::A, lines)?;
     let b = take_budget(alloc, Actor::B, lines)?;
-    Ok(Budgets { p, a, b })
+    Ok(Sections { p, a, b })
 }
 
 fn take_budget(alloc: Global, actor: Actor, lines: &mut WordLines) -> Result<Budget, ScriptFault>
@@ -85,25 +78,22 @@ fn take_budget(alloc: Global, actor: Actor, lines: &mut WordLines) -> Result<Bud
     read_budget(actor, &line)
 }
 
-/// The lines of the sections. Contracts see the three lists.
-#[derive(Drop)]
-struct Bodies {
-    p: Vec<Numbered>,
-    a: Vec<Numbered>,
-    b: Vec<Numbered>,
-}
-
 // Takes the lines of the three sections, and sees that `end` ends the text.
-fn take_bodies(alloc: Global, names: &Names, lines: &mut WordLines) -> Result<Bodies, ScriptFault>
+fn take_bodies(
+    alloc: Global,
+    version: Version,
+    names: &Names,
+    lines: &mut WordLines,
+) -> Result<Sections<Vec<Numbered>>, ScriptFault>
     ensures { reading.Says (λ bodies. (bodies.p.items, bodies.a.items, bodies.b.items)) result
-        (whole.bodies_in names.now lines.old.words) }
+        (whole.bodies_in version names.now lines.old.words) }
 {
     take_section_line(alloc, lines)?;
-    let p = read_section(alloc, names, lines, b"A")?;
-    let a = read_section(alloc, names, lines, b"B")?;
-    let b = read_section(alloc, names, lines, b"end")?;
+    let p = read_section(alloc, version, names, lines, b"A")?;
+    let a = read_section(alloc, version, names, lines, b"B")?;
+    let b = read_section(alloc, version, names, lines, b"end")?;
     finish(alloc, lines)?;
-    Ok(Bodies { p, a, b })
+    Ok(Sections { p, a, b })
 }
 
 // Takes the line before P's lines.
@@ -122,8 +112,8 @@ fn take_section_line(alloc: Global, lines: &mut WordLines) -> Result<(), ScriptF
 fn resolve_all(
     alloc: Global,
     names: Names,
-    budgets: Budgets,
-    bodies: &Bodies,
+    budgets: Sections<Budget>,
+    bodies: &Sections<Vec<Numbered>>,
 ) -> Result<Script, ScriptFault>
     requires { (script : spec.Script)
         → whole.resolved_in names budgets bodies.now.p.items bodies.now.a.items bodies.now.b.items ≡ Some script

@@ -16,6 +16,16 @@ pub enum Version {
 }
 
 impl Version {
+    /// Its word in every text.
+    pub fn word(self) -> &'static str
+        ensures { result.now ≡ versions.version_word self }
+    {
+        match self {
+            Version::One => "1",
+            Version::Two => "2",
+        }
+    }
+
     /// The most flags.
     pub fn flags_limit(self) -> usize
         ensures exact { result ≡ versions.flags_limit self }
@@ -51,7 +61,7 @@ impl Version {
     }
 
     /// Whether `flags` flags and sections of at most `longest` steps or instructions keep the version's limits.
-    pub fn has_room(self, flags: usize, longest: usize) -> bool
+    fn has_room(self, flags: usize, longest: usize) -> bool
         ensures { result ≡ versions.has_room self flags longest }
     {
         flags <= self.flags_limit() && longest <= self.steps_limit()

@@ -1,12 +1,12 @@
 use Rattle.std.proofs.Common.{◌≡◌, ◌≤◌, [], length}
-use Rattle.mc_script.specs.declared.limits.TheConstants.{STEPS_LIMIT}
 use Rattle.mc_script.specs.TextReading.{entries_in}
+use Rattle.mc_script.specs.Versions.{steps_limit}
 use Rattle.mc_script.proofs.section_text.read_section.Given as goal
 
 abbrev pub invariant-lines : goal.invariant-lines
 invariant-lines l = record {
-  reads : entries_in l.names l.stop l.entries.items l.count l.labels l.lines.words ≡ entries_in l.names l.stop [] 0 [] l.initial.lines.words;
-  few : l.count ≤ STEPS_LIMIT;
+  reads : entries_in (steps_limit l.version) l.names l.stop l.entries.items l.count l.labels l.lines.words ≡ entries_in (steps_limit l.version) l.names l.stop [] 0 [] l.initial.lines.words;
+  few : l.count ≤ steps_limit l.version;
 }
 
 abbrev pub decreases-lines : goal.decreases-lines
