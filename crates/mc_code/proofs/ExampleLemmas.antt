@@ -29,7 +29,7 @@ pub counter_laid_out : CounterIsLaidOut
 counter_laid_out = record { templates = refl; p = refl; a = refl; b = refl }
 
 pub counter_image : CounterIsImage
-counter_image = record { size = refl; head = refl; sections = refl }
+counter_image = record { size = refl; head = refl; sections = refl; size_in_two = refl }
 
 pub swap_laid_out : SwapIsLaidOut
 swap_laid_out = record { a = refl }

@@ -4,8 +4,11 @@ use Rattle.std.specs.Int.{Width, w16, w32, w64, byte_len, from_be_bytes, to_be_b
 use Rattle.std.proofs.lemmas.Bool.{cases_lt, ltb-false, le-ltb, leb-true, le-leb, and_parts}
 use Rattle.std.proofs.lemmas.List.{take_at, drop_at, take-append-drop, length-append, length-take, get_or-drop, get_or-take, get_or_past}
 use Rattle.std.proofs.lemmas.Nat.{be_bytes_2, be_bytes_4, be_bytes_8, from_be_bytes-to_be_bytes_2, from_be_bytes-to_be_bytes_4, from_be_bytes-to_be_bytes_8}
+use Rattle.mc_script.specs.declared.version.Version.{Version}
+use Rattle.mc_script.specs.declared.version.Version.TheVariants as version
 use Rattle.mc_script.specs.Steps.{◌>>=◌}
-use Rattle.mc_code.specs.Image.{with_length}
+use Rattle.mc_script.specs.Versions.{flags_limit}
+use Rattle.mc_code.specs.Image.{mask_width, with_length}
 use Rattle.mc_code.specs.ImageReading.{bytes_in, byte_in, number_in, small_in, sized_in}
 
 -- ---- steps that gave a value
@@ -107,6 +110,11 @@ wide64 = record {
   again = λ n lt. from_be_bytes-to_be_bytes_8 n lt;
   below = λ bytes fits. omega (arith, fits 0, fits 1, fits 2, fits 3, fits 4, fits 5, fits 6, fits 7);
 }
+
+-- a mask has a bit for each flag
+pub wide-mask : (v : Version) → IsWide (mask_width v) (2 ^ flags_limit v)
+wide-mask version.One = wide32
+wide-mask version.Two = wide64
 
 pub number_takes : (w : Width) (limit : ℕ) (wide : IsWide w limit) (bytes : List ℕ) (x : ℕ × List ℕ) → IsBytes bytes → number_in w bytes ≡ Some x
     → Takes bytes (to_be_bytes w x.0) x.1 × (x.0 < limit)

@@ -5,10 +5,12 @@ use Rattle.std.proofs.lemmas.Bool.{leb-true, le-leb}
 use Rattle.std.proofs.lemmas.List.Elements.{All-nil, All-push, All-from_get_or}
 use Rattle.mc_protocol.specs.declared.limits.TheConstants.{REQUESTS_LIMIT, REQUEST_BYTES_LIMIT}
 use Rattle.mc_script.specs.declared.section.Budget.{Budget}
+use Rattle.mc_script.specs.declared.version.Version.{Version}
 use Rattle.mc_script.specs.Steps.{◌>>=◌}
+use Rattle.mc_script.specs.Versions.{steps_limit}
 use Rattle.mc_code.specs.declared.instr.Instr.{Instr}
 use Rattle.mc_code.specs.declared.instr.Instr.TheVariants as instr
-use Rattle.mc_code.specs.declared.limits.TheConstants.{INSTRUCTIONS_LIMIT, CLASS_COUNT}
+use Rattle.mc_code.specs.declared.limits.TheConstants.{CLASS_COUNT}
 use Rattle.mc_code.specs.Code.{is_byte, IsInstr}
 use Rattle.mc_code.specs.Image.{budget_bytes, instr_bytes, with_count}
 use Rattle.mc_code.specs.ImageReading.{bytes_in, byte_in, number_in, small_in, budget_in, send_in, bind_in, goto_in, after_sort, instr_in, instructions_in}
@@ -109,14 +111,14 @@ instructions_law = record {
   again = λ is i others rest h. instr_again i rest (middle IsInstr is i others h);
 }
 
-pub instructions_take : (bytes : List ℕ) (x : List Instr × List ℕ) → IsBytes bytes → instructions_in bytes ≡ Some x
-    → Takes bytes (with_count instr_bytes x.0) x.1 × (length x.0 ≤ INSTRUCTIONS_LIMIT) × All IsInstr x.0
+pub instructions_take : (v : Version) (bytes : List ℕ) (x : List Instr × List ℕ) → IsBytes bytes → instructions_in v bytes ≡ Some x
+    → Takes bytes (with_count instr_bytes x.0) x.1 × (length x.0 ≤ steps_limit v) × All IsInstr x.0
 unfolding instructions_in
-instructions_take bytes x fits e =
-    let t = counted_takes (λ _. instr_in) instr_bytes (All IsInstr) instructions_law 0 INSTRUCTIONS_LIMIT bytes x fits (All-nil IsInstr) e in
+instructions_take v bytes x fits e =
+    let t = counted_takes (λ _. instr_in) instr_bytes (All IsInstr) instructions_law 0 (steps_limit v) bytes x fits (All-nil IsInstr) e in
     (t.0, t.2, t.3)
 
-pub instructions_again : (is : List Instr) (rest : List ℕ) → length is ≤ INSTRUCTIONS_LIMIT → All IsInstr is
-    → instructions_in (with_count instr_bytes is ++ rest) ≡ Some (is, rest)
+pub instructions_again : (v : Version) (is : List Instr) (rest : List ℕ) → length is ≤ steps_limit v → All IsInstr is
+    → instructions_in v (with_count instr_bytes is ++ rest) ≡ Some (is, rest)
 unfolding instructions_in
-instructions_again is rest few h = counted_again (λ _. instr_in) instr_bytes (All IsInstr) instructions_law 0 INSTRUCTIONS_LIMIT is rest h (omega arith) few
+instructions_again v is rest few h = counted_again (λ _. instr_in) instr_bytes (All IsInstr) instructions_law 0 (steps_limit v) is rest h (omega arith) few

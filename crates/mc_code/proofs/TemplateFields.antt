@@ -1,6 +1,6 @@
 -- The fields of a template: what is read was written, and what was written is read again.
-use Rattle.std.proofs.Common.{◌≡◌, ℕ, zero, suc, ◌+◌, ◌^◌, ◌<◌, ◌≤◌, true, ltb, leb, eqb, ◌&&◌, Option, Some, List, [], ◌∷◌, ◌++◌, length, slice_get, refl, sym, ap, subst, ◌∙◌, arith}
-use Rattle.std.specs.Int.{w32, w64, to_be_bytes}
+use Rattle.std.proofs.Common.{◌≡◌, ℕ, zero, suc, ◌+◌, ◌^◌, ◌<◌, ◌≤◌, true, ltb, leb, eqb, ◌&&◌, Option, Some, List, [], ◌∷◌, ◌++◌, length, slice_get, refl, sym, ap, subst, ◌∙◌, append_assoc, arith}
+use Rattle.std.specs.Int.{w64, to_be_bytes}
 use Rattle.std.proofs.lemmas.Bool.{ltb-true, lt-ltb, leb-true, eqb-true, and_parts}
 use Rattle.mc_protocol.specs.declared.request.Fields.{Fields}
 use Rattle.mc_protocol.specs.declared.request.Fields.TheVariants as fields
@@ -13,12 +13,15 @@ use Rattle.mc_script.specs.declared.step.Argument.{Argument}
 use Rattle.mc_script.specs.declared.step.Argument.TheVariants as argument
 use Rattle.mc_protocol.specs.Decimals.{MAX_32, MAX_64}
 use Rattle.mc_script.specs.ScriptWords.{is_body, are_body_bytes}
+use Rattle.mc_script.specs.declared.version.Version.{Version}
 use Rattle.mc_script.specs.Steps.{◌>>=◌}
 use Rattle.mc_script.specs.Templates.{is_nothing, is_variable, is_amount, is_empty, has_fields}
+use Rattle.mc_script.specs.Versions.{flags_limit}
 use Rattle.mc_code.specs.declared.read_template.Masks.{Masks}
-use Rattle.mc_code.specs.Image.{verb_index, argument_bytes, mask_bytes}
-use Rattle.mc_code.specs.ImageReading.{byte_in, number_in, small_in, verb_at, verb_in, argument_of, argument_in, masks_in}
-use Rattle.mc_code.proofs.FieldLaws.{then-some, only-then, some-same, IsBytes, Takes, Takes-then, byte_takes, byte_again, wide32, wide64, number_takes, number_again, small_takes, small_again}
+use Rattle.mc_code.specs.Image.{verb_index, argument_bytes, mask_width, mask_bytes}
+use Rattle.mc_code.specs.ImageReading.{byte_in, number_in, small_in, verb_at, verb_in, argument_of, argument_in, mask_in, masks_in}
+use Rattle.mc_code.specs.ImageWriting.{FitsMask}
+use Rattle.mc_code.proofs.FieldLaws.{then-some, only-then, some-same, IsBytes, Takes, Takes-then, byte_takes, byte_again, wide64, wide-mask, number_takes, number_again, small_takes, small_again}
 
 -- ---- verbs
 
@@ -113,35 +116,51 @@ argument_again vars (argument.Variable v) rest few h =
 
 -- ---- masks
 
-abbrev pub masks_text : Masks → List ℕ
-masks_text m = mask_bytes m.require_set ++ mask_bytes m.require_clear ++ mask_bytes m.sets ++ mask_bytes m.clears
+abbrev pub masks_text : Version → Masks → List ℕ
+masks_text v m = mask_bytes v m.require_set ++ mask_bytes v m.require_clear ++ mask_bytes v m.sets ++ mask_bytes v m.clears
 
-pub masks_take : (bytes : List ℕ) (x : Masks × List ℕ) → IsBytes bytes → masks_in bytes ≡ Some x → Takes bytes (masks_text x.0) x.1
+mask_takes : (v : Version) (bytes : List ℕ) (x : ℕ × List ℕ) → IsBytes bytes → mask_in v bytes ≡ Some x → Takes bytes (mask_bytes v x.0) x.1
+unfolding mask_in
+mask_takes v bytes x fits e = (number_takes (mask_width v) (2 ^ flags_limit v) (wide-mask v) bytes x fits e).0
+
+mask_again : (v : Version) (mask : ℕ) (rest : List ℕ) → FitsMask v mask → mask_in v (mask_bytes v mask ++ rest) ≡ Some (mask, rest)
+unfolding mask_in
+mask_again v mask rest fits = number_again (mask_width v) (2 ^ flags_limit v) (wide-mask v) mask rest fits
+
+pub masks_take : (v : Version) (bytes : List ℕ) (x : Masks × List ℕ) → IsBytes bytes → masks_in v bytes ≡ Some x → Takes bytes (masks_text v x.0) x.1
 unfolding masks_in
-masks_take bytes x fits e =
-    let a = then-some (number_in w32 bytes) _ x e in
-    let b = then-some (number_in w32 a.0.1) _ x a.2 in
-    let c = then-some (number_in w32 b.0.1) _ x b.2 in
-    let d = then-some (number_in w32 c.0.1) _ x c.2 in
-    let ta = number_takes w32 (2 ^ 32) wide32 bytes a.0 fits a.1 in
-    let tb = number_takes w32 (2 ^ 32) wide32 a.0.1 b.0 ta.0.fits b.1 in
-    let tc = number_takes w32 (2 ^ 32) wide32 b.0.1 c.0 tb.0.fits c.1 in
-    let td = number_takes w32 (2 ^ 32) wide32 c.0.1 d.0 tc.0.fits d.1 in
-    let two = Takes-then bytes (mask_bytes a.0.0) a.0.1 (mask_bytes b.0.0) b.0.1 ta.0 tb.0 in
-    let three = Takes-then bytes (mask_bytes a.0.0 ++ mask_bytes b.0.0) b.0.1 (mask_bytes c.0.0) c.0.1 two tc.0 in
-    let four = Takes-then bytes (mask_bytes a.0.0 ++ mask_bytes b.0.0 ++ mask_bytes c.0.0) c.0.1 (mask_bytes d.0.0) d.0.1 three td.0 in
+masks_take v bytes x fits e =
+    let a = then-some (mask_in v bytes) _ x e in
+    let b = then-some (mask_in v a.0.1) _ x a.2 in
+    let c = then-some (mask_in v b.0.1) _ x b.2 in
+    let d = then-some (mask_in v c.0.1) _ x c.2 in
+    let ta = mask_takes v bytes a.0 fits a.1 in
+    let tb = mask_takes v a.0.1 b.0 ta.fits b.1 in
+    let tc = mask_takes v b.0.1 c.0 tb.fits c.1 in
+    let td = mask_takes v c.0.1 d.0 tc.fits d.1 in
+    let two = Takes-then bytes (mask_bytes v a.0.0) a.0.1 (mask_bytes v b.0.0) b.0.1 ta tb in
+    let three = Takes-then bytes (mask_bytes v a.0.0 ++ mask_bytes v b.0.0) b.0.1 (mask_bytes v c.0.0) c.0.1 two tc in
+    let four = Takes-then bytes (mask_bytes v a.0.0 ++ mask_bytes v b.0.0 ++ mask_bytes v c.0.0) c.0.1 (mask_bytes v d.0.0) d.0.1 three td in
     let made : Masks = record { require_set = a.0.0; require_clear = b.0.0; sets = c.0.0; clears = d.0.0 } in
-    subst (λ (y : Masks × List ℕ). Takes bytes (masks_text y.0) y.1) (some-same (made, d.0.1) x d.2) four
+    subst (λ (y : Masks × List ℕ). Takes bytes (masks_text v y.0) y.1) (some-same (made, d.0.1) x d.2) four
 
-pub masks_again : (m : Masks) (rest : List ℕ) → m.require_set < 2 ^ 32 → m.require_clear < 2 ^ 32 → m.sets < 2 ^ 32 → m.clears < 2 ^ 32
-    → masks_in (masks_text m ++ rest) ≡ Some (m, rest)
+spread : (a b c d rest : List ℕ) → a ++ b ++ c ++ d ++ rest ≡ a ++ (b ++ (c ++ (d ++ rest)))
+spread a b c d rest = simp append_assoc
+
+pub masks_again : (v : Version) (m : Masks) (rest : List ℕ) → FitsMask v m.require_set → FitsMask v m.require_clear → FitsMask v m.sets → FitsMask v m.clears
+    → masks_in v (masks_text v m ++ rest) ≡ Some (m, rest)
 unfolding masks_in
-masks_again m rest a b c d =
-    rw (
-      number_again w32 (2 ^ 32) wide32 m.require_set (mask_bytes m.require_clear ++ (mask_bytes m.sets ++ (mask_bytes m.clears ++ rest))) a,
-      number_again w32 (2 ^ 32) wide32 m.require_clear (mask_bytes m.sets ++ (mask_bytes m.clears ++ rest)) b,
-      number_again w32 (2 ^ 32) wide32 m.sets (mask_bytes m.clears ++ rest) c,
-      number_again w32 (2 ^ 32) wide32 m.clears rest d,
+masks_again v m rest a b c d =
+    let sets = mask_bytes v m.require_set in
+    let clears = mask_bytes v m.require_clear in
+    let third = mask_bytes v m.sets in
+    let last = mask_bytes v m.clears in
+    ap (masks_in v) (spread sets clears third last rest)
+    ∙ rw (
+      mask_again v m.require_set (clears ++ (third ++ (last ++ rest))) a,
+      mask_again v m.require_clear (third ++ (last ++ rest)) b,
+      mask_again v m.sets (last ++ rest) c,
+      mask_again v m.clears rest d,
     ) refl
 
 -- ---- fields that a verb has

@@ -1,5 +1,5 @@
 -- What code is: keys, how many flags and variables there are, templates, and three sections of instructions.
-use Rattle.std.specs.Prelude.{◌≡◌, ℕ, ◌<◌, ◌≤◌, ◌==◌, true, not, List, length}
+use Rattle.std.specs.Prelude.{◌≡◌, ℕ, ◌<◌, ◌≤◌, ◌==◌, true, not, List, length, max}
 use Rattle.std.specs.List.{All}
 use Rattle.mc_protocol.specs.declared.actor.Actor.{Actor}
 use Rattle.mc_protocol.specs.declared.limits.TheConstants.{KEYS_LIMIT, KEY_BYTES_LIMIT, REQUESTS_LIMIT, REQUEST_BYTES_LIMIT}
@@ -33,6 +33,11 @@ section_of c actor = sections.section_of c.sections actor
 -- those of the actor's section
 abbrev pub instructions_in : Code → Actor → List Instr
 instructions_in c actor = (section_of c actor).instructions
+
+-- how many instructions the longest section has
+abbrev pub longest : Code → ℕ
+longest c =
+    max (length c.sections.p.instructions) (max (length c.sections.a.instructions) (length c.sections.b.instructions))
 
 -- ---- what code keeps
 

@@ -12,13 +12,14 @@ use Rattle.mc_script.specs.declared.step.Argument.TheVariants as argument
 use Rattle.mc_script.specs.declared.step.Step.{Step}
 use Rattle.mc_script.specs.declared.step.Step.TheVariants as step
 use Rattle.mc_script.specs.declared.step.Template.{Template}
+use Rattle.mc_script.specs.declared.version.Version.TheVariants as version
 use Rattle.mc_script.specs.Script.{Section, Script}
 use Rattle.mc_script.specs.WellFormed.{IsScript}
 use Rattle.mc_code.specs.declared.instr.Call.{Call}
 use Rattle.mc_code.specs.declared.instr.Instr.TheVariants as instr
 use Rattle.mc_code.specs.declared.kind.Kind.TheVariants as kind
 use Rattle.mc_code.specs.Calls.{IsCalling}
-use Rattle.mc_code.specs.Image.{image_of}
+use Rattle.mc_code.specs.Image.{image_of, image_in}
 use Rattle.mc_code.specs.Layout.{templates_of, instructions_of, code_of}
 use Rattle.mc_code.specs.Runs.{Exchange}
 use Rattle.mc_code.specs.ScriptRuns.{clearing, ScriptComesTo}
@@ -102,11 +103,12 @@ counter_sections =
     (3 ∷ 0 ∷ 0 ∷ after_delete 1) ++ (0 ∷ 1 ∷ after_set 2) ++ (3 ∷ [])
     ++ (2 ∷ 0 ∷ 2 ∷ after_count 1) ++ (3 ∷ 2 ∷ 0 ∷ 3 ∷ after_count 1) ++ (3 ∷ [])
 
--- how long the image is, and what stands before and after the templates
+-- how long the image is, and what stands before and after the templates; and how long the code's image in version 2 is
 pub record CounterIsImage : Type 0 where
   pub size : length (image_of (code_of counter)) ≡ 202
   pub head : take 19 (image_of (code_of counter)) ≡ counter_head
   pub sections : drop 148 (image_of (code_of counter)) ≡ counter_sections
+  pub size_in_two : length (image_in version.Two (code_of counter)) ≡ 266
 
 -- it is a script; what its sections send, and when they are done
 pub record CounterComesTo : Type 0 where

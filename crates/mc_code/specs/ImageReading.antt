@@ -8,11 +8,14 @@ use Rattle.mc_protocol.specs.Fields.{fields_of}
 use Rattle.mc_protocol.specs.declared.request.Verb.{Verb}
 use Rattle.mc_protocol.specs.declared.sections.Sections.{Sections}
 use Rattle.mc_protocol.specs.declared.limits.TheConstants.{KEYS_LIMIT, KEY_BYTES_LIMIT, REQUESTS_LIMIT, REQUEST_BYTES_LIMIT, SCRIPT_BODY_LIMIT}
-use Rattle.mc_script.specs.declared.limits.TheConstants.{FLAGS_LIMIT, VARIABLES_LIMIT}
+use Rattle.mc_script.specs.declared.limits.TheConstants.{VARIABLES_LIMIT}
 use Rattle.mc_script.specs.declared.section.Budget.{Budget}
 use Rattle.mc_script.specs.declared.step.Argument.{Argument}
 use Rattle.mc_script.specs.declared.step.Argument.TheVariants as argument
 use Rattle.mc_script.specs.declared.step.Template.{Template}
+use Rattle.mc_script.specs.declared.version.Version.{Version}
+use Rattle.mc_script.specs.declared.version.Version.TheVariants as version
+use Rattle.mc_script.specs.Versions.{flags_limit, steps_limit}
 use Rattle.mc_protocol.specs.Names.{is_new, is_name}
 use Rattle.mc_protocol.specs.Lines.{Word}
 use Rattle.mc_protocol.specs.Words.{all_verbs}
@@ -23,9 +26,9 @@ use Rattle.mc_code.specs.declared.fault.ImageKind.TheVariants as kind
 use Rattle.mc_code.specs.declared.instr.Instr.{Instr}
 use Rattle.mc_code.specs.declared.instr.Instr.TheVariants as instr
 use Rattle.mc_code.specs.declared.read_template.Masks.{Masks}
-use Rattle.mc_code.specs.declared.limits.TheConstants.{TEMPLATES_LIMIT, INSTRUCTIONS_LIMIT, CLASS_COUNT}
+use Rattle.mc_code.specs.declared.limits.TheConstants.{TEMPLATES_LIMIT, CLASS_COUNT}
 use Rattle.mc_code.specs.Code.{Section, Code}
-use Rattle.mc_code.specs.Image.{magic}
+use Rattle.mc_code.specs.Image.{magic, mask_width}
 
 -- the result, seen through `view`, is what is read; the call takes no memory
 abbrev pub Reads : {X Y : Type 0} → (X → Y) → Result X ImageFault → Option Y → Type 0
@@ -108,9 +111,12 @@ argument_of vars sort number =
 unfoldable pub argument_in : ℕ → List ℕ → Field (Option Argument)
 argument_in vars bytes = small_in 0 2 bytes >>= λ sort. number_in w64 sort.1 >>= λ n. Some (argument_of vars sort.0 n.0, n.1)
 
-unfoldable pub masks_in : List ℕ → Field Masks
-masks_in bytes =
-    number_in w32 bytes >>= λ x. number_in w32 x.1 >>= λ y. number_in w32 y.1 >>= λ z. number_in w32 z.1
+unfoldable pub mask_in : Version → List ℕ → Field ℕ
+mask_in v bytes = number_in (mask_width v) bytes
+
+unfoldable pub masks_in : Version → List ℕ → Field Masks
+masks_in v bytes =
+    mask_in v bytes >>= λ x. mask_in v x.1 >>= λ y. mask_in v y.1 >>= λ z. mask_in v z.1
     >>= λ w. Some (record { require_set = x.0; require_clear = y.0; sets = z.0; clears = w.0 }, w.1)
 
 abbrev pub template_of : Verb → ℕ → ℕ → Argument → List ℕ → Masks → Template
@@ -142,14 +148,14 @@ template_if_valid keys flags vars v key item_flags None body masks = None
 template_if_valid keys flags vars v key item_flags (Some a) body masks =
     if is_template keys flags vars (template_of v key item_flags a body masks) then Some (template_of v key item_flags a body masks) else None
 
-unfoldable pub template_in : ℕ → ℕ → ℕ → List ℕ → Field Template
-template_in keys flags vars bytes =
-    verb_in bytes >>= λ v. byte_in v.1 >>= λ key. number_in w32 key.1 >>= λ item_flags. argument_in vars item_flags.1
-    >>= λ a. sized_in 0 SCRIPT_BODY_LIMIT a.1 >>= λ body. masks_in body.1
-    >>= λ masks. template_if_valid keys flags vars v.0 key.0 item_flags.0 a.0 body.0 masks.0 >>= λ t. Some (t, masks.1)
+unfoldable pub template_in : Version → ℕ → ℕ → ℕ → List ℕ → Field Template
+template_in v keys flags vars bytes =
+    verb_in bytes >>= λ verb. byte_in verb.1 >>= λ key. number_in w32 key.1 >>= λ item_flags. argument_in vars item_flags.1
+    >>= λ a. sized_in 0 SCRIPT_BODY_LIMIT a.1 >>= λ body. masks_in v body.1
+    >>= λ masks. template_if_valid keys flags vars verb.0 key.0 item_flags.0 a.0 body.0 masks.0 >>= λ t. Some (t, masks.1)
 
-unfoldable pub templates_in : ℕ → ℕ → ℕ → List ℕ → Field (List Template)
-templates_in keys flags vars bytes = counted_in 0 TEMPLATES_LIMIT (λ _. template_in keys flags vars) bytes
+unfoldable pub templates_in : Version → ℕ → ℕ → ℕ → List ℕ → Field (List Template)
+templates_in v keys flags vars bytes = counted_in 0 TEMPLATES_LIMIT (λ _. template_in v keys flags vars) bytes
 
 -- ---- sections
 
@@ -170,13 +176,19 @@ after_sort sort bytes =
 unfoldable pub instr_in : List ℕ → Field Instr
 instr_in bytes = small_in 0 3 bytes >>= λ sort. after_sort sort.0 sort.1
 
-unfoldable pub instructions_in : List ℕ → Field (List Instr)
-instructions_in bytes = counted_in 0 INSTRUCTIONS_LIMIT (λ _. instr_in) bytes
+unfoldable pub instructions_in : Version → List ℕ → Field (List Instr)
+instructions_in v bytes = counted_in 0 (steps_limit v) (λ _. instr_in) bytes
 
 -- ---- the whole image
 
-unfoldable pub magic_in : List ℕ → Option (List ℕ)
-magic_in bytes = bytes_in 4 bytes >>= λ m. if bytes_eq m.0 magic then Some m.1 else None
+-- the version whose images begin with these bytes
+unfoldable pub version_at : List ℕ → Option Version
+version_at bytes =
+    if bytes_eq bytes (magic version.One) then Some version.One
+    else (if bytes_eq bytes (magic version.Two) then Some version.Two else None)
+
+unfoldable pub version_in : List ℕ → Field Version
+version_in bytes = bytes_in 4 bytes >>= λ m. version_at m.0 >>= λ v. Some (v, m.1)
 
 -- the keys, and how many flags and variables there are
 pub record Declared : Type 0 where
@@ -184,10 +196,10 @@ pub record Declared : Type 0 where
   pub flags : ℕ
   pub vars : ℕ
 
-unfoldable pub declared_in : List ℕ → Field Declared
-declared_in bytes =
-    keys_in bytes >>= λ k. small_in 0 FLAGS_LIMIT k.1 >>= λ f. small_in 0 VARIABLES_LIMIT f.1
-    >>= λ v. Some (record { keys = k.0; flags = f.0; vars = v.0 }, v.1)
+unfoldable pub declared_in : Version → List ℕ → Field Declared
+declared_in v bytes =
+    keys_in bytes >>= λ k. small_in 0 (flags_limit v) k.1 >>= λ f. small_in 0 VARIABLES_LIMIT f.1
+    >>= λ vars. Some (record { keys = k.0; flags = f.0; vars = vars.0 }, vars.1)
 
 -- one for each section
 unfoldable pub each_in : {A : Type 0} → (List ℕ → Field A) → List ℕ → Field (Sections A)
@@ -216,6 +228,6 @@ at_end x (_ ∷ _) = None
 -- the code of the bytes, which nothing follows
 unfoldable pub code_in : List ℕ → Option Code
 code_in bytes =
-    magic_in bytes >>= λ m. declared_in m >>= λ d. each_in budget_in d.1
-    >>= λ budgets. templates_in (length d.0.keys) d.0.flags d.0.vars budgets.1 >>= λ t. each_in instructions_in t.1
+    version_in bytes >>= λ v. declared_in v.0 v.1 >>= λ d. each_in budget_in d.1
+    >>= λ budgets. templates_in v.0 (length d.0.keys) d.0.flags d.0.vars budgets.1 >>= λ t. each_in (instructions_in v.0) t.1
     >>= λ s. at_end (code_of d.0 budgets.0 t.0 s.0) s.1

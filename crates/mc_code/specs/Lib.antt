@@ -8,6 +8,7 @@ pub use Rattle.mc_protocol.specs.Words
 pub use Rattle.mc_script.specs.Script
 pub use Rattle.mc_script.specs.ScriptWords
 pub use Rattle.mc_script.specs.Templates
+pub use Rattle.mc_script.specs.Versions
 pub use Rattle.mc_script.specs.WellFormed
 pub mod Code
 pub mod Requests
@@ -30,3 +31,4 @@ pub mod ImageKinds
 -- What private contracts cite.
 pub mod Assembling
 pub mod ImageReading
+pub mod ImageWriting

@@ -1,11 +1,12 @@
 //! Code, and the requests that it makes.
 ghost use Rattle.std.specs.Prelude.{◌≡◌, ◌<◌, length, IfOk};
 ghost use Rattle.mc_code.specs.Code as spec;
+ghost use Rattle.mc_code.specs.Image as image;
 ghost use Rattle.mc_code.specs.Requests as requests;
 
 use crate::{Call, Instr};
 use mc_protocol::{Actor, Bytes, OutOfMemory, Request, Sections};
-use mc_script::{Budget, Template};
+use mc_script::{Budget, Template, Version};
 use std::alloc::Global;
 use std::marker::Model;
 
@@ -25,7 +26,7 @@ impl Model for Section {
     ghost view = { λ s. record { budget = s.budget; instructions = s.instructions.items } };
 }
 
-/// Code: 1 to 8 keys, at most 32 flags and 16 variables, at most 64 templates, and three sections of at most 64
+/// Code: 1 to 8 keys, at most 64 flags and 16 variables, at most 64 templates, and three sections of at most 128
 /// instructions each. A template's key, flags and variable are declared. An instruction may name a template, a variable or
 /// a place that isn't there. Contracts see the vectors as lists.
 #[derive(Debug, Drop)]
@@ -107,5 +108,15 @@ impl Code {
             body: template.body.copy(alloc)?,
             number: call.number,
         })
+    }
+
+    /// The version of its image: the first one whose limits it keeps.
+    pub(crate) fn version(&self) -> Version
+        ensures { result ≡ image.version_of self.now }
+    {
+        let p = self.section(Actor::P).len();
+        let a = self.section(Actor::A).len();
+        let b = self.section(Actor::B).len();
+        Version::least(self.flags(), p.max(a.max(b)))
     }
 }

@@ -6,7 +6,7 @@ pub fn counter_is_laid_out()
     ensures { CounterIsLaidOut }
 {}
 
-/// Its image.
+/// Its image, and how long its image in version 2 is.
 pub fn counter_is_image()
     ensures { CounterIsImage }
 {}

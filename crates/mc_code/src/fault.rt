@@ -13,8 +13,8 @@ pub enum AsmFault {
     /// The script needs more than 64 templates: one for each key, and one for each request of its sections.
     #[error("expected at most 64 templates: one for each key, and one for each request")]
     TooManyTemplates,
-    /// This section, the first such of P, A and B, needs more than 64 instructions. The templates are not too many.
-    #[error("expected at most 64 instructions in a section")]
+    /// This section, the first such of P, A and B, needs more than 128 instructions. The templates are not too many.
+    #[error("expected at most 128 instructions in a section")]
     TooManyInstructions(Actor),
     /// Memory ran out.
     #[error("out of memory")]
@@ -68,8 +68,8 @@ impl<T: Drop> From<AllocFailed<T>> for AsmFault {
 /// What is wrong with bytes that are no image.
 #[derive(Clone, Copy, Debug, Drop, PartialEq, Eq, Error)]
 pub enum ImageKind {
-    /// The first four bytes are not `MCR1`.
-    #[error("expected the bytes `MCR1`")]
+    /// The first four bytes are neither `MCR1` nor `MCR2`.
+    #[error("expected the bytes `MCR1` or `MCR2`")]
     Magic,
     /// The bytes end before a field does.
     #[error("expected more bytes")]

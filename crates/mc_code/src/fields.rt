@@ -4,6 +4,7 @@ ghost use Rattle.std.specs.Int.{w16, w32, w64};
 ghost use Rattle.mc_code.specs.ImageReading as reading;
 
 use crate::{ImageFault, ImageKind};
+use mc_script::{Mask, Version};
 use std::marker::Model;
 
 /// Takes the fields of an image, one after another. Contracts see the bytes that are left.
@@ -93,6 +94,17 @@ impl<'a> Fields<'a> {
         Ok(u64::from_be_bytes([
             bytes[0], bytes[1], bytes[2], bytes[3], bytes[4], bytes[5], bytes[6], bytes[7],
         ]))
+    }
+
+    /// Takes a mask of flags, as wide as an image of the version has it.
+    #[tactic(auto, unfolding(crate::specs::ImageReading::mask_in))]
+    pub(crate) fn mask(&mut self, version: Version) -> Result<Mask, ImageFault>
+        ensures { reading.Reads (λ mask. (mask, self.new)) result (reading.mask_in version self.old) }
+    {
+        match version {
+            Version::One => Ok(Mask::from(self.number_32()?)),
+            Version::Two => self.number_64(),
+        }
     }
 
     /// Takes a byte that is a number from `least` to `greatest`.

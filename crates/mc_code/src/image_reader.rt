@@ -1,42 +1,43 @@
 //! Reads the code that an image has.
 ghost use Rattle.std.specs.Prelude.{◌≡◌, ◌≢◌, IfOk, IfErr};
 ghost use Rattle.mc_code.specs.Code as spec;
-ghost use Rattle.mc_code.specs.Image.{image_of};
+ghost use Rattle.mc_code.specs.Image.{IsImageOf};
 ghost use Rattle.mc_code.specs.ImageReading as reading;
 
 use crate::code::Section;
 use crate::fields::Fields;
+use crate::image_version::version_at;
 use crate::read_declared::read_declared;
 use crate::read_section::{read_budget, read_instructions};
 use crate::read_template::read_templates;
 use crate::well_formed::Counts;
 use crate::{Code, ImageFault, ImageKind, Instr};
 use mc_protocol::Sections;
-use mc_script::Budget;
+use mc_script::{Budget, Version};
 use std::alloc::Global;
 
-/// Reads an image. The fault is that of the first field that is wrong. Whether the fields of a template suit each other is
-/// decided once all of them are read; if they don't, the fault has the offset of the template.
+/// Reads an image of either version. The fault is that of the first field that is wrong. Whether the fields of a template
+/// suit each other is decided once all of them are read; if they don't, the fault has the offset of the template.
 pub fn decode(alloc: Global, bytes: &[u8]) -> Result<Code, ImageFault>
-    ensures found { IfOk result (λ code. image_of code ≡ bytes.now) }
+    ensures found { IfOk result (λ code. IsImageOf bytes.now code) }
     ensures kept { IfOk result spec.IsCode }
-    ensures read { (code : spec.Code) → spec.IsCode code → image_of code ≡ bytes.now
+    ensures read { (code : spec.Code) → spec.IsCode code → IsImageOf bytes.now code
         → IfOk result (λ read. read ≡ code) }
     ensures none { IfErr result (λ fault. fault.kind ≢ ImageKind.OutOfMemory
-        → (code : spec.Code) → spec.IsCode code → image_of code ≡ bytes.now → ⊥) }
+        → (code : spec.Code) → spec.IsCode code → IsImageOf bytes.now code → ⊥) }
     ensures memory { IfErr result (λ fault. fault.kind ≡ ImageKind.OutOfMemory → fault.offset ≡ 0) }
 {
     let mut fields = Fields::new(bytes);
-    read_magic(&mut fields)?;
-    let declared = read_declared(alloc, &mut fields)?;
+    let version = read_version(&mut fields)?;
+    let declared = read_declared(alloc, &mut fields, version)?;
     let budgets = read_budgets(&mut fields)?;
     let counts = Counts {
         keys: declared.keys.len(),
         flags: declared.flags,
         vars: declared.vars,
     };
-    let templates = read_templates(alloc, &mut fields, counts)?;
-    let instructions = read_all_instructions(alloc, &mut fields)?;
+    let templates = read_templates(alloc, &mut fields, version, counts)?;
+    let instructions = read_all_instructions(alloc, &mut fields, version)?;
     fields.finish()?;
     Ok(Code {
         keys: declared.keys,
@@ -61,17 +62,17 @@ fn section_of(budget: Budget, instructions: Vec<Instr>) -> Section
     }
 }
 
-/// Takes the bytes with which each image begins.
-#[tactic(auto, unfolding(crate::specs::ImageReading::magic_in))]
-fn read_magic(fields: &mut Fields) -> Result<(), ImageFault>
-    ensures { reading.Reads (λ _. fields.new) result (reading.magic_in fields.old) }
+/// Takes the bytes with which an image begins, which say its version.
+#[tactic(auto, unfolding(crate::specs::ImageReading::version_in))]
+fn read_version(fields: &mut Fields) -> Result<Version, ImageFault>
+    ensures { reading.Reads (λ version. (version, fields.new)) result (reading.version_in fields.old) }
 {
     let offset = fields.offset();
     let magic = fields.bytes(4)?;
-    if magic != b"MCR1".as_slice() {
-        return Err(ImageFault::at(ImageKind::Magic, offset));
+    match version_at(magic) {
+        Some(version) => Ok(version),
+        None => Err(ImageFault::at(ImageKind::Magic, offset)),
     }
-    Ok(())
 }
 
 /// Takes the budget of each section.
@@ -91,12 +92,13 @@ fn read_budgets(fields: &mut Fields) -> Result<Sections<Budget>, ImageFault>
 fn read_all_instructions(
     alloc: Global,
     fields: &mut Fields,
+    version: Version,
 ) -> Result<Sections<Vec<Instr>>, ImageFault>
     ensures { reading.Says (λ all. (record { p = all.p.items; a = all.a.items; b = all.b.items }, fields.new)) result
-        (reading.each_in reading.instructions_in fields.old) }
+        (reading.each_in (reading.instructions_in version) fields.old) }
 {
-    let p = read_instructions(alloc, fields)?;
-    let a = read_instructions(alloc, fields)?;
-    let b = read_instructions(alloc, fields)?;
+    let p = read_instructions(alloc, fields, version)?;
+    let a = read_instructions(alloc, fields, version)?;
+    let b = read_instructions(alloc, fields, version)?;
     Ok(Sections { p, a, b })
 }

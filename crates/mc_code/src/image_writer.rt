@@ -2,27 +2,31 @@
 ghost use Rattle.std.specs.Prelude.{◌≡◌, ◌≤◌, ◌∷◌, ◌++◌, length, OnOk, OnErr};
 ghost use Rattle.std.specs.List.{All};
 ghost use Rattle.std.specs.Int.{w64, to_be_bytes};
-ghost use Rattle.mc_protocol.specs.declared.limits.TheConstants.{REQUESTS_LIMIT, REQUEST_BYTES_LIMIT, SCRIPT_BODY_LIMIT};
+ghost use Rattle.mc_protocol.specs.declared.limits.TheConstants.{REQUESTS_LIMIT, REQUEST_BYTES_LIMIT};
 ghost use Rattle.mc_code.specs.declared.limits.TheConstants.{INSTRUCTIONS_LIMIT, TEMPLATES_LIMIT};
 ghost use Rattle.mc_code.specs.Image as image;
 ghost use Rattle.mc_code.specs.Image.{image_of};
+ghost use Rattle.mc_code.specs.ImageWriting.{FitsImage, FitsMask};
 
 use crate::code::Section;
+use crate::image_version::magic;
 use crate::{Code, Instr};
 use mc_protocol::{Actor, Bytes, OutOfMemory, Verb, append_all};
-use mc_script::{Argument, Budget, Template};
+use mc_script::{Argument, Budget, Mask, Template, Version};
 
-/// Appends the image of code. Where memory runs out, `out` stays as it was.
+/// Appends the image of code: one of version 1 where the code has at most 32 flags and each of its sections at most 64
+/// instructions, and otherwise one of version 2. Where memory runs out, `out` stays as it was.
 pub fn encode(code: &Code, out: &mut Vec<u8>) -> Result<(), OutOfMemory>
     ensures ok { OnOk result (out.new.items ≡ out.old.items ++ image_of code.now) }
     ensures err { OnErr result (out.new.items ≡ out.old.items) }
 {
+    let version = code.version();
     let mut image = Vec::new(*out.allocator());
-    image.extend_from_slice(b"MCR1")?;
+    image.extend_from_slice(magic(version))?;
     push_keys(code.keys.as_slice(), &mut image)?;
     image.extend_from_slice(&[code.flags, code.vars])?;
     push_budgets(code, &mut image)?;
-    push_templates(code.templates.as_slice(), &mut image)?;
+    push_templates(version, code.templates.as_slice(), &mut image)?;
     push_section(&code.sections.p, &mut image)?;
     push_section(&code.sections.a, &mut image)?;
     push_section(&code.sections.b, &mut image)?;
@@ -77,22 +81,30 @@ fn budget_bytes(budget: Budget) -> [u8; 3]
 }
 
 /// Appends the number of the templates, and each template.
-fn push_templates(templates: &[Template], out: &mut Vec<u8>) -> Result<(), OutOfMemory>
+fn push_templates(
+    version: Version,
+    templates: &[Template],
+    out: &mut Vec<u8>,
+) -> Result<(), OutOfMemory>
     requires few { length templates.now ≤ TEMPLATES_LIMIT }
-    requires short { All (λ t. length t.body ≤ SCRIPT_BODY_LIMIT) templates.now }
-    ensures { OnOk result (out.new.items ≡ out.old.items ++ image.with_count image.template_bytes templates.now) }
+    requires fit { All (FitsImage version) templates.now }
+    ensures { OnOk result (out.new.items ≡ out.old.items ++ image.with_count (image.template_bytes version) templates.now) }
 {
     out.push(templates.len() as u8)?;
     'templates: for template in templates {
-        push_template(template, out)?;
+        push_template(version, template, out)?;
     }
     Ok(())
 }
 
 /// Appends the fields of a template.
-fn push_template(template: &Template, out: &mut Vec<u8>) -> Result<(), OutOfMemory>
-    requires { length template.now.body ≤ SCRIPT_BODY_LIMIT }
-    ensures { OnOk result (out.new.items ≡ out.old.items ++ image.template_bytes template.now) }
+fn push_template(
+    version: Version,
+    template: &Template,
+    out: &mut Vec<u8>,
+) -> Result<(), OutOfMemory>
+    requires { FitsImage version template.now }
+    ensures { OnOk result (out.new.items ≡ out.old.items ++ image.template_bytes version template.now) }
 {
     let body = template.body.as_slice();
     let (sort, argument) = argument_fields(template.argument);
@@ -105,12 +117,23 @@ fn push_template(template: &Template, out: &mut Vec<u8>) -> Result<(), OutOfMemo
             &argument.to_be_bytes(),
             &[body.len() as u8],
             body,
-            &template.require_set.to_be_bytes(),
-            &template.require_clear.to_be_bytes(),
-            &template.sets.to_be_bytes(),
-            &template.clears.to_be_bytes(),
         ],
-    )
+    )?;
+    push_mask(version, template.require_set, out)?;
+    push_mask(version, template.require_clear, out)?;
+    push_mask(version, template.sets, out)?;
+    push_mask(version, template.clears, out)
+}
+
+/// Appends a mask of flags, as wide as an image of the version has it.
+fn push_mask(version: Version, mask: Mask, out: &mut Vec<u8>) -> Result<(), OutOfMemory>
+    requires { FitsMask version mask }
+    ensures { OnOk result (out.new.items ≡ out.old.items ++ image.mask_bytes version mask) }
+{
+    match version {
+        Version::One => out.extend_from_slice(&(mask as u32).to_be_bytes()),
+        Version::Two => out.extend_from_slice(&mask.to_be_bytes()),
+    }
 }
 
 /// The position of a verb in the order of the verbs.

@@ -15,6 +15,7 @@ mod fault;
 mod fields;
 mod image_laws;
 mod image_reader;
+mod image_version;
 mod image_writer;
 mod instr;
 mod kind;
@@ -38,7 +39,7 @@ pub use example_laws::{
     jumper_is_laid_out, swap_comes_to, swap_is_laid_out,
 };
 pub use fault::{AsmFault, ImageFault, ImageKind};
-pub use image_laws::images_are_of_one_code;
+pub use image_laws::{codes_have_images, images_are_of_one_code, images_are_written_again};
 pub use image_reader::decode;
 pub use image_writer::encode;
 pub use instr::{Call, Instr};

@@ -6,7 +6,7 @@ ghost use Rattle.mc_code.specs.ImageReading as reading;
 use crate::fields::Fields;
 use crate::{ImageFault, ImageKind};
 use mc_protocol::{Bytes, KEY_BYTES_LIMIT, KEYS_LIMIT, is_key, is_new};
-use mc_script::{FLAGS_LIMIT, VARIABLES_LIMIT};
+use mc_script::{VARIABLES_LIMIT, Version};
 use std::alloc::Global;
 use std::marker::Model;
 
@@ -30,12 +30,16 @@ impl Model for Declared {
 
 /// Takes the keys, and the numbers of flags and variables.
 #[tactic(auto, unfolding(crate::specs::ImageReading::declared_in))]
-pub(crate) fn read_declared(alloc: Global, fields: &mut Fields) -> Result<Declared, ImageFault>
-    ensures read { reading.Says (λ declared. (declared, fields.new)) result (reading.declared_in fields.old) }
+pub(crate) fn read_declared(
+    alloc: Global,
+    fields: &mut Fields,
+    version: Version,
+) -> Result<Declared, ImageFault>
+    ensures read { reading.Says (λ declared. (declared, fields.new)) result (reading.declared_in version fields.old) }
     ensures within { IfOk result (λ declared. declared.flags ≤ FLAGS_LIMIT) }
 {
     let keys = read_keys(alloc, fields)?;
-    let flags = fields.byte_within(0, FLAGS_LIMIT)?;
+    let flags = fields.byte_within(0, version.flags_limit())?;
     let vars = fields.byte_within(0, VARIABLES_LIMIT)?;
     Ok(Declared { keys, flags, vars })
 }

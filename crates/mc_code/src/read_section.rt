@@ -3,9 +3,9 @@ ghost use Rattle.std.specs.Prelude.{◌≡◌};
 ghost use Rattle.mc_code.specs.ImageReading as reading;
 
 use crate::fields::Fields;
-use crate::{CLASS_COUNT, INSTRUCTIONS_LIMIT, ImageFault, ImageKind, Instr};
+use crate::{CLASS_COUNT, ImageFault, ImageKind, Instr};
 use mc_protocol::{REQUEST_BYTES_LIMIT, REQUESTS_LIMIT};
-use mc_script::Budget;
+use mc_script::{Budget, Version};
 use std::alloc::Global;
 
 /// Takes the budget of a section.
@@ -30,11 +30,12 @@ pub(crate) fn read_budget(fields: &mut Fields) -> Result<Budget, ImageFault>
 pub(crate) fn read_instructions(
     alloc: Global,
     fields: &mut Fields,
+    version: Version,
 ) -> Result<Vec<Instr>, ImageFault>
     ensures { reading.Says (λ instructions. (instructions.items, fields.new)) result
-        (reading.instructions_in fields.old) }
+        (reading.instructions_in version fields.old) }
 {
-    let count = fields.byte_within(0, INSTRUCTIONS_LIMIT)?;
+    let count = fields.byte_within(0, version.steps_limit())?;
     let mut instructions = Vec::new(alloc);
     for _ in 0..count {
         let instr = read_instr(fields)?;

@@ -7,7 +7,7 @@ use crate::fields::Fields;
 use crate::well_formed::{Counts, is_template};
 use crate::{ImageFault, ImageKind, TEMPLATES_LIMIT};
 use mc_protocol::{Bytes, SCRIPT_BODY_LIMIT, Verb};
-use mc_script::{Argument, Mask, Template};
+use mc_script::{Argument, Mask, Template, Version};
 use std::alloc::Global;
 
 /// Takes the number of the templates, and each template. `counts` says what is declared.
@@ -15,16 +15,17 @@ use std::alloc::Global;
 pub(crate) fn read_templates(
     alloc: Global,
     fields: &mut Fields,
+    version: Version,
     counts: Counts,
 ) -> Result<Vec<Template>, ImageFault>
     requires { counts.flags ≤ FLAGS_LIMIT }
     ensures { reading.Says (λ templates. (templates.items, fields.new)) result
-        (reading.templates_in counts.keys counts.flags counts.vars fields.old) }
+        (reading.templates_in version counts.keys counts.flags counts.vars fields.old) }
 {
     let count = fields.byte_within(0, TEMPLATES_LIMIT)?;
     let mut templates = Vec::new(alloc);
     for _ in 0..count {
-        let template = read_template(alloc, fields, counts)?;
+        let template = read_template(alloc, fields, version, counts)?;
         templates.push(template)?;
     }
     Ok(templates)
@@ -32,10 +33,15 @@ pub(crate) fn read_templates(
 
 /// Takes a template. Whether its fields suit each other is decided once all of them are read.
 #[tactic(auto, unfolding(crate::specs::ImageReading::template_in, crate::specs::ImageReading::template_if_valid))]
-fn read_template(alloc: Global, fields: &mut Fields, counts: Counts) -> Result<Template, ImageFault>
+fn read_template(
+    alloc: Global,
+    fields: &mut Fields,
+    version: Version,
+    counts: Counts,
+) -> Result<Template, ImageFault>
     requires { counts.flags ≤ FLAGS_LIMIT }
     ensures { reading.Says (λ template. (template, fields.new)) result
-        (reading.template_in counts.keys counts.flags counts.vars fields.old) }
+        (reading.template_in version counts.keys counts.flags counts.vars fields.old) }
 {
     let offset = fields.offset();
     let verb = read_verb(fields)?;
@@ -43,7 +49,7 @@ fn read_template(alloc: Global, fields: &mut Fields, counts: Counts) -> Result<T
     let flags = fields.number_32()?;
     let argument = read_argument(fields, counts.vars)?;
     let body = fields.counted_bytes(0, SCRIPT_BODY_LIMIT)?;
-    let masks = read_masks(fields)?;
+    let masks = read_masks(fields, version)?;
     let Some(argument) = argument else {
         return Err(ImageFault::at(ImageKind::Template, offset));
     };
@@ -120,13 +126,13 @@ struct Masks {
 
 /// Takes the masks of a template.
 #[tactic(auto, unfolding(crate::specs::ImageReading::masks_in))]
-fn read_masks(fields: &mut Fields) -> Result<Masks, ImageFault>
-    ensures { reading.Reads (λ masks. (masks, fields.new)) result (reading.masks_in fields.old) }
+fn read_masks(fields: &mut Fields, version: Version) -> Result<Masks, ImageFault>
+    ensures { reading.Reads (λ masks. (masks, fields.new)) result (reading.masks_in version fields.old) }
 {
-    let require_set = fields.number_32()?;
-    let require_clear = fields.number_32()?;
-    let sets = fields.number_32()?;
-    let clears = fields.number_32()?;
+    let require_set = fields.mask(version)?;
+    let require_clear = fields.mask(version)?;
+    let sets = fields.mask(version)?;
+    let clears = fields.mask(version)?;
     Ok(Masks {
         require_set,
         require_clear,

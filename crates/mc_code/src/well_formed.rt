@@ -86,5 +86,5 @@ fn is_mask(flags: u8, mask: Mask) -> bool
     requires { flags ≤ FLAGS_LIMIT }
     ensures { result ≡ nat_lt mask (2 ^ flags) }
 {
-    u64::from(mask) < 1 << flags
+    u128::from(mask) < 1 << flags
 }

@@ -5,9 +5,9 @@ use Rattle.mc_code.specs.ImageReading.{code_in}
 use Rattle.mc_code.proofs.ImageLaws.{code-read, unread, read-as}
 use Rattle.mc_code.proofs.image_reader.decode.Goals as goal
 
-pub returns-in_err-read_magic-clause-none : goal.returns-in_err-read_magic-clause-none
+pub returns-in_err-version-clause-none : goal.returns-in_err-version-clause-none
 unfolding code_in
-returns-in_err-read_magic-clause-none c =
+returns-in_err-version-clause-none c =
     let p = err_from_is_err_and c.from_residual.result c.from_residual.ensures.1 in
     rw (p.1, p.2) (λ real. let none : code_in c.args.bytes.now ≡ None = search rules in unread c.args.bytes.now none)
 

@@ -5,4 +5,4 @@ use Rattle.mc_code.proofs.image_writer.push_templates.Given as goal
 
 abbrev pub invariant-templates : goal.invariant-templates
 invariant-templates l =
-    l.out.items ≡ l.initial.out.items ++ flat_map template_bytes (take l.template-index l.templates)
+    l.out.items ≡ l.initial.out.items ++ flat_map (template_bytes l.version) (take l.template-index l.templates)
