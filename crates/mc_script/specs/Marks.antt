@@ -1,4 +1,4 @@
--- The marks behind a request: which words they are, which may stand together, and what they say.
+-- The marks after a request: which words they are, which may stand together, and what they say.
 use Rattle.std.specs.Prelude.{◌≡◌, ℕ, ◌==◌, Bool, true, false, not, ◌&&◌, Option, Some, None, List, [], ◌∷◌, ◌++◌, if◌then◌else◌, ◌^◌}
 use Rattle.std.specs.Int.Bits.{bit_or}
 use Rattle.std.specs.List.{list_all, list_any, fold}
@@ -19,7 +19,7 @@ use Rattle.mc_script.specs.Script.{Names}
 
 -- ---- words
 
--- the byte in front of a flag: `?`, `!`, `+` or `-`
+-- the byte before a flag: `?`, `!`, `+` or `-`
 abbrev pub sign_byte : Sign → ℕ
 sign_byte sign.RequireSet = 63
 sign_byte sign.RequireClear = 33
@@ -51,7 +51,7 @@ shows_numbers verb.Incr = true
 shows_numbers verb.Decr = true
 shows_numbers _ = false
 
--- the mark may stand behind the verb
+-- the mark may be written after the verb
 abbrev pub may_stand : Verb → Mark → Bool
 may_stand verb (mark.Flag sign flag) = true
 may_stand verb (mark.Jump class label) = is_legal verb class
@@ -86,7 +86,7 @@ is_number_jump (mark.Jump class.Hit label) = true
 is_number_jump (mark.Jump class.Number label) = true
 is_number_jump _ = false
 
--- the marks may stand behind the verb together: what binds the number goes on to the next step
+-- the marks may be written after the verb together: what binds the number goes on to the next step
 abbrev pub may_stand_together : Verb → List Mark → Bool
 may_stand_together verb marks =
     list_all (may_stand verb) marks && have_no_twins marks && not (list_any is_bind marks && list_any is_number_jump marks)

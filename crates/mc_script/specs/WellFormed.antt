@@ -18,11 +18,11 @@ use Rattle.mc_script.specs.Marks.{shows_numbers}
 use Rattle.mc_script.specs.SectionText.{label_names}
 use Rattle.mc_script.specs.Templates.{IsTemplate}
 
--- the label with this index stands behind the step at this place
+-- the label with this index stands after the step at this place
 abbrev pub IsBehind : List Label → ℕ → ℕ → Type 0
 IsBehind labels place index = (label : Label) × (slice_get labels index ≡ Some label) × (place < label.place)
 
--- the jumps of a step at this place, on classes from this one on: legal classes in their order, labels behind the step
+-- the jumps of a step at this place, on classes from this one on: legal classes in their order, labels after the step
 abbrev pub AreJumps : Verb → List Label → ℕ → ℕ → List (Class × ℕ) → Type 0
 AreJumps verb labels place least [] = Unit {0}
 AreJumps verb labels place least (jump ∷ jumps) =
@@ -44,7 +44,7 @@ MayBind names verb jumps None = Unit {0}
 MayBind names verb jumps (Some variable) =
     (variable < length names.vars) × (shows_numbers verb ≡ true) × (jumps_on_number jumps ≡ false)
 
--- what a step names is declared, and its labels stand behind it
+-- what a step names is declared, and its labels stand after it
 abbrev pub IsStep : Names → List Label → ℕ → Step → Type 0
 IsStep names labels place (step.Send t jumps bind) =
     IsTemplate (length names.keys) (length names.flags) (length names.vars) t
@@ -58,7 +58,7 @@ abbrev pub AreSteps : Names → List Label → ℕ → List Step → Type 0
 AreSteps names labels place [] = Unit {0}
 AreSteps names labels place (s ∷ steps) = IsStep names labels place s × AreSteps names labels (place + 1) steps
 
--- the labels of a section with so many steps, from this place on, in the order of their places
+-- the labels of a section with `steps` steps, from this place on, in the order of their places
 abbrev pub AreLabels : ℕ → ℕ → List Label → Type 0
 AreLabels steps place [] = Unit {0}
 AreLabels steps place (label ∷ labels) =

@@ -1,3 +1,5 @@
+//! A section of a script.
+
 use crate::Step;
 use mc_protocol::Bytes;
 use std::marker::Model;

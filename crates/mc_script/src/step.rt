@@ -1,3 +1,5 @@
+//! The steps of a section.
+
 ghost use Rattle.std.specs.Prelude.{◌≡◌};
 
 use crate::Mask;
