@@ -28,14 +28,14 @@ use Rattle.mc_script.specs.WellFormed.{IsScript}
 
 -- ---- lines
 
--- words, each behind a space
-abbrev pub behind_text : Words → List ℕ
-behind_text words = flat_map (λ word. 32 ∷ word) words
+-- words, with a space before each
+abbrev pub spaced_text : Words → List ℕ
+spaced_text words = flat_map (λ word. 32 ∷ word) words
 
 -- a line: its words with one space between them, and LF
 abbrev pub line_text : Words → List ℕ
 line_text [] = 10 ∷ []
-line_text (word ∷ words) = word ++ behind_text words ++ 10 ∷ []
+line_text (word ∷ words) = word ++ spaced_text words ++ 10 ∷ []
 
 abbrev pub lines_text : List Words → List ℕ
 lines_text lines = flat_map line_text lines
@@ -63,7 +63,7 @@ argument_words names argument.Nothing = []
 argument_words names (argument.Number n) = decimal n ∷ []
 argument_words names (argument.Variable v) = variable_word (name_at names.vars v) ∷ []
 
--- the flags of the mask, each behind this sign, in the order of their names, of which the first has this index
+-- the flags of the mask, with this sign before each, in the order of their names; the first name has this index
 abbrev pub flag_words : Sign → ℕ → ℕ → List Word → Words
 flag_words s mask index [] = []
 flag_words s mask index (name ∷ names) =
@@ -85,7 +85,7 @@ bind_words names (Some variable) = bind_word (name_at names.vars variable) ∷ [
 abbrev pub mark_words : Names → List Label → Template → List (Class × ℕ) → Option ℕ → Words
 mark_words names labels t jumps bind = all_flag_words names.flags t ++ jump_words labels jumps ++ bind_words names bind
 
--- what stands between the key and the marks
+-- the words between the key and the marks
 abbrev pub field_words : Names → Template → Words
 field_words names t = item_words (fields_of t.verb) t.flags t.body ++ argument_words names t.argument
 
@@ -107,7 +107,7 @@ label_lines place [] = []
 label_lines place (label ∷ labels) =
     if label.place == place then (label_word label.name ∷ []) ∷ label_lines place labels else label_lines place labels
 
--- the steps from this place on, each behind the labels of its place, and the labels of the end
+-- the steps from this place on, with the labels of its place before each, and the labels of the end
 abbrev pub step_lines : Names → List Label → ℕ → List Step → List Words
 step_lines names labels place [] = label_lines place labels
 step_lines names labels place (s ∷ steps) =

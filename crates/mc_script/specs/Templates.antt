@@ -1,4 +1,4 @@
--- Templates: which ones a script may have, by the numbers of its keys, flags and variables.
+-- Templates: which are well formed. `keys`, `flags` and `vars` are how many of each are declared.
 use Rattle.std.specs.Prelude.{◌≡◌, ℕ, ◌<◌, ◌==◌, nat_le, nat_lt, Bool, true, false, ◌&&◌, List, length, ◌^◌}
 use Rattle.std.specs.Int.Bits.{bit_and}
 use Rattle.mc_protocol.specs.Fields.{fields_of}
@@ -10,7 +10,7 @@ use Rattle.mc_script.specs.declared.step.Argument.TheVariants as argument
 use Rattle.mc_script.specs.declared.step.Template.{Template}
 use Rattle.mc_script.specs.ScriptWords.{is_body}
 
--- ---- the fields after the key
+-- ---- the words after the key
 
 abbrev pub is_nothing : Argument → Bool
 is_nothing argument.Nothing = true
