@@ -1,4 +1,4 @@
-//! A script.
+//! Scripts, and their parts.
 
 ghost use Rattle.std.specs.Prelude.{◌≡◌};
 ghost use Rattle.mc_script.specs.Script as spec;

@@ -1,4 +1,4 @@
-//! A section of a script.
+//! The sections of a script: budgets, and labels.
 
 use crate::Step;
 use mc_protocol::Bytes;

@@ -1,4 +1,4 @@
-//! The steps of a section.
+//! The steps of a section, and the requests that they send.
 
 ghost use Rattle.std.specs.Prelude.{◌≡◌};
 
