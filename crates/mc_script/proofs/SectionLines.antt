@@ -22,7 +22,7 @@ bytes-same xs ys = (bytes_eq-Decides xs ys).0
 pub bytes-equal : (xs : Word) → bytes_eq xs xs ≡ true
 bytes-equal xs = (bytes_eq-Decides xs xs).1 refl
 
--- ---- the line behind a section
+-- ---- the line after a section
 
 pub only-line : (stop : Word) (line : Words) → is_only stop line ≡ true → line ≡ stop ∷ []
 only-line stop [] h = absurd (cc)
@@ -195,7 +195,7 @@ pub all-new : (names : List Word) → list_all (is_new []) names ≡ true
 all-new [] = refl
 all-new (name ∷ names) = all-new names
 
--- with a step in front
+-- with a step before them
 step-rules : (limit count : ℕ) (labels : List Word) (entries : List Entry) → nat_lt count limit ≡ true → Rules limit (count + 1) labels entries
     → (count + (1 + step_total entries) ≤ limit)
 step-rules limit count labels entries h r = let f = r.few in omega arith

@@ -9,6 +9,7 @@ use Rattle.mc_protocol.specs.declared.actor.Actor.TheVariants as actor
 use Rattle.mc_protocol.specs.declared.request.Fields.{Fields}
 use Rattle.mc_protocol.specs.declared.request.Fields.TheVariants as fields
 use Rattle.mc_protocol.specs.declared.reply.Class.{Class}
+use Rattle.mc_protocol.specs.declared.sections.Sections.{Sections}
 use Rattle.mc_protocol.specs.Lines.{Word, Words}
 use Rattle.mc_script.specs.declared.entry.Sign.{Sign}
 use Rattle.mc_script.specs.declared.entry.Sign.TheVariants as sign
@@ -121,10 +122,18 @@ section_lines names s = step_lines names s.labels 0 s.steps
 abbrev pub budget_line : Actor → Budget → Words
 budget_line a budget = codes "budget" ∷ actor_word a ∷ decimal budget.requests ∷ decimal budget.bytes ∷ []
 
+-- the lines of each section
+abbrev pub bodies_of : Script → Sections (List Words)
+bodies_of s = record {
+  p = section_lines s.names s.sections.p;
+  a = section_lines s.names s.sections.a;
+  b = section_lines s.names s.sections.b;
+}
+
 abbrev pub script_lines : Script → List Words
 script_lines s =
     header (version_of s) ∷ (names_lines s.names ++ budget_line actor.P s.sections.p.budget ∷ budget_line actor.A s.sections.a.budget ∷ budget_line actor.B s.sections.b.budget
-    ∷ body_lines (section_lines s.names s.sections.p) (section_lines s.names s.sections.a) (section_lines s.names s.sections.b))
+    ∷ body_lines (bodies_of s))
 
 abbrev pub script_text : Script → List ℕ
 script_text s = lines_text (script_lines s)

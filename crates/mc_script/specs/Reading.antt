@@ -48,7 +48,7 @@ abbrev pub Shows : {X Y : Type 0} → (X → Y) → Result X ScriptKind → Opti
 Shows view (Ok x) read = read ≡ Some (view x)
 Shows view (Err k) read = k ≢ kind.OutOfMemory → read ≡ None
 
--- the same, where the fault tells its line
+-- the same, where the fault has the number of its line
 abbrev pub Says : {X Y : Type 0} → (X → Y) → Result X ScriptFault → Option Y → Type 0
 Says view (Ok x) read = read ≡ Some (view x)
 Says view (Err fault) read = fault.kind ≢ kind.OutOfMemory → read ≡ None
@@ -95,7 +95,7 @@ keys_in [] = None
 keys_in (line ∷ lines) =
     if begins_with (codes "keys") line then (names_in KEYS_LIMIT KEY_BYTES_LIMIT (drop 1 line) >>= λ names. Some (names, lines)) else None
 
--- a value, with the line that must follow and those behind it
+-- a value, with the line that must follow and those after it
 abbrev pub then_line : {A : Type 0} → A → List Words → Option (A × Words × List Words)
 then_line x [] = None
 then_line x (line ∷ lines) = Some (x, line, lines)
@@ -121,19 +121,19 @@ budget_in actor (word ∷ others) = if bytes_eq word (codes "budget") then amoun
 
 -- ---- requests
 
-abbrev pub variable_behind : Names → Word → Option Argument
-variable_behind names name = index_of names.vars name >>= λ v. Some (argument.Variable v)
+abbrev pub variable_named : Names → Word → Option Argument
+variable_named names name = index_of names.vars name >>= λ v. Some (argument.Variable v)
 
 abbrev pub unique_in : Names → Word → Option Argument
 unique_in names [] = None
-unique_in names (first ∷ name) = if first == 36 then variable_behind names name else None
+unique_in names (first ∷ name) = if first == 36 then variable_named names name else None
 
 abbrev pub plain_amount_in : Word → Option Argument
 plain_amount_in word = number_in MAX_64 word >>= λ n. Some (argument.Number n)
 
 abbrev pub amount_in : Names → Word → Option Argument
 amount_in names [] = None
-amount_in names (first ∷ name) = if first == 36 then variable_behind names name else plain_amount_in (first ∷ name)
+amount_in names (first ∷ name) = if first == 36 then variable_named names name else plain_amount_in (first ∷ name)
 
 abbrev pub item_in : Words → Option Parts
 item_in (flags ∷ body ∷ _) =
@@ -145,9 +145,9 @@ swap_in names (flags ∷ body ∷ unique ∷ _) =
     number_in MAX_32 flags >>= λ f. body_in body >>= λ b. unique_in names unique >>= λ u. Some (record { flags = f; argument = u; body = b })
 swap_in names _ = None
 
-abbrev pub counted_in : Names → Words → Option Parts
-counted_in names [] = None
-counted_in names (amount ∷ _) = amount_in names amount >>= λ a. Some (record { flags = 0; argument = a; body = [] })
+abbrev pub increment_in : Names → Words → Option Parts
+increment_in names [] = None
+increment_in names (amount ∷ _) = amount_in names amount >>= λ a. Some (record { flags = 0; argument = a; body = [] })
 
 abbrev pub nothing : Parts
 nothing = record { flags = 0; argument = argument.Nothing; body = [] }
@@ -158,7 +158,7 @@ fields_in names fields.KeyAlone words = Some nothing
 fields_in names fields.Expiry words = Some nothing
 fields_in names fields.Item words = item_in words
 fields_in names fields.Swap words = swap_in names words
-fields_in names fields.Amount words = counted_in names words
+fields_in names fields.Amount words = increment_in names words
 
 -- how many words that is
 abbrev pub field_count : Fields → ℕ
@@ -246,7 +246,7 @@ abbrev pub goto_in : Word → Words → Option Entry
 goto_in label [] = Some (entry.Goto label)
 goto_in label (_ ∷ _) = None
 
--- what stands in front of the `:` at the end of a word
+-- the bytes before the `:` at the end of a word
 abbrev pub before_colon : Word → Option Word
 before_colon word =
     if length word == 0 then None

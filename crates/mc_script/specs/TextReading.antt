@@ -19,7 +19,7 @@ use Rattle.mc_script.specs.Versions.{flags_limit, steps_limit}
 use Rattle.mc_script.specs.Script.{Names, Section, Script}
 use Rattle.mc_script.specs.declared.step.Step.{Step}
 use Rattle.mc_script.specs.declared.step.Step.TheVariants as step
-use Rattle.mc_script.specs.Steps.{◌>>=◌, in_front, labels_from, steps_from, jumps_on, sends, goes, label_behind}
+use Rattle.mc_script.specs.Steps.{◌>>=◌, in_front, labels_from, steps_from, jumps_on, sends, goes, label_after}
 use Rattle.mc_script.specs.Reading.{header_in, keys_in, optional_in, budget_in, entry_in}
 
 -- ---- sections
@@ -59,10 +59,10 @@ abbrev pub step_in : List Label → ℕ → Entry → Option Step
 step_in labels place (entry.Label name) = None
 step_in labels place (entry.Send t marks) = sends t marks (jumps_on labels place marks all_classes)
 step_in labels place (entry.Bind variable) = Some (step.Bind variable)
-step_in labels place (entry.Goto name) = goes (label_behind labels place name)
+step_in labels place (entry.Goto name) = goes (label_after labels place name)
 step_in labels place entry.Halt = Some step.Halt
 
--- values in front of others, where none of them is missing
+-- values before others, where none of them is missing
 abbrev pub onto : {A : Type 0} → List A → Option (List A) → Option (List A)
 onto xs (Some ys) = Some (xs ++ ys)
 onto xs None = None
@@ -75,7 +75,7 @@ target_in c None = None
 -- the jumps of the marks, in the order of the marks, where each label is found after the step at this place
 abbrev pub targets_in : List Label → ℕ → List Mark → Option (List (Class × ℕ))
 targets_in labels place [] = Some []
-targets_in labels place (mark.Jump c name ∷ marks) = in_front (target_in c (label_behind labels place name)) (targets_in labels place marks)
+targets_in labels place (mark.Jump c name ∷ marks) = in_front (target_in c (label_after labels place name)) (targets_in labels place marks)
 targets_in labels place (_ ∷ marks) = targets_in labels place marks
 
 -- the label of the first of these jumps on the class
@@ -103,7 +103,7 @@ label_named_by _ = None
 
 -- ---- the whole text
 
--- the line that must follow, and those behind it
+-- the line that must follow, and those after it
 abbrev pub line_in : List Words → Option (Words × List Words)
 line_in [] = None
 line_in (line ∷ lines) = Some (line, lines)
@@ -111,7 +111,7 @@ line_in (line ∷ lines) = Some (line, lines)
 abbrev pub names_of : List Word → List Word → List Word → Names
 names_of keys flags vars = record { keys = keys; flags = flags; vars = vars }
 
--- the names that are declared, the line behind them, and the lines behind it
+-- the names that are declared, the line after them, and the lines after it
 abbrev pub all_names_in : Version → List Words → Option (Names × Words × List Words)
 all_names_in v lines =
     keys_in lines >>= λ k. line_in k.1 >>= λ l. optional_in (codes "flags") (flags_limit v) l.0 l.1

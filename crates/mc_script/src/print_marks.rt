@@ -1,3 +1,5 @@
+//! How the marks of a request are printed.
+
 ghost use Rattle.std.specs.Prelude.{◌≡◌, ◌<◌, ◌≤◌, ◌==◌, ◌++◌, ◌∷◌, [], OnOk, length};
 ghost use Rattle.std.specs.Int.{bit_at};
 ghost use Rattle.mc_script.specs.declared.limits.TheConstants.{FLAGS_LIMIT};
@@ -97,7 +99,7 @@ fn print_flag(sign: Sign, name: &[u8], out: &mut Vec<u8>) -> Result<(), OutOfMem
     out.extend_from_slice(name)
 }
 
-// A space, and the byte in front of a flag.
+// A space, and the byte before the name of a flag.
 fn spaced_sign(sign: Sign) -> &'static [u8]
     ensures { result.now ≡ 32 ∷ spec.sign_byte sign ∷ [] }
 {

@@ -1,3 +1,5 @@
+//! How a script is printed.
+
 ghost use Rattle.std.specs.Prelude.{◌≡◌, ◌++◌, ◌∷◌, IfOk, OnOk, OnErr};
 ghost use Rattle.mc_script.specs.Script as spec;
 ghost use Rattle.mc_script.specs.ScriptText.{SpellsInVersion, header, names_line, names_lines};

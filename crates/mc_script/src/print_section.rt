@@ -1,3 +1,5 @@
+//! How the lines of a section are printed.
+
 ghost use Rattle.std.specs.Prelude.{◌≡◌, ◌++◌, ◌∷◌, OnOk};
 ghost use Rattle.mc_protocol.specs.Fields.{fields_of};
 ghost use Rattle.mc_script.specs.ScriptText.{section_line};

@@ -1,3 +1,5 @@
+//! Reads the words of a line of a section.
+
 ghost use Rattle.std.specs.Prelude.{◌≡◌, Some, None, map, drop, MatchOption, if◌then◌else◌};
 ghost use Rattle.std.specs.Result.{result_ok};
 ghost use Rattle.mc_protocol.specs.declared.request.Verb.{Verb};
@@ -105,7 +107,7 @@ pub(crate) fn read_label(alloc: Global, name: &[u8]) -> Result<Entry, ScriptKind
     Ok(Entry::Label(Bytes::new(Vec::from_slice(alloc, name)?)))
 }
 
-// What stands in front of the `:` at the end of a word.
+/// The bytes before the `:` at the end of a word.
 pub(crate) fn before_colon<'a>(word: &'a [u8]) -> Option<&'a [u8]>
     ensures { MatchOption result (reading.before_colon word.now ≡ None) (λ name. reading.before_colon word.now ≡ Some name.now) }
 {
@@ -136,7 +138,7 @@ fn read_goto(alloc: Global, label: &[u8], others: &[&[u8]]) -> Result<Entry, Scr
     Ok(Entry::Goto(Bytes::new(Vec::from_slice(alloc, label)?)))
 }
 
-// Reads what stands behind the verb.
+/// Reads the words after the verb.
 fn read_request(
     alloc: Global,
     names: &Names,
@@ -154,7 +156,7 @@ fn read_request(
         alloc,
         names,
         verb,
-        behind(words, field_count(verb.fields())),
+        words_after(words, field_count(verb.fields())),
     )?;
     let template = Template {
         verb,
@@ -170,8 +172,8 @@ fn read_request(
     Ok(Entry::Send(template, marks))
 }
 
-// The words behind so many; none where there are fewer.
-fn behind<'w, 'a>(words: &'w [&'a [u8]], count: usize) -> &'w [&'a [u8]]
+/// The words after the first `count`; none where there are fewer.
+fn words_after<'w, 'a>(words: &'w [&'a [u8]], count: usize) -> &'w [&'a [u8]]
     ensures { map (λ w. w.now) result.now ≡ drop count (map (λ w. w.now) words.now) }
 {
     if count <= words.len() {

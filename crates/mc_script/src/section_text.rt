@@ -1,3 +1,5 @@
+//! Reads the lines of a section.
+
 ghost use Rattle.std.specs.Prelude.{◌≡◌, [], Some, None, IfOk, MatchOption, nat_lt};
 ghost use Rattle.mc_script.specs.Reading as reading;
 ghost use Rattle.mc_script.specs.TextReading as whole;
@@ -12,7 +14,7 @@ use mc_protocol::{NameSet, WordLine, WordLines};
 use std::alloc::Global;
 use std::marker::Model;
 
-/// A line of a section that was read, with its number. Contracts see what it says.
+/// A line of a section that was read, with its number. Contracts see the entry.
 #[derive(Debug, Drop)]
 pub(crate) struct Numbered {
     pub(crate) line: u32,
@@ -59,7 +61,7 @@ pub(crate) fn read_section<'a>(
     }
 }
 
-/// Reads a line after `count` steps and these labels, to which its own is added.
+/// Reads a line after `count` steps and these labels. The name of a label is added to them.
 fn read_line<'a>(
     alloc: Global,
     version: Version,
@@ -92,14 +94,14 @@ fn step_count(entry: &Entry) -> usize
     }
 }
 
-// Whether a step may stand after `count` others in a text of this version.
+/// Whether a step may stand after `count` others in a text of this version.
 fn has_room(version: Version, count: usize) -> bool
     ensures { result ≡ nat_lt count (steps_limit version) }
 {
     count < version.steps_limit()
 }
 
-// The name of the label that the line is, if it is one.
+/// The name of the label that the line is, if it is one.
 fn label_in<'a>(line: &WordLine<'a>) -> Option<&'a [u8]>
     ensures { MatchOption result (reading.label_of line.now.words ≡ None) (λ name. reading.label_of line.now.words ≡ Some name.now) }
 {
