@@ -220,7 +220,7 @@ pub script-formed : (text : List ℕ) (s : Script) → SpellsScript text s → I
 script-formed text s (v, h) =
     record {
       declared = h.declared;
-      p = section-formed v s.names actor.P h.p_budget h.p s.sections.p h.p_allowed h.p_spelled;
-      a = section-formed v s.names actor.A h.a_budget h.a s.sections.a h.a_allowed h.a_spelled;
-      b = section-formed v s.names actor.B h.b_budget h.b s.sections.b h.b_allowed h.b_spelled;
+      p = section-formed v s.names actor.P h.budgets.p h.bodies.p s.sections.p (h.allowed actor.P) (h.spelled actor.P);
+      a = section-formed v s.names actor.A h.budgets.a h.bodies.a s.sections.a (h.allowed actor.A) (h.spelled actor.A);
+      b = section-formed v s.names actor.B h.budgets.b h.bodies.b s.sections.b (h.allowed actor.B) (h.spelled actor.B);
     }

@@ -16,6 +16,7 @@ pub mod Readings
 pub mod Bits
 pub mod Masks
 pub mod JumpLists
+pub mod Targets
 pub mod Formed
 pub mod PrintedTexts
 pub mod PrintedLines

@@ -263,3 +263,12 @@ marks-read names v words marks s together =
     let free : (list_any binds words && list_any is_number_jump marks) ≡ false = rw b (no-true (list_any is_bind marks && list_any is_number_jump marks) t.2) in
     marks-read-from names v (list_any binds words) [] words marks s
     (joined-from-rules v (list_any binds words) [] marks record { stand = t.0; free = free; apart = none-before marks; distinct = t.1 })
+
+-- no two of the marks that were read are twins
+pub marks-apart : (names : Names) (v : Verb) (words : Words) (marks : List Mark) → marks_in names v (list_any binds words) [] words ≡ Some marks
+    → have_no_twins marks ≡ true
+marks-apart names v words marks h =
+    let together = (marks-spelled names v words marks h).1 in
+    let bound : Bool = list_any is_bind marks && list_any is_number_jump marks in
+    let stand = list_all (may_stand v) marks in
+    (and_parts stand (have_no_twins marks) (and_parts (stand && have_no_twins marks) (not bound) together).0).1

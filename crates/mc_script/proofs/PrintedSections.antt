@@ -4,9 +4,11 @@ use Rattle.std.specs.List.{list_all}
 use Rattle.std.proofs.lemmas.Bool.{and_parts, and_from, eqb-true, eq-eqb, ne_eqb, le-leb, lt-leb, cond_both, cases_order}
 use Rattle.mc_protocol.specs.declared.actor.Actor.{Actor}
 use Rattle.mc_protocol.specs.declared.actor.Actor.TheVariants as actor
+use Rattle.mc_protocol.specs.declared.sections.Sections.{Sections}
 use Rattle.mc_protocol.specs.declared.limits.TheConstants.{KEY_BYTES_LIMIT, REQUESTS_LIMIT, REQUEST_BYTES_LIMIT}
 use Rattle.mc_protocol.specs.Lines.{Word, Words}
 use Rattle.mc_protocol.specs.Names.{is_name, are_distinct}
+use Rattle.mc_protocol.specs.Sections as sections
 use Rattle.mc_protocol.specs.Words.{actor_word}
 use Rattle.mc_protocol.proofs.Decimals.{decimal-spells}
 use Rattle.mc_script.specs.declared.entry.Entry.{Entry}
@@ -18,19 +20,20 @@ use Rattle.mc_script.specs.declared.step.Step.TheVariants as step
 use Rattle.mc_script.specs.declared.version.Version.{Version}
 use Rattle.mc_script.specs.declared.version.Version.TheVariants as version
 use Rattle.mc_script.specs.Versions.{steps_limit}
-use Rattle.mc_script.specs.Script.{Names, Section, Script, longest, version_of}
+use Rattle.mc_script.specs.Script.{Names, Section, Script, section_of, longest, version_of}
 use Rattle.mc_script.specs.ScriptWords.{is_label_name, label_word}
 use Rattle.mc_script.specs.ScriptText.{SpellsBudget, header, names_line, names_lines, section_line, end_line, body_lines}
 use Rattle.mc_script.specs.SectionText.{SpellEach, SpellsEntry, SpellsSection, label_names}
 use Rattle.mc_script.specs.Steps.{in_front, labels_from, steps_from}
 use Rattle.mc_script.specs.WellFormed.{AreSteps, AreLabels, IsSection, IsScript}
-use Rattle.mc_script.specs.PrintedScript.{label_lines, step_words, step_lines, section_lines, budget_line, script_lines, script_text, PrintedScriptsAreSpelled, PrintedScriptsAreReadAgain}
+use Rattle.mc_script.specs.PrintedScript.{label_lines, step_words, step_lines, section_lines, bodies_of, budget_line, script_lines, script_text, PrintedScriptsAreSpelled, PrintedScriptsAreReadAgain}
 use Rattle.mc_script.proofs.Declared.{declared-few, least-has-room}
 use Rattle.mc_script.proofs.PrintedLines.{is_whole, are_whole, is_line, are_lines, all-weaker, lines_fall_apart}
 use Rattle.mc_script.proofs.PrintedNames.{decimal-whole, named-whole, label-whole}
 use Rattle.mc_script.proofs.PrintedFlags.{each-append, all-append}
 use Rattle.mc_script.proofs.PrintedSteps.{Known, known, step_entry, step-spells, step-again, step-line, line-from}
 use Rattle.mc_script.proofs.ScriptRead.{one_script}
+use Rattle.mc_script.proofs.WholeScript.{each}
 
 -- ---- labels
 
@@ -283,8 +286,8 @@ script-are-lines s h =
     let bp = budget_line actor.P s.sections.p.budget in
     let ba = budget_line actor.A s.sections.a.budget in
     let bb = budget_line actor.B s.sections.b.budget in
-    let budgets = cons bp (ba ∷ bb ∷ body_lines p a b) (budget-is-line actor.P s.names s.sections.p h.p)
-    (cons ba (bb ∷ body_lines p a b) (budget-is-line actor.A s.names s.sections.a h.a) (cons bb (body_lines p a b) (budget-is-line actor.B s.names s.sections.b h.b) body)) in
+    let budgets = cons bp (ba ∷ bb ∷ body_lines (bodies_of s)) (budget-is-line actor.P s.names s.sections.p h.p)
+    (cons ba (bb ∷ body_lines (bodies_of s)) (budget-is-line actor.A s.names s.sections.a h.a) (cons bb (body_lines (bodies_of s)) (budget-is-line actor.B s.names s.sections.b h.b) body)) in
     let keys = names_line (codes "keys") s.names.keys in
     let flags = names_line (codes "flags") s.names.flags in
     let vars = names_line (codes "vars") s.names.vars in
@@ -292,35 +295,34 @@ script-are-lines s h =
     (all-append is_line keys flags (names-are-lines (codes "keys") KEY_BYTES_LIMIT s.names.keys refl k.key_names)
     (names-are-lines (codes "flags") NAME_BYTES_LIMIT s.names.flags refl k.flag_names))
     (names-are-lines (codes "vars") NAME_BYTES_LIMIT s.names.vars refl k.var_names) in
-    cons (header (version_of s)) (names_lines s.names ++ bp ∷ ba ∷ bb ∷ body_lines p a b) (version-whole (version_of s))
-    (all-append is_line (names_lines s.names) (bp ∷ ba ∷ bb ∷ body_lines p a b) names budgets)
+    cons (header (version_of s)) (names_lines s.names ++ bp ∷ ba ∷ bb ∷ body_lines (bodies_of s)) (version-whole (version_of s))
+    (all-append is_line (names_lines s.names) (bp ∷ ba ∷ bb ∷ body_lines (bodies_of s)) names budgets)
 
 pub printed_scripts : PrintedScriptsAreSpelled
 printed_scripts s h =
     let k = known s.names h.declared in
     let v = version_of s in
-    let flags = length s.names.flags in
     let p = h.p.few in
     let a = h.a.few in
     let b = h.b.few in
-    let within = least-has-room flags (longest s) (declared-few FLAGS_LIMIT NAME_BYTES_LIMIT s.names.flags h.declared.flags) (omega (arith, p, a, b)) in
+    let within = least-has-room (length s.names.flags) (longest s) (declared-few FLAGS_LIMIT NAME_BYTES_LIMIT s.names.flags h.declared.flags) (omega (arith, p, a, b)) in
     let long = within.1 in
+    let lines : Sections Words = record {
+      p = budget_line actor.P s.sections.p.budget;
+      a = budget_line actor.A s.sections.a.budget;
+      b = budget_line actor.B s.sections.b.budget;
+    } in
     record {
-      p_budget = budget_line actor.P s.sections.p.budget;
-      a_budget = budget_line actor.A s.sections.a.budget;
-      b_budget = budget_line actor.B s.sections.b.budget;
-      p = section_lines s.names s.sections.p;
-      a = section_lines s.names s.sections.a;
-      b = section_lines s.names s.sections.b;
+      budgets = lines;
+      bodies = bodies_of s;
       lines = lines_fall_apart (script_lines s) (script-are-lines s h);
       declared = h.declared;
       few_flags = within.0;
-      p_allowed = budget-spells actor.P s.names s.sections.p h.p;
-      a_allowed = budget-spells actor.A s.names s.sections.a h.a;
-      b_allowed = budget-spells actor.B s.names s.sections.b h.b;
-      p_spelled = section-spells v s.names s.sections.p k h.p (omega (arith, long));
-      a_spelled = section-spells v s.names s.sections.a k h.a (omega (arith, long));
-      b_spelled = section-spells v s.names s.sections.b k h.b (omega (arith, long));
+      allowed = each (λ k. SpellsBudget k (sections.section_of lines k) (section_of s k).budget)
+          (budget-spells actor.P s.names s.sections.p h.p) (budget-spells actor.A s.names s.sections.a h.a) (budget-spells actor.B s.names s.sections.b h.b);
+      spelled = each (λ k. SpellsSection v s.names (sections.section_of (bodies_of s) k) (section_of s k))
+          (section-spells v s.names s.sections.p k h.p (omega (arith, long))) (section-spells v s.names s.sections.a k h.a (omega (arith, long)))
+          (section-spells v s.names s.sections.b k h.b (omega (arith, long)));
     }
 
 pub read_again : PrintedScriptsAreReadAgain

@@ -1,17 +1,12 @@
--- The steps and jumps that are left, one further on.
-use Rattle.std.proofs.Common.{◌≡◌, ℕ, ◌+◌, ◌-◌, ◌<◌, ◌≤◌, true, false, Option, Some, None, List, [], ◌∷◌, ◌++◌, length, take, drop, get_or, refl, sym, ap, subst, ◌∙◌, arith, length-append}
+-- The steps of the entries that are left, one further on.
+use Rattle.std.proofs.Common.{◌≡◌, ℕ, ◌+◌, ◌<◌, true, false, Option, Some, None, List, [], ◌∷◌, ◌++◌, length, drop, get_or, refl, sym, ap, ◌∙◌, arith, length-append}
 use Rattle.std.proofs.lemmas.List.{drop_more}
-use Rattle.mc_protocol.specs.declared.reply.Class.{Class}
-use Rattle.mc_protocol.specs.Lines.{Word}
 use Rattle.mc_script.specs.declared.entry.Entry.{Entry}
 use Rattle.mc_script.specs.declared.entry.Entry.TheVariants as entry
-use Rattle.mc_script.specs.declared.entry.Mark.{Mark}
 use Rattle.mc_script.specs.declared.section.Label.{Label}
 use Rattle.mc_script.specs.declared.step.Step.{Step}
-use Rattle.mc_script.specs.Marks.{target_of}
-use Rattle.mc_script.specs.Steps.{steps_from, jumps_on, with_jump, in_front, label_behind}
+use Rattle.mc_script.specs.Steps.{steps_from, in_front}
 use Rattle.mc_script.specs.TextReading.{onto, step_in, is_label}
-use Rattle.mc_script.proofs.Lists.{behind_first}
 
 push_assoc : {X : Type 0} (xs : List X) (x : X) (ys : List X) → (xs ++ x ∷ []) ++ ys ≡ xs ++ x ∷ ys
 push_assoc [] x ys = refl
@@ -23,8 +18,6 @@ onto-push xs x None = refl
 
 pushed-length : {A : Type 0} (xs : List A) (x : A) → length (xs ++ x ∷ []) ≡ length xs + 1
 pushed-length xs x = omega (arith, length-append xs (x ∷ []))
-
--- ---- steps
 
 steps-cons : (labels : List Label) (place : ℕ) (e : Entry) (entries : List Entry) → is_label e ≡ false
     → steps_from labels place (e ∷ entries) ≡ in_front (step_in labels place e) (steps_from labels (place + 1) entries)
@@ -63,27 +56,3 @@ step-pushed labels steps more entries k e s all below is step made grown h =
     rw (grown, pushed-length steps s) (onto-push steps s (steps_from labels (length steps + 1) rest)
     ∙ ap (λ o. onto steps (in_front o (steps_from labels (length steps + 1) rest))) (sym made)
     ∙ ap (onto steps) (sym (ap (steps_from labels (length steps)) (from-entry entries k e below is) ∙ steps-cons labels (length steps) e rest step)) ∙ h)
-
--- ---- jumps
-
-joined : (c : Class) (label : ℕ) (jumps : Option (List (Class × ℕ))) → with_jump c (Some label) jumps ≡ in_front (Some (c, label)) jumps
-joined c label (Some jumps) = refl
-joined c label None = refl
-
-jumps-cons : (labels : List Label) (place : ℕ) (marks : List Mark) (c : Class) (classes : List Class) (name : Word) (label : ℕ)
-    → target_of c marks ≡ Some name → label_behind labels place name ≡ Some label
-    → jumps_on labels place marks (c ∷ classes) ≡ in_front (Some (c, label)) (jumps_on labels place marks classes)
-jumps-cons labels place marks c classes name label e f = rw (e, f) (joined c label (jumps_on labels place marks classes))
-
-pub jumps-pushed : (labels : List Label) (place : ℕ) (marks : List Mark) (jumps more : List (Class × ℕ)) (rest : List Class) (d : Class) (name : Word) (label : ℕ)
-    (all : Option (List (Class × ℕ)))
-    → 1 ≤ length rest → target_of (get_or rest 0 d) marks ≡ Some name → label_behind labels place name ≡ Some label
-    → more ≡ jumps ++ (get_or rest 0 d, label) ∷ []
-    → onto jumps (jumps_on labels place marks rest) ≡ all
-    → onto more (jumps_on labels place marks (take (length rest - 1) (drop 1 rest))) ≡ all
-jumps-pushed labels place marks jumps more [] d name label all some e f grown h = absurd (omega arith)
-jumps-pushed labels place marks jumps more (c ∷ rest) d name label all some e f grown h =
-    let P : List Class → Type 0 = λ cs. onto more (jumps_on labels place marks cs) ≡ all in
-    subst P (sym (behind_first c rest))
-    (rw grown (onto-push jumps (c, label) (jumps_on labels place marks rest)
-    ∙ ap (onto jumps) (sym (jumps-cons labels place marks c rest name label e f)) ∙ h))

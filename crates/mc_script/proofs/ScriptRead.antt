@@ -54,16 +54,20 @@ header-read version.One = refl
 header-read version.Two = refl
 
 script-read-lines : (v : Version) (text : List ℕ) (s : Script) (h : SpellsInVersion v text s)
-    → script_in (header v ∷ (names_lines s.names ++ h.p_budget ∷ h.a_budget ∷ h.b_budget ∷ body_lines h.p h.a h.b)) ≡ Some s
+    → script_in (header v ∷ (names_lines s.names ++ h.budgets.p ∷ h.budgets.a ∷ h.budgets.b ∷ body_lines h.bodies)) ≡ Some s
 script-read-lines v text s h =
-    let B = section-read v s.names (codes "end") h.b [] s.sections.b (no-entry-end s.names) h.b_spelled in
-    let A = section-read v s.names (codes "B") h.a (h.b ++ end_line ∷ []) s.sections.a (no-entry-b s.names) h.a_spelled in
-    let P = section-read v s.names (codes "A") h.p (h.a ++ section_line actor.B ∷ (h.b ++ end_line ∷ [])) s.sections.p (no-entry-a s.names) h.p_spelled in
-    let body = body_lines h.p h.a h.b in
-    let names = names-read-at v s.names h.p_budget s.sections.p.budget (h.a_budget ∷ h.b_budget ∷ body) h.declared h.few_flags h.p_allowed in
-    let budgets = budgets-read h.p_budget h.a_budget h.b_budget s.sections.p.budget s.sections.a.budget s.sections.b.budget body h.p_allowed h.a_allowed h.b_allowed in
-    let bodies : bodies_in v s.names body ≡ Some (h.p_spelled.entries, h.a_spelled.entries, h.b_spelled.entries) = rw (P.0, A.0, B.0) refl in
-    let made : resolved_in s.names (budgets_of s.sections.p.budget s.sections.a.budget s.sections.b.budget) h.p_spelled.entries h.a_spelled.entries h.b_spelled.entries ≡ Some s =
+    let lines = h.budgets in
+    let p = h.spelled actor.P in
+    let a = h.spelled actor.A in
+    let b = h.spelled actor.B in
+    let B = section-read v s.names (codes "end") h.bodies.b [] s.sections.b (no-entry-end s.names) b in
+    let A = section-read v s.names (codes "B") h.bodies.a (h.bodies.b ++ end_line ∷ []) s.sections.a (no-entry-b s.names) a in
+    let P = section-read v s.names (codes "A") h.bodies.p (h.bodies.a ++ section_line actor.B ∷ (h.bodies.b ++ end_line ∷ [])) s.sections.p (no-entry-a s.names) p in
+    let body = body_lines h.bodies in
+    let names = names-read-at v s.names lines.p s.sections.p.budget (lines.a ∷ lines.b ∷ body) h.declared h.few_flags (h.allowed actor.P) in
+    let budgets = budgets-read lines.p lines.a lines.b s.sections.p.budget s.sections.a.budget s.sections.b.budget body (h.allowed actor.P) (h.allowed actor.A) (h.allowed actor.B) in
+    let bodies : bodies_in v s.names body ≡ Some (p.entries, a.entries, b.entries) = rw (P.0, A.0, B.0) refl in
+    let made : resolved_in s.names (budgets_of s.sections.p.budget s.sections.a.budget s.sections.b.budget) p.entries a.entries b.entries ≡ Some s =
     rw (P.1, A.1, B.1) refl in
     rw (header-read v, names, budgets, bodies) made
 

@@ -8,6 +8,7 @@ use Rattle.mc_protocol.specs.declared.lines.Separator.TheVariants.{SpaceOrTab}
 use Rattle.mc_protocol.specs.Lines.{words_of_text, Word, Words, begins_with, is_only}
 use Rattle.mc_protocol.specs.declared.limits.TheConstants.{KEYS_LIMIT, KEY_BYTES_LIMIT, REQUESTS_LIMIT, REQUEST_BYTES_LIMIT}
 use Rattle.mc_protocol.specs.Decimals.{SpellsNumber}
+use Rattle.mc_protocol.specs.Sections as sections
 use Rattle.mc_protocol.specs.Words.{actor_word}
 use Rattle.mc_script.specs.declared.entry.Entry.{Entry}
 use Rattle.mc_script.specs.declared.limits.TheConstants.{NAME_BYTES_LIMIT, FLAGS_LIMIT, VARIABLES_LIMIT}
@@ -15,7 +16,7 @@ use Rattle.mc_script.specs.declared.section.Budget.{Budget}
 use Rattle.mc_script.specs.declared.version.Version.{Version}
 use Rattle.mc_script.specs.declared.version.Version.TheVariants as version
 use Rattle.mc_script.specs.Versions.{version_word, flags_limit, steps_limit}
-use Rattle.mc_script.specs.Script.{Names, Section, Script, AreDeclared}
+use Rattle.mc_script.specs.Script.{Names, Section, Script, AreDeclared, section_of}
 use Rattle.mc_script.specs.ScriptText.{SpellsInVersion, SpellsScript, SpellsBudget, header, names_line, names_lines, section_line, end_line, body_lines}
 use Rattle.mc_script.specs.SectionText.{SpellsSection}
 use Rattle.mc_script.specs.Steps.{◌>>=◌}
@@ -211,18 +212,18 @@ ended : {A : Type 0} (x y : A) (lines : List Words) → ended_in x lines ≡ Som
 ended x y [] h = (some-same x y h, refl)
 ended x y (line ∷ lines) h = absurd (cc)
 
+-- what is so of each section
+pub each : (P : Actor → Type 0) → P actor.P → P actor.A → P actor.B → (k : Actor) → P k
+each P p a b actor.P = p
+each P p a b actor.A = a
+each P p a b actor.B = b
+
 -- the three sections, and the end
 record SpelledBodies (v : Version) (names : Names) (budgets : Sections Budget) (lines : List Words) (s : Script) : Type 0 where
-  p : List Words
-  a : List Words
-  b : List Words
-  lines_are : lines ≡ body_lines p a b
-  p_spelled : SpellsSection v names p s.sections.p
-  a_spelled : SpellsSection v names a s.sections.a
-  b_spelled : SpellsSection v names b s.sections.b
-  p_budget : s.sections.p.budget ≡ budgets.p
-  a_budget : s.sections.a.budget ≡ budgets.a
-  b_budget : s.sections.b.budget ≡ budgets.b
+  bodies : Sections (List Words)
+  lines_are : lines ≡ body_lines bodies
+  spelled : (k : Actor) → SpellsSection v names (sections.section_of bodies k) (section_of s k)
+  budgets_are : (k : Actor) → (section_of s k).budget ≡ sections.section_of budgets k
   names_are : s.names ≡ names
 
 bodies-joined : (v : Version) (names : Names) (budgets : Sections Budget) (lines l lp la lb : List Words) (p a b : List Entry) (x y z : Section)
@@ -234,18 +235,14 @@ bodies-joined v names budgets lines l lp la lb p a b x y z h i j k e f g m =
     let P = section-spelled v names (codes "A") budgets.p l p lp x i f in
     let A = section-spelled v names (codes "B") budgets.a lp a la y j g in
     let B = section-spelled v names (codes "end") budgets.b la b lb z k m in
+    let s = script_of names x y z in
+    let bodies : Sections (List Words) = record { p = P.body; a = A.body; b = B.body } in
     record {
-      p = P.body;
-      a = A.body;
-      b = B.body;
+      bodies = bodies;
       lines_are = section-line lines l h ∙ ap (λ ls. section_line actor.P ∷ ls) (P.lines_are
           ∙ ap (λ ls. P.body ++ section_line actor.A ∷ ls) (A.lines_are ∙ ap (λ ls. A.body ++ section_line actor.B ∷ ls) (B.lines_are ∙ ap (λ ls. B.body ++ end_line ∷ ls) e)));
-      p_spelled = P.spelled;
-      a_spelled = A.spelled;
-      b_spelled = B.spelled;
-      p_budget = P.budget_is;
-      a_budget = A.budget_is;
-      b_budget = B.budget_is;
+      spelled = each (λ k. SpellsSection v names (sections.section_of bodies k) (section_of s k)) P.spelled A.spelled B.spelled;
+      budgets_are = each (λ k. (section_of s k).budget ≡ sections.section_of budgets k) P.budget_is A.budget_is B.budget_is;
       names_are = refl;
     }
 
@@ -292,24 +289,17 @@ script-joined : (v : Version) (text : List ℕ) (l : List Words) (names : Names)
     → SpelledBodies v names budgets onward s → SpellsInVersion v text s
 script-joined v text l names line behind budgets onward s h (n, declared, few) (second, third, e, p, a, b) bodies =
     let N : Names → Type 0 = AreDeclared in
-    let S : List Words → Section → Names → Type 0 = λ ls x ns. SpellsSection v ns ls x in
+    let read : Sections Words = record { p = line; a = second; b = third } in
+    let spelled : (k : Actor) → SpellsBudget k (sections.section_of read k) (sections.section_of budgets k) = each (λ k. SpellsBudget k (sections.section_of read k) (sections.section_of budgets k)) p a b in
     record {
-      p_budget = line;
-      a_budget = second;
-      b_budget = third;
-      p = bodies.p;
-      a = bodies.a;
-      b = bodies.b;
+      budgets = read;
+      bodies = bodies.bodies;
       lines = h ∙ ap (λ ls. header v ∷ ls) (n ∙ ap (λ ls. names_lines names ++ line ∷ ls) (e ∙ ap (λ ls. second ∷ third ∷ ls) bodies.lines_are)
-          ∙ ap (λ ns. names_lines ns ++ line ∷ second ∷ third ∷ body_lines bodies.p bodies.a bodies.b) (sym bodies.names_are));
+          ∙ ap (λ ns. names_lines ns ++ line ∷ second ∷ third ∷ body_lines bodies.bodies) (sym bodies.names_are));
       declared = subst N (sym bodies.names_are) declared;
       few_flags = subst (λ (ns : Names). length ns.flags ≤ flags_limit v) (sym bodies.names_are) few;
-      p_allowed = subst (SpellsBudget actor.P line) (sym bodies.p_budget) p;
-      a_allowed = subst (SpellsBudget actor.A second) (sym bodies.a_budget) a;
-      b_allowed = subst (SpellsBudget actor.B third) (sym bodies.b_budget) b;
-      p_spelled = subst (S bodies.p s.sections.p) (sym bodies.names_are) bodies.p_spelled;
-      a_spelled = subst (S bodies.a s.sections.a) (sym bodies.names_are) bodies.a_spelled;
-      b_spelled = subst (S bodies.b s.sections.b) (sym bodies.names_are) bodies.b_spelled;
+      allowed = λ k. subst (SpellsBudget k (sections.section_of read k)) (sym (bodies.budgets_are k)) (spelled k);
+      spelled = λ k. subst (λ (ns : Names). SpellsSection v ns (sections.section_of bodies.bodies k) (section_of s k)) (sym bodies.names_are) (bodies.spelled k);
     }
 
 pub script-spelled : (text : List ℕ) (s : Script) → script_in (words_of_text SpaceOrTab text) ≡ Some s → SpellsScript text s

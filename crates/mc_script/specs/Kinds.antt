@@ -1,4 +1,4 @@
--- The number and the name of a kind, by which a refused script is told.
+-- The number and the name of a kind, as the refusal of a script shows them.
 use Rattle.std.specs.Prelude.{ℕ, List, codes}
 use Rattle.mc_script.specs.declared.fault.ScriptKind.{ScriptKind}
 use Rattle.mc_script.specs.declared.fault.ScriptKind.TheVariants as kind

@@ -1,4 +1,4 @@
--- The marks behind a request: which words they are, which may stand together, and what they say.
+-- The marks after a request: which words they are, which may stand together, and what they say.
 use Rattle.std.specs.Prelude.{◌≡◌, ℕ, ◌==◌, Bool, true, false, not, ◌&&◌, Option, Some, None, List, [], ◌∷◌, ◌++◌, if◌then◌else◌, ◌^◌}
 use Rattle.std.specs.Int.Bits.{bit_or}
 use Rattle.std.specs.List.{list_all, list_any, fold}
@@ -19,7 +19,7 @@ use Rattle.mc_script.specs.Script.{Names}
 
 -- ---- words
 
--- the byte in front of a flag: `?`, `!`, `+` or `-`
+-- the byte before the name of a flag: `?`, `!`, `+` or `-`
 abbrev pub sign_byte : Sign → ℕ
 sign_byte sign.RequireSet = 63
 sign_byte sign.RequireClear = 33
@@ -51,20 +51,20 @@ shows_numbers verb.Incr = true
 shows_numbers verb.Decr = true
 shows_numbers _ = false
 
--- the mark may stand behind the verb
+-- the mark may stand after a request of the verb
 abbrev pub may_stand : Verb → Mark → Bool
 may_stand verb (mark.Flag sign flag) = true
 may_stand verb (mark.Jump class label) = is_legal verb class
 may_stand verb (mark.Bind variable) = shows_numbers verb
 
--- the flag must be set or clear, in place of being changed
+-- the sign asks that the flag be set or clear; the others change it
 abbrev pub is_need : Sign → Bool
 is_need sign.RequireSet = true
 is_need sign.RequireClear = true
 is_need sign.Sets = false
 is_need sign.Clears = false
 
--- both say what is needed of one flag, or what becomes of it; where one class goes; or which variable is bound
+-- both ask something of the same flag, or both change it; both are jumps on the same class; or both bind a variable
 abbrev pub are_twins : Mark → Mark → Bool
 are_twins (mark.Flag s f) (mark.Flag t g) = (f == g) && same (is_need s) (is_need t)
 are_twins (mark.Jump c l) (mark.Jump d m) = class_index c == class_index d
@@ -86,7 +86,8 @@ is_number_jump (mark.Jump class.Hit label) = true
 is_number_jump (mark.Jump class.Number label) = true
 is_number_jump _ = false
 
--- the marks may stand behind the verb together: what binds the number goes on to the next step
+-- the marks may stand together after a request of the verb: where one binds a variable, a reply with a number goes on to
+-- the next step
 abbrev pub may_stand_together : Verb → List Mark → Bool
 may_stand_together verb marks =
     list_all (may_stand verb) marks && have_no_twins marks && not (list_any is_bind marks && list_any is_number_jump marks)
@@ -97,7 +98,7 @@ may_stand_together verb marks =
 abbrev pub flag_mask : ℕ → ℕ
 flag_mask flag = 2 ^ flag
 
--- the mark says this of a flag
+-- the flag of the mark, if the mark has this sign
 abbrev pub says : Sign → Mark → Option ℕ
 says s (mark.Flag t flag) = if sign_byte s == sign_byte t then Some flag else None
 says s _ = None
@@ -106,7 +107,7 @@ abbrev pub with_flag : ℕ → Option ℕ → ℕ
 with_flag mask (Some flag) = bit_or mask (flag_mask flag)
 with_flag mask None = mask
 
--- the flags of which the marks say this
+-- the flags of the marks with this sign
 abbrev pub mask_of : Sign → List Mark → ℕ
 mask_of s marks = fold (λ mask m. with_flag mask (says s m)) 0 marks
 

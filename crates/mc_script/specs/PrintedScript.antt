@@ -9,6 +9,7 @@ use Rattle.mc_protocol.specs.declared.actor.Actor.TheVariants as actor
 use Rattle.mc_protocol.specs.declared.request.Fields.{Fields}
 use Rattle.mc_protocol.specs.declared.request.Fields.TheVariants as fields
 use Rattle.mc_protocol.specs.declared.reply.Class.{Class}
+use Rattle.mc_protocol.specs.declared.sections.Sections.{Sections}
 use Rattle.mc_protocol.specs.Lines.{Word, Words}
 use Rattle.mc_script.specs.declared.entry.Sign.{Sign}
 use Rattle.mc_script.specs.declared.entry.Sign.TheVariants as sign
@@ -28,14 +29,14 @@ use Rattle.mc_script.specs.WellFormed.{IsScript}
 
 -- ---- lines
 
--- words, each behind a space
-abbrev pub behind_text : Words → List ℕ
-behind_text words = flat_map (λ word. 32 ∷ word) words
+-- words, with a space before each
+abbrev pub spaced_text : Words → List ℕ
+spaced_text words = flat_map (λ word. 32 ∷ word) words
 
 -- a line: its words with one space between them, and LF
 abbrev pub line_text : Words → List ℕ
 line_text [] = 10 ∷ []
-line_text (word ∷ words) = word ++ behind_text words ++ 10 ∷ []
+line_text (word ∷ words) = word ++ spaced_text words ++ 10 ∷ []
 
 abbrev pub lines_text : List Words → List ℕ
 lines_text lines = flat_map line_text lines
@@ -63,7 +64,7 @@ argument_words names argument.Nothing = []
 argument_words names (argument.Number n) = decimal n ∷ []
 argument_words names (argument.Variable v) = variable_word (name_at names.vars v) ∷ []
 
--- the flags of the mask, each behind this sign, in the order of their names, of which the first has this index
+-- the flags of the mask, with this sign before each, in the order of their names; the first name has this index
 abbrev pub flag_words : Sign → ℕ → ℕ → List Word → Words
 flag_words s mask index [] = []
 flag_words s mask index (name ∷ names) =
@@ -85,7 +86,7 @@ bind_words names (Some variable) = bind_word (name_at names.vars variable) ∷ [
 abbrev pub mark_words : Names → List Label → Template → List (Class × ℕ) → Option ℕ → Words
 mark_words names labels t jumps bind = all_flag_words names.flags t ++ jump_words labels jumps ++ bind_words names bind
 
--- what stands between the key and the marks
+-- the words between the key and the marks
 abbrev pub field_words : Names → Template → Words
 field_words names t = item_words (fields_of t.verb) t.flags t.body ++ argument_words names t.argument
 
@@ -107,7 +108,7 @@ label_lines place [] = []
 label_lines place (label ∷ labels) =
     if label.place == place then (label_word label.name ∷ []) ∷ label_lines place labels else label_lines place labels
 
--- the steps from this place on, each behind the labels of its place, and the labels of the end
+-- the steps from this place on, with the labels of its place before each, and the labels of the end
 abbrev pub step_lines : Names → List Label → ℕ → List Step → List Words
 step_lines names labels place [] = label_lines place labels
 step_lines names labels place (s ∷ steps) =
@@ -121,10 +122,18 @@ section_lines names s = step_lines names s.labels 0 s.steps
 abbrev pub budget_line : Actor → Budget → Words
 budget_line a budget = codes "budget" ∷ actor_word a ∷ decimal budget.requests ∷ decimal budget.bytes ∷ []
 
+-- the lines of each section
+abbrev pub bodies_of : Script → Sections (List Words)
+bodies_of s = record {
+  p = section_lines s.names s.sections.p;
+  a = section_lines s.names s.sections.a;
+  b = section_lines s.names s.sections.b;
+}
+
 abbrev pub script_lines : Script → List Words
 script_lines s =
     header (version_of s) ∷ (names_lines s.names ++ budget_line actor.P s.sections.p.budget ∷ budget_line actor.A s.sections.a.budget ∷ budget_line actor.B s.sections.b.budget
-    ∷ body_lines (section_lines s.names s.sections.p) (section_lines s.names s.sections.a) (section_lines s.names s.sections.b))
+    ∷ body_lines (bodies_of s))
 
 abbrev pub script_text : Script → List ℕ
 script_text s = lines_text (script_lines s)

@@ -26,7 +26,7 @@ pub record Section : Type 0 where
   pub steps : List Step
   pub labels : List Label
 
--- these may be declared together: at most so many, each a name of at most so many bytes, and no two equal
+-- these may be declared together: at most `limit` names, each of at most `bytes` bytes, and no two equal
 abbrev pub may_be_declared : ℕ → ℕ → List Word → Bool
 may_be_declared limit bytes names = nat_le (length names) limit && list_all (is_name bytes) names && are_distinct names
 

@@ -2,15 +2,17 @@
 use Rattle.std.specs.Prelude.{◌≡◌, ℕ, ◌≤◌, List, [], ◌∷◌, ◌++◌, length, codes}
 use Rattle.mc_protocol.specs.declared.actor.Actor.{Actor}
 use Rattle.mc_protocol.specs.declared.actor.Actor.TheVariants as actor
+use Rattle.mc_protocol.specs.declared.sections.Sections.{Sections}
 use Rattle.mc_protocol.specs.declared.lines.Separator.TheVariants.{SpaceOrTab}
 use Rattle.mc_protocol.specs.Lines.{words_of_text, Word, Words}
 use Rattle.mc_protocol.specs.declared.limits.TheConstants.{REQUESTS_LIMIT, REQUEST_BYTES_LIMIT}
 use Rattle.mc_protocol.specs.Decimals.{SpellsNumber}
+use Rattle.mc_protocol.specs.Sections as sections
 use Rattle.mc_protocol.specs.Words.{actor_word}
 use Rattle.mc_script.specs.declared.section.Budget.{Budget}
 use Rattle.mc_script.specs.declared.version.Version.{Version}
 use Rattle.mc_script.specs.Versions.{version_word, flags_limit}
-use Rattle.mc_script.specs.Script.{Names, Script, AreDeclared}
+use Rattle.mc_script.specs.Script.{Names, Script, AreDeclared, section_of}
 use Rattle.mc_script.specs.SectionText.{SpellsSection}
 
 -- ---- declarations
@@ -45,28 +47,20 @@ abbrev pub end_line : Words
 end_line = codes "end" ∷ []
 
 -- the lines of the three sections, each after a line that names it, and `end`
-abbrev pub body_lines : List Words → List Words → List Words → List Words
-body_lines p a b =
-    section_line actor.P ∷ (p ++ section_line actor.A ∷ (a ++ section_line actor.B ∷ (b ++ end_line ∷ [])))
+abbrev pub body_lines : Sections (List Words) → List Words
+body_lines bodies =
+    section_line actor.P ∷ (bodies.p ++ section_line actor.A ∷ (bodies.a ++ section_line actor.B ∷ (bodies.b ++ end_line ∷ [])))
 
 -- a text of this version is its header, the declarations, the three budgets, and the sections, within its limits
 pub record SpellsInVersion (v : Version) (text : List ℕ) (s : Script) : Type 0 where
-  pub p_budget : Words
-  pub a_budget : Words
-  pub b_budget : Words
-  pub p : List Words
-  pub a : List Words
-  pub b : List Words
+  pub budgets : Sections Words
+  pub bodies : Sections (List Words)
   pub lines : words_of_text SpaceOrTab text
-      ≡ header v ∷ (names_lines s.names ++ p_budget ∷ a_budget ∷ b_budget ∷ body_lines p a b)
+      ≡ header v ∷ (names_lines s.names ++ budgets.p ∷ budgets.a ∷ budgets.b ∷ body_lines bodies)
   pub declared : AreDeclared s.names
   pub few_flags : length s.names.flags ≤ flags_limit v
-  pub p_allowed : SpellsBudget actor.P p_budget s.sections.p.budget
-  pub a_allowed : SpellsBudget actor.A a_budget s.sections.a.budget
-  pub b_allowed : SpellsBudget actor.B b_budget s.sections.b.budget
-  pub p_spelled : SpellsSection v s.names p s.sections.p
-  pub a_spelled : SpellsSection v s.names a s.sections.a
-  pub b_spelled : SpellsSection v s.names b s.sections.b
+  pub allowed : (actor : Actor) → SpellsBudget actor (sections.section_of budgets actor) (section_of s actor).budget
+  pub spelled : (actor : Actor) → SpellsSection v s.names (sections.section_of bodies actor) (section_of s actor)
 
 -- the text spells the script in one version or the other
 abbrev pub SpellsScript : List ℕ → Script → Type 0

@@ -15,14 +15,14 @@ use Rattle.mc_script.specs.declared.step.Step.TheVariants as step
 use Rattle.mc_script.specs.declared.step.Template.{Template}
 use Rattle.mc_script.specs.Marks.{mask_of, target_of, bound_by}
 
--- the labels of these lines, where so many steps stand before them: each label's place is that of the next step, or the
+-- the labels of these lines, where `count` steps stand before them: each label's place is that of the next step, or the
 -- section's end
 abbrev pub labels_from : ℕ → List Entry → List Label
 labels_from count [] = []
 labels_from count (entry.Label name ∷ entries) = record { name = name; place = count } ∷ labels_from count entries
 labels_from count (_ ∷ entries) = labels_from (count + 1) entries
 
--- the index of the label with this name, which stands behind the step at this place
+-- the index of the label with this name, which stands after the step at this place
 abbrev pub label_behind : List Label → ℕ → Word → Option ℕ
 label_behind labels place name = position (λ label. bytes_eq label.name name && nat_lt place label.place) labels
 
@@ -33,14 +33,14 @@ abbrev pub ◌>>=◌ : {A B : Type 0} → Option A → (A → Option B) → Opti
 (Some x) >>= f = f x
 None >>= f = None
 
--- a value in front of others, where none of them is missing
+-- a value before others, where none of them is missing
 abbrev pub in_front : {A : Type 0} → Option A → Option (List A) → Option (List A)
 in_front (Some x) (Some xs) = Some (x ∷ xs)
 in_front _ _ = None
 
 -- ---- steps
 
--- the jump on the class in front of the others, where the marks have one; the label's index may be missing
+-- the jump on the class before the others, where the marks have one; the label's index may be missing
 abbrev pub with_jump : Class → Option ℕ → Option (List (Class × ℕ)) → Option (List (Class × ℕ))
 with_jump c (Some label) (Some jumps) = Some ((c, label) ∷ jumps)
 with_jump c _ _ = None

@@ -1,4 +1,4 @@
--- Templates: which may stand where so many keys, flags and variables are declared.
+-- Templates: which are well formed. `keys`, `flags` and `vars` are how many of each are declared.
 use Rattle.std.specs.Prelude.{◌≡◌, ℕ, ◌<◌, ◌==◌, nat_le, nat_lt, Bool, true, false, ◌&&◌, List, length, ◌^◌}
 use Rattle.std.specs.Int.Bits.{bit_and}
 use Rattle.mc_protocol.specs.Fields.{fields_of}
@@ -10,20 +10,20 @@ use Rattle.mc_script.specs.declared.step.Argument.TheVariants as argument
 use Rattle.mc_script.specs.declared.step.Template.{Template}
 use Rattle.mc_script.specs.ScriptWords.{is_body}
 
--- ---- what stands behind the key
+-- ---- the words after the key
 
 abbrev pub is_nothing : Argument → Bool
 is_nothing argument.Nothing = true
 is_nothing (argument.Number n) = false
 is_nothing (argument.Variable v) = false
 
--- one of so many variables
+-- one of `vars` variables
 abbrev pub is_variable : ℕ → Argument → Bool
 is_variable vars argument.Nothing = false
 is_variable vars (argument.Number n) = false
 is_variable vars (argument.Variable v) = nat_lt v vars
 
--- a number of 64 bits, or one of so many variables
+-- a number of 64 bits, or one of `vars` variables
 abbrev pub is_amount : ℕ → Argument → Bool
 is_amount vars argument.Nothing = false
 is_amount vars (argument.Number n) = nat_le n MAX_64

@@ -1,13 +1,16 @@
 -- What the readers of sections and of whole texts answer. No public contract cites these.
-use Rattle.std.specs.Prelude.{ℕ, ◌+◌, nat_lt, Bool, true, false, Option, Some, None, List, [], ◌∷◌, ◌++◌, codes, if◌then◌else◌}
+use Rattle.std.specs.Prelude.{ℕ, ◌+◌, ◌==◌, nat_lt, Bool, true, false, Option, Some, None, List, [], ◌∷◌, ◌++◌, flat_map, codes, if◌then◌else◌}
 use Rattle.mc_protocol.specs.declared.actor.Actor.{Actor}
 use Rattle.mc_protocol.specs.declared.actor.Actor.TheVariants as actor
 use Rattle.mc_protocol.specs.declared.sections.Sections.{Sections}
 use Rattle.mc_protocol.specs.Lines.{Word, Words, is_only}
 use Rattle.mc_protocol.specs.Names.{is_new}
-use Rattle.mc_protocol.specs.Words.{all_classes}
+use Rattle.mc_protocol.specs.Words.{all_classes, class_index}
+use Rattle.mc_protocol.specs.declared.reply.Class.{Class}
 use Rattle.mc_script.specs.declared.entry.Entry.{Entry}
 use Rattle.mc_script.specs.declared.entry.Entry.TheVariants as entry
+use Rattle.mc_script.specs.declared.entry.Mark.{Mark}
+use Rattle.mc_script.specs.declared.entry.Mark.TheVariants as mark
 use Rattle.mc_script.specs.declared.limits.TheConstants.{VARIABLES_LIMIT}
 use Rattle.mc_script.specs.declared.section.Budget.{Budget}
 use Rattle.mc_script.specs.declared.section.Label.{Label}
@@ -16,7 +19,7 @@ use Rattle.mc_script.specs.Versions.{flags_limit, steps_limit}
 use Rattle.mc_script.specs.Script.{Names, Section, Script}
 use Rattle.mc_script.specs.declared.step.Step.{Step}
 use Rattle.mc_script.specs.declared.step.Step.TheVariants as step
-use Rattle.mc_script.specs.Steps.{◌>>=◌, labels_from, steps_from, jumps_on, sends, goes, label_behind}
+use Rattle.mc_script.specs.Steps.{◌>>=◌, in_front, labels_from, steps_from, jumps_on, sends, goes, label_behind}
 use Rattle.mc_script.specs.Reading.{header_in, keys_in, optional_in, budget_in, before_colon, entry_in}
 
 -- ---- sections
@@ -59,6 +62,30 @@ step_in labels place entry.Halt = Some step.Halt
 abbrev pub onto : {A : Type 0} → List A → Option (List A) → Option (List A)
 onto xs (Some ys) = Some (xs ++ ys)
 onto xs None = None
+
+-- a jump with its label's index, where the label is found
+abbrev pub target_in : Class → Option ℕ → Option (Class × ℕ)
+target_in c (Some label) = Some (c, label)
+target_in c None = None
+
+-- the jumps of the marks, in the order of the marks, where each label is found after the step at this place
+abbrev pub targets_in : List Label → ℕ → List Mark → Option (List (Class × ℕ))
+targets_in labels place [] = Some []
+targets_in labels place (mark.Jump c name ∷ marks) = in_front (target_in c (label_behind labels place name)) (targets_in labels place marks)
+targets_in labels place (_ ∷ marks) = targets_in labels place marks
+
+-- the label of the first of these jumps on the class
+abbrev pub label_for : Class → List (Class × ℕ) → Option ℕ
+label_for c [] = None
+label_for c (jump ∷ jumps) = if class_index c == class_index jump.0 then Some jump.1 else label_for c jumps
+
+abbrev pub one_jump : Class → Option ℕ → List (Class × ℕ)
+one_jump c (Some label) = (c, label) ∷ []
+one_jump c None = []
+
+-- the jumps on these classes, in their order
+abbrev pub jumps_to : List (Class × ℕ) → List Class → List (Class × ℕ)
+jumps_to jumps classes = flat_map (λ c. one_jump c (label_for c jumps)) classes
 
 -- the section of its entries
 abbrev pub section_in : Budget → List Entry → Option Section

@@ -1,4 +1,4 @@
--- Which values are scripts, beside any text.
+-- Which values are scripts, whatever text spells them. The limits are those of the last version.
 use Rattle.std.specs.Prelude.{◌≡◌, ℕ, ◌+◌, ◌<◌, ◌≤◌, Bool, true, false, Option, Some, None, List, [], ◌∷◌, length, slice_get}
 use Rattle.std.specs.List.{list_any}
 use Rattle.mc_protocol.specs.Legal.{is_legal}
@@ -18,18 +18,19 @@ use Rattle.mc_script.specs.Marks.{shows_numbers}
 use Rattle.mc_script.specs.SectionText.{label_names}
 use Rattle.mc_script.specs.Templates.{IsTemplate}
 
--- the label with this index stands behind the step at this place
+-- the label with this index stands after the step at this place
 abbrev pub IsBehind : List Label → ℕ → ℕ → Type 0
 IsBehind labels place index = (label : Label) × (slice_get labels index ≡ Some label) × (place < label.place)
 
--- the jumps of a step at this place, on classes from this one on: legal classes in their order, labels behind the step
+-- the jumps of a step at this place, on classes from the index `least` on: legal classes in their order, labels after the
+-- step
 abbrev pub AreJumps : Verb → List Label → ℕ → ℕ → List (Class × ℕ) → Type 0
 AreJumps verb labels place least [] = Unit {0}
 AreJumps verb labels place least (jump ∷ jumps) =
     (least ≤ class_index jump.0) × (is_legal verb jump.0 ≡ true) × IsBehind labels place jump.1
     × AreJumps verb labels place (class_index jump.0 + 1) jumps
 
--- a reply of this class shows a number to those verbs that may be shown one
+-- a reply of this class shows a number, where the verb's replies may show one
 abbrev pub is_number_class : Class → Bool
 is_number_class class.Hit = true
 is_number_class class.Number = true
@@ -38,13 +39,13 @@ is_number_class _ = false
 abbrev pub jumps_on_number : List (Class × ℕ) → Bool
 jumps_on_number jumps = list_any (λ jump. is_number_class jump.0) jumps
 
--- a declared variable takes a number that the verb may be shown, and the next step follows then
+-- the variable is declared, the verb's replies may show a number, and after one the next step follows
 abbrev pub MayBind : Names → Verb → List (Class × ℕ) → Option ℕ → Type 0
 MayBind names verb jumps None = Unit {0}
 MayBind names verb jumps (Some variable) =
     (variable < length names.vars) × (shows_numbers verb ≡ true) × (jumps_on_number jumps ≡ false)
 
--- what a step names is declared, and its labels stand behind it
+-- what a step names is declared, and its labels stand after it
 abbrev pub IsStep : Names → List Label → ℕ → Step → Type 0
 IsStep names labels place (step.Send t jumps bind) =
     IsTemplate (length names.keys) (length names.flags) (length names.vars) t
@@ -58,7 +59,7 @@ abbrev pub AreSteps : Names → List Label → ℕ → List Step → Type 0
 AreSteps names labels place [] = Unit {0}
 AreSteps names labels place (s ∷ steps) = IsStep names labels place s × AreSteps names labels (place + 1) steps
 
--- the labels of a section with so many steps, from this place on, in the order of their places
+-- labels of a section with `steps` steps, from this place on, in the order of their places
 abbrev pub AreLabels : ℕ → ℕ → List Label → Type 0
 AreLabels steps place [] = Unit {0}
 AreLabels steps place (label ∷ labels) =

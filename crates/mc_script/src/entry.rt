@@ -74,7 +74,7 @@ pub(crate) enum Sign {
     Clears,
 }
 
-/// The marks of a request, in their order. Contracts see the list of them.
+/// The marks of a request, in their order, of which no two say the same thing. Contracts see the list of them.
 #[derive(Debug, Drop)]
 pub(crate) struct Marks {
     marks: Vec<Mark>,
@@ -87,17 +87,27 @@ impl Model for Marks {
     ghost Value = { List Mark };
 
     ghost view = { λ m. m.marks.items };
+
+    ghost use Rattle.std.specs.Prelude.{◌≡◌, true};
+    ghost use Rattle.mc_script.specs.Marks.{have_no_twins};
+
+    ghost invariant = { λ m. have_no_twins m.marks.items ≡ true };
 }
 
 impl Marks {
+    ghost use Rattle.std.specs.Prelude.{true};
+    ghost use Rattle.mc_script.specs.Marks.{have_no_twins};
+
     pub(crate) fn new(marks: Vec<Mark>) -> Self
+        requires { have_no_twins marks.items ≡ true }
         ensures { result ≡ marks.items }
     {
         Marks { marks }
     }
 
     pub(crate) fn as_slice(&self) -> &[Mark]
-        ensures { result.now ≡ self.now }
+        ensures marks { result.now ≡ self.now }
+        ensures apart { have_no_twins self.now ≡ true }
     {
         self.marks.as_slice()
     }

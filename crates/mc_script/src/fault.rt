@@ -30,7 +30,7 @@ pub enum ScriptKind {
     Number,
     #[error("expected a body of at most 64 letters and digits")]
     Data,
-    #[error("expected at most 8 keys, 16 variables, 32 flags, and 64 steps in a section, in `script 2` 64 flags and 128 steps")]
+    #[error("expected at most 8 keys, 16 variables, 32 flags and 64 steps in a section, or in `script 2` 64 flags and 128 steps")]
     TooMany,
     #[error("expected a budget of at most 24 requests and 8192 bytes")]
     Budget,

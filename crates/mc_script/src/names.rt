@@ -1,3 +1,5 @@
+//! The names that a script declares.
+
 ghost use Rattle.std.specs.Prelude.{◌≡◌, ◌≤◌, length};
 ghost use Rattle.mc_script.specs.declared.limits.TheConstants.{FLAGS_LIMIT};
 ghost use Rattle.mc_script.specs.Script as spec;

@@ -1,3 +1,5 @@
+//! What is so of every printed script.
+
 ghost use Rattle.mc_script.specs.PrintedScript.{PrintedScriptsAreSpelled, PrintedScriptsAreReadAgain};
 
 /// A script is spelled by the text that is printed of it.

@@ -1,3 +1,5 @@
+//! How the marks of a request are printed.
+
 ghost use Rattle.std.specs.Prelude.{◌≡◌, ◌<◌, ◌≤◌, ◌==◌, ◌++◌, ◌∷◌, [], OnOk, length};
 ghost use Rattle.std.specs.Int.{bit_at};
 ghost use Rattle.mc_script.specs.declared.limits.TheConstants.{FLAGS_LIMIT};
@@ -39,7 +41,7 @@ pub(crate) fn print_marks(
     out: &mut Vec<u8>,
 ) -> Result<(), OutOfMemory>
     ensures { OnOk result (out.new.items ≡ out.old.items
-        ++ printed.behind_text (printed.mark_words names.now labels.now template.now jumps.now bind)) }
+        ++ printed.spaced_text (printed.mark_words names.now labels.now template.now jumps.now bind)) }
 {
     print_all_flags(names.flags(), template, out)?;
     print_jumps(labels, jumps, out)?;
@@ -54,7 +56,7 @@ fn print_all_flags(
 ) -> Result<(), OutOfMemory>
     requires { length names.now ≤ FLAGS_LIMIT }
     ensures { OnOk result (out.new.items ≡ out.old.items
-        ++ printed.behind_text (printed.all_flag_words names.now template.now)) }
+        ++ printed.spaced_text (printed.all_flag_words names.now template.now)) }
 {
     print_flags(Sign::RequireSet, template.require_set, names, out)?;
     print_flags(Sign::RequireClear, template.require_clear, names, out)?;
@@ -71,7 +73,7 @@ fn print_flags(
 ) -> Result<(), OutOfMemory>
     requires { length names.now ≤ FLAGS_LIMIT }
     ensures { OnOk result (out.new.items ≡ out.old.items
-        ++ printed.behind_text (printed.flag_words sign mask 0 names.now)) }
+        ++ printed.spaced_text (printed.flag_words sign mask 0 names.now)) }
 {
     'flags: for (flag, name) in names.iter().enumerate() {
         if has_flag(mask, flag) {
@@ -97,7 +99,7 @@ fn print_flag(sign: Sign, name: &[u8], out: &mut Vec<u8>) -> Result<(), OutOfMem
     out.extend_from_slice(name)
 }
 
-// A space, and the byte in front of a flag.
+// A space, and the byte before the name of a flag.
 fn spaced_sign(sign: Sign) -> &'static [u8]
     ensures { result.now ≡ 32 ∷ spec.sign_byte sign ∷ [] }
 {
@@ -116,7 +118,7 @@ fn print_jumps(
     out: &mut Vec<u8>,
 ) -> Result<(), OutOfMemory>
     ensures { OnOk result (out.new.items ≡ out.old.items
-        ++ printed.behind_text (printed.jump_words labels.now jumps.now)) }
+        ++ printed.spaced_text (printed.jump_words labels.now jumps.now)) }
 {
     'jumps: for (class, label) in jumps {
         print_jump(labels, *class, *label, out)?;
@@ -142,7 +144,7 @@ fn print_jump(
 // Appends the variable that takes the number, if there is one.
 fn print_bind(names: &Names, bind: Option<u8>, out: &mut Vec<u8>) -> Result<(), OutOfMemory>
     ensures { OnOk result (out.new.items ≡ out.old.items
-        ++ printed.behind_text (printed.bind_words names.now bind)) }
+        ++ printed.spaced_text (printed.bind_words names.now bind)) }
 {
     match bind {
         Some(variable) => {

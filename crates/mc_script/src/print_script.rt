@@ -1,3 +1,5 @@
+//! How a script is printed.
+
 ghost use Rattle.std.specs.Prelude.{◌≡◌, ◌++◌, ◌∷◌, IfOk, OnOk, OnErr};
 ghost use Rattle.mc_script.specs.Script as spec;
 ghost use Rattle.mc_script.specs.ScriptText.{SpellsInVersion, header, names_line, names_lines};
@@ -75,7 +77,7 @@ fn print_names(word: &[u8], names: &[Bytes], out: &mut Vec<u8>) -> Result<(), Ou
 
 // Appends words, with a space before each.
 fn print_words(words: &[Bytes], out: &mut Vec<u8>) -> Result<(), OutOfMemory>
-    ensures { OnOk result (out.new.items ≡ out.old.items ++ printed.behind_text words.now) }
+    ensures { OnOk result (out.new.items ≡ out.old.items ++ printed.spaced_text words.now) }
 {
     'words: for word in words {
         append_all(out, &[b" ", word.as_slice()])?;

@@ -1,3 +1,5 @@
+//! How the lines of a section are printed.
+
 ghost use Rattle.std.specs.Prelude.{◌≡◌, ◌++◌, ◌∷◌, OnOk};
 ghost use Rattle.mc_protocol.specs.Fields.{fields_of};
 ghost use Rattle.mc_script.specs.ScriptText.{section_line};
@@ -101,7 +103,7 @@ fn print_request(
 
 // Appends the flags and the body, where the verb has them, with a space before each.
 fn print_item(template: &Template, out: &mut Vec<u8>) -> Result<(), OutOfMemory>
-    ensures { OnOk result (out.new.items ≡ out.old.items ++ printed.behind_text
+    ensures { OnOk result (out.new.items ≡ out.old.items ++ printed.spaced_text
         (printed.item_words (fields_of template.now.verb) template.now.flags template.now.body)) }
 {
     match template.verb.fields() {
@@ -117,7 +119,7 @@ fn print_item(template: &Template, out: &mut Vec<u8>) -> Result<(), OutOfMemory>
 // Appends a space and the number or the variable, if there is one.
 fn print_argument(names: &Names, argument: Argument, out: &mut Vec<u8>) -> Result<(), OutOfMemory>
     ensures { OnOk result (out.new.items ≡ out.old.items
-        ++ printed.behind_text (printed.argument_words names.now argument)) }
+        ++ printed.spaced_text (printed.argument_words names.now argument)) }
 {
     match argument {
         Argument::Nothing => Ok(()),

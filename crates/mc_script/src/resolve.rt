@@ -1,4 +1,5 @@
 ghost use Rattle.std.specs.Prelude.{◌≡◌, ◌<◌, Some, None, IfOk, MatchOption};
+ghost use Rattle.std.specs.Result.{result_ok};
 ghost use Rattle.mc_script.specs.declared.limits.TheConstants.{FLAGS_LIMIT};
 ghost use Rattle.mc_protocol.specs.Words.{all_classes};
 ghost use Rattle.mc_script.specs.Marks as said;
@@ -6,7 +7,7 @@ ghost use Rattle.mc_script.specs.Steps as spec;
 ghost use Rattle.mc_script.specs.Reading as reading;
 ghost use Rattle.mc_script.specs.TextReading as whole;
 
-use crate::entry::{Entry, Mark, Sign};
+use crate::entry::{Entry, Mark, Marks, Sign};
 use crate::section::Section;
 use crate::section_text::Numbered;
 use crate::{Budget, Jumps, Label, Mask, ScriptFault, ScriptKind, Step, Template};
@@ -79,7 +80,7 @@ fn step_of(alloc: Global, labels: &[Label], place: usize, entry: &Entry) -> Resu
 {
     match entry {
         Entry::Label(_) => Err(ScriptKind::Line),
-        Entry::Send(template, marks) => send_of(alloc, labels, place, template, marks.as_slice()),
+        Entry::Send(template, marks) => send_of(alloc, labels, place, template, marks),
         Entry::Bind(variable) => Ok(Step::Bind(*variable)),
         Entry::Goto(name) => goto_of(labels, place, name.as_slice()),
         Entry::Halt => Ok(Step::Halt),
@@ -89,24 +90,22 @@ fn step_of(alloc: Global, labels: &[Label], place: usize, entry: &Entry) -> Resu
 fn goto_of(labels: &[Label], place: usize, name: &[u8]) -> Result<Step, ScriptKind>
     ensures { reading.Gives result (spec.goes (spec.label_behind labels.now place name.now)) }
 {
-    match label_behind(labels, place, name) {
-        Some(label) => Ok(Step::Goto(label)),
-        None => Err(label_fault(labels, name)),
-    }
+    Ok(Step::Goto(find_label(labels, place, name)?))
 }
 
-// The request with its marks.
+/// The request with its marks.
 fn send_of(
     alloc: Global,
     labels: &[Label],
     place: usize,
     template: &Template,
-    marks: &[Mark],
+    marks: &Marks,
 ) -> Result<Step, ScriptKind>
     ensures { reading.Gives result
         (spec.sends template.now marks.now (spec.jumps_on labels.now place marks.now all_classes)) }
 {
     let jumps = jumps_of(alloc, labels, place, marks)?;
+    let marks = marks.as_slice();
     let template = marked(alloc, template, marks)?;
     let bind = bound_by(marks);
     Ok(Step::Send {
@@ -176,69 +175,83 @@ fn bound_by(marks: &[Mark]) -> Option<u8>
     None
 }
 
-// The jumps of the marks, in the order of their classes. The fault is that of the leftmost faulty one.
+/// The jumps of the marks, in the order of their classes. The fault is that of the leftmost faulty one.
 fn jumps_of(
     alloc: Global,
     labels: &[Label],
     place: usize,
-    marks: &[Mark],
+    marks: &Marks,
 ) -> Result<Jumps, ScriptKind>
     ensures { reading.Gives result (spec.jumps_on labels.now place marks.now all_classes) }
 {
-    let mut jumps = Vec::new(alloc);
-    let mut rest = Class::ALL.as_slice();
-    'classes: while let [class, others @ ..] = rest {
-        if let Some(name) = target_of(*class, marks) {
-            let Some(label) = label_behind(labels, place, name) else {
-                return Err(jumps_fault(labels, place, marks));
-            };
-            jumps.push((*class, label))?;
-        }
-        rest = others;
-    }
+    let targets = targets_of(alloc, labels, place, marks.as_slice())?;
+    let jumps = jumps_to(alloc, &targets, &Class::ALL)?;
     Ok(Jumps::new(jumps))
 }
 
-// The label to which the marks go after a reply of the class.
-fn target_of<'a>(class: Class, marks: &'a [Mark]) -> Option<&'a [u8]>
-    ensures { MatchOption result (said.target_of class marks.now ≡ None) (λ name. said.target_of class marks.now ≡ Some name.now) }
+/// The jumps of the marks, in the order of the marks.
+fn targets_of(
+    alloc: Global,
+    labels: &[Label],
+    place: usize,
+    marks: &[Mark],
+) -> Result<Vec<(Class, usize)>, ScriptKind>
+    ensures { reading.Shows (λ targets. targets.items) result (whole.targets_in labels.now place marks.now) }
 {
+    let mut targets = Vec::new(alloc);
     'marks: for mark in marks {
-        if let Mark::Jump(other, label) = mark {
-            if *other == class {
-                return Some(label.as_slice());
-            }
+        if let Mark::Jump(class, name) = mark {
+            let label = find_label(labels, place, name.as_slice())?;
+            targets.push((*class, label))?;
+        }
+    }
+    Ok(targets)
+}
+
+/// The targets in the order of these classes.
+fn jumps_to(
+    alloc: Global,
+    targets: &[(Class, usize)],
+    classes: &[Class],
+) -> Result<Vec<(Class, usize)>, OutOfMemory>
+    ensures { IfOk result (λ jumps. jumps.items ≡ whole.jumps_to targets.now classes.now) }
+{
+    let mut jumps = Vec::new(alloc);
+    'classes: for class in classes {
+        if let Some(label) = label_for(*class, targets) {
+            jumps.push((*class, label))?;
+        }
+    }
+    Ok(jumps)
+}
+
+/// The label of the first of these jumps on the class.
+fn label_for(class: Class, jumps: &[(Class, usize)]) -> Option<usize>
+    ensures { result ≡ whole.label_for class jumps.now }
+{
+    'jumps: for (other, label) in jumps {
+        if *other == class {
+            return Some(*label);
         }
     }
     None
 }
 
-// The index of the label with this name, which stands behind the step at this place.
-fn label_behind(labels: &[Label], place: usize, name: &[u8]) -> Option<usize>
+/// The index of the label with this name, which stands after the step at `place`.
+fn find_label(labels: &[Label], place: usize, name: &[u8]) -> Result<usize, ScriptKind>
+    ensures { result_ok result ≡ spec.label_behind labels.now place name.now }
+{
+    match label_after(labels, place, name) {
+        Some(label) => Ok(label),
+        None if has_label(labels, name) => Err(ScriptKind::BackwardLabel),
+        None => Err(ScriptKind::UnknownLabel),
+    }
+}
+
+fn label_after(labels: &[Label], place: usize, name: &[u8]) -> Option<usize>
     ensures { result ≡ spec.label_behind labels.now place name.now }
 {
     labels.iter().position(|label| label.name.as_slice() == name && place < label.place)
-}
-
-// The fault of the leftmost jump whose label isn't behind the step.
-fn jumps_fault(labels: &[Label], place: usize, marks: &[Mark]) -> ScriptKind {
-    for mark in marks {
-        if let Mark::Jump(_, label) = mark {
-            if label_behind(labels, place, label.as_slice()).is_none() {
-                return label_fault(labels, label.as_slice());
-            }
-        }
-    }
-    ScriptKind::UnknownLabel
-}
-
-// The fault of a label that isn't behind its use.
-fn label_fault(labels: &[Label], name: &[u8]) -> ScriptKind {
-    if has_label(labels, name) {
-        ScriptKind::BackwardLabel
-    } else {
-        ScriptKind::UnknownLabel
-    }
 }
 
 fn has_label(labels: &[Label], name: &[u8]) -> bool {

@@ -1,3 +1,5 @@
+//! Scripts, and their parts.
+
 ghost use Rattle.std.specs.Prelude.{◌≡◌};
 ghost use Rattle.mc_script.specs.Script as spec;
 ghost use Rattle.mc_script.specs.WellFormed.{IsScript};

@@ -1,3 +1,5 @@
+//! The sections of a script: budgets, and labels.
+
 use crate::Step;
 use mc_protocol::Bytes;
 use std::marker::Model;

@@ -1,3 +1,5 @@
+//! The steps of a section, and the requests that they send.
+
 ghost use Rattle.std.specs.Prelude.{◌≡◌};
 
 use crate::Mask;

@@ -6,3 +6,5 @@
 mod part_tests;
 #[cfg(test)]
 mod print_tests;
+#[cfg(test)]
+mod version_tests;

@@ -135,13 +135,15 @@ An example, in which A stores only where nobody else did after its `gets`:
   end
 
 The lines, in this order:
-  script 1
+  script 1                         or `script 2`, which has more room
   keys KEY ..                      1 to 8 keys
-  flags FLAG ..                    at most 32; no line where there are none
+  flags FLAG ..                    at most 32, or 64 in `script 2`; no line
+                                   where there are none
   vars VAR ..                      at most 16; no line where there are none
   budget CLIENT REQUESTS BYTES     for P, A and B: the most that the client may
                                    send, 0 to 24 requests and 0 to 8,192 bytes
-  P, A and B                       each on a line, then the client's steps
+  P, A and B                       each on a line, then the client's steps, at
+                                   most 64, or 128 in `script 2`
   end
 Blank lines are skipped, and so are lines that begin with `#`.
 
@@ -173,7 +175,7 @@ with which P begins, and which P's budget pays for, and then the requests.
 Whether the code keeps its budgets and its flags isn't looked at.
 
 A text that is no script is refused, as `refused script 5 UnknownKey line 9`:
-  1 Header         `script 1` or a declaration is missing, or out of its place
+  1 Header         the version or a declaration is missing, or out of its place
   2 Line           the line or one of its words may not stand there
   3 Name           a name that is declared has other bytes, or too many
   4 Duplicate      a name, a label or a mark stands there already
@@ -184,7 +186,7 @@ A text that is no script is refused, as `refused script 5 UnknownKey line 9`:
   9 BackwardLabel  the label stands above its use
   10 Number        a word is no decimal, or its number is too large
   11 Data          a body has other bytes than letters and digits, or too many
-  12 TooMany       too many names, or more than 64 steps in a section
+  12 TooMany       too many names, or too many steps in a section
   13 Budget        a budget is above its limit
   14 Unended       the text ends before P, A, B or `end`
 

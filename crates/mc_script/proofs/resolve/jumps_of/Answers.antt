@@ -1,8 +1,26 @@
-use Rattle.std.proofs.Common.{sym}
-use Rattle.mc_script.proofs.Resolving.{jumps-pushed}
+use Rattle.std.proofs.Common.{◌≡◌, ◌≢◌, None, sym, ap, ◌∙◌, rules}
+use Rattle.mc_protocol.specs.Words.{all_classes}
+use Rattle.mc_script.specs.declared.fault.ScriptKind.TheVariants as kind
+use Rattle.mc_script.specs.Steps.{jumps_on}
+use Rattle.mc_script.specs.TextReading.{targets_in}
+use Rattle.mc_script.proofs.Targets.{jumps-found, jumps-missing}
 use Rattle.mc_script.proofs.resolve.jumps_of.Goals as goal
 
-pub classes-preserved-in_ok-push : goal.classes-preserved-in_ok-push
-classes-preserved-in_ok-push c =
-    jumps-pushed c.args.labels.now c.args.place c.args.marks.now c.classes.jumps.items c.push.new.self.items c.classes.rest.now _ c.in-Some.name.now c.in-Some-label_behind.label _
-    c.in-len1-up.len_at_least c.in-Some.ensures (sym c.in-Some-label_behind.ensures) c.in_ok-push.ensures.items c.classes.invariant
+pub returns-in_err-targets : goal.returns-in_err-targets
+returns-in_err-targets c =
+    let labels = c.args.labels.now in
+    let place = c.args.place in
+    let marks = c.args.marks.now in
+    let same = ap (targets_in labels place) c.as_slice.ensures.marks in
+    let none : c.in_err-targets.field-0.0 ≢ kind.OutOfMemory → jumps_on labels place marks all_classes ≡ None =
+    λ real. jumps-missing labels place marks (sym same ∙ c.in_err-targets.ensures real) c.as_slice.ensures.apart in
+    search rules
+
+pub returns : goal.returns
+returns c =
+    let labels = c.args.labels.now in
+    let place = c.args.place in
+    let marks = c.args.marks.now in
+    let same = ap (targets_in labels place) c.as_slice.ensures.marks in
+    let found = jumps-found labels place marks c.in_ok-targets.targets.items all_classes (sym same ∙ c.in_ok-targets.ensures) in
+    rw (c.new.ensures, c.in_ok-jumps.ensures, c.deref.ensures.value) found
