@@ -1,17 +1,20 @@
 //! Bytes that are no image: the kind and the offset of the first fault.
 
-use crate::images::{COUNTER_IMAGE, EVERYTHING_IMAGE};
+use crate::images::{COUNTER_IMAGE, COUNTER_IMAGE_2, EVERYTHING_IMAGE, LAST_FLAG_IMAGE};
 use mc_code::ImageKind::*;
 use mc_code::{ImageFault, ImageKind, decode};
 use std::alloc::Global;
 use std::test::Fail;
 
 // The counter's image with one byte changed: its offset, what it becomes, the kind of the fault, and its offset.
-static FAULTY_COUNTER: [(usize, u8, ImageKind, usize); 50] = [
+static FAULTY_COUNTER: [(usize, u8, ImageKind, usize); 52] = [
     (0, b'm', Magic, 0),
     (1, b'c', Magic, 0),
     (2, 0, Magic, 0),
-    (3, b'2', Magic, 0),
+    (3, b'0', Magic, 0),
+    (3, b'3', Magic, 0),
+    // as version 2: the last mask of the first template has the length of the next one's body
+    (3, b'2', Template, 19),
     // how many keys, the key's length, and the key
     (4, 0, Range, 4),
     (4, 9, Range, 4),
@@ -100,6 +103,44 @@ static FAULTY_EVERYTHING: [(usize, u8, ImageKind, usize); 21] = [
     (268, 1, Short, 269),
 ];
 
+// The same of the counter's image of version 2.
+static FAULTY_COUNTER_2: [(usize, u8, ImageKind, usize); 17] = [
+    (3, b'3', Magic, 0),
+    // as version 1: the second template is zeros, and its last mask has the length of the next one's body
+    (3, b'1', Template, 51),
+    // flags and variables
+    (7, 65, Range, 7),
+    (8, 17, Range, 8),
+    // the first and the last bit of the masks of the first template
+    (35, 0x80, Template, 19),
+    (42, 1, Template, 19),
+    (50, 1, Template, 19),
+    (58, 1, Template, 19),
+    (66, 1, Template, 19),
+    // the `set`: its sort of number, and its body
+    (73, 1, Template, 67),
+    (83, b'-', Template, 67),
+    // sections
+    (212, 129, Range, 212),
+    (213, 4, Range, 213),
+    (238, 129, Range, 238),
+    (252, 129, Range, 252),
+    (252, 1, Extra, 265),
+    (252, 3, Short, 266),
+];
+
+// The same of the image with the last flag.
+static FAULTY_LAST_FLAG: [(usize, u8, ImageKind, usize); 5] = [
+    // a flag fewer, and one more than there may be
+    (7, 63, Template, 67),
+    (7, 65, Range, 7),
+    // the last flag needed set and clear, and set and cleared
+    (91, 0x80, Template, 67),
+    (107, 0x80, Template, 67),
+    // more instructions than there may be
+    (163, 129, Range, 163),
+];
+
 // The image with everything, with these bytes changed and cut at this length, and the kind and offset of its fault. The key
 // of the first template is not declared, which is reported only after the template's last field.
 static INSIDE: [(&[(usize, u8)], usize, ImageKind, usize); 4] = [
@@ -110,11 +151,12 @@ static INSIDE: [(&[(usize, u8)], usize, ImageKind, usize); 4] = [
 ];
 
 // Other bytes.
-static OTHERS: [(&[u8], ImageKind, usize); 9] = [
+static OTHERS: [(&[u8], ImageKind, usize); 10] = [
     // fewer bytes than each image begins with, whichever they are
     (b"", Short, 0),
     (b"xyz", Short, 0),
-    (b"MCR2", Magic, 0),
+    (b"MCR3", Magic, 0),
+    (b"MCR2", Short, 4),
     // a key is cut, stands twice, or is too long
     (b"MCR1\x01\x02a", Short, 6),
     (b"MCR1\x02\x01a\x01a\x21", Range, 8),
@@ -149,6 +191,26 @@ static COUNTER_FIELDS: [usize; 72] = [
     188, 189, 190, 191, 201,
 ];
 
+// The same of the counter's image of version 2.
+static COUNTER_2_FIELDS: [usize; 72] = [
+    // the head
+    0, 4, 5, 6, 7, 8, 9, 10, 12, 13, 15, 16, 18,
+    // a `delete`
+    19, 20, 21, 25, 26, 34, 35, 43, 51, 59,
+    // a `set`, which has a body
+    67, 68, 69, 73, 74, 82, 83, 84, 92, 100, 108,
+    // an `incr`
+    116, 117, 118, 122, 123, 131, 132, 140, 148, 156,
+    // another
+    164, 165, 166, 170, 171, 179, 180, 188, 196, 204,
+    // the instructions of P
+    212, 213, 214, 215, 225, 226, 227, 237,
+    // of A
+    238, 239, 240, 241, 251,
+    // of B
+    252, 253, 254, 255, 265,
+];
+
 // The same of the image with everything.
 static EVERYTHING_FIELDS: [usize; 79] = [
     // the head
@@ -180,6 +242,14 @@ fn reports_the_first_fault(rt: HostRuntime) -> Result<(), Fail> {
         first_unreported(alloc, EVERYTHING_IMAGE, &FAULTY_EVERYTHING)?,
         None
     );
+    assert_eq!(rt;
+        first_unreported(alloc, COUNTER_IMAGE_2, &FAULTY_COUNTER_2)?,
+        None
+    );
+    assert_eq!(rt;
+        first_unreported(alloc, LAST_FLAG_IMAGE, &FAULTY_LAST_FLAG)?,
+        None
+    );
     Ok(())
 }
 
@@ -206,6 +276,10 @@ fn reports_faults_of_other_bytes(rt: HostRuntime) -> Result<(), Fail> {
 fn reports_the_cut_field(rt: HostRuntime) -> Result<(), Fail> {
     let alloc = rt.alloc();
     assert_eq!(rt; first_miscut(alloc, COUNTER_IMAGE, &COUNTER_FIELDS)?, None);
+    assert_eq!(rt;
+        first_miscut(alloc, COUNTER_IMAGE_2, &COUNTER_2_FIELDS)?,
+        None
+    );
     assert_eq!(rt;
         first_miscut(alloc, EVERYTHING_IMAGE, &EVERYTHING_FIELDS)?,
         None

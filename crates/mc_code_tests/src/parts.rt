@@ -1,9 +1,9 @@
-//! The parts of the code of two images, and whether code has them.
+//! The parts of the code of three images, and whether code has them, or those of another code.
 
 use crate::images::LONGEST_BODY;
 use mc_code::{Code, Instr, NO_ENTRY};
 use mc_protocol::{Actor, Bytes, Verb};
-use mc_script::{Argument, Budget, Template};
+use mc_script::{Argument, Budget, Mask, Template};
 
 /// All parts of code.
 pub(crate) struct Parts {
@@ -30,7 +30,7 @@ pub(crate) struct Fields {
     pub(crate) flags: u32,
     pub(crate) argument: Argument,
     pub(crate) body: &'static [u8],
-    pub(crate) masks: [u32; 4],
+    pub(crate) masks: [Mask; 4],
 }
 
 const NO: u8 = NO_ENTRY;
@@ -119,7 +119,75 @@ pub(crate) static COUNTER: Parts = Parts {
     },
 };
 
-/// Each kind of instruction and of argument, and the largest of what there may be.
+/// The last of 64 flags, in each mask of one of two requests.
+pub(crate) static LAST_FLAG: Parts = Parts {
+    keys: &[b"a"],
+    flags: 64,
+    vars: 0,
+    templates: &[
+        Fields {
+            verb: Verb::Delete,
+            key: 0,
+            flags: 0,
+            argument: Argument::Nothing,
+            body: b"",
+            masks: [0, 0, 0, 0],
+        },
+        Fields {
+            verb: Verb::Get,
+            key: 0,
+            flags: 0,
+            argument: Argument::Nothing,
+            body: b"",
+            masks: [0x8000_0000_0000_0000, 0, 0x8000_0000_0000_0000, 0],
+        },
+        Fields {
+            verb: Verb::Get,
+            key: 0,
+            flags: 0,
+            argument: Argument::Nothing,
+            body: b"",
+            masks: [0, 0x8000_0000_0000_0000, 0, 0x8000_0000_0000_0000],
+        },
+    ],
+    p: Section {
+        budget: Budget {
+            requests: 2,
+            bytes: 20,
+        },
+        instructions: &[
+            Instr::Send {
+                template: 0,
+                next: [NO, NO, NO, 1, NO, NO, 1, NO, NO, NO],
+            },
+            Instr::Send {
+                template: 1,
+                next: [NO, NO, NO, NO, 2, 2, NO, NO, NO, NO],
+            },
+            Instr::Send {
+                template: 2,
+                next: [NO, NO, NO, NO, 3, 3, NO, NO, NO, NO],
+            },
+            Instr::Halt,
+        ],
+    },
+    a: Section {
+        budget: Budget {
+            requests: 0,
+            bytes: 0,
+        },
+        instructions: &[Instr::Halt],
+    },
+    b: Section {
+        budget: Budget {
+            requests: 0,
+            bytes: 0,
+        },
+        instructions: &[Instr::Halt],
+    },
+};
+
+/// Each kind of instruction and of argument, and the largest of what there may be in version 1.
 pub(crate) static EVERYTHING: Parts = Parts {
     keys: &[b"a", b"b-1"],
     flags: 32,
@@ -206,6 +274,49 @@ pub(crate) fn has_parts(code: &Code, parts: &Parts) -> bool {
         && is_section(code, Actor::P, &parts.p)
         && is_section(code, Actor::A, &parts.a)
         && is_section(code, Actor::B, &parts.b)
+}
+
+/// Whether two codes are the same.
+pub(crate) fn are_equal(code: &Code, other: &Code) -> bool {
+    are_equal_keys(code.keys(), other.keys())
+        && code.flags() == other.flags()
+        && code.vars() == other.vars()
+        && are_equal_templates(code.templates(), other.templates())
+        && are_equal_sections(code, other, Actor::P)
+        && are_equal_sections(code, other, Actor::A)
+        && are_equal_sections(code, other, Actor::B)
+}
+
+fn are_equal_keys(keys: &[Bytes], others: &[Bytes]) -> bool {
+    keys.len() == others.len()
+        && keys
+            .iter()
+            .zip(others)
+            .all(|(key, other)| key.as_slice() == other.as_slice())
+}
+
+fn are_equal_templates(templates: &[Template], others: &[Template]) -> bool {
+    templates.len() == others.len()
+        && templates
+            .iter()
+            .zip(others)
+            .all(|(template, other)| is_equal_template(template, other))
+}
+
+fn is_equal_template(template: &Template, other: &Template) -> bool {
+    template.verb == other.verb
+        && template.key == other.key
+        && template.flags == other.flags
+        && template.argument == other.argument
+        && template.body.as_slice() == other.body.as_slice()
+        && template.require_set == other.require_set
+        && template.require_clear == other.require_clear
+        && template.sets == other.sets
+        && template.clears == other.clears
+}
+
+fn are_equal_sections(code: &Code, other: &Code, actor: Actor) -> bool {
+    code.budget(actor) == other.budget(actor) && code.section(actor) == other.section(actor)
 }
 
 fn are_keys(keys: &[Bytes], expected: &[&'static [u8]]) -> bool {

@@ -170,8 +170,10 @@ After a request may stand marks, in any order:
   FLAGS          a decimal below 2^32; NUMBER below 2^64
   BODY           at most 64 letters and digits
 
-The image begins with `MCR1`. Its templates are first a `delete` of each key,
-with which P begins, and which P's budget pays for, and then the requests.
+The image begins with `MCR1`, or with `MCR2` where there are more than 32 flags
+or a section has more than 64 instructions. Its templates are first a `delete`
+of each key, with which P begins, and which P's budget pays for, and then the
+requests.
 Whether the code keeps its budgets and its flags isn't looked at.
 
 A text that is no script is refused, as `refused script 5 UnknownKey line 9`:
@@ -192,7 +194,7 @@ A text that is no script is refused, as `refused script 5 UnknownKey line 9`:
 
 A script that is too large is refused, as `refused asm 2 TooManyInstructions A`:
   1 TooManyTemplates     more than 64 templates
-  2 TooManyInstructions  more than 64 instructions in a section: one for each
+  2 TooManyInstructions  more than 128 instructions in a section: one for each
                          step and each `>VAR`, one at the section's end, and in
                          P one for each key";
 
