@@ -1,5 +1,5 @@
 -- A line of a section is read exactly where it spells an entry.
-use Rattle.std.proofs.Common.{◌≡◌, ℕ, ◌+◌, ◌-◌, ◌<◌, ◌≤◌, ◌==◌, true, false, cond, Option, Some, None, List, [], ◌∷◌, ◌++◌, length, take, drop, get_or, codes, refl, sym, ap, subst, ◌∙◌, arith, drop-cons, length-append, suc}
+use Rattle.std.proofs.Common.{◌≡◌, ℕ, ◌+◌, ◌-◌, ◌<◌, ◌≤◌, ◌==◌, true, false, Option, Some, None, List, [], ◌∷◌, ◌++◌, length, take, drop, get_or, codes, refl, sym, ap, subst, ◌∙◌, arith, drop-cons, length-append, suc}
 use Rattle.std.specs.List.{list_any}
 use Rattle.std.specs.Str.{bytes_eq}
 use Rattle.std.proofs.lemmas.Bool.{eqb-true}
@@ -12,17 +12,19 @@ use Rattle.mc_protocol.specs.declared.request.Verb.{Verb}
 use Rattle.mc_protocol.specs.declared.request.Verb.TheVariants.{Set, Add, Replace, Append, Prepend, Cas, Get, Gets, Incr, Decr, Delete, Touch}
 use Rattle.mc_protocol.specs.Lines.{Word, Words}
 use Rattle.mc_protocol.specs.Names.{index_of}
-use Rattle.mc_protocol.proofs.OfWords.{verb_of-word, word-of_verb}
+use Rattle.mc_protocol.proofs.OfWords.{word-of_verb}
 use Rattle.mc_script.specs.declared.entry.Entry.{Entry}
 use Rattle.mc_script.specs.declared.entry.Entry.TheVariants as entry
 use Rattle.mc_script.specs.declared.entry.Mark.{Mark}
 use Rattle.mc_script.specs.declared.fields.Parts.{Parts}
+use Rattle.mc_script.specs.declared.read_entry.Keyword.{Keyword}
+use Rattle.mc_script.specs.declared.read_entry.Keyword.TheVariants as keyword
 use Rattle.mc_script.specs.declared.step.Template.{Template}
 use Rattle.mc_script.specs.Script.{Names}
 use Rattle.mc_script.specs.ScriptWords.{is_label_name, label_word}
 use Rattle.mc_script.specs.SectionText.{SpellsEntry, SpellsRequest}
 use Rattle.mc_script.specs.Steps.{◌>>=◌}
-use Rattle.mc_script.specs.Reading.{entry_in, label_or_halt, before_colon, bind_in, goto_in, behind_verb, request_in, fields_in, field_count, marks_in, binds, template_of}
+use Rattle.mc_script.specs.Reading.{entry_in, label_of, line_entry, keyword_of, request_word, step_words, before_colon, bind_in, goto_in, request_in, fields_in, field_count, marks_in, binds, template_of}
 use Rattle.mc_script.proofs.Outcomes.{then-some, cond-cases, some-same, only-then, only-else}
 use Rattle.mc_script.proofs.FieldWords.{fields-spelled, fields-read}
 use Rattle.mc_script.proofs.MarkLists.{marks-spelled, marks-read}
@@ -32,33 +34,40 @@ bytes-same xs ys = (bytes_eq-Decides xs ys).0
 
 -- ---- verbs
 
-verb-not-bind : (v : Verb) → bytes_eq (verb_word v) (codes "bind") ≡ false
-verb-not-bind Set = refl
-verb-not-bind Add = refl
-verb-not-bind Replace = refl
-verb-not-bind Append = refl
-verb-not-bind Prepend = refl
-verb-not-bind Cas = refl
-verb-not-bind Get = refl
-verb-not-bind Gets = refl
-verb-not-bind Incr = refl
-verb-not-bind Decr = refl
-verb-not-bind Delete = refl
-verb-not-bind Touch = refl
+verb-keyword : (v : Verb) → keyword_of (verb_word v) ≡ Some (keyword.Request v)
+unfolding verb_of
+verb-keyword Set = refl
+verb-keyword Add = refl
+verb-keyword Replace = refl
+verb-keyword Append = refl
+verb-keyword Prepend = refl
+verb-keyword Cas = refl
+verb-keyword Get = refl
+verb-keyword Gets = refl
+verb-keyword Incr = refl
+verb-keyword Decr = refl
+verb-keyword Delete = refl
+verb-keyword Touch = refl
 
-verb-not-goto : (v : Verb) → bytes_eq (verb_word v) (codes "goto") ≡ false
-verb-not-goto Set = refl
-verb-not-goto Add = refl
-verb-not-goto Replace = refl
-verb-not-goto Append = refl
-verb-not-goto Prepend = refl
-verb-not-goto Cas = refl
-verb-not-goto Get = refl
-verb-not-goto Gets = refl
-verb-not-goto Incr = refl
-verb-not-goto Decr = refl
-verb-not-goto Delete = refl
-verb-not-goto Touch = refl
+abbrev keyword_word : Keyword → Word
+keyword_word keyword.Bind = codes "bind"
+keyword_word keyword.Goto = codes "goto"
+keyword_word keyword.Halt = codes "halt"
+keyword_word (keyword.Request v) = verb_word v
+
+request-same : (word : Word) (k : Keyword) → request_word word ≡ Some k → word ≡ keyword_word k
+request-same word k h =
+    let p = then-some (verb_of word) (λ v. Some (keyword.Request v)) k h in
+    sym (word-of_verb word p.0 p.1) ∙ ap keyword_word (some-same (keyword.Request p.0) k p.2)
+
+keyword-same : (word : Word) (k : Keyword) → keyword_of word ≡ Some k → word ≡ keyword_word k
+keyword-same word k h =
+    let same : (l : Keyword) → bytes_eq word (keyword_word l) ≡ true → Some l ≡ Some k → word ≡ keyword_word k =
+    λ l b e. bytes-same word (keyword_word l) b ∙ ap keyword_word (some-same l k e) in
+    cond-cases (bytes_eq word (codes "bind")) _ _ k (word ≡ keyword_word k) h (λ b e. same keyword.Bind b e)
+    (λ _ g. cond-cases (bytes_eq word (codes "goto")) _ _ k (word ≡ keyword_word k) g (λ b e. same keyword.Goto b e)
+    (λ _ l. cond-cases (bytes_eq word (codes "halt")) _ _ k (word ≡ keyword_word k) l (λ b e. same keyword.Halt b e)
+    (λ _ m. request-same word k m)))
 
 -- ---- labels
 
@@ -99,17 +108,7 @@ colon-read name =
     let last : length word - 1 ≡ length name = omega (arith, whole) in
     rw (labelled word (length name) whole, last, get-front name [] 58, take-front name (58 ∷ [])) refl
 
--- ---- lines of one word
-
-lone-spelled : (names : Names) (o : Option Word) (word : Word) (e : Entry) → before_colon word ≡ o → label_or_halt o word ≡ Some e → SpellsEntry names (word ∷ []) e
-lone-spelled names (Some name) word e at h =
-    let p = only-then (is_label_name name) (Some (entry.Label name)) e h in
-    subst (SpellsEntry names (word ∷ [])) (some-same (entry.Label name) e p.1) (ap (λ w. w ∷ []) (colon-spelled word name at), p.0)
-lone-spelled names None word e at h =
-    let p = only-then (bytes_eq word (codes "halt")) (Some entry.Halt) e h in
-    subst (SpellsEntry names (word ∷ [])) (some-same entry.Halt e p.1) (ap (λ w. w ∷ []) (bytes-same word (codes "halt") p.0))
-
--- ---- lines of more words
+-- ---- steps
 
 bind-spelled : (names : Names) (word name : Word) (others : Words) (e : Entry) → word ≡ codes "bind" → bind_in names name others ≡ Some e
     → SpellsEntry names (word ∷ name ∷ others) e
@@ -148,23 +147,32 @@ request-spelled names v word key words e w h =
       together = m.1;
     }
 
-verb-spelled : (names : Names) (o : Option Verb) (word key : Word) (words : Words) (e : Entry) → verb_of word ≡ o → behind_verb names o key words ≡ Some e
-    → SpellsEntry names (word ∷ key ∷ words) e
-verb-spelled names None word key words e w h = absurd (cc)
-verb-spelled names (Some v) word key words e w h = request-spelled names v word key words e (word-of_verb word v w) h
+step-spelled : (names : Names) (k : Keyword) (word : Word) (others : Words) (e : Entry) → word ≡ keyword_word k → step_words names k others ≡ Some e
+    → SpellsEntry names (word ∷ others) e
+step-spelled names keyword.Bind word [] e w h = absurd (cc)
+step-spelled names keyword.Bind word (name ∷ others) e w h = bind-spelled names word name others e w h
+step-spelled names keyword.Goto word [] e w h = absurd (cc)
+step-spelled names keyword.Goto word (label ∷ others) e w h = goto-spelled names word label others e w h
+step-spelled names keyword.Halt word [] e w h =
+    subst (SpellsEntry names (word ∷ [])) (some-same entry.Halt e h) (ap (λ x. x ∷ []) w)
+step-spelled names keyword.Halt word (_ ∷ _) e w h = absurd (cc)
+step-spelled names (keyword.Request v) word [] e w h = absurd (cc)
+step-spelled names (keyword.Request v) word (key ∷ words) e w h = request-spelled names v word key words e (sym w) h
+
+line-spelled : (names : Names) (o : Option Word) (word : Word) (others : Words) (e : Entry) → label_of (word ∷ others) ≡ o
+    → line_entry names o word others ≡ Some e → SpellsEntry names (word ∷ others) e
+line-spelled names (Some name) word [] e at h =
+    let p = only-then (is_label_name name) (Some (entry.Label name)) e h in
+    subst (SpellsEntry names (word ∷ [])) (some-same (entry.Label name) e p.1) (ap (λ w. w ∷ []) (colon-spelled word name at), p.0)
+line-spelled names (Some name) word (_ ∷ _) e at h = absurd (cc)
+line-spelled names None word others e at h =
+    let p = then-some (keyword_of word) (λ k. step_words names k others) e h in
+    step-spelled names p.0 word others e (keyword-same word p.0 p.1) p.2
 
 pub entry-spelled : (names : Names) (line : Words) (e : Entry) → entry_in names line ≡ Some e → SpellsEntry names line e
 unfolding entry_in
 entry-spelled names [] e h = absurd (cc)
-entry-spelled names (word ∷ []) e h = lone-spelled names (before_colon word) word e refl h
-entry-spelled names (word ∷ next ∷ others) e h =
-    let Whole = SpellsEntry names (word ∷ next ∷ others) e in
-    cond-cases (bytes_eq word (codes "bind")) (bind_in names next others)
-    (cond (bytes_eq word (codes "goto")) (goto_in next others) (behind_verb names (verb_of word) next others)) e Whole h
-    (λ b g. bind-spelled names word next others e (bytes-same word (codes "bind") b) g)
-    (λ _ g. cond-cases (bytes_eq word (codes "goto")) (goto_in next others) (behind_verb names (verb_of word) next others) e Whole g
-    (λ b k. goto-spelled names word next others e (bytes-same word (codes "goto") b) k)
-    (λ _ k. verb-spelled names (verb_of word) word next others e refl k))
+entry-spelled names (word ∷ others) e h = line-spelled names (label_of (word ∷ others)) word others e refl h
 
 -- ---- what is spelled is read
 
@@ -179,7 +187,7 @@ request-read names line t marks s =
     let f = fields-read names (fields_of t.verb) s.fields s.others t s.spelled in
     let m = marks-read names t.verb s.others marks s.marked s.together in
     let same = same-template t 0 0 0 0 s.bare.require_set s.bare.require_clear s.bare.sets s.bare.clears in
-    rw (s.words, verb-not-bind t.verb, verb-not-goto t.verb, verb_of-word t.verb, s.declared, f.0, f.1, m) (ap (λ x. Some (entry.Send x marks)) same)
+    rw (s.words, verb-keyword t.verb, s.declared, f.0, f.1, m) (ap (λ x. Some (entry.Send x marks)) same)
 
 pub entry-read : (names : Names) (line : Words) (e : Entry) → SpellsEntry names line e → entry_in names line ≡ Some e
 unfolding entry_in

@@ -1,4 +1,4 @@
--- Numbers, bodies and what stands behind a key are read exactly where words spell them.
+-- Numbers, bodies and the fields after a key are read exactly where words spell them.
 use Rattle.std.proofs.Common.{◌≡◌, ℕ, ◌==◌, true, false, Some, Result, Ok, Err, List, [], ◌∷◌, ◌++◌, drop, refl, sym, ap, subst, ◌∙◌, arith}
 use Rattle.std.proofs.lemmas.Bool.{eqb-true, and_parts}
 use Rattle.std.proofs.lemmas.Bool.Decides.{nat_tests}
@@ -19,7 +19,7 @@ use Rattle.mc_script.specs.Script.{Names}
 use Rattle.mc_script.specs.ScriptWords.{is_body, body_word}
 use Rattle.mc_script.specs.SectionText.{SpellsAmount, SpellsUnique, SpellsFields}
 use Rattle.mc_script.specs.Steps.{◌>>=◌}
-use Rattle.mc_script.specs.Reading.{number_in, body_in, variable_behind, unique_in, plain_amount_in, amount_in, fields_in, field_count, template_of}
+use Rattle.mc_script.specs.Reading.{number_in, body_in, variable_named, unique_in, plain_amount_in, amount_in, fields_in, field_count, template_of}
 use Rattle.mc_script.proofs.Outcomes.{then-some, some-same, only-then, cond-cases}
 
 -- ---- numbers
@@ -54,7 +54,7 @@ body-read word body e b = rw (e, b) refl
 pub unique-spelled : (names : Names) (word : Word) (a : Argument) → unique_in names word ≡ Some a → SpellsUnique names word a
 unique-spelled names [] a h = absurd (cc)
 unique-spelled names (first ∷ name) a h =
-    let p = only-then (first == 36) (variable_behind names name) a h in
+    let p = only-then (first == 36) (variable_named names name) a h in
     let q = then-some (index_of names.vars name) (λ v. Some (argument.Variable v)) a p.1 in
     let P : Argument → Type 0 = SpellsUnique names (first ∷ name) in
     subst P (some-same (argument.Variable q.0) a q.2) (name, ap (λ byte. byte ∷ name) (eqb-true first 36 p.0), q.1)
@@ -68,7 +68,7 @@ pub amount-spelled : (names : Names) (word : Word) (a : Argument) → amount_in 
 amount-spelled names [] a h = absurd (cc)
 amount-spelled names (first ∷ name) a h =
     let P : Argument → Type 0 = SpellsAmount names (first ∷ name) in
-    cond-cases (first == 36) (variable_behind names name) (plain_amount_in (first ∷ name)) a (SpellsAmount names (first ∷ name) a) h
+    cond-cases (first == 36) (variable_named names name) (plain_amount_in (first ∷ name)) a (SpellsAmount names (first ∷ name) a) h
     (λ dollar g.
     let q = then-some (index_of names.vars name) (λ v. Some (argument.Variable v)) a g in
     subst P (some-same (argument.Variable q.0) a q.2) (name, ap (λ byte. byte ∷ name) (eqb-true first 36 dollar), q.1))
@@ -90,7 +90,7 @@ amount-read names word argument.Nothing s = absurd s
 amount-read names word (argument.Number n) s = plain-read names word n s
 amount-read names word (argument.Variable v) (name, e, i) = rw (e, i) refl
 
--- ---- what stands behind the key
+-- ---- the fields after the key
 
 -- the words are what the parts spell, and others
 pub record SpelledParts (names : Names) (shape : Fields) (words : Words) (v : Verb) (key : ℕ) (parts : Parts) : Type 0 where

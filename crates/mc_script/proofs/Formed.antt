@@ -30,7 +30,7 @@ use Rattle.mc_script.specs.declared.step.Template.{Template}
 use Rattle.mc_script.specs.Script.{Names, Section, Script}
 use Rattle.mc_script.specs.Marks.{SpellsMark, may_stand, may_stand_together, have_no_twins, shows_numbers, is_bind, is_number_jump, bound_by}
 use Rattle.mc_script.specs.SectionText.{SpellEach, SpellsAmount, SpellsUnique, SpellsFields, SpellsRequest, SpellsEntry, SpellsSection}
-use Rattle.mc_script.specs.Steps.{in_front, sends, goes, marked, jumps_on, label_behind, labels_from, steps_from}
+use Rattle.mc_script.specs.Steps.{in_front, sends, goes, with_marks, jumps_on, label_after, labels_from, steps_from}
 use Rattle.mc_script.specs.declared.version.Version.{Version}
 use Rattle.mc_script.specs.ScriptText.{SpellsBudget, SpellsScript}
 use Rattle.mc_script.specs.Templates.{IsTemplate, has_fields, is_variable, is_amount}
@@ -38,7 +38,7 @@ use Rattle.mc_script.specs.WellFormed.{IsStep, AreSteps, AreLabels, IsSection, I
 use Rattle.mc_script.proofs.Declared.{steps-within}
 use Rattle.mc_script.proofs.Outcomes.{some-same}
 use Rattle.mc_script.proofs.Masks.{mask-below, masks-apart}
-use Rattle.mc_script.proofs.JumpLists.{label-behind, jumps-formed, no-number-jump}
+use Rattle.mc_script.proofs.JumpLists.{label-after, jumps-formed, no-number-jump}
 use Rattle.mc_script.proofs.MarkLists.{three}
 use Rattle.mc_script.proofs.SectionLines.{step_total}
 use Rattle.mc_script.proofs.Sections.{steps-count}
@@ -68,7 +68,7 @@ fields-formed names fields.Swap words t (flags, unique, e, n, u, b) =
 fields-formed names fields.Amount words t (amount, e, f, a, b) = rw (f, b, amount-formed names amount t.argument a) refl
 
 template-formed : (names : Names) (line : Words) (t : Template) (marks : List Mark) → SpellsRequest names line t marks
-    → IsTemplate (length names.keys) (length names.flags) (length names.vars) (marked t marks)
+    → IsTemplate (length names.keys) (length names.flags) (length names.vars) (with_marks t marks)
 template-formed names line t marks s =
     let together = three (list_all (may_stand t.verb) marks) (have_no_twins marks) _ s.together in
     let none = pow_pos (length names.flags) in
@@ -120,18 +120,18 @@ request-formed names line t marks labels place None s r j h = absurd (cc)
 request-formed names line t marks labels place (Some jumps) s r j h =
     let P : Step → Type 0 = IsStep names labels place in
     let together = three (list_all (may_stand t.verb) marks) (have_no_twins marks) _ r.together in
-    subst P (some-same (step.Send (marked t marks) jumps (bound_by marks)) s h) (
+    subst P (some-same (step.Send (with_marks t marks) jumps (bound_by marks)) s h) (
       template-formed names line t marks r,
       jumps-formed t.verb labels place marks jumps together.0 j,
       bind-formed names t.verb r.others marks labels place jumps (bound_by marks) refl r.marked r.together j,
     )
 
 goto-formed : (names : Names) (labels : List Label) (place : ℕ) (name : Word) (o : Option ℕ) (s : Step)
-    → label_behind labels place name ≡ o → goes o ≡ Some s → IsStep names labels place s
+    → label_after labels place name ≡ o → goes o ≡ Some s → IsStep names labels place s
 goto-formed names labels place name None s l h = absurd (cc)
 goto-formed names labels place name (Some index) s l h =
     let P : Step → Type 0 = IsStep names labels place in
-    subst P (some-same (step.Goto index) s h) (label-behind labels place index name l)
+    subst P (some-same (step.Goto index) s h) (label-after labels place index name l)
 
 front-parts : {A : Type 0} (x : Option A) (xs : Option (List A)) (ys : List A) → in_front x xs ≡ Some ys
     → (z : A) × (zs : List A) × (x ≡ Some z) × (xs ≡ Some zs) × (z ∷ zs ≡ ys)
@@ -164,9 +164,9 @@ steps-formed names (l ∷ lines) (entry.Bind v ∷ entries) labels place steps e
     )
 steps-formed names (l ∷ lines) (entry.Goto name ∷ entries) labels place steps e h =
     let P : List Step → Type 0 = AreSteps names labels place in
-    let (z, zs, one, others, all) = front-parts (goes (label_behind labels place name)) (steps_from labels (place + 1) entries) steps h in
+    let (z, zs, one, others, all) = front-parts (goes (label_after labels place name)) (steps_from labels (place + 1) entries) steps h in
     subst P all (
-      goto-formed names labels place name (label_behind labels place name) z refl one,
+      goto-formed names labels place name (label_after labels place name) z refl one,
       steps-formed names lines entries labels (place + 1) zs e.1 others,
     )
 steps-formed names (l ∷ lines) (entry.Halt ∷ entries) labels place steps e h =

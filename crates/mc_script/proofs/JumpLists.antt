@@ -1,4 +1,4 @@
--- The jumps of a step are on legal classes in their order, and lead to labels behind it.
+-- The jumps of a step are on legal classes in their order, and lead to labels after it.
 use Rattle.std.proofs.Common.{◌≡◌, ℕ, ◌+◌, ◌≤◌, ◌==◌, nat_lt, true, false, ◌&&◌, ◌⊎◌, inl, inr, ⊎_elim, Option, Some, None, List, [], ◌∷◌, get_or, refl, sym, ap, subst, ◌∙◌, arith}
 use Rattle.std.specs.List.{list_all, list_any}
 use Rattle.std.specs.Str.{bytes_eq}
@@ -15,7 +15,7 @@ use Rattle.mc_script.specs.declared.entry.Mark.{Mark}
 use Rattle.mc_script.specs.declared.entry.Mark.TheVariants as mark
 use Rattle.mc_script.specs.declared.section.Label.{Label}
 use Rattle.mc_script.specs.Marks.{may_stand, is_number_jump, target_of}
-use Rattle.mc_script.specs.Steps.{label_behind, with_jump, jump_before, jumps_on}
+use Rattle.mc_script.specs.Steps.{label_after, with_jump, jump_before, jumps_on}
 use Rattle.mc_script.specs.WellFormed.{IsBehind, AreJumps, is_number_class, jumps_on_number}
 use Rattle.mc_script.proofs.Outcomes.{some-same, cond-cases}
 
@@ -86,8 +86,8 @@ target-number (mark.Jump d l ∷ marks) c name h g =
 
 -- ---- labels
 
-pub label-behind : (labels : List Label) (place index : ℕ) (name : Word) → label_behind labels place name ≡ Some index → IsBehind labels place index
-label-behind labels place index name h =
+pub label-after : (labels : List Label) (place index : ℕ) (name : Word) → label_after labels place name ≡ Some index → IsBehind labels place index
+label-after labels place index name h =
     let none : Label = record { name = []; place = 0 } in
     let p = position-Some (λ (label : Label). bytes_eq label.name name && nat_lt place label.place) labels index none h in
     let label = get_or labels index none in
@@ -98,7 +98,7 @@ label-behind labels place index name h =
 -- no jump on the class, or one
 abbrev Jumped : List Label → ℕ → Class → Option Word → Option (List (Class × ℕ)) → List (Class × ℕ) → Type 0
 Jumped labels place c o rest jumps =
-    (rest ≡ Some jumps) ⊎ ((name : Word) × (index : ℕ) × (js : List (Class × ℕ)) × (o ≡ Some name) × (label_behind labels place name ≡ Some index)
+    (rest ≡ Some jumps) ⊎ ((name : Word) × (index : ℕ) × (js : List (Class × ℕ)) × (o ≡ Some name) × (label_after labels place name ≡ Some index)
     × (rest ≡ Some js) × (jumps ≡ (c, index) ∷ js))
 
 with-parts : (c : Class) (o : Option ℕ) (rest : Option (List (Class × ℕ))) (jumps : List (Class × ℕ)) → with_jump c o rest ≡ Some jumps
@@ -111,7 +111,7 @@ jump-parts : (labels : List Label) (place : ℕ) (c : Class) (o : Option Word) (
     → jump_before labels place c o rest ≡ Some jumps → Jumped labels place c o rest jumps
 jump-parts labels place c None rest jumps h = inl h
 jump-parts labels place c (Some name) rest jumps h =
-    let (index, js, e, f, g) = with-parts c (label_behind labels place name) rest jumps h in
+    let (index, js, e, f, g) = with-parts c (label_after labels place name) rest jumps h in
     inr (name, index, js, refl, e, f, g)
 
 weaker : (v : Verb) (labels : List Label) (place a b : ℕ) (jumps : List (Class × ℕ)) → a ≤ b → AreJumps v labels place b jumps → AreJumps v labels place a jumps
@@ -133,7 +133,7 @@ jumps-on-formed v labels place least marks (c ∷ classes) jumps asc stand h =
     (λ (name, index, js, e, f, g, d). subst P (sym d) (
       from,
       target-legal v marks c name stand e,
-      label-behind labels place index name f,
+      label-after labels place index name f,
       jumps-on-formed v labels place (class_index c + 1) marks classes js asc.1 stand g,
     ))
     (jump-parts labels place c (target_of c marks) (jumps_on labels place marks classes) jumps h)

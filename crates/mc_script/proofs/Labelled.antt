@@ -1,22 +1,25 @@
 -- A line is a label exactly where what it says is one.
-use Rattle.std.proofs.Common.{◌≡◌, ℕ, ◌+◌, true, false, cond, Option, Some, None, List, [], ◌∷◌, ◌++◌, drop, refl, sym, ap, ◌∙◌, codes, arith}
+use Rattle.std.proofs.Common.{◌≡◌, ℕ, ◌+◌, ◌≤◌, nat_lt, Bool, true, false, cond, Option, Some, None, Result, Ok, Err, List, [], ◌∷◌, ◌++◌, drop, refl, sym, ap, subst, ◌∙◌, arith}
+use Rattle.std.proofs.lemmas.Bool.{ltb-true}
 use Rattle.std.specs.List.{list_any}
-use Rattle.std.specs.Str.{bytes_eq}
+use Rattle.std.specs.Result.{IfOk}
 use Rattle.mc_protocol.specs.Fields.{fields_of}
 use Rattle.mc_protocol.specs.declared.request.Verb.{Verb}
-use Rattle.mc_protocol.specs.Lines.{Word, Words, is_only}
-use Rattle.mc_protocol.specs.Names.{index_of}
-use Rattle.mc_protocol.specs.Words.{verb_of}
+use Rattle.mc_protocol.specs.Lines.{Word, Words}
+use Rattle.mc_protocol.specs.Names.{index_of, is_new}
 use Rattle.mc_script.specs.declared.entry.Entry.{Entry}
 use Rattle.mc_script.specs.declared.entry.Entry.TheVariants as entry
 use Rattle.mc_script.specs.declared.entry.Mark.{Mark}
+use Rattle.mc_script.specs.declared.fault.ScriptKind.{ScriptKind}
 use Rattle.mc_script.specs.declared.fields.Parts.{Parts}
+use Rattle.mc_script.specs.declared.read_entry.Keyword.{Keyword}
+use Rattle.mc_script.specs.declared.read_entry.Keyword.TheVariants as keyword
 use Rattle.mc_script.specs.Script.{Names}
 use Rattle.mc_script.specs.ScriptWords.{is_label_name}
 use Rattle.mc_script.specs.Steps.{◌>>=◌}
-use Rattle.mc_script.specs.Reading.{entry_in, label_or_halt, before_colon, bind_in, goto_in, behind_verb, request_in, fields_in, field_count, marks_in, binds, template_of}
-use Rattle.mc_script.specs.TextReading.{label_of, label_named_by, entries_in, may_follow, may_follow_as, step_count, with_label, count_with, names_with}
-use Rattle.mc_script.proofs.Outcomes.{then-some, cond-some, some-same, only-then}
+use Rattle.mc_script.specs.Reading.{Gives, entry_in, label_of, label_named, line_entry, keyword_of, step_words, bind_in, goto_in, request_in, fields_in, field_count, marks_in, binds, template_of}
+use Rattle.mc_script.specs.TextReading.{label_named_by, may_follow, following, step_count, with_label}
+use Rattle.mc_script.proofs.Outcomes.{then-some, some-same, only-then}
 
 no-label : (e f : Entry) → label_named_by e ≡ None → Some e ≡ Some f → label_named_by f ≡ None
 no-label e f n h = ap label_named_by (sym (some-same e f h)) ∙ n
@@ -31,14 +34,6 @@ goto-no-label : (label : Word) (others : Words) (e : Entry) → goto_in label ot
 goto-no-label label [] e h = no-label (entry.Goto label) e refl h
 goto-no-label label (_ ∷ _) e h = absurd (cc)
 
-lone-label : (name : Option Word) (word : Word) (e : Entry) → label_or_halt name word ≡ Some e → label_named_by e ≡ name
-lone-label (Some name) word e h =
-    let p = only-then (is_label_name name) (Some (entry.Label name)) e h in
-    ap label_named_by (sym (some-same (entry.Label name) e p.1))
-lone-label None word e h =
-    let p = only-then (bytes_eq word (codes "halt")) (Some entry.Halt) e h in
-    ap label_named_by (sym (some-same entry.Halt e p.1))
-
 request-no-label : (names : Names) (v : Verb) (key : Word) (words : Words) (e : Entry) → request_in names v key words ≡ Some e → label_named_by e ≡ None
 request-no-label names v key words e h =
     let rest = drop (field_count (fields_of v)) words in
@@ -49,82 +44,91 @@ request-no-label names v key words e h =
     let r = then-some read (λ marks. Some (made p.0 q.0 marks)) e q.2 in
     no-label (made p.0 q.0 r.0) e refl r.2
 
-verb-no-label : (names : Names) (v : Option Verb) (key : Word) (words : Words) (e : Entry) → behind_verb names v key words ≡ Some e → label_named_by e ≡ None
-verb-no-label names None key words e h = absurd (cc)
-verb-no-label names (Some v) key words e h = request-no-label names v key words e h
+step-no-label : (names : Names) (k : Keyword) (others : Words) (e : Entry) → step_words names k others ≡ Some e → label_named_by e ≡ None
+step-no-label names keyword.Bind [] e h = absurd (cc)
+step-no-label names keyword.Bind (name ∷ others) e h = bind-no-label names name others e h
+step-no-label names keyword.Goto [] e h = absurd (cc)
+step-no-label names keyword.Goto (label ∷ others) e h = goto-no-label label others e h
+step-no-label names keyword.Halt [] e h = no-label entry.Halt e refl h
+step-no-label names keyword.Halt (_ ∷ _) e h = absurd (cc)
+step-no-label names (keyword.Request v) [] e h = absurd (cc)
+step-no-label names (keyword.Request v) (key ∷ words) e h = request-no-label names v key words e h
 
--- what a line says has the label that the line is
-pub entry-label : (names : Names) (line : Words) (e : Entry) → entry_in names line ≡ Some e → label_named_by e ≡ label_of line
+line-no-label : (names : Names) (o : Option Word) (word : Word) (others : Words) (e : Entry) → o ≡ None → line_entry names o word others ≡ Some e
+    → label_named_by e ≡ None
+line-no-label names (Some name) word others e none h = absurd (cc)
+line-no-label names None word others e none h =
+    let p = then-some (keyword_of word) (λ k. step_words names k others) e h in
+    step-no-label names p.0 others e p.2
+
+-- a line that is no label says no label
+entry-no-label : (names : Names) (line : Words) (e : Entry) → label_of line ≡ None → entry_in names line ≡ Some e → label_named_by e ≡ None
 unfolding entry_in
-entry-label names [] e h = absurd (cc)
-entry-label names (word ∷ []) e h = lone-label (before_colon word) word e h
-entry-label names (word ∷ next ∷ others) e h =
-    cond-some (bytes_eq word (codes "bind")) (bind_in names next others)
-    (cond (bytes_eq word (codes "goto")) (goto_in next others) (behind_verb names (verb_of word) next others)) e
-    (label_named_by e ≡ None) h (bind-no-label names next others e)
-    (λ g. cond-some (bytes_eq word (codes "goto")) (goto_in next others) (behind_verb names (verb_of word) next others) e
-    (label_named_by e ≡ None) g (goto-no-label next others e) (verb-no-label names (verb_of word) next others e))
+entry-no-label names [] e none h = absurd (cc)
+entry-no-label names (word ∷ others) e none h = line-no-label names (label_of (word ∷ others)) word others e none h
 
--- whether an entry may follow, and what it adds, is known by its label
-may-follow : (limit count : ℕ) (labels : List Word) (e : Entry) → may_follow limit count labels e ≡ may_follow_as limit count labels (label_named_by e)
-may-follow limit count labels (entry.Label name) = refl
-may-follow limit count labels (entry.Send t marks) = refl
-may-follow limit count labels (entry.Bind v) = refl
-may-follow limit count labels (entry.Goto name) = refl
-may-follow limit count labels entry.Halt = refl
+-- ---- whether a line may follow
 
-added-steps : (count : ℕ) (e : Entry) → count + step_count e ≡ count_with count (label_named_by e)
-added-steps count (entry.Label name) = omega arith
-added-steps count (entry.Send t marks) = refl
-added-steps count (entry.Bind v) = refl
-added-steps count (entry.Goto name) = refl
-added-steps count entry.Halt = refl
+step-follows : (limit count : ℕ) (labels : List Word) (e : Entry) → label_named_by e ≡ None
+    → (may_follow limit count labels e ≡ nat_lt count limit) × (with_label labels e ≡ labels)
+step-follows limit count labels (entry.Label name) n = absurd (cc)
+step-follows limit count labels (entry.Send t marks) n = (refl, refl)
+step-follows limit count labels (entry.Bind v) n = (refl, refl)
+step-follows limit count labels (entry.Goto name) n = (refl, refl)
+step-follows limit count labels entry.Halt n = (refl, refl)
 
-added-labels : (labels : List Word) (e : Entry) → with_label labels e ≡ names_with labels (label_named_by e)
-added-labels labels (entry.Label name) = refl
-added-labels labels (entry.Send t marks) = refl
-added-labels labels (entry.Bind v) = refl
-added-labels labels (entry.Goto name) = refl
-added-labels labels entry.Halt = refl
+cond-none : {A : Type 0} (b : Bool) → ◌≡◌ {A = Option A} (cond b None None) None
+cond-none true = refl
+cond-none false = refl
 
--- one line further on, the same is read
-pub entries-step : (limit : ℕ) (names : Names) (stop : Word) (entries : List Entry) (count : ℕ) (labels : List Word) (line : Words) (lines : List Words) (e : Entry)
-    → is_only stop line ≡ false → entry_in names line ≡ Some e → may_follow_as limit count labels (label_of line) ≡ true
-    → entries_in limit names stop entries count labels (line ∷ lines)
-    ≡ entries_in limit names stop (entries ++ e ∷ []) (count_with count (label_of line)) (names_with labels (label_of line)) lines
-entries-step limit names stop entries count labels line lines e other read follows =
-    let named = entry-label names line e read in
-    let may : may_follow limit count labels e ≡ true = may-follow limit count labels e ∙ ap (may_follow_as limit count labels) named ∙ follows in
-    rw (other, read, may, added-steps count e, added-labels labels e, named) refl
+steps-follow : (limit count : ℕ) (labels : List Word) (read : Option Entry) → ((e : Entry) → read ≡ Some e → label_named_by e ≡ None)
+    → following limit count labels read ≡ cond (nat_lt count limit) read None
+steps-follow limit count labels None n = sym (cond-none (nat_lt count limit))
+steps-follow limit count labels (Some e) n = ap (λ b. cond b (Some e) None) (step-follows limit count labels e (n e refl)).0
 
-pub entries-unread : (limit : ℕ) (names : Names) (stop : Word) (entries : List Entry) (count : ℕ) (labels : List Word) (line : Words) (lines : List Words)
-    → is_only stop line ≡ false → entry_in names line ≡ None → entries_in limit names stop entries count labels (line ∷ lines) ≡ None
-entries-unread limit names stop entries count labels line lines other read = rw (other, read) refl
+-- a line that is no label may follow where there is room
+pub step_following : (limit count : ℕ) (labels : List Word) (names : Names) (line : Words) → label_of line ≡ None
+    → following limit count labels (entry_in names line) ≡ cond (nat_lt count limit) (entry_in names line) None
+step_following limit count labels names line none = steps-follow limit count labels (entry_in names line) (λ e h. entry-no-label names line e none h)
 
-pub entries-refused : (limit : ℕ) (names : Names) (stop : Word) (entries : List Entry) (count : ℕ) (labels : List Word) (line : Words) (lines : List Words) (e : Entry)
-    → is_only stop line ≡ false → entry_in names line ≡ Some e → may_follow_as limit count labels (label_of line) ≡ false
-    → entries_in limit names stop entries count labels (line ∷ lines) ≡ None
-entries-refused limit names stop entries count labels line lines e other read follows =
-    let may : may_follow limit count labels e ≡ false = may-follow limit count labels e ∙ ap (may_follow_as limit count labels) (entry-label names line e read) ∙ follows in
-    rw (other, read, may) refl
+-- and it adds no label
+pub step_adds : (limit count : ℕ) (labels : List Word) (names : Names) (line : Words) (result : Result Entry ScriptKind) → label_of line ≡ None
+    → Gives result (cond (nat_lt count limit) (entry_in names line) None) → IfOk result (λ e. labels ≡ with_label labels e)
+step_adds limit count labels names line (Err fault) none h = tt
+step_adds limit count labels names line (Ok e) none h =
+    sym (step-follows limit count labels e (entry-no-label names line e none (only-then (nat_lt count limit) (entry_in names line) e h).1)).1
 
--- the same, by what the code knows of the line
-pub reading-refused : (limit : ℕ) (names : Names) (stop : Word) (entries : List Entry) (count : ℕ) (labels : List Word) (line words : Words) (all lines : List Words)
-    → (e : Entry) → (o : Option Word) → (target : Option (List Entry × List Words))
-    → entries_in limit names stop entries count labels all ≡ target → all ≡ line ∷ lines → is_only stop line ≡ false
-    → words ≡ line → entry_in names words ≡ Some e → label_of line ≡ o → may_follow_as limit count labels o ≡ false → target ≡ None
-reading-refused limit names stop entries count labels line words all lines e o target h d other w read label follows =
-    let read-here : entry_in names line ≡ Some e = ap (entry_in names) (sym w) ∙ read in
-    sym h ∙ ap (entries_in limit names stop entries count labels) d
-    ∙ entries-refused limit names stop entries count labels line lines e other read-here (ap (may_follow_as limit count labels) label ∙ follows)
+line-labelled : (names : Names) (o : Option Word) (word : Word) (others : Words) (name : Word) → o ≡ Some name → line_entry names o word others ≡ label_named name
+line-labelled names None word others name h = absurd (cc)
+line-labelled names (Some x) word others name h = ap label_named (some-same x name h)
 
-pub reading-step : (limit : ℕ) (names : Names) (stop : Word) (entries more : List Entry) (count next : ℕ) (labels known : List Word) (line words : Words) (all lines : List Words)
-    → (e : Entry) → (o : Option Word) → (target : Option (List Entry × List Words))
-    → entries_in limit names stop entries count labels all ≡ target → all ≡ line ∷ lines → is_only stop line ≡ false
-    → words ≡ line → entry_in names words ≡ Some e → label_of line ≡ o → may_follow_as limit count labels o ≡ true
-    → more ≡ entries ++ e ∷ [] → next ≡ count_with count o → known ≡ names_with labels o
-    → entries_in limit names stop more next known lines ≡ target
-reading-step limit names stop entries more count next labels known line words all lines e o target h d other w read label follows m n k =
-    let read-here : entry_in names line ≡ Some e = ap (entry_in names) (sym w) ∙ read in
-    let step = entries-step limit names stop entries count labels line lines e other read-here (ap (may_follow_as limit count labels) label ∙ follows) in
-    rw (m, n, k, ← label) (sym step ∙ ap (entries_in limit names stop entries count labels) (sym d) ∙ h)
+label-entry : (names : Names) (line : Words) (name : Word) → label_of line ≡ Some name → entry_in names line ≡ label_named name
+unfolding entry_in
+label-entry names [] name h = absurd (cc)
+label-entry names (word ∷ others) name h = line-labelled names (label_of (word ∷ others)) word others name h
+
+label-same : (name : Word) (e : Entry) → label_named name ≡ Some e → entry.Label name ≡ e
+label-same name e h = some-same (entry.Label name) e (only-then (is_label_name name) (Some (entry.Label name)) e h).1
+
+-- a label may follow where it is new
+pub label_following : (limit count : ℕ) (labels : List Word) (names : Names) (line : Words) (name : Word) (e : Entry) → label_of line ≡ Some name
+    → label_named name ≡ Some e → following limit count labels (entry_in names line) ≡ cond (is_new labels name) (Some e) None
+label_following limit count labels names line name e at h =
+    let P : Entry → Type 0 = λ x. following limit count labels (Some x) ≡ cond (is_new labels name) (Some x) None in
+    ap (following limit count labels) (label-entry names line name at ∙ h) ∙ subst P (label-same name e h) refl
+
+pub label_unread : (limit count : ℕ) (labels : List Word) (names : Names) (line : Words) (name : Word) → label_of line ≡ Some name
+    → label_named name ≡ None → following limit count labels (entry_in names line) ≡ None
+label_unread limit count labels names line name at h = ap (following limit count labels) (label-entry names line name at ∙ h)
+
+-- and it is added
+pub label_adds : (labels : List Word) (name : Word) (e : Entry) → label_named name ≡ Some e → with_label labels e ≡ labels ++ name ∷ []
+label_adds labels name e h = ap (with_label labels) (sym (label-same name e h))
+
+-- the steps that there are then
+pub few_follow : (limit count : ℕ) (labels : List Word) (e : Entry) → count ≤ limit → may_follow limit count labels e ≡ true → count + step_count e ≤ limit
+few_follow limit count labels (entry.Label name) few may = omega (arith, few)
+few_follow limit count labels (entry.Send t marks) few may = let below = ltb-true count limit may in omega (arith, below)
+few_follow limit count labels (entry.Bind v) few may = let below = ltb-true count limit may in omega (arith, below)
+few_follow limit count labels (entry.Goto name) few may = let below = ltb-true count limit may in omega (arith, below)
+few_follow limit count labels entry.Halt few may = let below = ltb-true count limit may in omega (arith, below)

@@ -10,9 +10,9 @@ take_whole : {X : Type 0} (xs : List X) → take (length xs) xs ≡ xs
 take_whole [] = refl
 take_whole (x ∷ xs) = ap (λ ys. x ∷ ys) (take_whole xs)
 
--- the words behind the first, as a pattern takes them
-pub behind_first : {X : Type 0} (x : X) (xs : List X) → take (length (x ∷ xs) - 1) (drop 1 (x ∷ xs)) ≡ xs
-behind_first x xs =
+-- the words after the first, as a pattern takes them
+pub after_first : {X : Type 0} (x : X) (xs : List X) → take (length (x ∷ xs) - 1) (drop 1 (x ∷ xs)) ≡ xs
+after_first x xs =
     let n : length (x ∷ xs) - 1 ≡ length xs = omega arith in
     let P : ℕ → Type 0 = λ k. take k xs ≡ xs in
     subst P (sym n) (take_whole xs)

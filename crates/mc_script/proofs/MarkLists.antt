@@ -31,7 +31,7 @@ may_join_all v bound done (m ∷ marks) = may_join v bound done m && may_join_al
 
 -- ---- reading, mark by mark
 
--- the words spell the marks behind those that were read, which may join them
+-- the words spell the marks after those that were read, which may join them
 pub record SpelledMarks (names : Names) (v : Verb) (bound : Bool) (done : List Mark) (words : Words) (all : List Mark) : Type 0 where
   pub marks : List Mark
   pub all_are : all ≡ done ++ marks

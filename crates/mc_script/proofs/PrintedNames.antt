@@ -12,7 +12,7 @@ use Rattle.mc_protocol.proofs.Decimals.{decimal-spells}
 use Rattle.mc_script.specs.declared.section.Label.{Label}
 use Rattle.mc_script.specs.ScriptWords.{is_label_name, is_body, is_body_byte, body_word, label_word}
 use Rattle.mc_script.specs.SectionText.{label_names}
-use Rattle.mc_script.specs.Steps.{label_behind}
+use Rattle.mc_script.specs.Steps.{label_after}
 use Rattle.mc_script.specs.PrintedScript.{name_at, label_at}
 use Rattle.mc_script.proofs.PrintedLines.{is_plain, are_plain, is_whole, all-weaker}
 use Rattle.mc_script.proofs.SectionLines.{bytes-equal}
@@ -124,7 +124,7 @@ label-place-found (l ∷ labels) place (suc index) label distinct get lt =
 
 -- the label with an index has this index behind a step
 pub label-found : (labels : List Label) (place index : ℕ) (label : Label) → are_distinct (label_names labels) ≡ true
-    → slice_get labels index ≡ Some label → place < label.place → label_behind labels place (label_at labels index) ≡ Some index
+    → slice_get labels index ≡ Some label → place < label.place → label_after labels place (label_at labels index) ≡ Some index
 label-found labels place index label distinct get lt =
     let p = label-place-found labels place index label distinct get lt in
     rw (p.0, lt-ltb index (length labels) p.1) refl

@@ -33,7 +33,7 @@ use Rattle.mc_script.specs.Script.{Names, AreDeclared}
 use Rattle.mc_script.specs.ScriptWords.{is_label_name, is_body, body_word, variable_word}
 use Rattle.mc_script.specs.Marks.{sign_byte, jump_word, bind_word, bound_by}
 use Rattle.mc_script.specs.SectionText.{SpellsEntry, SpellsFields, SpellsUnique, SpellsAmount, label_names}
-use Rattle.mc_script.specs.Steps.{in_front, sends, goes, marked, steps_from}
+use Rattle.mc_script.specs.Steps.{in_front, sends, goes, with_marks, steps_from}
 use Rattle.mc_script.specs.Templates.{IsTemplate, has_fields, is_nothing, is_variable, is_amount, is_empty}
 use Rattle.mc_script.specs.WellFormed.{IsBehind, AreJumps, MayBind, IsStep}
 use Rattle.mc_script.specs.PrintedScript.{name_at, label_at, item_words, argument_words, flag_words, all_flag_words, jump_words, bind_words, mark_words, field_words, step_words}
@@ -165,7 +165,7 @@ step-spells names labels place step.Halt k h = refl
 -- ---- steps again
 
 marked-again : (names : Names) (labels : List Label) (t : Template) (jumps : List (Class × ℕ)) (bind : Option ℕ)
-    → IsTemplate (length names.keys) (length names.flags) (length names.vars) t → marked (bare t) (marks_of names.flags labels t jumps bind) ≡ t
+    → IsTemplate (length names.keys) (length names.flags) (length names.vars) t → with_marks (bare t) (marks_of names.flags labels t jumps bind) ≡ t
 marked-again names labels t jumps bind h =
     let fs = names.flags in
     same-template t _ _ _ _ (sym (says-require_set fs labels t jumps bind h.require_set)) (sym (says-require_clear fs labels t jumps bind h.require_clear))

@@ -1,5 +1,5 @@
 -- The lines of a section are read exactly where they spell it.
-use Rattle.std.proofs.Common.{◌≡◌, ℕ, ◌+◌, ◌≤◌, nat_lt, Bool, true, false, not, ◌&&◌, ◌||◌, cond, Option, Some, None, List, [], ◌∷◌, ◌++◌, refl, sym, ap, ◌∙◌, arith}
+use Rattle.std.proofs.Common.{◌≡◌, ℕ, ◌+◌, ◌≤◌, nat_lt, Bool, true, false, not, ◌&&◌, ◌||◌, cond, Option, Some, None, List, [], ◌∷◌, ◌++◌, refl, sym, ap, subst, ◌∙◌, arith}
 use Rattle.std.specs.List.{list_any, list_all}
 use Rattle.std.specs.Str.{bytes_eq}
 use Rattle.std.proofs.lemmas.Bool.{and_parts, and_from, ltb-true, lt-ltb}
@@ -12,7 +12,7 @@ use Rattle.mc_script.specs.Script.{Names}
 use Rattle.mc_script.specs.SectionText.{SpellEach, SpellsEntry}
 use Rattle.mc_script.specs.Steps.{◌>>=◌}
 use Rattle.mc_script.specs.Reading.{entry_in}
-use Rattle.mc_script.specs.TextReading.{entries_in, may_follow, step_count, with_label}
+use Rattle.mc_script.specs.TextReading.{entries_in, may_follow, following, step_count, with_label}
 use Rattle.mc_script.proofs.Outcomes.{then-some, cond-cases, some-same, only-then}
 use Rattle.mc_script.proofs.EntryWords.{entry-spelled, entry-read}
 
@@ -22,7 +22,7 @@ bytes-same xs ys = (bytes_eq-Decides xs ys).0
 pub bytes-equal : (xs : Word) → bytes_eq xs xs ≡ true
 bytes-equal xs = (bytes_eq-Decides xs xs).1 refl
 
--- ---- the line behind a section
+-- ---- the line after a section
 
 pub only-line : (stop : Word) (line : Words) → is_only stop line ≡ true → line ≡ stop ∷ []
 only-line stop [] h = absurd (cc)
@@ -62,13 +62,22 @@ push_assoc : {X : Type 0} (xs : List X) (x : X) (ys : List X) → (xs ++ x ∷ [
 push_assoc [] x ys = refl
 push_assoc (y ∷ xs) x ys = ap (λ zs. y ∷ zs) (push_assoc xs x ys)
 
+-- an entry that may follow was read, and may follow
+pub followed : (limit count : ℕ) (labels : List Word) (read : Option Entry) (e : Entry) → following limit count labels read ≡ Some e
+    → (read ≡ Some e) × (may_follow limit count labels e ≡ true)
+followed limit count labels read e h =
+    let p = then-some read (λ x. cond (may_follow limit count labels x) (Some x) None) e h in
+    let q = only-then (may_follow limit count labels p.0) (Some p.0) e p.2 in
+    let P : Entry → Type 0 = λ x. (read ≡ Some x) × (may_follow limit count labels x ≡ true) in
+    subst P (some-same p.0 e q.1) (p.1, q.0)
+
 pub entries-spelled : (limit : ℕ) (names : Names) (stop : Word) (done : List Entry) (count : ℕ) (labels : List Word) (lines : List Words) (all : List Entry) (rest : List Words)
     → entries_in limit names stop done count labels lines ≡ Some (all, rest) → SpelledEntries limit names stop done count labels lines all rest
 unfolding may_follow_all
 entries-spelled limit names stop done count labels [] all rest h = absurd (cc)
 entries-spelled limit names stop done count labels (line ∷ lines) all rest h =
     let next : Entry → Option (List Entry × List Words) = λ e. entries_in limit names stop (done ++ e ∷ []) (count + step_count e) (with_label labels e) lines in
-    let onward : Option (List Entry × List Words) = entry_in names line >>= λ e. cond (may_follow limit count labels e) (next e) None in
+    let onward : Option (List Entry × List Words) = following limit count labels (entry_in names line) >>= next in
     cond-cases (is_only stop line) (Some (done, lines)) onward (all, rest) (SpelledEntries limit names stop done count labels (line ∷ lines) all rest) h
     (λ b g.
     let e = some-same (done, lines) (all, rest) g in
@@ -81,16 +90,16 @@ entries-spelled limit names stop done count labels (line ∷ lines) all rest h =
       follow = refl;
     })
     (λ _ g.
-    let p = then-some (entry_in names line) (λ e. cond (may_follow limit count labels e) (next e) None) (all, rest) g in
-    let q = only-then (may_follow limit count labels p.0) (next p.0) (all, rest) p.2 in
-    let r = entries-spelled limit names stop (done ++ p.0 ∷ []) (count + step_count p.0) (with_label labels p.0) lines all rest q.1 in
+    let p = then-some (following limit count labels (entry_in names line)) next (all, rest) g in
+    let (read, may) = followed limit count labels (entry_in names line) p.0 p.1 in
+    let r = entries-spelled limit names stop (done ++ p.0 ∷ []) (count + step_count p.0) (with_label labels p.0) lines all rest p.2 in
     record {
       entries = p.0 ∷ r.entries;
       body = line ∷ r.body;
       all_are = r.all_are ∙ push_assoc done p.0 r.entries;
       lines_are = ap (λ ls. line ∷ ls) r.lines_are;
-      spelled = (entry-spelled names line p.0 p.1, r.spelled);
-      follow = and_from (may_follow limit count labels p.0) (may_follow_all limit (count + step_count p.0) (with_label labels p.0) r.entries) q.0 r.follow;
+      spelled = (entry-spelled names line p.0 read, r.spelled);
+      follow = and_from (may_follow limit count labels p.0) (may_follow_all limit (count + step_count p.0) (with_label labels p.0) r.entries) may r.follow;
     })
 
 pub entries-read : (limit : ℕ) (names : Names) (stop : Word) (done : List Entry) (count : ℕ) (labels : List Word) (body : List Words) (entries : List Entry) (rest : List Words)
@@ -186,7 +195,7 @@ pub all-new : (names : List Word) → list_all (is_new []) names ≡ true
 all-new [] = refl
 all-new (name ∷ names) = all-new names
 
--- with a step in front
+-- with a step before them
 step-rules : (limit count : ℕ) (labels : List Word) (entries : List Entry) → nat_lt count limit ≡ true → Rules limit (count + 1) labels entries
     → (count + (1 + step_total entries) ≤ limit)
 step-rules limit count labels entries h r = let f = r.few in omega arith

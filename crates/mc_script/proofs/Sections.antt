@@ -13,7 +13,7 @@ use Rattle.mc_script.specs.declared.version.Version.{Version}
 use Rattle.mc_script.specs.Versions.{steps_limit}
 use Rattle.mc_script.specs.Script.{Names, Section}
 use Rattle.mc_script.specs.SectionText.{SpellEach, SpellsEntry, SpellsSection, label_names}
-use Rattle.mc_script.specs.Steps.{labels_from, steps_from, in_front, jumps_on, sends, goes, label_behind}
+use Rattle.mc_script.specs.Steps.{labels_from, steps_from, in_front, jumps_on, sends, goes, label_after}
 use Rattle.mc_script.specs.Reading.{entry_in}
 use Rattle.mc_script.specs.TextReading.{entries_in, section_in}
 use Rattle.mc_script.proofs.Outcomes.{then-some, some-same}
@@ -51,7 +51,7 @@ steps-count labels place (entry.Bind v ∷ entries) steps h =
     let f = p.2 in
     omega (arith, e, f)
 steps-count labels place (entry.Goto name ∷ entries) steps h =
-    let p = front-length (goes (label_behind labels place name)) (steps_from labels (place + 1) entries) steps h in
+    let p = front-length (goes (label_after labels place name)) (steps_from labels (place + 1) entries) steps h in
     let e = steps-count labels (place + 1) entries p.0 p.1 in
     let f = p.2 in
     omega (arith, e, f)

@@ -10,7 +10,7 @@ use Rattle.mc_script.specs.declared.entry.Mark.{Mark}
 use Rattle.mc_script.specs.declared.entry.Mark.TheVariants as mark
 use Rattle.mc_script.specs.declared.section.Label.{Label}
 use Rattle.mc_script.specs.Marks.{are_twins, have_no_twins, target_of}
-use Rattle.mc_script.specs.Steps.{label_behind, in_front, with_jump, jump_before, jumps_on}
+use Rattle.mc_script.specs.Steps.{label_after, in_front, with_jump, jump_before, jumps_on}
 use Rattle.mc_script.specs.TextReading.{target_in, targets_in, label_for, one_jump, jumps_to}
 use Rattle.mc_script.proofs.JumpLists.{class-same}
 use Rattle.mc_script.proofs.Outcomes.{some-same, cond-cases}
@@ -20,7 +20,7 @@ use Rattle.mc_script.proofs.Outcomes.{some-same, cond-cases}
 -- what the marks say of a class, and what was found for it
 abbrev Agree : List Label → ℕ → Option Word → Option ℕ → Type 0
 Agree labels place None found = found ≡ None
-Agree labels place (Some name) found = (label : ℕ) × (label_behind labels place name ≡ Some label) × (found ≡ Some label)
+Agree labels place (Some name) found = (label : ℕ) × (label_after labels place name ≡ Some label) × (found ≡ Some label)
 
 found-parts : (d : Class) (o : Option ℕ) (xs : Option (List (Class × ℕ))) (ts : List (Class × ℕ)) → in_front (target_in d o) xs ≡ Some ts
     → (label : ℕ) × (us : List (Class × ℕ)) × (o ≡ Some label) × (xs ≡ Some us) × (ts ≡ (d, label) ∷ us)
@@ -29,7 +29,7 @@ found-parts d (Some label) None ts h = absurd (cc)
 found-parts d None xs ts h = absurd (cc)
 
 agree-here : (labels : List Label) (place : ℕ) (b : Bool) (name : Word) (label : ℕ) (o : Option Word) (p : Option ℕ)
-    → label_behind labels place name ≡ Some label → Agree labels place o p → Agree labels place (cond b (Some name) o) (cond b (Some label) p)
+    → label_after labels place name ≡ Some label → Agree labels place o p → Agree labels place (cond b (Some name) o) (cond b (Some label) p)
 agree-here labels place true name label o p e a = (label, e, refl)
 agree-here labels place false name label o p e a = a
 
@@ -39,7 +39,7 @@ targets-agree labels place c [] ts h = ap (label_for c) (sym (some-same [] ts h)
 targets-agree labels place c (mark.Flag s f ∷ marks) ts h = targets-agree labels place c marks ts h
 targets-agree labels place c (mark.Bind v ∷ marks) ts h = targets-agree labels place c marks ts h
 targets-agree labels place c (mark.Jump d name ∷ marks) ts h =
-    let (label, us, e, f, g) = found-parts d (label_behind labels place name) (targets_in labels place marks) ts h in
+    let (label, us, e, f, g) = found-parts d (label_after labels place name) (targets_in labels place marks) ts h in
     let P : List (Class × ℕ) → Type 0 = λ xs. Agree labels place (target_of c (mark.Jump d name ∷ marks)) (label_for c xs) in
     subst P (sym g)
     (agree-here labels place (class_index c == class_index d) name label (target_of c marks) (label_for c us) e (targets-agree labels place c marks us f))
@@ -63,7 +63,7 @@ record Missing (labels : List Label) (place : ℕ) (marks : List Mark) : Type 0 
   on : Class
   name : Word
   target : target_of on marks ≡ Some name
-  missing : label_behind labels place name ≡ None
+  missing : label_after labels place name ≡ None
 
 same-index : (c : Class) → (class_index c == class_index c) ≡ true
 same-index class.Stored = refl
@@ -92,7 +92,7 @@ tail-missing : (d : Class) (label : ℕ) (xs : Option (List (Class × ℕ))) →
 tail-missing d label (Some us) h = absurd (cc)
 tail-missing d label None h = refl
 
-missing-jump : (labels : List Label) (place : ℕ) (d : Class) (name : Word) (marks : List Mark) (o : Option ℕ) → label_behind labels place name ≡ o
+missing-jump : (labels : List Label) (place : ℕ) (d : Class) (name : Word) (marks : List Mark) (o : Option ℕ) → label_after labels place name ≡ o
     → in_front (target_in d o) (targets_in labels place marks) ≡ None → have_no_twins (mark.Jump d name ∷ marks) ≡ true
     → (targets_in labels place marks ≡ None → have_no_twins marks ≡ true → Missing labels place marks)
     → Missing labels place (mark.Jump d name ∷ marks)
@@ -118,7 +118,7 @@ missing-target labels place (mark.Bind v ∷ marks) h n =
     let m = missing-target labels place marks h (and_parts (not (list_any (are_twins (mark.Bind v)) marks)) (have_no_twins marks) n).1 in
     record { on = m.on; name = m.name; target = m.target; missing = m.missing }
 missing-target labels place (mark.Jump d name ∷ marks) h n =
-    missing-jump labels place d name marks (label_behind labels place name) refl h n (λ g k. missing-target labels place marks g k)
+    missing-jump labels place d name marks (label_after labels place name) refl h n (λ g k. missing-target labels place marks g k)
 
 with-none : (c : Class) (o : Option ℕ) → with_jump c o None ≡ None
 with-none c (Some label) = refl
@@ -126,10 +126,10 @@ with-none c None = refl
 
 passes-none : (labels : List Label) (place : ℕ) (c : Class) (o : Option Word) → jump_before labels place c o None ≡ None
 passes-none labels place c None = refl
-passes-none labels place c (Some name) = with-none c (label_behind labels place name)
+passes-none labels place c (Some name) = with-none c (label_after labels place name)
 
 missing-step : (labels : List Label) (place : ℕ) (marks : List Mark) (c : Class) (name : Word) (d : Class) (classes : List Class) (b : Bool)
-    → (class_index c == class_index d) ≡ b → target_of c marks ≡ Some name → label_behind labels place name ≡ None
+    → (class_index c == class_index d) ≡ b → target_of c marks ≡ Some name → label_after labels place name ≡ None
     → (b ≡ false → jumps_on labels place marks classes ≡ None) → jumps_on labels place marks (d ∷ classes) ≡ None
 missing-step labels place marks c name d classes true e t m later =
     let here : target_of d marks ≡ Some name = ap (λ x. target_of x marks) (sym (class-same c d e)) ∙ t in
@@ -141,7 +141,7 @@ or-else true b h k = absurd (cc)
 or-else false b h k = h
 
 jumps-missing-on : (labels : List Label) (place : ℕ) (marks : List Mark) (c : Class) (name : Word) (classes : List Class) → target_of c marks ≡ Some name
-    → label_behind labels place name ≡ None → list_any (λ d. class_index c == class_index d) classes ≡ true → jumps_on labels place marks classes ≡ None
+    → label_after labels place name ≡ None → list_any (λ d. class_index c == class_index d) classes ≡ true → jumps_on labels place marks classes ≡ None
 jumps-missing-on labels place marks c name [] t m h = absurd (cc)
 jumps-missing-on labels place marks c name (d ∷ classes) t m h =
     missing-step labels place marks c name d classes (class_index c == class_index d) refl t m

@@ -9,7 +9,7 @@ use Rattle.mc_protocol.specs.Lines.{words_of_text, Word, Words, begins_with, is_
 use Rattle.mc_protocol.specs.declared.limits.TheConstants.{KEYS_LIMIT, KEY_BYTES_LIMIT, REQUESTS_LIMIT, REQUEST_BYTES_LIMIT}
 use Rattle.mc_protocol.specs.Decimals.{SpellsNumber}
 use Rattle.mc_protocol.specs.Sections as sections
-use Rattle.mc_protocol.specs.Words.{actor_word}
+use Rattle.mc_protocol.specs.Words.{actor_word, verb_of}
 use Rattle.mc_script.specs.declared.entry.Entry.{Entry}
 use Rattle.mc_script.specs.declared.limits.TheConstants.{NAME_BYTES_LIMIT, FLAGS_LIMIT, VARIABLES_LIMIT}
 use Rattle.mc_script.specs.declared.section.Budget.{Budget}
@@ -191,15 +191,15 @@ next-budget a (line ∷ lines) b rest h =
 -- ---- sections
 
 pub no-entry-a : (names : Names) → entry_in names (codes "A" ∷ []) ≡ None
-unfolding entry_in
+unfolding entry_in verb_of
 no-entry-a names = refl
 
 pub no-entry-b : (names : Names) → entry_in names (codes "B" ∷ []) ≡ None
-unfolding entry_in
+unfolding entry_in verb_of
 no-entry-b names = refl
 
 pub no-entry-end : (names : Names) → entry_in names (codes "end" ∷ []) ≡ None
-unfolding entry_in
+unfolding entry_in verb_of
 no-entry-end names = refl
 
 section-line : (lines rest : List Words) → section_line_in lines ≡ Some rest → lines ≡ section_line actor.P ∷ rest

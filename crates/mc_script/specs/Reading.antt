@@ -25,6 +25,8 @@ use Rattle.mc_script.specs.declared.fault.ScriptKind.TheVariants as kind
 use Rattle.mc_script.specs.declared.fault.ScriptFault.{ScriptFault}
 use Rattle.mc_script.specs.declared.fields.Parts.{Parts}
 use Rattle.mc_script.specs.declared.limits.TheConstants.{NAME_BYTES_LIMIT}
+use Rattle.mc_script.specs.declared.read_entry.Keyword.{Keyword}
+use Rattle.mc_script.specs.declared.read_entry.Keyword.TheVariants as keyword
 use Rattle.mc_script.specs.declared.section.Budget.{Budget}
 use Rattle.mc_script.specs.declared.step.Argument.{Argument}
 use Rattle.mc_script.specs.declared.step.Argument.TheVariants as argument
@@ -46,7 +48,7 @@ abbrev pub Shows : {X Y : Type 0} → (X → Y) → Result X ScriptKind → Opti
 Shows view (Ok x) read = read ≡ Some (view x)
 Shows view (Err k) read = k ≢ kind.OutOfMemory → read ≡ None
 
--- the same, where the fault tells its line
+-- the same, where the fault has the number of its line
 abbrev pub Says : {X Y : Type 0} → (X → Y) → Result X ScriptFault → Option Y → Type 0
 Says view (Ok x) read = read ≡ Some (view x)
 Says view (Err fault) read = fault.kind ≢ kind.OutOfMemory → read ≡ None
@@ -93,7 +95,7 @@ keys_in [] = None
 keys_in (line ∷ lines) =
     if begins_with (codes "keys") line then (names_in KEYS_LIMIT KEY_BYTES_LIMIT (drop 1 line) >>= λ names. Some (names, lines)) else None
 
--- a value, with the line that must follow and those behind it
+-- a value, with the line that must follow and those after it
 abbrev pub then_line : {A : Type 0} → A → List Words → Option (A × Words × List Words)
 then_line x [] = None
 then_line x (line ∷ lines) = Some (x, line, lines)
@@ -119,19 +121,19 @@ budget_in actor (word ∷ others) = if bytes_eq word (codes "budget") then amoun
 
 -- ---- requests
 
-abbrev pub variable_behind : Names → Word → Option Argument
-variable_behind names name = index_of names.vars name >>= λ v. Some (argument.Variable v)
+abbrev pub variable_named : Names → Word → Option Argument
+variable_named names name = index_of names.vars name >>= λ v. Some (argument.Variable v)
 
 abbrev pub unique_in : Names → Word → Option Argument
 unique_in names [] = None
-unique_in names (first ∷ name) = if first == 36 then variable_behind names name else None
+unique_in names (first ∷ name) = if first == 36 then variable_named names name else None
 
 abbrev pub plain_amount_in : Word → Option Argument
 plain_amount_in word = number_in MAX_64 word >>= λ n. Some (argument.Number n)
 
 abbrev pub amount_in : Names → Word → Option Argument
 amount_in names [] = None
-amount_in names (first ∷ name) = if first == 36 then variable_behind names name else plain_amount_in (first ∷ name)
+amount_in names (first ∷ name) = if first == 36 then variable_named names name else plain_amount_in (first ∷ name)
 
 abbrev pub item_in : Words → Option Parts
 item_in (flags ∷ body ∷ _) =
@@ -143,9 +145,9 @@ swap_in names (flags ∷ body ∷ unique ∷ _) =
     number_in MAX_32 flags >>= λ f. body_in body >>= λ b. unique_in names unique >>= λ u. Some (record { flags = f; argument = u; body = b })
 swap_in names _ = None
 
-abbrev pub counted_in : Names → Words → Option Parts
-counted_in names [] = None
-counted_in names (amount ∷ _) = amount_in names amount >>= λ a. Some (record { flags = 0; argument = a; body = [] })
+abbrev pub increment_in : Names → Words → Option Parts
+increment_in names [] = None
+increment_in names (amount ∷ _) = amount_in names amount >>= λ a. Some (record { flags = 0; argument = a; body = [] })
 
 abbrev pub nothing : Parts
 nothing = record { flags = 0; argument = argument.Nothing; body = [] }
@@ -156,7 +158,7 @@ fields_in names fields.KeyAlone words = Some nothing
 fields_in names fields.Expiry words = Some nothing
 fields_in names fields.Item words = item_in words
 fields_in names fields.Swap words = swap_in names words
-fields_in names fields.Amount words = counted_in names words
+fields_in names fields.Amount words = increment_in names words
 
 -- how many words that is
 abbrev pub field_count : Fields → ℕ
@@ -236,10 +238,6 @@ request_in names v key words =
     >>= λ parts. marks_in names v (list_any binds (drop (field_count (fields_of v)) words)) [] (drop (field_count (fields_of v)) words)
     >>= λ marks. Some (entry.Send (template_of v k parts) marks)
 
-abbrev pub behind_verb : Names → Option Verb → Word → Words → Option Entry
-behind_verb names None key words = None
-behind_verb names (Some v) key words = request_in names v key words
-
 abbrev pub bind_in : Names → Word → Words → Option Entry
 bind_in names name [] = index_of names.vars name >>= λ v. Some (entry.Bind v)
 bind_in names name (_ ∷ _) = None
@@ -248,7 +246,7 @@ abbrev pub goto_in : Word → Words → Option Entry
 goto_in label [] = Some (entry.Goto label)
 goto_in label (_ ∷ _) = None
 
--- what stands in front of the `:` at the end of a word
+-- the bytes before the `:` at the end of a word
 abbrev pub before_colon : Word → Option Word
 before_colon word =
     if length word == 0 then None
@@ -257,13 +255,37 @@ before_colon word =
 abbrev pub label_named : Word → Option Entry
 label_named name = if is_label_name name then Some (entry.Label name) else None
 
-abbrev pub label_or_halt : Option Word → Word → Option Entry
-label_or_halt (Some name) word = label_named name
-label_or_halt None word = if bytes_eq word (codes "halt") then Some entry.Halt else None
+-- the name of the label that the line is, if it is one
+abbrev pub label_of : Words → Option Word
+label_of [] = None
+label_of (word ∷ []) = before_colon word
+label_of (word ∷ _ ∷ _) = None
+
+-- what the first word of a step says it is
+abbrev pub request_word : Word → Option Keyword
+request_word word = verb_of word >>= λ v. Some (keyword.Request v)
+
+abbrev pub keyword_of : Word → Option Keyword
+keyword_of word =
+    if bytes_eq word (codes "bind") then Some keyword.Bind
+    else (if bytes_eq word (codes "goto") then Some keyword.Goto
+    else (if bytes_eq word (codes "halt") then Some keyword.Halt else request_word word))
+
+-- the step with these words after the first
+abbrev pub step_words : Names → Keyword → Words → Option Entry
+step_words names keyword.Bind [] = None
+step_words names keyword.Bind (name ∷ others) = bind_in names name others
+step_words names keyword.Goto [] = None
+step_words names keyword.Goto (label ∷ others) = goto_in label others
+step_words names keyword.Halt [] = Some entry.Halt
+step_words names keyword.Halt (_ ∷ _) = None
+step_words names (keyword.Request v) [] = None
+step_words names (keyword.Request v) (key ∷ words) = request_in names v key words
+
+abbrev pub line_entry : Names → Option Word → Word → Words → Option Entry
+line_entry names (Some name) word others = label_named name
+line_entry names None word others = keyword_of word >>= λ k. step_words names k others
 
 unfoldable pub entry_in : Names → Words → Option Entry
 entry_in names [] = None
-entry_in names (word ∷ []) = label_or_halt (before_colon word) word
-entry_in names (word ∷ next ∷ others) =
-    if bytes_eq word (codes "bind") then bind_in names next others
-    else (if bytes_eq word (codes "goto") then goto_in next others else behind_verb names (verb_of word) next others)
+entry_in names (word ∷ others) = line_entry names (label_of (word ∷ others)) word others

@@ -23,8 +23,8 @@ labels_from count (entry.Label name ∷ entries) = record { name = name; place =
 labels_from count (_ ∷ entries) = labels_from (count + 1) entries
 
 -- the index of the label with this name, which stands after the step at this place
-abbrev pub label_behind : List Label → ℕ → Word → Option ℕ
-label_behind labels place name = position (λ label. bytes_eq label.name name && nat_lt place label.place) labels
+abbrev pub label_after : List Label → ℕ → Word → Option ℕ
+label_after labels place name = position (λ label. bytes_eq label.name name && nat_lt place label.place) labels
 
 -- ---- values that may be missing
 
@@ -47,7 +47,7 @@ with_jump c _ _ = None
 
 abbrev pub jump_before : List Label → ℕ → Class → Option Word → Option (List (Class × ℕ)) → Option (List (Class × ℕ))
 jump_before labels place c None jumps = jumps
-jump_before labels place c (Some name) jumps = with_jump c (label_behind labels place name) jumps
+jump_before labels place c (Some name) jumps = with_jump c (label_after labels place name) jumps
 
 -- the jumps of the marks on these classes, in order, for a step at this place
 abbrev pub jumps_on : List Label → ℕ → List Mark → List Class → Option (List (Class × ℕ))
@@ -55,9 +55,9 @@ jumps_on labels place marks [] = Some []
 jumps_on labels place marks (c ∷ classes) =
     jump_before labels place c (target_of c marks) (jumps_on labels place marks classes)
 
--- the request with the flags that the marks say
-abbrev pub marked : Template → List Mark → Template
-marked t marks = record {
+-- the request with the flags of its marks
+abbrev pub with_marks : Template → List Mark → Template
+with_marks t marks = record {
   verb = t.verb;
   key = t.key;
   flags = t.flags;
@@ -70,7 +70,7 @@ marked t marks = record {
 }
 
 abbrev pub sends : Template → List Mark → Option (List (Class × ℕ)) → Option Step
-sends t marks (Some jumps) = Some (step.Send (marked t marks) jumps (bound_by marks))
+sends t marks (Some jumps) = Some (step.Send (with_marks t marks) jumps (bound_by marks))
 sends t marks None = None
 
 abbrev pub goes : Option ℕ → Option Step
@@ -86,6 +86,6 @@ steps_from labels place (entry.Send t marks ∷ entries) =
 steps_from labels place (entry.Bind variable ∷ entries) =
     in_front (Some (step.Bind variable)) (steps_from labels (place + 1) entries)
 steps_from labels place (entry.Goto name ∷ entries) =
-    in_front (goes (label_behind labels place name)) (steps_from labels (place + 1) entries)
+    in_front (goes (label_after labels place name)) (steps_from labels (place + 1) entries)
 steps_from labels place (entry.Halt ∷ entries) =
     in_front (Some step.Halt) (steps_from labels (place + 1) entries)

@@ -19,8 +19,8 @@ use Rattle.mc_script.specs.Versions.{flags_limit, steps_limit}
 use Rattle.mc_script.specs.Script.{Names, Section, Script}
 use Rattle.mc_script.specs.declared.step.Step.{Step}
 use Rattle.mc_script.specs.declared.step.Step.TheVariants as step
-use Rattle.mc_script.specs.Steps.{◌>>=◌, in_front, labels_from, steps_from, jumps_on, sends, goes, label_behind}
-use Rattle.mc_script.specs.Reading.{header_in, keys_in, optional_in, budget_in, before_colon, entry_in}
+use Rattle.mc_script.specs.Steps.{◌>>=◌, in_front, labels_from, steps_from, jumps_on, sends, goes, label_after}
+use Rattle.mc_script.specs.Reading.{header_in, keys_in, optional_in, budget_in, entry_in}
 
 -- ---- sections
 
@@ -28,6 +28,10 @@ use Rattle.mc_script.specs.Reading.{header_in, keys_in, optional_in, budget_in, 
 abbrev pub may_follow : ℕ → ℕ → List Word → Entry → Bool
 may_follow limit count labels (entry.Label name) = is_new labels name
 may_follow limit count labels _ = nat_lt count limit
+
+-- an entry, where it may follow
+abbrev pub following : ℕ → ℕ → List Word → Option Entry → Option Entry
+following limit count labels read = read >>= λ e. if may_follow limit count labels e then Some e else None
 
 abbrev pub step_count : Entry → ℕ
 step_count (entry.Label name) = 0
@@ -43,8 +47,8 @@ abbrev pub entries_in : ℕ → Names → Word → List Entry → ℕ → List W
 entries_in limit names stop entries count labels [] = None
 entries_in limit names stop entries count labels (line ∷ lines) =
     if is_only stop line then Some (entries, lines)
-    else (entry_in names line >>= λ e.
-    if may_follow limit count labels e then entries_in limit names stop (entries ++ e ∷ []) (count + step_count e) (with_label labels e) lines else None)
+    else (following limit count labels (entry_in names line)
+    >>= λ e. entries_in limit names stop (entries ++ e ∷ []) (count + step_count e) (with_label labels e) lines)
 
 abbrev pub is_label : Entry → Bool
 is_label (entry.Label name) = true
@@ -55,10 +59,10 @@ abbrev pub step_in : List Label → ℕ → Entry → Option Step
 step_in labels place (entry.Label name) = None
 step_in labels place (entry.Send t marks) = sends t marks (jumps_on labels place marks all_classes)
 step_in labels place (entry.Bind variable) = Some (step.Bind variable)
-step_in labels place (entry.Goto name) = goes (label_behind labels place name)
+step_in labels place (entry.Goto name) = goes (label_after labels place name)
 step_in labels place entry.Halt = Some step.Halt
 
--- values in front of others, where none of them is missing
+-- values before others, where none of them is missing
 abbrev pub onto : {A : Type 0} → List A → Option (List A) → Option (List A)
 onto xs (Some ys) = Some (xs ++ ys)
 onto xs None = None
@@ -71,7 +75,7 @@ target_in c None = None
 -- the jumps of the marks, in the order of the marks, where each label is found after the step at this place
 abbrev pub targets_in : List Label → ℕ → List Mark → Option (List (Class × ℕ))
 targets_in labels place [] = Some []
-targets_in labels place (mark.Jump c name ∷ marks) = in_front (target_in c (label_behind labels place name)) (targets_in labels place marks)
+targets_in labels place (mark.Jump c name ∷ marks) = in_front (target_in c (label_after labels place name)) (targets_in labels place marks)
 targets_in labels place (_ ∷ marks) = targets_in labels place marks
 
 -- the label of the first of these jumps on the class
@@ -92,33 +96,14 @@ abbrev pub section_in : Budget → List Entry → Option Section
 section_in budget entries =
     steps_from (labels_from 0 entries) 0 entries >>= λ steps. Some (record { budget = budget; steps = steps; labels = labels_from 0 entries })
 
--- the name of the label that the line is, if it is one
-abbrev pub label_of : Words → Option Word
-label_of [] = None
-label_of (word ∷ []) = before_colon word
-label_of (word ∷ _ ∷ _) = None
-
--- the same of an entry
+-- the name of the label that an entry is, if it is one
 abbrev pub label_named_by : Entry → Option Word
 label_named_by (entry.Label name) = Some name
 label_named_by _ = None
 
-abbrev pub may_follow_as : ℕ → ℕ → List Word → Option Word → Bool
-may_follow_as limit count labels (Some name) = is_new labels name
-may_follow_as limit count labels None = nat_lt count limit
-
--- how many steps there are, and which labels, with a line more
-abbrev pub count_with : ℕ → Option Word → ℕ
-count_with count (Some name) = count
-count_with count None = count + 1
-
-abbrev pub names_with : List Word → Option Word → List Word
-names_with labels (Some name) = labels ++ name ∷ []
-names_with labels None = labels
-
 -- ---- the whole text
 
--- the line that must follow, and those behind it
+-- the line that must follow, and those after it
 abbrev pub line_in : List Words → Option (Words × List Words)
 line_in [] = None
 line_in (line ∷ lines) = Some (line, lines)
@@ -126,7 +111,7 @@ line_in (line ∷ lines) = Some (line, lines)
 abbrev pub names_of : List Word → List Word → List Word → Names
 names_of keys flags vars = record { keys = keys; flags = flags; vars = vars }
 
--- the names that are declared, the line behind them, and the lines behind it
+-- the names that are declared, the line after them, and the lines after it
 abbrev pub all_names_in : Version → List Words → Option (Names × Words × List Words)
 all_names_in v lines =
     keys_in lines >>= λ k. line_in k.1 >>= λ l. optional_in (codes "flags") (flags_limit v) l.0 l.1

@@ -1,4 +1,6 @@
-ghost use Rattle.std.specs.Prelude.{◌≡◌, ◌≤◌, true, false, map, List, IfOk, IfErr, OnOk, OnErr, Option};
+//! Reads what stands before the sections: the header, the names that are declared, and the budgets.
+
+ghost use Rattle.std.specs.Prelude.{◌≡◌, ◌≤◌, true, false, map, OnOk, OnErr, Option};
 ghost use Rattle.std.specs.List.{list_any};
 ghost use Rattle.std.specs.Result.{result_ok};
 ghost use Rattle.std.specs.Str.{bytes_eq};
@@ -72,7 +74,7 @@ pub(crate) fn take_header(alloc: Global, lines: &mut WordLines) -> Result<Versio
     }
 }
 
-// The version of a header.
+/// The version of a header.
 fn header_version(words: &[&[u8]]) -> Option<Version>
     ensures { result ≡ reading.header_version (map (λ w. w.now) words.now) }
 {
@@ -82,7 +84,7 @@ fn header_version(words: &[&[u8]]) -> Option<Version>
     }
 }
 
-// The version with this word.
+/// The version with this word.
 fn version_of_word(word: &[u8]) -> Option<Version>
     ensures { result ≡ reading.version_of_word word.now }
 {
@@ -159,7 +161,7 @@ fn budget_of(actor: Actor, words: &[&[u8]]) -> Result<Budget, ScriptKind>
     read_numbers(numbers)
 }
 
-// The fault of a budget that is not the one that is due: it is out of its place, or of no section.
+/// The fault of a budget that is not the one that is due: it is out of its place, or of no section.
 fn other_section(word: &[u8]) -> ScriptKind {
     match Actor::from_word(word) {
         Some(_) => ScriptKind::Header,
@@ -173,20 +175,20 @@ fn read_numbers(words: &[&[u8]]) -> Result<Budget, ScriptKind>
     let [requests, rest @ ..] = words else {
         return Err(ScriptKind::Line);
     };
-    let requests = read_allowed(REQUESTS_LIMIT as u64, requests)?;
+    let requests = read_limited_number(REQUESTS_LIMIT as u64, requests)?;
     let [bytes, rest @ ..] = rest else {
         return Err(ScriptKind::Line);
     };
-    let bytes = read_allowed(REQUEST_BYTES_LIMIT as u64, bytes)?;
+    let bytes = read_limited_number(REQUEST_BYTES_LIMIT as u64, bytes)?;
     if !rest.is_empty() {
         return Err(ScriptKind::Line);
     }
     Ok(Budget { requests, bytes })
 }
 
-// Reads a number of a budget.
+/// Reads a number of a budget.
 #[tactic(auto, unfolding(mc_protocol::specs::Decimals::decimal_in))]
-fn read_allowed(limit: u64, word: &[u8]) -> Result<u32, ScriptKind>
+fn read_limited_number(limit: u64, word: &[u8]) -> Result<u32, ScriptKind>
     requires { limit ≤ decimals.MAX_32 }
     ensures { result_ok result ≡ reading.number_in limit word.now }
 {

@@ -1,3 +1,5 @@
+//! A line of a section as it is read, before its labels are resolved.
+
 ghost use Rattle.std.specs.Prelude.{◌≡◌, ◌<◌};
 ghost use Rattle.mc_script.specs.declared.limits.TheConstants.{FLAGS_LIMIT};
 
@@ -17,7 +19,7 @@ pub(crate) enum Entry {
     Halt,
 }
 
-/// What stands behind a request.
+/// A word after the fields of a request.
 #[derive(Debug, Drop)]
 pub(crate) enum Mark {
     /// How the request needs or changes a flag, which has this index.

@@ -1,3 +1,5 @@
+//! Why a text is no script.
+
 ghost use Rattle.std.specs.Prelude.{◌≡◌};
 ghost use Rattle.mc_script.specs.Kinds as kinds;
 ghost use Rattle.mc_script.specs.declared.fault.ScriptKind.TheVariants.{OutOfMemory};
@@ -34,7 +36,7 @@ pub enum ScriptKind {
     TooMany,
     #[error("expected a budget of at most 24 requests and 8192 bytes")]
     Budget,
-    #[error("expected the sections P, A and B, and behind them the line `end`")]
+    #[error("expected the sections P, A and B, and after them the line `end`")]
     Unended,
     #[error("out of memory")]
     OutOfMemory,
@@ -127,7 +129,7 @@ impl ScriptFault {
         }
     }
 
-    // A fault of a line; want of memory is no line's.
+    /// A fault of a line; want of memory is no line's.
     pub(crate) fn at(kind: ScriptKind, line: u32) -> Self
         ensures { result.kind ≡ kind }
     {

@@ -1,3 +1,5 @@
+//! Reads the words of a request between its key and its marks.
+
 ghost use Rattle.std.specs.Prelude.{◌≡◌, map};
 ghost use Rattle.std.specs.Result.{result_ok};
 ghost use Rattle.mc_protocol.specs.Decimals as decimals;
@@ -9,7 +11,7 @@ use crate::{Argument, ScriptKind};
 use mc_protocol::{Bytes, Fields};
 use std::alloc::Global;
 
-/// What stands between the key and the marks of a request.
+/// What the words between the key and the marks of a request say.
 #[derive(Debug, Drop)]
 pub(crate) struct Parts {
     pub(crate) flags: u32,
@@ -17,7 +19,7 @@ pub(crate) struct Parts {
     pub(crate) body: Bytes,
 }
 
-/// How many words these fields are.
+/// The number of words of these fields.
 pub(crate) fn field_count(fields: Fields) -> usize
     ensures { result ≡ reading.field_count fields }
 {
@@ -29,8 +31,7 @@ pub(crate) fn field_count(fields: Fields) -> usize
     }
 }
 
-/// Reads what stands behind the key. The fault is that of the leftmost faulty word; a missing word stands behind the
-/// last.
+/// Reads the words after the key. The fault is that of the leftmost faulty word; a missing word stands after the last.
 #[tactic(auto, unfolding(crate::specs::Reading::fields_in))]
 pub(crate) fn read_fields(
     alloc: Global,
@@ -48,11 +49,11 @@ pub(crate) fn read_fields(
         }),
         Fields::Item => read_item(alloc, words),
         Fields::Swap => read_swap(alloc, names, words),
-        Fields::Amount => read_counted(alloc, names, words),
+        Fields::Amount => read_increment(alloc, names, words),
     }
 }
 
-// Reads flags and a body.
+/// Reads flags and a body.
 fn read_item(alloc: Global, words: &[&[u8]]) -> Result<Parts, ScriptKind>
     ensures { reading.Gives result (reading.item_in (map (λ w. w.now) words.now)) }
 {
@@ -71,7 +72,7 @@ fn read_item(alloc: Global, words: &[&[u8]]) -> Result<Parts, ScriptKind>
     })
 }
 
-// Reads flags, a body and the variable that has the cas unique.
+/// Reads flags, a body and the variable that has the cas unique.
 fn read_swap(alloc: Global, names: &Names, words: &[&[u8]]) -> Result<Parts, ScriptKind>
     ensures { reading.Gives result (reading.swap_in names.now (map (λ w. w.now) words.now)) }
 {
@@ -94,9 +95,9 @@ fn read_swap(alloc: Global, names: &Names, words: &[&[u8]]) -> Result<Parts, Scr
     })
 }
 
-// Reads the amount of an increment.
-fn read_counted(alloc: Global, names: &Names, words: &[&[u8]]) -> Result<Parts, ScriptKind>
-    ensures { reading.Gives result (reading.counted_in names.now (map (λ w. w.now) words.now)) }
+/// Reads the amount of an increment.
+fn read_increment(alloc: Global, names: &Names, words: &[&[u8]]) -> Result<Parts, ScriptKind>
+    ensures { reading.Gives result (reading.increment_in names.now (map (λ w. w.now) words.now)) }
 {
     let [amount, ..] = words else {
         return Err(ScriptKind::Line);
@@ -116,7 +117,7 @@ fn read_flags(word: &[u8]) -> Result<u32, ScriptKind>
     Ok(flags as u32)
 }
 
-// Reads `$` and a variable.
+/// Reads `$` and a variable.
 fn read_unique(names: &Names, word: &[u8]) -> Result<Argument, ScriptKind>
     ensures { result_ok result ≡ reading.unique_in names.now word.now }
 {
@@ -129,7 +130,7 @@ fn read_unique(names: &Names, word: &[u8]) -> Result<Argument, ScriptKind>
     read_variable(names, name)
 }
 
-// Reads a number, or `$` and a variable.
+/// Reads a number, or `$` and a variable.
 fn read_amount(names: &Names, word: &[u8]) -> Result<Argument, ScriptKind>
     ensures { result_ok result ≡ reading.amount_in names.now word.now }
 {
@@ -143,7 +144,7 @@ fn read_amount(names: &Names, word: &[u8]) -> Result<Argument, ScriptKind>
 }
 
 fn read_variable(names: &Names, name: &[u8]) -> Result<Argument, ScriptKind>
-    ensures { result_ok result ≡ reading.variable_behind names.now name.now }
+    ensures { result_ok result ≡ reading.variable_named names.now name.now }
 {
     match names.variable(name) {
         Some(variable) => Ok(Argument::Variable(variable)),

@@ -1,3 +1,5 @@
+//! Reads the marks of a request, and checks that they may be written together.
+
 ghost use Rattle.std.specs.Prelude.{◌≡◌, ◌==◌, Bool, true, false, map, [], Option, OnOk, OnErr};
 ghost use Rattle.std.specs.List.{list_any, position};
 ghost use Rattle.mc_script.specs.Marks as spec;
@@ -116,7 +118,7 @@ fn read_jump(alloc: Global, word: &[u8]) -> Result<Mark, ScriptKind>
     ))
 }
 
-// Where the first `:` stands.
+/// Where the first `:` stands.
 fn colon_of(word: &[u8]) -> Option<usize>
     ensures { result ≡ position (λ byte. byte == 58) word.now }
 {
@@ -154,7 +156,7 @@ fn any_binds(words: &[&[u8]]) -> bool
     words.iter().any(|word| binds(word))
 }
 
-// Whether the word begins with `>`.
+/// Whether the word begins with `>`.
 fn binds(word: &[u8]) -> bool
     ensures { result ≡ reading.binds word.now }
 {

@@ -1,4 +1,6 @@
-ghost use Rattle.std.specs.Prelude.{◌≡◌, Some, None, map, drop, MatchOption};
+//! Reads the words of a line of a section.
+
+ghost use Rattle.std.specs.Prelude.{◌≡◌, Some, None, map, drop, MatchOption, if◌then◌else◌};
 ghost use Rattle.std.specs.Result.{result_ok};
 ghost use Rattle.mc_protocol.specs.declared.request.Verb.{Verb};
 ghost use Rattle.mc_script.specs.ScriptWords as words;
@@ -12,68 +14,91 @@ use crate::{NAME_BYTES_LIMIT, ScriptKind, Template};
 use mc_protocol::{Bytes, Verb, is_name, is_word};
 use std::alloc::Global;
 
-/// Whether a line that begins with this word is a step, if it is a line of a section at all.
-pub(crate) fn begins_step(word: &[u8]) -> bool {
-    is_word(word, b"bind")
-        || is_word(word, b"goto")
-        || is_word(word, b"halt")
-        || Verb::from_word(word).is_some()
+/// What the first word of a step says it is.
+#[derive(Clone, Copy, Debug, PartialEq, Eq)]
+pub(crate) enum Keyword {
+    Bind,
+    Goto,
+    Halt,
+    Request(Verb),
 }
 
-/// Reads the words of a line of a section. The fault is that of the leftmost faulty word; a missing word stands behind
-/// the last.
-#[tactic(auto, unfolding(crate::specs::Reading::entry_in))]
-pub(crate) fn read_entry(alloc: Global, names: &Names, words: &[&[u8]]) -> Result<Entry, ScriptKind>
-    ensures { reading.Gives result (reading.entry_in names.now (map (λ w. w.now) words.now)) }
-{
-    match words {
-        [] => Err(ScriptKind::Line),
-        [word] => read_lone(alloc, word),
-        [word, next, others @ ..] => {
-            if is_word(word, b"bind") {
-                read_bind(names, next, others)
-            } else if is_word(word, b"goto") {
-                read_goto(alloc, next, others)
-            } else {
-                match Verb::from_word(word) {
-                    Some(verb) => read_request(alloc, names, verb, next, others),
-                    None => Err(unknown_fault(word)),
-                }
-            }
+impl Keyword {
+    /// The keyword with this word. A declaration is out of its place: its fault is another one than that of other words.
+    fn from_word(word: &[u8]) -> Result<Keyword, ScriptKind>
+        ensures { result_ok result ≡ reading.keyword_of word.now }
+    {
+        if is_word(word, b"bind") {
+            return Ok(Keyword::Bind);
+        }
+        if is_word(word, b"goto") {
+            return Ok(Keyword::Goto);
+        }
+        if is_word(word, b"halt") {
+            return Ok(Keyword::Halt);
+        }
+        match Verb::from_word(word) {
+            Some(verb) => Ok(Keyword::Request(verb)),
+            None if begins_declaration(word) => Err(ScriptKind::Header),
+            None => Err(ScriptKind::Line),
         }
     }
 }
 
-// The fault of a line that begins with a word of no line of a section: a declaration is out of its place.
-fn unknown_fault(word: &[u8]) -> ScriptKind {
-    if is_word(word, b"keys")
+fn begins_declaration(word: &[u8]) -> bool {
+    is_word(word, b"keys")
         || is_word(word, b"flags")
         || is_word(word, b"vars")
         || is_word(word, b"budget")
-    {
-        ScriptKind::Header
-    } else {
-        ScriptKind::Line
-    }
 }
 
-// Reads a line of one word: a label, or `halt`.
-fn read_lone(alloc: Global, word: &[u8]) -> Result<Entry, ScriptKind>
-    ensures { reading.Gives result (reading.label_or_halt (reading.before_colon word.now) word.now) }
+/// Reads the words of a line that is no label. The fault is that of the leftmost faulty word; that the section has no room
+/// for another step goes before those of the words after the first. A missing word stands after the last.
+#[tactic(auto, unfolding(crate::specs::Reading::entry_in))]
+pub(crate) fn read_step(
+    alloc: Global,
+    names: &Names,
+    has_room: bool,
+    words: &[&[u8]],
+) -> Result<Entry, ScriptKind>
+    requires { reading.label_of (map (λ w. w.now) words.now) ≡ None }
+    ensures { reading.Gives result (if has_room then reading.entry_in names.now (map (λ w. w.now) words.now) else None) }
 {
-    match before_colon(word) {
-        Some(name) => read_label(alloc, name),
-        None => {
-            if is_word(word, b"halt") {
-                Ok(Entry::Halt)
-            } else {
-                Err(unknown_fault(word))
-            }
-        }
+    let [word, others @ ..] = words else {
+        return Err(ScriptKind::Line);
+    };
+    let keyword = Keyword::from_word(word)?;
+    if !has_room {
+        return Err(ScriptKind::TooMany);
+    }
+    read_others(alloc, names, keyword, others)
+}
+
+/// Reads the words of a step after the first.
+fn read_others(
+    alloc: Global,
+    names: &Names,
+    keyword: Keyword,
+    words: &[&[u8]],
+) -> Result<Entry, ScriptKind>
+    ensures { reading.Gives result (reading.step_words names.now keyword (map (λ w. w.now) words.now)) }
+{
+    match words {
+        [] => match keyword {
+            Keyword::Halt => Ok(Entry::Halt),
+            _ => Err(ScriptKind::Line),
+        },
+        [word, others @ ..] => match keyword {
+            Keyword::Bind => read_bind(names, word, others),
+            Keyword::Goto => read_goto(alloc, word, others),
+            Keyword::Halt => Err(ScriptKind::Line),
+            Keyword::Request(verb) => read_request(alloc, names, verb, word, others),
+        },
     }
 }
 
-fn read_label(alloc: Global, name: &[u8]) -> Result<Entry, ScriptKind>
+/// Reads the name of a label.
+pub(crate) fn read_label(alloc: Global, name: &[u8]) -> Result<Entry, ScriptKind>
     ensures { reading.Gives result (reading.label_named name.now) }
 {
     if !is_name(NAME_BYTES_LIMIT, name) {
@@ -82,7 +107,7 @@ fn read_label(alloc: Global, name: &[u8]) -> Result<Entry, ScriptKind>
     Ok(Entry::Label(Bytes::new(Vec::from_slice(alloc, name)?)))
 }
 
-// What stands in front of the `:` at the end of a word.
+/// The bytes before the `:` at the end of a word.
 pub(crate) fn before_colon<'a>(word: &'a [u8]) -> Option<&'a [u8]>
     ensures { MatchOption result (reading.before_colon word.now ≡ None) (λ name. reading.before_colon word.now ≡ Some name.now) }
 {
@@ -113,7 +138,7 @@ fn read_goto(alloc: Global, label: &[u8], others: &[&[u8]]) -> Result<Entry, Scr
     Ok(Entry::Goto(Bytes::new(Vec::from_slice(alloc, label)?)))
 }
 
-// Reads what stands behind the verb.
+/// Reads the words after the verb.
 fn read_request(
     alloc: Global,
     names: &Names,
@@ -131,7 +156,7 @@ fn read_request(
         alloc,
         names,
         verb,
-        behind(words, field_count(verb.fields())),
+        words_after(words, field_count(verb.fields())),
     )?;
     let template = Template {
         verb,
@@ -147,8 +172,8 @@ fn read_request(
     Ok(Entry::Send(template, marks))
 }
 
-// The words behind so many; none where there are fewer.
-fn behind<'w, 'a>(words: &'w [&'a [u8]], count: usize) -> &'w [&'a [u8]]
+/// The words after the first `count`; none where there are fewer.
+fn words_after<'w, 'a>(words: &'w [&'a [u8]], count: usize) -> &'w [&'a [u8]]
     ensures { map (λ w. w.now) result.now ≡ drop count (map (λ w. w.now) words.now) }
 {
     if count <= words.len() {

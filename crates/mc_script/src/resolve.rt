@@ -1,3 +1,5 @@
+//! Makes a section of the lines that were read: each label gets its place, and each use of a label its index.
+
 ghost use Rattle.std.specs.Prelude.{◌≡◌, ◌<◌, Some, None, IfOk, MatchOption};
 ghost use Rattle.std.specs.Result.{result_ok};
 ghost use Rattle.mc_script.specs.declared.limits.TheConstants.{FLAGS_LIMIT};
@@ -14,7 +16,7 @@ use crate::{Budget, Jumps, Label, Mask, ScriptFault, ScriptKind, Step, Template}
 use mc_protocol::{Class, OutOfMemory};
 use std::alloc::Global;
 
-/// Makes a section of its lines: each label has its place, and each that is used is named by its index.
+/// Makes a section of its lines.
 pub(crate) fn resolve(
     alloc: Global,
     budget: Budget,
@@ -31,7 +33,7 @@ pub(crate) fn resolve(
     })
 }
 
-// The labels, each with its place.
+/// The labels, each with its place.
 fn labels_of(alloc: Global, entries: &[Numbered]) -> Result<Vec<Label>, OutOfMemory>
     ensures { IfOk result (λ labels. labels.items ≡ spec.labels_from 0 entries.now) }
 {
@@ -49,7 +51,7 @@ fn labels_of(alloc: Global, entries: &[Numbered]) -> Result<Vec<Label>, OutOfMem
     Ok(labels)
 }
 
-// The steps. The fault is that of the first label that is used and isn't there.
+/// The steps. The fault is that of the first use of a label that no later line has.
 fn steps_of(alloc: Global, labels: &[Label], entries: &[Numbered]) -> Result<Vec<Step>, ScriptFault>
     ensures { reading.Says (λ steps. steps.items) result (spec.steps_from labels.now 0 entries.now) }
 {
@@ -74,7 +76,7 @@ fn is_label(entry: &Entry) -> bool
     }
 }
 
-// The step at this place that a line is which is no label.
+/// The step at `place`, of a line that is no label.
 fn step_of(alloc: Global, labels: &[Label], place: usize, entry: &Entry) -> Result<Step, ScriptKind>
     ensures { reading.Gives result (whole.step_in labels.now place entry.now) }
 {
@@ -88,7 +90,7 @@ fn step_of(alloc: Global, labels: &[Label], place: usize, entry: &Entry) -> Resu
 }
 
 fn goto_of(labels: &[Label], place: usize, name: &[u8]) -> Result<Step, ScriptKind>
-    ensures { reading.Gives result (spec.goes (spec.label_behind labels.now place name.now)) }
+    ensures { reading.Gives result (spec.goes (spec.label_after labels.now place name.now)) }
 {
     Ok(Step::Goto(find_label(labels, place, name)?))
 }
@@ -106,7 +108,7 @@ fn send_of(
 {
     let jumps = jumps_of(alloc, labels, place, marks)?;
     let marks = marks.as_slice();
-    let template = marked(alloc, template, marks)?;
+    let template = with_marks(alloc, template, marks)?;
     let bind = bound_by(marks);
     Ok(Step::Send {
         template,
@@ -115,9 +117,9 @@ fn send_of(
     })
 }
 
-// The request with the flags that its marks say.
-fn marked(alloc: Global, template: &Template, marks: &[Mark]) -> Result<Template, OutOfMemory>
-    ensures { IfOk result (λ marked. marked ≡ spec.marked template.now marks.now) }
+/// The request with the flags of its marks.
+fn with_marks(alloc: Global, template: &Template, marks: &[Mark]) -> Result<Template, OutOfMemory>
+    ensures { IfOk result (λ request. request ≡ spec.with_marks template.now marks.now) }
 {
     Ok(Template {
         verb: template.verb,
@@ -132,7 +134,7 @@ fn marked(alloc: Global, template: &Template, marks: &[Mark]) -> Result<Template
     })
 }
 
-// The flags of which the marks say this.
+/// The flags that the marks have with this sign.
 fn mask_of(sign: Sign, marks: &[Mark]) -> Mask
     ensures { result ≡ said.mask_of sign marks.now }
 {
@@ -152,7 +154,7 @@ fn flag_mask(flag: u8) -> Mask
     1 << flag
 }
 
-// The flag of which the mark says this.
+/// The flag of the mark, if it has this sign.
 fn says(sign: Sign, mark: &Mark) -> Option<u8>
     ensures flag { result ≡ said.says sign mark.now }
     ensures below { MatchOption result (sign ≡ sign) (λ f. f < FLAGS_LIMIT) }
@@ -163,7 +165,7 @@ fn says(sign: Sign, mark: &Mark) -> Option<u8>
     }
 }
 
-// The variable that the marks bind.
+/// The variable that the marks bind.
 fn bound_by(marks: &[Mark]) -> Option<u8>
     ensures { result ≡ said.bound_by marks.now }
 {
@@ -239,7 +241,7 @@ fn label_for(class: Class, jumps: &[(Class, usize)]) -> Option<usize>
 
 /// The index of the label with this name, which stands after the step at `place`.
 fn find_label(labels: &[Label], place: usize, name: &[u8]) -> Result<usize, ScriptKind>
-    ensures { result_ok result ≡ spec.label_behind labels.now place name.now }
+    ensures { result_ok result ≡ spec.label_after labels.now place name.now }
 {
     match label_after(labels, place, name) {
         Some(label) => Ok(label),
@@ -249,7 +251,7 @@ fn find_label(labels: &[Label], place: usize, name: &[u8]) -> Result<usize, Scri
 }
 
 fn label_after(labels: &[Label], place: usize, name: &[u8]) -> Option<usize>
-    ensures { result ≡ spec.label_behind labels.now place name.now }
+    ensures { result ≡ spec.label_after labels.now place name.now }
 {
     labels.iter().position(|label| label.name.as_slice() == name && place < label.place)
 }

@@ -1,4 +1,6 @@
-ghost use Rattle.std.specs.Prelude.{◌≡◌, [], Some, None, MatchOption, nat_lt};
+//! Reads the lines of a section.
+
+ghost use Rattle.std.specs.Prelude.{◌≡◌, [], Some, None, IfOk, MatchOption, nat_lt};
 ghost use Rattle.mc_script.specs.Reading as reading;
 ghost use Rattle.mc_script.specs.TextReading as whole;
 ghost use Rattle.mc_script.specs.Versions.{steps_limit};
@@ -6,13 +8,13 @@ ghost use Rattle.mc_script.specs.Versions.{steps_limit};
 use crate::entry::Entry;
 use crate::lines::next_due;
 use crate::names::Names;
-use crate::read_entry::{before_colon, begins_step, read_entry};
+use crate::read_entry::{before_colon, read_label, read_step};
 use crate::{ScriptFault, ScriptKind, Version};
 use mc_protocol::{NameSet, WordLine, WordLines};
 use std::alloc::Global;
 use std::marker::Model;
 
-/// A line of a section that was read, with its number. Contracts see what it says.
+/// A line of a section that was read, with its number. Contracts see the entry.
 #[derive(Debug, Drop)]
 pub(crate) struct Numbered {
     pub(crate) line: u32,
@@ -46,63 +48,65 @@ pub(crate) fn read_section<'a>(
         if line.is_only(stop) {
             return Ok(entries);
         }
-        let entry = match read_entry(alloc, names, line.words()) {
-            Ok(entry) => entry,
-            Err(kind) => return Err(ScriptFault::at(
-                entry_fault(kind, version, count, &line),
-                line.number(),
-            )),
-        };
-        match label_in(&line) {
-            Some(name) => {
-                if labels.has(name) {
-                    return Err(ScriptFault::at(ScriptKind::Duplicate, line.number()));
-                }
-                labels.push(name)?;
+        match read_line(alloc, version, names, count, &mut labels, &line) {
+            Ok(entry) => {
+                count += step_count(&entry);
+                entries.push(Numbered {
+                    line: line.number(),
+                    entry,
+                })?;
             }
-            None => {
-                if !has_room(version, count) {
-                    return Err(ScriptFault::at(ScriptKind::TooMany, line.number()));
-                }
-                count += 1;
-            }
+            Err(kind) => return Err(ScriptFault::at(kind, line.number())),
         }
-        entries.push(Numbered {
-            line: line.number(),
-            entry,
-        })?;
     }
 }
 
-// Whether a step may stand after `count` others in a text of this version.
+/// Reads a line after `count` steps and these labels. The name of a label is added to them.
+fn read_line<'a>(
+    alloc: Global,
+    version: Version,
+    names: &Names,
+    count: usize,
+    labels: &mut NameSet<'a>,
+    line: &WordLine<'a>,
+) -> Result<Entry, ScriptKind>
+    ensures entry { reading.Gives result
+        (whole.following (steps_limit version) count labels.old (reading.entry_in names.now line.now.words)) }
+    ensures labels { IfOk result (λ entry. labels.new ≡ whole.with_label labels.old entry) }
+{
+    let Some(name) = label_in(line) else {
+        return read_step(alloc, names, has_room(version, count), line.words());
+    };
+    let label = read_label(alloc, name)?;
+    if labels.has(name) {
+        return Err(ScriptKind::Duplicate);
+    }
+    labels.push(name)?;
+    Ok(label)
+}
+
+fn step_count(entry: &Entry) -> usize
+    ensures { result ≡ whole.step_count entry.now }
+{
+    match entry {
+        Entry::Label(_) => 0,
+        _ => 1,
+    }
+}
+
+/// Whether a step may stand after `count` others in a text of this version.
 fn has_room(version: Version, count: usize) -> bool
     ensures { result ≡ nat_lt count (steps_limit version) }
 {
     count < version.steps_limit()
 }
 
-// The name of the label that the line is, if it is one.
+/// The name of the label that the line is, if it is one.
 fn label_in<'a>(line: &WordLine<'a>) -> Option<&'a [u8]>
-    ensures { MatchOption result (whole.label_of line.now.words ≡ None) (λ name. whole.label_of line.now.words ≡ Some name.now) }
+    ensures { MatchOption result (reading.label_of line.now.words ≡ None) (λ name. reading.label_of line.now.words ≡ Some name.now) }
 {
     match line.words() {
         [word] => before_colon(*word),
         _ => None,
-    }
-}
-
-// The fault of a line after `count` steps: that it is one too many goes before its words.
-fn entry_fault(kind: ScriptKind, version: Version, count: usize, line: &WordLine) -> ScriptKind
-    ensures { kind ≡ ScriptKind.OutOfMemory → result ≡ ScriptKind.OutOfMemory }
-{
-    match line.words() {
-        [word, ..] => {
-            if !has_room(version, count) && begins_step(word) && kind != ScriptKind::OutOfMemory {
-                ScriptKind::TooMany
-            } else {
-                kind
-            }
-        }
-        [] => kind,
     }
 }

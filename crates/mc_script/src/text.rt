@@ -1,3 +1,5 @@
+//! Reads the text of a script.
+
 ghost use Rattle.std.specs.Prelude.{◌≡◌, ◌≢◌, Some, IfOk, IfErr};
 ghost use Rattle.mc_protocol.specs.declared.lines.Separator.TheVariants.{SpaceOrTab};
 ghost use Rattle.mc_protocol.specs.Lines.{words_of_text};
@@ -41,7 +43,7 @@ fn read_script(alloc: Global, text: &[u8]) -> Result<Script, ScriptFault>
     resolve_all(alloc, names, budgets, &bodies)
 }
 
-// Takes the names that a text of this version declares, and the line after them.
+/// Takes the names that a text of this version declares, and the line after them.
 fn take_names<'a>(
     alloc: Global,
     version: Version,
@@ -57,7 +59,7 @@ fn take_names<'a>(
     Ok((names, line))
 }
 
-// Takes the three budgets, of which the first line is taken already.
+/// Takes the three budgets, of which the first line is taken already.
 fn take_budgets(
     alloc: Global,
     lines: &mut WordLines,
@@ -78,7 +80,7 @@ fn take_budget(alloc: Global, actor: Actor, lines: &mut WordLines) -> Result<Bud
     read_budget(actor, &line)
 }
 
-// Takes the lines of the three sections, and sees that `end` ends the text.
+/// Takes the lines of the three sections, and sees that `end` ends the text.
 fn take_bodies(
     alloc: Global,
     version: Version,
@@ -96,7 +98,7 @@ fn take_bodies(
     Ok(Sections { p, a, b })
 }
 
-// Takes the line before P's lines.
+/// Takes the line before P's lines.
 fn take_section_line(alloc: Global, lines: &mut WordLines) -> Result<(), ScriptFault>
     ensures { reading.Says (λ _. lines.new.words) result (whole.section_line_in lines.old.words) }
 {
@@ -108,7 +110,7 @@ fn take_section_line(alloc: Global, lines: &mut WordLines) -> Result<(), ScriptF
     }
 }
 
-// The script of its lines.
+/// The script of its lines.
 fn resolve_all(
     alloc: Global,
     names: Names,

@@ -1,3 +1,5 @@
+//! Laws of the texts of scripts.
+
 ghost use Rattle.mc_script.specs.ScriptText.{SpellsOneScript};
 
 /// A text spells at most one script.

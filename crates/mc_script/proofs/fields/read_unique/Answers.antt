@@ -3,17 +3,17 @@ use Rattle.std.specs.Result.{result_ok}
 use Rattle.mc_protocol.specs.Lines.{Word}
 use Rattle.mc_script.specs.declared.step.Argument.{Argument}
 use Rattle.mc_script.specs.Script.{Names}
-use Rattle.mc_script.specs.Reading.{unique_in, variable_behind}
-use Rattle.mc_script.proofs.Lists.{behind_first}
+use Rattle.mc_script.specs.Reading.{unique_in, variable_named}
+use Rattle.mc_script.proofs.Lists.{after_first}
 use Rattle.mc_script.proofs.fields.read_unique.Goals as goal
 
 variable-unique : (names : Names) (word : Word) (r : Option Argument) → 1 ≤ length word → get_or word 0 0 ≡ 36
-    → r ≡ variable_behind names (take (length word - 1) (drop 1 word)) → r ≡ unique_in names word
+    → r ≡ variable_named names (take (length word - 1) (drop 1 word)) → r ≡ unique_in names word
 variable-unique names [] r some e g = absurd (omega arith)
 variable-unique names (first ∷ name) r some e g =
-    let P : Word → Type 0 = λ w. r ≡ variable_behind names w in
+    let P : Word → Type 0 = λ w. r ≡ variable_named names w in
     let Q : ℕ → Type 0 = λ byte. r ≡ unique_in names (byte ∷ name) in
-    subst Q (sym e) (subst P (behind_first first name) g)
+    subst Q (sym e) (subst P (after_first first name) g)
 
 pub returns : goal.returns
 returns c =

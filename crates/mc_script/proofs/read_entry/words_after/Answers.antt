@@ -1,6 +1,6 @@
 use Rattle.std.proofs.Common.{ℕ, List, Bor, sym}
 use Rattle.std.proofs.lemmas.List.{take_rest, drop-map}
-use Rattle.mc_script.proofs.read_entry.behind.Goals as goal
+use Rattle.mc_script.proofs.read_entry.words_after.Goals as goal
 
 pub returns-then-count-words : goal.returns-then-count-words
 returns-then-count-words c =
