@@ -50,7 +50,7 @@ static ROWS: [Row; 11] = [
         "unexplained\n",
         5,
     ),
-    // B is told that A was faster: P's two, A's two, and B's `gets`, which finds A's body; then B's `gets` before A's
+    // B learns that A was faster: P's two, A's two, and B's `gets`, which finds A's body; then B's `gets` before A's
     // `cas`, and B's `cas`.
     (
         "P delete a -> NOT_FOUND\nP set a 0 =1 -> STORED\nA gets a -> HIT 0 =1 11\nA cas a 0 =2 11 -> STORED\nB gets a -> HIT 0 =1 11\nB cas a 0 =3 11 -> EXISTS\n",
