@@ -48,7 +48,7 @@ pub(crate) fn print_marks(
     print_bind(names, bind, out)
 }
 
-// Appends the flags that the request needs and changes.
+/// Appends the flags that the request needs and changes.
 fn print_all_flags(
     names: &[Bytes],
     template: &Template,
@@ -64,7 +64,7 @@ fn print_all_flags(
     print_flags(Sign::Clears, template.clears, names, out)
 }
 
-// Appends the flags of the mask after their sign, in the order of their declaration.
+/// Appends the flags of the mask after their sign, in the order of their declaration.
 fn print_flags(
     sign: Sign,
     mask: Mask,
@@ -83,7 +83,7 @@ fn print_flags(
     Ok(())
 }
 
-// Whether the flag is in the mask.
+/// Whether the flag is in the mask.
 fn has_flag(mask: Mask, flag: usize) -> bool
     requires { flag < FLAGS_LIMIT }
     ensures { result ≡ (bit_at mask flag == 1) }
@@ -91,7 +91,7 @@ fn has_flag(mask: Mask, flag: usize) -> bool
     mask & (1 << flag) != 0
 }
 
-// Appends a space, the sign and the name of a flag.
+/// Appends a space, the sign and the name of a flag.
 fn print_flag(sign: Sign, name: &[u8], out: &mut Vec<u8>) -> Result<(), OutOfMemory>
     ensures { OnOk result (out.new.items ≡ out.old.items ++ 32 ∷ spec.sign_byte sign ∷ name.now) }
 {
@@ -99,7 +99,7 @@ fn print_flag(sign: Sign, name: &[u8], out: &mut Vec<u8>) -> Result<(), OutOfMem
     out.extend_from_slice(name)
 }
 
-// A space, and the byte before the name of a flag.
+/// A space, and the byte before the name of a flag.
 fn spaced_sign(sign: Sign) -> &'static [u8]
     ensures { result.now ≡ 32 ∷ spec.sign_byte sign ∷ [] }
 {
@@ -111,7 +111,7 @@ fn spaced_sign(sign: Sign) -> &'static [u8]
     }
 }
 
-// Appends the jumps.
+/// Appends the jumps.
 fn print_jumps(
     labels: &[Label],
     jumps: &[(Class, usize)],
@@ -126,7 +126,7 @@ fn print_jumps(
     Ok(())
 }
 
-// Appends a space and a jump.
+/// Appends a space and a jump.
 fn print_jump(
     labels: &[Label],
     class: Class,
@@ -141,7 +141,7 @@ fn print_jump(
     append_all(out, &[b":", label_at(labels, label)])
 }
 
-// Appends the variable that takes the number, if there is one.
+/// Appends the variable that takes the number, if there is one.
 fn print_bind(names: &Names, bind: Option<u8>, out: &mut Vec<u8>) -> Result<(), OutOfMemory>
     ensures { OnOk result (out.new.items ≡ out.old.items
         ++ printed.spaced_text (printed.bind_words names.now bind)) }

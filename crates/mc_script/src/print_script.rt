@@ -24,7 +24,7 @@ pub fn print(alloc: Global, script: &Script, out: &mut Vec<u8>) -> Result<(), Ou
     out.extend_from_slice(text.as_slice())
 }
 
-// The text of a script.
+/// The text of a script.
 fn text_of(alloc: Global, script: &Script) -> Result<Vec<u8>, OutOfMemory>
     ensures text { IfOk result (λ text. text.items ≡ printed.script_text script.now) }
     ensures spelled { OnOk result (SpellsInVersion (spec.version_of script.now) (printed.script_text script.now) script.now) }
@@ -42,7 +42,7 @@ fn text_of(alloc: Global, script: &Script) -> Result<Vec<u8>, OutOfMemory>
     Ok(text)
 }
 
-// The version whose text is printed of a script: the first one whose limits it keeps.
+/// The version whose text is printed of a script: the first one whose limits it keeps.
 fn version_of(script: &Script) -> Version
     ensures { result ≡ spec.version_of script.now }
 {
@@ -52,7 +52,7 @@ fn version_of(script: &Script) -> Version
     Version::least(script.flags().len(), p.max(a.max(b)))
 }
 
-// Appends the header, and the lines that declare names.
+/// Appends the header, and the lines that declare names.
 fn print_declarations(version: Version, names: &Names, out: &mut Vec<u8>) -> Result<(), OutOfMemory>
     ensures { OnOk result (out.new.items ≡ out.old.items
         ++ printed.lines_text (header version ∷ names_lines names.now)) }
@@ -63,7 +63,7 @@ fn print_declarations(version: Version, names: &Names, out: &mut Vec<u8>) -> Res
     print_names(b"vars", names.vars(), out)
 }
 
-// Appends the line that declares these names, if there are any.
+/// Appends the line that declares these names, if there are any.
 fn print_names(word: &[u8], names: &[Bytes], out: &mut Vec<u8>) -> Result<(), OutOfMemory>
     ensures { OnOk result (out.new.items ≡ out.old.items ++ printed.lines_text (names_line word.now names.now)) }
 {
@@ -75,7 +75,7 @@ fn print_names(word: &[u8], names: &[Bytes], out: &mut Vec<u8>) -> Result<(), Ou
     out.extend_from_slice(b"\n")
 }
 
-// Appends words, with a space before each.
+/// Appends words, with a space before each.
 fn print_words(words: &[Bytes], out: &mut Vec<u8>) -> Result<(), OutOfMemory>
     ensures { OnOk result (out.new.items ≡ out.old.items ++ printed.spaced_text words.now) }
 {
@@ -85,7 +85,7 @@ fn print_words(words: &[Bytes], out: &mut Vec<u8>) -> Result<(), OutOfMemory>
     Ok(())
 }
 
-// Appends the line of a budget.
+/// Appends the line of a budget.
 fn print_budget(actor: Actor, budget: Budget, out: &mut Vec<u8>) -> Result<(), OutOfMemory>
     ensures { OnOk result (out.new.items ≡ out.old.items ++ printed.line_text (printed.budget_line actor budget)) }
 {

@@ -26,7 +26,7 @@ pub(crate) fn print_section(
     print_steps(names, &section.labels, &section.steps, out)
 }
 
-// Appends the steps, with the labels of its place before each, and the labels of the end.
+/// Appends the steps, with the labels of its place before each, and the labels of the end.
 fn print_steps(
     names: &Names,
     labels: &[Label],
@@ -43,7 +43,7 @@ fn print_steps(
     print_labels(steps.len(), labels, out)
 }
 
-// Appends the labels of this place.
+/// Appends the labels of this place.
 fn print_labels(place: usize, labels: &[Label], out: &mut Vec<u8>) -> Result<(), OutOfMemory>
     ensures { OnOk result (out.new.items ≡ out.old.items ++ printed.lines_text (printed.label_lines place labels.now)) }
 {
@@ -55,7 +55,7 @@ fn print_labels(place: usize, labels: &[Label], out: &mut Vec<u8>) -> Result<(),
     Ok(())
 }
 
-// Appends the line of a step.
+/// Appends the line of a step.
 fn print_step(
     names: &Names,
     labels: &[Label],
@@ -80,7 +80,7 @@ fn print_step(
     }
 }
 
-// Appends the line of a request.
+/// Appends the line of a request.
 fn print_request(
     names: &Names,
     labels: &[Label],
@@ -101,7 +101,7 @@ fn print_request(
     out.extend_from_slice(b"\n")
 }
 
-// Appends the flags and the body, where the verb has them, with a space before each.
+/// Appends the flags and the body, where the verb has them, with a space before each.
 fn print_item(template: &Template, out: &mut Vec<u8>) -> Result<(), OutOfMemory>
     ensures { OnOk result (out.new.items ≡ out.old.items ++ printed.spaced_text
         (printed.item_words (fields_of template.now.verb) template.now.flags template.now.body)) }
@@ -116,7 +116,7 @@ fn print_item(template: &Template, out: &mut Vec<u8>) -> Result<(), OutOfMemory>
     }
 }
 
-// Appends a space and the number or the variable, if there is one.
+/// Appends a space and the number or the variable, if there is one.
 fn print_argument(names: &Names, argument: Argument, out: &mut Vec<u8>) -> Result<(), OutOfMemory>
     ensures { OnOk result (out.new.items ≡ out.old.items
         ++ printed.spaced_text (printed.argument_words names.now argument)) }
