@@ -13,6 +13,7 @@ mod counting;
 mod history;
 mod history_laws;
 mod laws;
+mod note;
 mod number;
 mod numeral;
 mod numeral_laws;
@@ -37,6 +38,7 @@ pub use laws::{
     other_keys_stay, replies_fit, versions_are_reported,
 };
 pub use mc_protocol::is_key;
+pub use note::Note;
 pub use number::read_number;
 pub use numeral::{Numeral, numeral_of};
 pub use numeral_laws::bodies_say_numbers;
