@@ -5,7 +5,7 @@ use Rattle.std.proofs.lemmas.List.Folds.{list_all-append}
 use Rattle.mc_protocol.specs.declared.actor.Actor.{Actor}
 use Rattle.mc_protocol.specs.declared.actor.Actor.TheVariants as actor
 use Rattle.mc_model.specs.declared.sent.Sent.{Sent}
-use Rattle.mc_model.specs.Sections.{Sections, added}
+use Rattle.mc_model.specs.Sections.{Sections, with_sent}
 use Rattle.mc_model.specs.History.{every}
 
 -- one more part of the first
@@ -35,7 +35,7 @@ and_last true true true = refl
 and_last true true false = refl
 
 -- every request passes exactly where every one of before does, and the one that came
-pub every_added : (test : Sent → Bool) (s : Sections) (who : Actor) (sent : Sent) → every test (added s who sent) ≡ (every test s && test sent)
+pub every_added : (test : Sent → Bool) (s : Sections) (who : Actor) (sent : Sent) → every test (with_sent s who sent) ≡ (every test s && test sent)
 every_added test s actor.P sent = rw (list_all-append test s.p (sent ∷ [])) (and_first (list_all test s.p) (list_all test s.a) (list_all test s.b) (test sent))
 every_added test s actor.A sent = rw (list_all-append test s.a (sent ∷ [])) (and_second (list_all test s.p) (list_all test s.a) (list_all test s.b) (test sent))
 every_added test s actor.B sent = rw (list_all-append test s.b (sent ∷ [])) (and_last (list_all test s.p && list_all test s.a) (list_all test s.b) (test sent))

@@ -8,7 +8,7 @@ use Rattle.std.specs.FinMap.{get-insert, get-remove}
 use Rattle.std.proofs.lemmas.Slice.Eq.{bytes_eq-Decides}
 use Rattle.mc_model.specs.declared.cache.Item.{Item}
 use Rattle.mc_model.specs.Contents.{Contents}
-use Rattle.mc_model.specs.Act.{Change, Keeps, Puts, Removes, changed}
+use Rattle.mc_model.specs.Act.{Change, Keeps, Puts, Removes, with_change}
 
 -- two keys that differ don't tie
 apart : (q key : List ℕ) → q ≢ key → eq_by_cmp (slice_cmp nat_cmp) q key ≡ false
@@ -27,7 +27,7 @@ after Keeps found = found
 after (Puts item) found = Some item
 after Removes found = None
 
-pub get_changed : (contents : Contents) (key : List ℕ) (change : Change) → finite_map.get (changed contents key change) key ≡ after change (finite_map.get contents key)
+pub get_changed : (contents : Contents) (key : List ℕ) (change : Change) → finite_map.get (with_change contents key change) key ≡ after change (finite_map.get contents key)
 get_changed contents key Keeps = refl
 get_changed contents key (Puts item) =
     get-insert nat_list_cmp_total contents key item key ∙ ap (λ b. cond b (Some item) (finite_map.get contents key)) (alike key)
@@ -35,7 +35,7 @@ get_changed contents key Removes =
     get-remove nat_list_cmp_total contents key key ∙ ap (λ b. cond b None (finite_map.get contents key)) (alike key)
 
 -- what is at another key
-pub get_other : (contents : Contents) (key : List ℕ) (change : Change) (q : List ℕ) → q ≢ key → finite_map.get (changed contents key change) q ≡ finite_map.get contents q
+pub get_other : (contents : Contents) (key : List ℕ) (change : Change) (q : List ℕ) → q ≢ key → finite_map.get (with_change contents key change) q ≡ finite_map.get contents q
 get_other contents key Keeps q differ = refl
 get_other contents key (Puts item) q differ =
     get-insert nat_list_cmp_total contents key item q ∙ ap (λ b. cond b (Some item) (finite_map.get contents q)) (apart q key differ)

@@ -9,7 +9,7 @@ use Rattle.mc_model.specs.declared.numeral.Numeral.{Numeral}
 use Rattle.mc_model.specs.declared.numeral.Numeral.TheVariants.{NoNumber, Is, MayBe}
 use Rattle.mc_model.specs.declared.act.Choice.{Choice}
 use Rattle.mc_model.specs.Numeral.{numeral_of, read_as}
-use Rattle.mc_model.specs.Act.{counted, counted_from, counted_to, incremented, decremented, effect_by, acted}
+use Rattle.mc_model.specs.Act.{count, count_from, count_to, increment, decrement, effect_by, outcome_of}
 use Rattle.mc_model.specs.ActLaws.{OnlyCountsChoose, OnlyDoubtfulAreChosen, PaddingIsUnseen, counts, is_doubtful, may_be_refused}
 
 -- a verb that doesn't count has one effect
@@ -30,7 +30,7 @@ one_effect verb.Touch request choice other number found none = refl
 -- and so one outcome
 pub only_counts_choose : OnlyCountsChoose
 only_counts_choose contents request choice other number none =
-    ap (acted contents request) (one_effect request.verb request choice other number (finite_map.get contents request.key) none)
+    ap (outcome_of contents request) (one_effect request.verb request choice other number (finite_map.get contents request.key) none)
 
 -- what is no doubtful numeral is read in one way
 one_reading : (m : Numeral) (a b : Bool) → is_doubtful m ≡ false → read_as a m ≡ read_as b m
@@ -40,23 +40,23 @@ one_reading (MayBe n) a b plain = absurd cc
 
 -- counts from one number differ by the padding alone
 one_pad : (new : ℕ → ℕ → ℕ) (request : Request) (choice other : Choice) (number : ℕ) (item : Item) (o : Option ℕ) → choice.pad ≡ other.pad
-    → counted_from new request choice number item o ≡ counted_from new request other number item o
+    → count_from new request choice number item o ≡ count_from new request other number item o
 one_pad new request choice other number item None same = refl
-one_pad new request choice other number item (Some n) same = ap (λ pad. counted_to item pad (new n request.number) number) same
+one_pad new request choice other number item (Some n) same = ap (λ pad. count_to item pad (new n request.number) number) same
 
 -- a count at what isn't doubtful has one effect where the padding is one
 one_count : (new : ℕ → ℕ → ℕ) (request : Request) (choice other : Choice) (number : ℕ) (found : Option Item) → may_be_refused found ≡ false → choice.pad ≡ other.pad
-    → counted new request choice number found ≡ counted new request other number found
+    → count new request choice number found ≡ count new request other number found
 one_count new request choice other number None plain same = refl
 one_count new request choice other number (Some item) plain same =
-    ap (counted_from new request choice number item) (one_reading (numeral_of item.body) choice.read other.read plain)
+    ap (count_from new request choice number item) (one_reading (numeral_of item.body) choice.read other.read plain)
     ∙ one_pad new request choice other number item (read_as other.read (numeral_of item.body)) same
 
 -- and so has every verb
 one_where_plain : (v : Verb) (request : Request) (choice other : Choice) (number : ℕ) (found : Option Item) → may_be_refused found ≡ false → choice.pad ≡ other.pad
     → effect_by v request choice number found ≡ effect_by v request other number found
-one_where_plain verb.Incr request choice other number found plain same = one_count incremented request choice other number found plain same
-one_where_plain verb.Decr request choice other number found plain same = one_count decremented request choice other number found plain same
+one_where_plain verb.Incr request choice other number found plain same = one_count increment request choice other number found plain same
+one_where_plain verb.Decr request choice other number found plain same = one_count decrement request choice other number found plain same
 one_where_plain verb.Set request choice other number found plain same = refl
 one_where_plain verb.Add request choice other number found plain same = refl
 one_where_plain verb.Replace request choice other number found plain same = refl
@@ -71,27 +71,27 @@ one_where_plain verb.Touch request choice other number found plain same = refl
 -- and so every request has one outcome
 pub only_doubtful_are_chosen : OnlyDoubtfulAreChosen
 only_doubtful_are_chosen contents request choice other number plain same =
-    ap (acted contents request) (one_where_plain request.verb request choice other number (finite_map.get contents request.key) plain same)
+    ap (outcome_of contents request) (one_where_plain request.verb request choice other number (finite_map.get contents request.key) plain same)
 
 -- counts from one number have one reply
 unseen_pad : (new : ℕ → ℕ → ℕ) (request : Request) (choice other : Choice) (number : ℕ) (item : Item) (o : Option ℕ)
-    → (counted_from new request choice number item o).reply ≡ (counted_from new request other number item o).reply
+    → (count_from new request choice number item o).reply ≡ (count_from new request other number item o).reply
 unseen_pad new request choice other number item None = refl
 unseen_pad new request choice other number item (Some n) = refl
 
 -- and so have counts where the reading is one
 unseen_count : (new : ℕ → ℕ → ℕ) (request : Request) (choice other : Choice) (number : ℕ) (found : Option Item) → choice.read ≡ other.read
-    → (counted new request choice number found).reply ≡ (counted new request other number found).reply
+    → (count new request choice number found).reply ≡ (count new request other number found).reply
 unseen_count new request choice other number None same = refl
 unseen_count new request choice other number (Some item) same =
-    ap (λ read. (counted_from new request choice number item (read_as read (numeral_of item.body))).reply) same
+    ap (λ read. (count_from new request choice number item (read_as read (numeral_of item.body))).reply) same
     ∙ unseen_pad new request choice other number item (read_as other.read (numeral_of item.body))
 
 -- and every verb
 one_reply : (v : Verb) (request : Request) (choice other : Choice) (number : ℕ) (found : Option Item) → choice.read ≡ other.read
     → (effect_by v request choice number found).reply ≡ (effect_by v request other number found).reply
-one_reply verb.Incr request choice other number found same = unseen_count incremented request choice other number found same
-one_reply verb.Decr request choice other number found same = unseen_count decremented request choice other number found same
+one_reply verb.Incr request choice other number found same = unseen_count increment request choice other number found same
+one_reply verb.Decr request choice other number found same = unseen_count decrement request choice other number found same
 one_reply verb.Set request choice other number found same = refl
 one_reply verb.Add request choice other number found same = refl
 one_reply verb.Replace request choice other number found same = refl

@@ -8,7 +8,7 @@ use Rattle.std.proofs.lemmas.Slice.Eq.{bytes_eq-Decides}
 use Rattle.mc_protocol.specs.declared.actor.Actor.{Actor}
 use Rattle.mc_protocol.specs.declared.actor.Actor.TheVariants as actor
 use Rattle.mc_model.specs.declared.sent.Sent.{Sent}
-use Rattle.mc_model.specs.Sections.{Sections, added}
+use Rattle.mc_model.specs.Sections.{Sections, with_sent}
 use Rattle.mc_model.specs.History.{is_on, has_key, is_delete, is_a_delete, clears, is_cleared}
 use Rattle.mc_model.specs.Next as next
 use Rattle.mc_model.proofs.Added.{every_added}
@@ -125,7 +125,7 @@ thrice true = refl
 thrice false = refl
 
 -- with one more request each key is cleared exactly if that one's is
-pub cleared_added : (s : Sections) (who : Actor) (sent : Sent) → is_cleared s ≡ true → is_cleared (added s who sent) ≡ next.clears s who sent
+pub cleared_added : (s : Sections) (who : Actor) (sent : Sent) → is_cleared s ≡ true → is_cleared (with_sent s who sent) ≡ next.clears s who sent
 cleared_added s actor.P sent all =
     let more = s.p ++ sent ∷ [] in
     let parts = cleared_parts s all in

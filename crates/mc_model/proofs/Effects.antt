@@ -14,7 +14,7 @@ use Rattle.mc_model.specs.declared.cache.Item.{Item}
 use Rattle.mc_model.specs.declared.numeral.Numeral.TheVariants.{Is}
 use Rattle.mc_model.specs.declared.act.Choice.{Choice}
 use Rattle.mc_model.specs.Numeral.{numeral_of, read_as}
-use Rattle.mc_model.specs.Act.{Removes, Effect, answers, puts, stored, counted, counted_from, counted_to, counted_body, incremented, decremented, effect_by, version}
+use Rattle.mc_model.specs.Act.{Removes, Effect, answers, puts, store, count, count_from, count_to, counted_body, increment, decrement, effect_by, version}
 use Rattle.mc_model.specs.ActLaws.{is_short, body_length, joins, reports_version}
 use Rattle.mc_model.proofs.NumeralReadings.{decimal_says, small_numeral}
 
@@ -36,7 +36,7 @@ no_number : (n : ℕ) (body : List ℕ) → reply.Stored ≡ reply.Number n → 
 no_number n body e = absurd cc
 
 -- a storage makes a version of the request's own body
-does_stored : (request : Request) (number : ℕ) (found : Option Item) → is_fit request reply.Stored ≡ true → joins request.verb ≡ false → Does request number found (stored request number)
+does_stored : (request : Request) (number : ℕ) (found : Option Item) → is_fit request reply.Stored ≡ true → joins request.verb ≡ false → Does request number found (store request number)
 does_stored request number found fit alone = putting (version request number) reply.Stored refl refl fit (λ n. no_number n request.body) (own alone)
 
 -- a join makes a version of both bodies
@@ -46,7 +46,7 @@ does_joined request number item body fit both long = putting (record { flags = i
 
 -- a swap stores, or answers that there is another version
 does_swapped : (request : Request) (number : ℕ) (item : Item) (b : Bool) → is_fit request reply.Stored ≡ true → is_fit request reply.Exists ≡ true → joins request.verb ≡ false
-    → Does request number (Some item) (cond b (stored request number) (answers reply.Exists))
+    → Does request number (Some item) (cond b (store request number) (answers reply.Exists))
 does_swapped request number item true fit other alone = does_stored request number (Some item) fit alone
 does_swapped request number item false fit other alone = answering reply.Exists refl (λ short. other)
 
@@ -69,7 +69,7 @@ record CountsAs (request : Request) : Type 0 where
 
 -- a count to a number makes a version whose body says it
 does_counted_to : (request : Request) (number : ℕ) (item : Item) (pad : Bool) (n : ℕ) → CountsAs request → n < 2 ^ 64
-    → Does request number (Some item) (counted_to item pad n number)
+    → Does request number (Some item) (count_to item pad n number)
 does_counted_to request number item pad n as_count small =
     let shorter : Bool = pad && ltb (length (decimal n)) (length item.body) in
     putting (record { flags = item.flags; body = counted_body pad item.body n; number = number }) (reply.Number n) refl refl (as_count.number n)
@@ -78,23 +78,23 @@ does_counted_to request number item pad n as_count small =
 
 -- a count from what is read, or from nothing
 does_counted_from : (new : ℕ → ℕ → ℕ) (request : Request) (choice : Choice) (number : ℕ) (item : Item) (o : Option ℕ) → CountsAs request
-    → ((n : ℕ) → o ≡ Some n → new n request.number < 2 ^ 64) → Does request number (Some item) (counted_from new request choice number item o)
+    → ((n : ℕ) → o ≡ Some n → new n request.number < 2 ^ 64) → Does request number (Some item) (count_from new request choice number item o)
 does_counted_from new request choice number item None as_count small = answering reply.NotNumber refl (λ short. as_count.refused)
 does_counted_from new request choice number item (Some n) as_count small = does_counted_to request number item choice.pad (new n request.number) as_count (small n refl)
 
 -- a count at what is there
 does_counted : (new : ℕ → ℕ → ℕ) (request : Request) (choice : Choice) (number : ℕ) (found : Option Item) → CountsAs request
-    → ((n : ℕ) → n < 2 ^ 64 → new n request.number < 2 ^ 64) → Does request number found (counted new request choice number found)
+    → ((n : ℕ) → n < 2 ^ 64 → new n request.number < 2 ^ 64) → Does request number found (count new request choice number found)
 does_counted new request choice number None as_count small = answering reply.NotFound refl (λ short. as_count.absent)
 does_counted new request choice number (Some item) as_count small =
     does_counted_from new request choice number item (read_as choice.read (numeral_of item.body)) as_count (λ n e. small n (small_numeral choice.read item.body n e))
 
 -- a sum that wraps has 64 bits
-small_sum : (n amount : ℕ) → n < 2 ^ 64 → incremented n amount < 2 ^ 64
+small_sum : (n amount : ℕ) → n < 2 ^ 64 → increment n amount < 2 ^ 64
 small_sum n amount small = mod_below (n + amount) (2 ^ 64) (omega arith)
 
 -- and so has a difference that stops at 0
-small_rest : (n amount : ℕ) → n < 2 ^ 64 → decremented n amount < 2 ^ 64
+small_rest : (n amount : ℕ) → n < 2 ^ 64 → decrement n amount < 2 ^ 64
 small_rest n amount small = omega arith
 
 -- by the verb and what is there
@@ -117,9 +117,9 @@ does verb.Get request choice number (Some item) e = answering (reply.Hit item.fl
 does verb.Gets request choice number None e = answering reply.Miss refl (λ short. rw e refl)
 does verb.Gets request choice number (Some item) e = answering (reply.Hit item.flags item.body (Some item.number)) refl (λ short. rw e short)
 does verb.Incr request choice number found e =
-    does_counted incremented request choice number found (record { absent = rw e refl; refused = rw e refl; number = λ n. rw e refl; alone = rw e refl }) (λ n. small_sum n request.number)
+    does_counted increment request choice number found (record { absent = rw e refl; refused = rw e refl; number = λ n. rw e refl; alone = rw e refl }) (λ n. small_sum n request.number)
 does verb.Decr request choice number found e =
-    does_counted decremented request choice number found (record { absent = rw e refl; refused = rw e refl; number = λ n. rw e refl; alone = rw e refl }) (λ n. small_rest n request.number)
+    does_counted decrement request choice number found (record { absent = rw e refl; refused = rw e refl; number = λ n. rw e refl; alone = rw e refl }) (λ n. small_rest n request.number)
 does verb.Delete request choice number None e = answering reply.NotFound refl (λ short. rw e refl)
 does verb.Delete request choice number (Some item) e = removing (rw e refl)
 does verb.Touch request choice number None e = answering reply.NotFound refl (λ short. rw e refl)

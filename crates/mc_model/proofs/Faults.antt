@@ -9,7 +9,7 @@ use Rattle.mc_protocol.specs.declared.limits.TheConstants.{KEYS_LIMIT}
 use Rattle.mc_model.specs.declared.sent.Sent.{Sent}
 use Rattle.mc_model.specs.declared.rules.HistoryKind.{HistoryKind}
 use Rattle.mc_model.specs.declared.rules.HistoryKind.TheVariants as kind
-use Rattle.mc_model.specs.Sections.{Sections, no_sections, added}
+use Rattle.mc_model.specs.Sections.{Sections, no_sections, with_sent}
 use Rattle.mc_model.specs.History.{has_words, all_have_words, has_few_requests, has_few_keys, is_within_limits, is_in_turn, is_cleared, numbers_are_seen, is_answered_rightly, are_answered_rightly, is_history, fault_at, comes_late, key_count}
 use Rattle.mc_model.specs.Next.{is_full, may_come, clears, number_is_seen, keys_with}
 use Rattle.mc_model.proofs.Added.{every_added}
@@ -66,8 +66,8 @@ pub fault_by_tests : (s : Sections) (who : Actor) (sent : Sent) → is_history s
 unfolding fault_at
 fault_by_tests s who sent h =
     let r = rules_of s h in
-    let words : all_have_words (added s who sent) ≡ has_words sent.request = every_added (λ x. has_words x.request) s who sent ∙ rw (r.words) refl in
-    let replies : are_answered_rightly (added s who sent) ≡ is_answered_rightly sent = every_added is_answered_rightly s who sent ∙ rw (r.replies) refl in
+    let words : all_have_words (with_sent s who sent) ≡ has_words sent.request = every_added (λ x. has_words x.request) s who sent ∙ rw (r.words) refl in
+    let replies : are_answered_rightly (with_sent s who sent) ≡ is_answered_rightly sent = every_added is_answered_rightly s who sent ∙ rw (r.replies) refl in
     let limits = limits_added s who sent r.few r.few_keys r.cleared in
     rw (words, limits, turn_added s who sent r.turn, cleared_added s who sent r.cleared, numbers_added s who sent r.numbers, replies, not_twice (is_full s who sent)) refl
 
@@ -83,21 +83,21 @@ none_failed true true false true true true false e = cc
 none_failed true true false true true true true e = (refl, refl)
 
 -- where nothing is wrong with the request that comes next, it is not late, and the sections with it are a history
-pub no_fault : (s : Sections) (who : Actor) (sent : Sent) → fault_at s who sent ≡ None → (comes_late s who ≡ false) × (is_history (added s who sent) ≡ true)
+pub no_fault : (s : Sections) (who : Actor) (sent : Sent) → fault_at s who sent ≡ None → (comes_late s who ≡ false) × (is_history (with_sent s who sent) ≡ true)
 unfolding fault_at is_history
 no_fault s who sent none =
-    let t = added s who sent in
+    let t = with_sent s who sent in
     none_failed (all_have_words t) (is_within_limits t) (comes_late s who) (is_in_turn t) (is_cleared t) (numbers_are_seen t) (are_answered_rightly t) none
 
 -- where the request is not late and the sections with it are a history, nothing is wrong with it
-pub no_fault_of : (s : Sections) (who : Actor) (sent : Sent) → comes_late s who ≡ false → is_history (added s who sent) ≡ true → fault_at s who sent ≡ None
+pub no_fault_of : (s : Sections) (who : Actor) (sent : Sent) → comes_late s who ≡ false → is_history (with_sent s who sent) ≡ true → fault_at s who sent ≡ None
 unfolding fault_at
 no_fault_of s who sent late h =
-    let r = rules_of (added s who sent) h in
+    let r = rules_of (with_sent s who sent) h in
     rw (late, r.words, r.few, r.few_keys, r.turn, r.cleared, r.numbers, r.replies) refl
 
 -- how many keys a history has with one more request
-pub keys_counted : (s : Sections) (who : Actor) (sent : Sent) → is_history s ≡ true → key_count (added s who sent) ≡ keys_with s sent
+pub keys_counted : (s : Sections) (who : Actor) (sent : Sent) → is_history s ≡ true → key_count (with_sent s who sent) ≡ keys_with s sent
 keys_counted s who sent h = key_count_added s who sent ∙ ap (λ b. cond b (key_count s) (key_count s + 1)) (keys_in_prefix s sent.request.key (rules_of s h).cleared)
 
 -- a history has at most as many keys as it may

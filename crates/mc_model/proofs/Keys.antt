@@ -10,7 +10,7 @@ use Rattle.std.proofs.lemmas.Slice.Eq.{bytes_eq-Decides}
 use Rattle.mc_protocol.specs.declared.actor.Actor.{Actor}
 use Rattle.mc_protocol.specs.declared.actor.Actor.TheVariants as actor
 use Rattle.mc_model.specs.declared.sent.Sent.{Sent}
-use Rattle.mc_model.specs.Sections.{Sections, added}
+use Rattle.mc_model.specs.Sections.{Sections, with_sent}
 use Rattle.mc_model.specs.History.{is_on, has_key, keys_of, key_count}
 
 -- the two sides of a test of bytes may change places
@@ -54,7 +54,7 @@ counted xs ys sent less more e f =
     ∙ ap (λ b. cond b (set.len (key_set (xs ++ ys))) (set.len (key_set (xs ++ ys)) + 1)) (contains-key_set (xs ++ ys) sent.request.key))
 
 -- how many keys there are with one more request
-pub key_count_added : (s : Sections) (who : Actor) (sent : Sent) → key_count (added s who sent) ≡ cond (has_key sent.request.key (s.p ++ s.a ++ s.b)) (key_count s) (key_count s + 1)
+pub key_count_added : (s : Sections) (who : Actor) (sent : Sent) → key_count (with_sent s who sent) ≡ cond (has_key sent.request.key (s.p ++ s.a ++ s.b)) (key_count s) (key_count s + 1)
 key_count_added s actor.P sent = counted s.p (s.a ++ s.b) sent (s.p ++ s.a ++ s.b) _ (simp append_assoc) (simp append_assoc)
 key_count_added s actor.A sent = counted (s.p ++ s.a) s.b sent (s.p ++ s.a ++ s.b) _ refl (simp append_assoc)
 key_count_added s actor.B sent = counted (s.p ++ s.a ++ s.b) [] sent (s.p ++ s.a ++ s.b) _ (simp append-nil) (simp append_assoc)

@@ -7,7 +7,7 @@ use Rattle.mc_protocol.specs.declared.actor.Actor.{Actor}
 use Rattle.mc_protocol.specs.declared.actor.Actor.TheVariants as actor
 use Rattle.mc_model.specs.declared.sent.Sent.{Sent}
 use Rattle.mc_model.specs.declared.rules.HistoryKind.{HistoryKind}
-use Rattle.mc_model.specs.Sections.{Sections, added, before, section_of}
+use Rattle.mc_model.specs.Sections.{Sections, with_sent, before, section_of}
 use Rattle.mc_model.specs.History.{every, has_words, is_answered_rightly, clears, is_cleared, is_none_sent, is_history, comes_late, IsFirstFault}
 use Rattle.mc_model.specs.Next.{with_section}
 use Rattle.mc_model.proofs.Added.{every_added}
@@ -17,20 +17,20 @@ use Rattle.mc_model.proofs.Cleared.{cleared_parts, cleared_before}
 use Rattle.mc_model.proofs.Seen.{numbers_before}
 use Rattle.mc_model.proofs.Faults.{rules_of, history_of, no_fault_of}
 
-every_before : (test : Sent → Bool) (s : Sections) (who : Actor) (sent : Sent) → every test (added s who sent) ≡ true → every test s ≡ true
+every_before : (test : Sent → Bool) (s : Sections) (who : Actor) (sent : Sent) → every test (with_sent s who sent) ≡ true → every test s ≡ true
 every_before test s who sent all = (and_parts (every test s) (test sent) (sym (every_added test s who sent) ∙ all)).0
 
-keys_cleared_before : (s : Sections) (who : Actor) (sent : Sent) → comes_late s who ≡ false → is_cleared (added s who sent) ≡ true → is_cleared s ≡ true
+keys_cleared_before : (s : Sections) (who : Actor) (sent : Sent) → comes_late s who ≡ false → is_cleared (with_sent s who sent) ≡ true → is_cleared s ≡ true
 keys_cleared_before s actor.P sent late all =
     let none = and_parts (is_none_sent s.a) (is_none_sent s.b) (no_branch s late) in
-    rw (none_sent s.a none.0, none_sent s.b none.1, cleared_before s.p sent (cleared_parts (added s actor.P sent) all).0) refl
+    rw (none_sent s.a none.0, none_sent s.b none.1, cleared_before s.p sent (cleared_parts (with_sent s actor.P sent) all).0) refl
 keys_cleared_before s actor.A sent late all = every_before (λ x. clears s.p x.request.key) s actor.A sent all
 keys_cleared_before s actor.B sent late all = every_before (λ x. clears s.p x.request.key) s actor.B sent all
 
 -- what stands before the last request of a history is a history
-pub history_before : (s : Sections) (who : Actor) (sent : Sent) → comes_late s who ≡ false → is_history (added s who sent) ≡ true → is_history s ≡ true
+pub history_before : (s : Sections) (who : Actor) (sent : Sent) → comes_late s who ≡ false → is_history (with_sent s who sent) ≡ true → is_history s ≡ true
 history_before s who sent late h =
-    let r = rules_of (added s who sent) h in
+    let r = rules_of (with_sent s who sent) h in
     history_of s (record {
       words = every_before (λ x. has_words x.request) s who sent r.words;
       few = requests_before s who sent r.few;
@@ -42,7 +42,7 @@ history_before s who sent late h =
     })
 
 -- one more request at the end of a section
-pub added_last : (s : Sections) (who : Actor) (xs : List Sent) (x : Sent) → with_section s who (xs ++ x ∷ []) ≡ added (with_section s who xs) who x
+pub added_last : (s : Sections) (who : Actor) (xs : List Sent) (x : Sent) → with_section s who (xs ++ x ∷ []) ≡ with_sent (with_section s who xs) who x
 added_last s actor.P xs x = refl
 added_last s actor.A xs x = refl
 added_last s actor.B xs x = refl
@@ -80,7 +80,7 @@ next_of : (xs : List Sent) (n : ℕ) (sent : Sent) → slice_get xs n ≡ Some s
 next_of xs n sent at = take_more xs n sent (slice_get_within xs n sent at) ∙ ap (λ x. take n xs ++ x ∷ []) (get_or_from_slice_get xs n sent sent at)
 
 -- the request at a place, after those before it
-before_next : (s : Sections) (who : Actor) (n : ℕ) (sent : Sent) → slice_get (section_of s who) n ≡ Some sent → before s who (n + 1) ≡ added (before s who n) who sent
+before_next : (s : Sections) (who : Actor) (n : ℕ) (sent : Sent) → slice_get (section_of s who) n ≡ Some sent → before s who (n + 1) ≡ with_sent (before s who n) who sent
 before_next s actor.P n sent at = rw (next_of s.p n sent at) refl
 before_next s actor.A n sent at = rw (next_of s.a n sent at) refl
 before_next s actor.B n sent at = rw (next_of s.b n sent at) refl
@@ -95,7 +95,7 @@ pub no_history : (s : Sections) (kind : HistoryKind) (who : Actor) (place : ℕ)
 no_history s kind who place f =
     false_from_ne_true (is_history s)
     (λ h.
-    let next : is_history (added (before s who place) who f.sent) ≡ true = sym (ap is_history (before_next s who place f.sent f.request)) ∙ history_before_place s who (place + 1) h in
+    let next : is_history (with_sent (before s who place) who f.sent) ≡ true = sym (ap is_history (before_next s who place f.sent f.request)) ∙ history_before_place s who (place + 1) h in
     let none = no_fault_of (before s who place) who f.sent (not_late_before s who place) next in
     let both : None ≡ Some kind = sym none ∙ f.fault in
     cc)

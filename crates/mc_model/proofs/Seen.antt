@@ -6,7 +6,7 @@ use Rattle.std.proofs.lemmas.List.Folds.{list_any-append}
 use Rattle.mc_protocol.specs.declared.actor.Actor.{Actor}
 use Rattle.mc_protocol.specs.declared.actor.Actor.TheVariants as actor
 use Rattle.mc_model.specs.declared.sent.Sent.{Sent}
-use Rattle.mc_model.specs.Sections.{Sections, added}
+use Rattle.mc_model.specs.Sections.{Sections, with_sent}
 use Rattle.mc_model.specs.History.{is_cas, shows, is_seen, are_seen, numbers_are_seen, is_none_sent, comes_late}
 use Rattle.mc_model.specs.Next.{number_is_seen}
 use Rattle.mc_model.proofs.Turns.{no_branch, none_sent}
@@ -76,7 +76,7 @@ and_twice true = refl
 and_twice false = refl
 
 -- with one more request each number was shown exactly if that one's was
-pub numbers_added : (s : Sections) (who : Actor) (sent : Sent) → numbers_are_seen s ≡ true → numbers_are_seen (added s who sent) ≡ number_is_seen s who sent
+pub numbers_added : (s : Sections) (who : Actor) (sent : Sent) → numbers_are_seen s ≡ true → numbers_are_seen (with_sent s who sent) ≡ number_is_seen s who sent
 numbers_added s actor.P sent all =
     let parts = seen_parts s all in
     rw (seen_added [] s.p sent, parts.0, seen_after s.p s.a sent parts.1, seen_after s.p s.b sent parts.2)
@@ -93,13 +93,13 @@ seen_front : (earlier xs : List Sent) (sent : Sent) → are_seen earlier (xs ++ 
 seen_front earlier xs sent all = (and_parts (are_seen earlier xs) (is_seen (earlier ++ xs) sent) (sym (seen_added earlier xs sent) ∙ all)).0
 
 -- each number was shown before the last request too
-pub numbers_before : (s : Sections) (who : Actor) (sent : Sent) → comes_late s who ≡ false → numbers_are_seen (added s who sent) ≡ true → numbers_are_seen s ≡ true
+pub numbers_before : (s : Sections) (who : Actor) (sent : Sent) → comes_late s who ≡ false → numbers_are_seen (with_sent s who sent) ≡ true → numbers_are_seen s ≡ true
 numbers_before s actor.P sent late all =
     let none = and_parts (is_none_sent s.a) (is_none_sent s.b) (no_branch s late) in
-    rw (none_sent s.a none.0, none_sent s.b none.1, seen_front [] s.p sent (seen_parts (added s actor.P sent) all).0) refl
+    rw (none_sent s.a none.0, none_sent s.b none.1, seen_front [] s.p sent (seen_parts (with_sent s actor.P sent) all).0) refl
 numbers_before s actor.A sent late all =
-    let parts = seen_parts (added s actor.A sent) all in
+    let parts = seen_parts (with_sent s actor.A sent) all in
     rw (parts.0, seen_front s.p s.a sent parts.1, parts.2) refl
 numbers_before s actor.B sent late all =
-    let parts = seen_parts (added s actor.B sent) all in
+    let parts = seen_parts (with_sent s actor.B sent) all in
     rw (parts.0, parts.1, seen_front s.p s.b sent parts.2) refl

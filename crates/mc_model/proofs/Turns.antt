@@ -4,7 +4,7 @@ use Rattle.std.proofs.lemmas.Bool.{and_parts, and_from, or_right, not-false}
 use Rattle.mc_protocol.specs.declared.actor.Actor.{Actor}
 use Rattle.mc_protocol.specs.declared.actor.Actor.TheVariants as actor
 use Rattle.mc_model.specs.declared.sent.Sent.{Sent}
-use Rattle.mc_model.specs.Sections.{Sections, added}
+use Rattle.mc_model.specs.Sections.{Sections, with_sent}
 use Rattle.mc_model.specs.History.{are_answered, is_open_at_the_end, is_none_sent, has_no_branch, is_in_turn, comes_late}
 use Rattle.mc_model.specs.Next.{may_come}
 
@@ -55,7 +55,7 @@ turn_b false true false = refl
 turn_b false false a = refl
 
 -- a request is out of turn exactly if it may not come
-pub turn_added : (s : Sections) (who : Actor) (sent : Sent) → is_in_turn s ≡ true → (comes_late s who || not (is_in_turn (added s who sent))) ≡ not (may_come s who)
+pub turn_added : (s : Sections) (who : Actor) (sent : Sent) → is_in_turn s ≡ true → (comes_late s who || not (is_in_turn (with_sent s who sent))) ≡ not (may_come s who)
 turn_added s actor.P sent turn =
     let parts = turn_parts s turn in
     rw (open_added s.p sent, parts.1, parts.2) (late_or_not (has_no_branch s) (are_answered s.p) (are_answered (s.p ++ sent ∷ [])))
@@ -85,20 +85,20 @@ and-false true = refl
 and-false false = refl
 
 -- whose turn it was before the last request
-pub turn_before : (s : Sections) (who : Actor) (sent : Sent) → comes_late s who ≡ false → is_in_turn (added s who sent) ≡ true → is_in_turn s ≡ true
+pub turn_before : (s : Sections) (who : Actor) (sent : Sent) → comes_late s who ≡ false → is_in_turn (with_sent s who sent) ≡ true → is_in_turn s ≡ true
 turn_before s actor.P sent late turn =
-    let parts = turn_parts (added s actor.P sent) turn in
+    let parts = turn_parts (with_sent s actor.P sent) turn in
     let p : is_open_at_the_end s.p ≡ true = open-answered s.p (sym (open_added s.p sent) ∙ parts.0) in
     rw (p, parts.1, parts.2, no_branch s late) (or_right (are_answered s.p) true refl)
 turn_before s actor.A sent late turn =
-    let parts = turn_parts (added s actor.A sent) turn in
+    let parts = turn_parts (with_sent s actor.A sent) turn in
     let a : is_open_at_the_end s.a ≡ true = open-answered s.a (sym (open_added s.a sent) ∙ parts.1) in
-    let none : has_no_branch (added s actor.A sent) ≡ false = rw (some_added s.a sent) refl in
+    let none : has_no_branch (with_sent s actor.A sent) ≡ false = rw (some_added s.a sent) refl in
     let p : are_answered s.p ≡ true = answered_first (are_answered s.p) (is_none_sent (s.a ++ sent ∷ [])) (is_none_sent s.b) parts.3 none in
     rw (parts.0, a, parts.2, p) refl
 turn_before s actor.B sent late turn =
-    let parts = turn_parts (added s actor.B sent) turn in
+    let parts = turn_parts (with_sent s actor.B sent) turn in
     let b : is_open_at_the_end s.b ≡ true = open-answered s.b (sym (open_added s.b sent) ∙ parts.2) in
-    let none : has_no_branch (added s actor.B sent) ≡ false = rw (some_added s.b sent) (and-false (is_none_sent s.a)) in
+    let none : has_no_branch (with_sent s actor.B sent) ≡ false = rw (some_added s.b sent) (and-false (is_none_sent s.a)) in
     let p : are_answered s.p ≡ true = answered_first (are_answered s.p) (is_none_sent s.a) (is_none_sent (s.b ++ sent ∷ [])) parts.3 none in
     rw (parts.0, parts.1, b, p) refl

@@ -21,7 +21,7 @@ use Rattle.mc_protocol.specs.declared.reply.Reply.TheVariants as reply
 use Rattle.mc_protocol.specs.declared.limits.TheConstants.{KEY_BYTES_LIMIT}
 use Rattle.mc_protocol.specs.Decimals.{SpellsNumber, is_digit, MAX_32, MAX_64}
 use Rattle.mc_protocol.specs.Names.{is_key, is_name_byte, are_name_bytes}
-use Rattle.mc_model.specs.Words.{SpellsBytes, SpellsBody, SpellsFields, SpellsRequest, SpellsShown, SpellsReply, is_plain, hex_value, joined}
+use Rattle.mc_model.specs.Words.{SpellsBytes, SpellsBody, SpellsFields, SpellsRequest, SpellsShown, SpellsReply, is_plain, hex_value, join_words}
 use Rattle.mc_model.specs.WordLaws.{is_visible, is_whole, are_whole, is_in_line, SpellingWordsAreWhole, JoinedWordsFallApart, JoinedWordsEndNoLine}
 
 -- ---- bytes
@@ -151,7 +151,7 @@ none-separates by word visible =
     All-weaker (λ byte. is_visible byte ≡ true) (λ byte. separates by byte ≡ false) (visible-apart by) word (AllPass-from_list_all is_visible word visible)
 
 -- the pieces between the spaces are the words
-splits : (by : Separator) (word : Word) (words : List Word) → are_whole (word ∷ words) ≡ true → slice_split (separates by) (joined (word ∷ words)) ≡ word ∷ words
+splits : (by : Separator) (word : Word) (words : List Word) → are_whole (word ∷ words) ≡ true → slice_split (separates by) (join_words (word ∷ words)) ≡ word ∷ words
 splits by word [] all =
     let p = and_parts (is_whole word) true all in
     let q = and_parts (not (length word == 0)) (list_all is_visible word) p.0 in
@@ -159,7 +159,7 @@ splits by word [] all =
 splits by word (next ∷ words) all =
     let p = and_parts (is_whole word) (are_whole (next ∷ words)) all in
     let q = and_parts (not (length word == 0)) (list_all is_visible word) p.0 in
-    slice_split_at (separates by) word 32 (joined (next ∷ words)) (none-separates by word q.1) (space-separates by)
+    slice_split_at (separates by) word 32 (join_words (next ∷ words)) (none-separates by word q.1) (space-separates by)
     ∙ ap (λ pieces. word ∷ pieces) (splits by next words p.1)
 
 -- no word is left out
@@ -185,5 +185,5 @@ ends_no_line [] all = refl
 ends_no_line (word ∷ []) all = word-in_line word (and_parts (is_whole word) true all).0
 ends_no_line (word ∷ next ∷ words) all =
     let p = and_parts (is_whole word) (are_whole (next ∷ words)) all in
-    rw (list_all-append is_in_line word (32 ∷ joined (next ∷ words)))
-    (and_from (list_all is_in_line word) (list_all is_in_line (joined (next ∷ words))) (word-in_line word p.0) (ends_no_line (next ∷ words) p.1))
+    rw (list_all-append is_in_line word (32 ∷ join_words (next ∷ words)))
+    (and_from (list_all is_in_line word) (list_all is_in_line (join_words (next ∷ words))) (word-in_line word p.0) (ends_no_line (next ∷ words) p.1))

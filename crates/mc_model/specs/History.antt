@@ -21,7 +21,7 @@ use Rattle.mc_protocol.specs.Names.{is_key}
 use Rattle.mc_model.specs.declared.sent.Sent.{Sent}
 use Rattle.mc_model.specs.declared.rules.HistoryKind.{HistoryKind}
 use Rattle.mc_model.specs.declared.rules.HistoryKind.TheVariants as kind
-use Rattle.mc_model.specs.Sections.{Sections, section_of, added, before}
+use Rattle.mc_model.specs.Sections.{Sections, section_of, with_sent, before}
 
 -- every request of the sections passes the test
 abbrev pub every : (Sent → Bool) → Sections → Bool
@@ -186,7 +186,7 @@ first_broken late s =
 
 -- what is wrong with a request that comes next
 unfoldable pub fault_at : Sections → Actor → Sent → Option HistoryKind
-fault_at s actor sent = first_broken (comes_late s actor) (added s actor sent)
+fault_at s actor sent = first_broken (comes_late s actor) (with_sent s actor sent)
 
 -- the sections before the request at this place are a history, and the request has this fault
 pub record IsFirstFault (s : Sections) (kind : HistoryKind) (actor : Actor) (place : ℕ) : Type 0 where

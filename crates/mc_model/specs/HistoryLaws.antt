@@ -3,13 +3,13 @@ use Rattle.std.specs.Prelude.{◌≡◌, ◌↔◌, ℕ, true, false, None}
 use Rattle.mc_protocol.specs.declared.actor.Actor.{Actor}
 use Rattle.mc_model.specs.declared.sent.Sent.{Sent}
 use Rattle.mc_model.specs.declared.rules.HistoryKind.{HistoryKind}
-use Rattle.mc_model.specs.Sections.{Sections, added, before}
+use Rattle.mc_model.specs.Sections.{Sections, with_sent, before}
 use Rattle.mc_model.specs.History.{is_history, comes_late, fault_at, IsFirstFault}
 
 -- a history without its last request is a history
 abbrev pub PrefixesAreHistories : Type 0
 PrefixesAreHistories =
-    (s : Sections) (who : Actor) (sent : Sent) → comes_late s who ≡ false → is_history (added s who sent) ≡ true → is_history s ≡ true
+    (s : Sections) (who : Actor) (sent : Sent) → comes_late s who ≡ false → is_history (with_sent s who sent) ≡ true → is_history s ≡ true
 
 -- so are the requests before any place of it
 abbrev pub PlacesEndHistories : Type 0
@@ -18,7 +18,7 @@ PlacesEndHistories = (s : Sections) (who : Actor) (place : ℕ) → is_history s
 -- a request has no fault exactly if it is not late and the sections with it are a history
 abbrev pub FaultlessMakeHistories : Type 0
 FaultlessMakeHistories =
-    (s : Sections) (who : Actor) (sent : Sent) → (fault_at s who sent ≡ None) ↔ ((comes_late s who ≡ false) × (is_history (added s who sent) ≡ true))
+    (s : Sections) (who : Actor) (sent : Sent) → (fault_at s who sent ≡ None) ↔ ((comes_late s who ≡ false) × (is_history (with_sent s who sent) ≡ true))
 
 -- sections that have a first fault are no history
 abbrev pub FaultyAreNoHistories : Type 0

@@ -1,4 +1,4 @@
--- The number and the name of a kind, by which a refused history is told.
+-- The number and the name of each kind of fault of a history, as a refusal shows them.
 use Rattle.std.specs.Prelude.{ℕ, List, codes}
 use Rattle.mc_model.specs.declared.rules.HistoryKind.{HistoryKind}
 use Rattle.mc_model.specs.declared.rules.HistoryKind.TheVariants as kind

@@ -19,10 +19,10 @@ section_of s actor.A = s.a
 section_of s actor.B = s.b
 
 -- with one more request of a section
-abbrev pub added : Sections → Actor → Sent → Sections
-added s actor.P sent = record s { p = s.p ++ sent ∷ [] }
-added s actor.A sent = record s { a = s.a ++ sent ∷ [] }
-added s actor.B sent = record s { b = s.b ++ sent ∷ [] }
+abbrev pub with_sent : Sections → Actor → Sent → Sections
+with_sent s actor.P sent = record s { p = s.p ++ sent ∷ [] }
+with_sent s actor.A sent = record s { a = s.a ++ sent ∷ [] }
+with_sent s actor.B sent = record s { b = s.b ++ sent ∷ [] }
 
 -- what comes before the request at a place, in the order P, A, B: the earlier requests of its section, and the sections before
 abbrev pub before : Sections → Actor → ℕ → Sections

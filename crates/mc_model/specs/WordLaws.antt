@@ -8,7 +8,7 @@ use Rattle.mc_protocol.specs.declared.request.Request.{Request}
 use Rattle.mc_protocol.specs.declared.reply.Reply.{Reply}
 use Rattle.mc_protocol.specs.declared.reply.Reply.TheVariants as reply
 use Rattle.mc_protocol.specs.Decimals.{MAX_32, MAX_64}
-use Rattle.mc_model.specs.Words.{SpellsRequest, SpellsReply, request_words, reply_words, joined}
+use Rattle.mc_model.specs.Words.{SpellsRequest, SpellsReply, request_words, reply_words, join_words}
 use Rattle.mc_model.specs.History.{has_words}
 
 -- ---- what is printed spells the value
@@ -66,7 +66,7 @@ SpellingWordsAreWhole {V} Spells = (words : List Word) (v : V) → Spells words 
 
 -- whole words that were joined are the words of their line
 abbrev pub JoinedWordsFallApart : Type 0
-JoinedWordsFallApart = (separator : Separator) (words : List Word) → are_whole words ≡ true → words_of separator (joined words) ≡ words
+JoinedWordsFallApart = (separator : Separator) (words : List Word) → are_whole words ≡ true → words_of separator (join_words words) ≡ words
 
 -- a byte that a line may have: a space, or a visible byte
 abbrev pub is_in_line : ℕ → Bool
@@ -74,4 +74,4 @@ is_in_line byte = nat_le 32 byte && nat_le byte 126
 
 -- whole words that were joined end no line
 abbrev pub JoinedWordsEndNoLine : Type 0
-JoinedWordsEndNoLine = (words : List Word) → are_whole words ≡ true → list_all is_in_line (joined words) ≡ true
+JoinedWordsEndNoLine = (words : List Word) → are_whole words ≡ true → list_all is_in_line (join_words words) ≡ true

@@ -147,5 +147,5 @@ reply_words (reply.Number n) = class_word class.Number ∷ decimal n ∷ []
 reply_words reply.NotNumber = class_word class.NotNumber ∷ []
 
 -- the words, with one space between them
-abbrev pub joined : List Word → List ℕ
-joined words = join_with_byte 32 words
+abbrev pub join_words : List Word → List ℕ
+join_words words = join_with_byte 32 words

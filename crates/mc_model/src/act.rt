@@ -1,7 +1,7 @@
 //! What a server does with each verb, and the verbs that store nothing.
 ghost use Rattle.std.specs.Prelude.{◌≡◌, IfOk, OnErr};
 ghost use Rattle.std.specs.FinMap as finite_map;
-ghost use Rattle.mc_model.specs.Act.{act, acted, read, read_with_number, deleted, touched};
+ghost use Rattle.mc_model.specs.Act.{act, outcome_of, read, read_with_number, delete, touch};
 
 use crate::{Cache, Item};
 use mc_protocol::{OutOfMemory, Reply, Request, Verb};
@@ -69,8 +69,8 @@ impl Cache {
 
     /// Removes the item at the key.
     fn delete(&mut self, request: &Request) -> Reply
-        ensures reply { result ≡ (acted self.old request.now (deleted (finite_map.get self.old request.now.key))).reply }
-        ensures contents { self.new ≡ (acted self.old request.now (deleted (finite_map.get self.old request.now.key))).contents }
+        ensures reply { result ≡ (outcome_of self.old request.now (delete (finite_map.get self.old request.now.key))).reply }
+        ensures contents { self.new ≡ (outcome_of self.old request.now (delete (finite_map.get self.old request.now.key))).contents }
     {
         let key = request.key.as_slice();
         if self.find(key).is_none() {
@@ -82,7 +82,7 @@ impl Cache {
 
     /// The time of expiry is always 0, so nothing changes.
     fn touch(&self, request: &Request) -> Reply
-        ensures { result ≡ (touched (finite_map.get self.now request.now.key)).reply }
+        ensures { result ≡ (touch (finite_map.get self.now request.now.key)).reply }
     {
         match self.find(request.key.as_slice()) {
             Some(_) => Reply::Touched,

@@ -57,6 +57,7 @@ fn unescape(alloc: Global, text: &[u8]) -> Result<Vec<u8>, WordsFault>
 /// The first byte that the text stands for, and what follows it. An empty text has none.
 fn first_byte(text: &[u8]) -> Result<Option<(u8, &[u8])>, WordsFault>
     ensures exact { reading.Gives (λ o. option_map (λ x. (x.0, x.1.now)) o) result (reading.first_byte_in text.now) }
+    ensures memory { IfErr result (λ fault. fault ≢ WordsFault.OutOfMemory) }
 {
     match text {
         [] => Ok(None),

@@ -50,14 +50,14 @@ impl HistoryBuilder {
 
     /// Adds the next request of a section. Where the sections would be no history with it, or it is one of P after one
     /// of A or B, the fault is the first rule that is broken, in the order of `first_broken`. Want of memory comes only
-    /// where no rule is broken. An `Err` changes nothing, and the sections are a history all along.
+    /// where no rule is broken. An `Err` changes nothing, and after each call the sections are a history.
     pub fn push(&mut self, actor: Actor, sent: Sent) -> Result<(), HistoryKind>
-        ensures ok { OnOk result (self.new ≡ sections.added self.old actor sent) }
+        ensures ok { OnOk result (self.new ≡ sections.with_sent self.old actor sent) }
         ensures history { OnOk result (rule.fault_at self.old actor sent ≡ None) }
         ensures fault { IfErr result (λ kind. kind ≢ HistoryKind.OutOfMemory → rule.fault_at self.old actor sent ≡ Some kind) }
         ensures memory { IfErr result (λ kind. kind ≡ HistoryKind.OutOfMemory → rule.fault_at self.old actor sent ≡ None) }
         ensures err { OnErr result (self.new ≡ self.old) }
-        ensures kept { rule.is_history self.new ≡ true }
+        ensures keeps { rule.is_history self.new ≡ true }
     {
         self.check(actor, &sent)?;
         let keys = self.keys_with(&sent);
@@ -70,7 +70,7 @@ impl HistoryBuilder {
         Ok(())
     }
 
-    /// How many keys there are with the request. P has each key of a history, so its requests tell whether this one is
+    /// How many keys there are with the request. P has each key of a history, so its requests show whether this key is
     /// new.
     fn keys_with(&self, sent: &Sent) -> usize
         ensures { result ≡ next.keys_with self.now sent.now }
@@ -111,7 +111,7 @@ impl HistoryBuilder {
         Ok(())
     }
 
-    /// Whether the section has all its requests, or the history all its keys and this is another.
+    /// Whether the section has as many requests as it may have, or the history as many keys and this key is new.
     fn is_full(&self, actor: Actor, sent: &Sent) -> bool
         ensures { result ≡ next.is_full self.now actor sent.now }
     {

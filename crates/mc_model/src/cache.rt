@@ -73,7 +73,7 @@ impl Cache {
         ensures { IfOk result (λ copy. copy ≡ self.now) }
     {
         Ok(Cache {
-            entries: copied_entries(self.allocator(), self.entries.as_slice())?,
+            entries: copy_entries(self.allocator(), self.entries.as_slice())?,
         })
     }
 
@@ -112,10 +112,7 @@ impl Cache {
 }
 
 /// Copies of the entries, with memory from `alloc`.
-fn copied_entries(
-    alloc: Global,
-    entries: &[(Bytes, Item)],
-) -> Result<Vec<(Bytes, Item)>, OutOfMemory>
+fn copy_entries(alloc: Global, entries: &[(Bytes, Item)]) -> Result<Vec<(Bytes, Item)>, OutOfMemory>
     ensures { IfOk result (λ copies. copies.items ≡ entries.entry.now) }
 {
     let mut copies = Vec::with_capacity(alloc, entries.len())?;
@@ -129,7 +126,7 @@ fn copied_entries(
 
 /// Removes the entries of the key, and gives no memory back.
 fn remove_key(entries: &mut Vec<(Bytes, Item)>, key: &[u8])
-    ensures removed { contents_of entries.new.items ≡ finite_map.remove (contents_of entries.old.items) key.now }
+    ensures removes { contents_of entries.new.items ≡ finite_map.remove (contents_of entries.old.items) key.now }
     ensures len { vec_len entries.new ≤ vec_len entries.old }
     ensures capacity { vec_capacity entries.new ≡ vec_capacity entries.old }
 {

@@ -1,8 +1,8 @@
 //! The verbs that count: `incr` and `decr`.
 ghost use Rattle.std.specs.Prelude.{◌≡◌, IfOk, OnErr};
 ghost use Rattle.std.specs.FinMap as finite_map;
-ghost use Rattle.mc_model.specs.Act.{acted, counted, counted_body, incremented, decremented};
-ghost use Rattle.mc_model.specs.Counting.{counted_by};
+ghost use Rattle.mc_model.specs.Act.{outcome_of, count, counted_body, increment, decrement};
+ghost use Rattle.mc_model.specs.Counting.{new_number};
 
 use crate::act::Choice;
 use crate::numeral::numeral_of;
@@ -21,7 +21,7 @@ pub(crate) enum Direction {
 impl Direction {
     /// What the old number becomes: up wraps at 2^64, and down stops at 0.
     fn count(self, old: u64, amount: u64) -> u64
-        ensures { result ≡ counted_by self old amount }
+        ensures { result ≡ new_number self old amount }
     {
         match self {
             Direction::Up => old.wrapping_add(amount),
@@ -38,8 +38,8 @@ impl Cache {
         choice: Choice,
         number: u64,
     ) -> Result<Reply, OutOfMemory>
-        ensures reply { IfOk result (λ reply. reply ≡ (acted self.old request.now (counted incremented request.now choice number (finite_map.get self.old request.now.key))).reply) }
-        ensures contents { IfOk result (λ _. self.new ≡ (acted self.old request.now (counted incremented request.now choice number (finite_map.get self.old request.now.key))).contents) }
+        ensures reply { IfOk result (λ reply. reply ≡ (outcome_of self.old request.now (count increment request.now choice number (finite_map.get self.old request.now.key))).reply) }
+        ensures contents { IfOk result (λ _. self.new ≡ (outcome_of self.old request.now (count increment request.now choice number (finite_map.get self.old request.now.key))).contents) }
         ensures err { OnErr result (self.new ≡ self.old) }
     {
         self.count(request, choice, number, Direction::Up)
@@ -52,8 +52,8 @@ impl Cache {
         choice: Choice,
         number: u64,
     ) -> Result<Reply, OutOfMemory>
-        ensures reply { IfOk result (λ reply. reply ≡ (acted self.old request.now (counted decremented request.now choice number (finite_map.get self.old request.now.key))).reply) }
-        ensures contents { IfOk result (λ _. self.new ≡ (acted self.old request.now (counted decremented request.now choice number (finite_map.get self.old request.now.key))).contents) }
+        ensures reply { IfOk result (λ reply. reply ≡ (outcome_of self.old request.now (count decrement request.now choice number (finite_map.get self.old request.now.key))).reply) }
+        ensures contents { IfOk result (λ _. self.new ≡ (outcome_of self.old request.now (count decrement request.now choice number (finite_map.get self.old request.now.key))).contents) }
         ensures err { OnErr result (self.new ≡ self.old) }
     {
         self.count(request, choice, number, Direction::Down)
@@ -67,8 +67,8 @@ impl Cache {
         number: u64,
         direction: Direction,
     ) -> Result<Reply, OutOfMemory>
-        ensures reply { IfOk result (λ reply. reply ≡ (acted self.old request.now (counted (counted_by direction) request.now choice number (finite_map.get self.old request.now.key))).reply) }
-        ensures contents { IfOk result (λ _. self.new ≡ (acted self.old request.now (counted (counted_by direction) request.now choice number (finite_map.get self.old request.now.key))).contents) }
+        ensures reply { IfOk result (λ reply. reply ≡ (outcome_of self.old request.now (count (new_number direction) request.now choice number (finite_map.get self.old request.now.key))).reply) }
+        ensures contents { IfOk result (λ _. self.new ≡ (outcome_of self.old request.now (count (new_number direction) request.now choice number (finite_map.get self.old request.now.key))).contents) }
         ensures err { OnErr result (self.new ≡ self.old) }
     {
         let Some(item) = self.find(request.key.as_slice()) else {

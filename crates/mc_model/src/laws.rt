@@ -17,8 +17,8 @@ pub fn replies_fit()
 /// The body of the item at a request's key stays within the limit, where the request's own body is: under each verb but
 /// `append` and `prepend`, and under these it grows by the request's body at most.
 pub fn bodies_stay_short()
-    ensures kept { BodiesStayShort }
-    ensures joined { JoinedBodiesAddUp }
+    ensures alone { BodiesStayShort }
+    ensures both { JoinedBodiesAddUp }
 {}
 
 /// After a delete nothing is at the key, whatever the reply.
@@ -29,8 +29,8 @@ pub fn deleted_is_gone()
 /// A version is made exactly where the reply is that it is stored, or a number. It has the number given, and is what is
 /// at the key afterwards.
 pub fn versions_are_reported()
-    ensures made { ReportedVersionIsMade }
-    ensures reported { MadeVersionIsReported }
+    ensures makes { ReportedVersionIsMade }
+    ensures reports { MadeVersionIsReported }
 {}
 
 /// The number that `incr` or `decr` answers is what the body at the key then says.

@@ -5,7 +5,7 @@ ghost use Rattle.std.specs.List.{concat};
 ghost use Rattle.mc_protocol.specs.Words.{verb_word};
 ghost use Rattle.mc_model.specs.History.{has_words};
 ghost use Rattle.mc_protocol.specs.Decimals.{MAX_32, MAX_64};
-ghost use Rattle.mc_model.specs.Words.{SpellsRequest, SpellsReply, joined, request_words, reply_words};
+ghost use Rattle.mc_model.specs.Words.{SpellsRequest, SpellsReply, join_words, request_words, reply_words};
 ghost use Rattle.mc_model.specs.WordLaws.{AreBytes, has_short_body};
 ghost use Rattle.mc_model.specs.Printing.{item_text, number_text};
 
@@ -17,8 +17,8 @@ use mc_protocol::{Fields, OutOfMemory, Reply, Request, append_all};
 /// Appends the words of a request, with one space between them. They spell the request if any words do: exactly then
 /// `has_words` is true (`spelled_requests_have_words`). Want of memory leaves `out` as it was.
 pub fn print_request_words(request: &Request, out: &mut Vec<u8>) -> Result<(), OutOfMemory>
-    ensures ok { OnOk result (out.new.items ≡ out.old.items ++ joined (request_words request.now)) }
-    ensures spelled { OnOk result (has_words request.now ≡ true → SpellsRequest (request_words request.now) request.now) }
+    ensures ok { OnOk result (out.new.items ≡ out.old.items ++ join_words (request_words request.now)) }
+    ensures spells { OnOk result (has_words request.now ≡ true → SpellsRequest (request_words request.now) request.now) }
     ensures err { OnErr result (out.new.items ≡ out.old.items) }
 {
     print_request_as(request.verb.word().as_bytes(), request, out)
@@ -27,8 +27,8 @@ pub fn print_request_words(request: &Request, out: &mut Vec<u8>) -> Result<(), O
 /// Appends the words of a request under the word of its verb.
 fn print_request_as(verb: &[u8], request: &Request, out: &mut Vec<u8>) -> Result<(), OutOfMemory>
     requires { verb.now ≡ verb_word request.now.verb }
-    ensures ok { OnOk result (out.new.items ≡ out.old.items ++ joined (request_words request.now)) }
-    ensures spelled { OnOk result (has_words request.now ≡ true → SpellsRequest (request_words request.now) request.now) }
+    ensures ok { OnOk result (out.new.items ≡ out.old.items ++ join_words (request_words request.now)) }
+    ensures spells { OnOk result (has_words request.now ≡ true → SpellsRequest (request_words request.now) request.now) }
     ensures err { OnErr result (out.new.items ≡ out.old.items) }
 {
     let key = request.key.as_slice();
@@ -51,8 +51,8 @@ fn print_request_as(verb: &[u8], request: &Request, out: &mut Vec<u8>) -> Result
 /// Appends the words of a reply, with one space between them. They spell the reply if any words do: exactly then
 /// `has_short_body` is true (`spelled_replies_have_short_bodies`). Want of memory leaves `out` as it was.
 pub fn print_reply_words(reply: &Reply, out: &mut Vec<u8>) -> Result<(), OutOfMemory>
-    ensures ok { OnOk result (out.new.items ≡ out.old.items ++ joined (reply_words reply.now)) }
-    ensures spelled { OnOk result (has_short_body reply.now ≡ true → SpellsReply (reply_words reply.now) reply.now) }
+    ensures ok { OnOk result (out.new.items ≡ out.old.items ++ join_words (reply_words reply.now)) }
+    ensures spells { OnOk result (has_short_body reply.now ≡ true → SpellsReply (reply_words reply.now) reply.now) }
     ensures err { OnErr result (out.new.items ≡ out.old.items) }
 {
     let word = class_word(reply.class()).as_bytes();

@@ -21,7 +21,7 @@ pub enum HistoryKind {
     #[error("a number is too large")]
     Number,
     /// A request comes before a reply that its section waits for, or one of the prefix comes after one of a branch.
-    #[error("a request stands behind an unanswered one of its section, or the prefix's requests don't come first")]
+    #[error("a request comes after an unanswered one of its section, or one of the prefix after one of a branch")]
     Order,
     /// The protocol has no such reply to the request, or a hit has the wrong fields or too long a body.
     #[error("the reply is none that the request may have")]

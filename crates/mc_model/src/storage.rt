@@ -1,7 +1,7 @@
 //! The verbs that store a body. Each takes the memory that it needs before it changes the cache.
 ghost use Rattle.std.specs.Prelude.{◌≡◌, ◌++◌, IfOk, OnOk, OnErr};
 ghost use Rattle.std.specs.FinMap as finite_map;
-ghost use Rattle.mc_model.specs.Act.{acted, changed, stored, added, replaced, appended, prepended, swapped, Puts};
+ghost use Rattle.mc_model.specs.Act.{outcome_of, with_change, store, add, replace, append, prepend, swap, Puts};
 
 use crate::{Cache, Item};
 use mc_protocol::{Bytes, OutOfMemory, Reply, Request};
@@ -10,8 +10,8 @@ use std::alloc::Global;
 impl Cache {
     /// Stores the request's flags and body, whatever is there.
     pub(crate) fn store(&mut self, request: &Request, number: u64) -> Result<Reply, OutOfMemory>
-        ensures reply { IfOk result (λ reply. reply ≡ (acted self.old request.now (stored request.now number)).reply) }
-        ensures contents { IfOk result (λ _. self.new ≡ (acted self.old request.now (stored request.now number)).contents) }
+        ensures reply { IfOk result (λ reply. reply ≡ (outcome_of self.old request.now (store request.now number)).reply) }
+        ensures contents { IfOk result (λ _. self.new ≡ (outcome_of self.old request.now (store request.now number)).contents) }
         ensures err { OnErr result (self.new ≡ self.old) }
     {
         let item = Item {
@@ -25,8 +25,8 @@ impl Cache {
 
     /// Stores where nothing is there.
     pub(crate) fn add(&mut self, request: &Request, number: u64) -> Result<Reply, OutOfMemory>
-        ensures reply { IfOk result (λ reply. reply ≡ (acted self.old request.now (added request.now number (finite_map.get self.old request.now.key))).reply) }
-        ensures contents { IfOk result (λ _. self.new ≡ (acted self.old request.now (added request.now number (finite_map.get self.old request.now.key))).contents) }
+        ensures reply { IfOk result (λ reply. reply ≡ (outcome_of self.old request.now (add request.now number (finite_map.get self.old request.now.key))).reply) }
+        ensures contents { IfOk result (λ _. self.new ≡ (outcome_of self.old request.now (add request.now number (finite_map.get self.old request.now.key))).contents) }
         ensures err { OnErr result (self.new ≡ self.old) }
     {
         match self.find(request.key.as_slice()) {
@@ -37,8 +37,8 @@ impl Cache {
 
     /// Stores where something is there.
     pub(crate) fn replace(&mut self, request: &Request, number: u64) -> Result<Reply, OutOfMemory>
-        ensures reply { IfOk result (λ reply. reply ≡ (acted self.old request.now (replaced request.now number (finite_map.get self.old request.now.key))).reply) }
-        ensures contents { IfOk result (λ _. self.new ≡ (acted self.old request.now (replaced request.now number (finite_map.get self.old request.now.key))).contents) }
+        ensures reply { IfOk result (λ reply. reply ≡ (outcome_of self.old request.now (replace request.now number (finite_map.get self.old request.now.key))).reply) }
+        ensures contents { IfOk result (λ _. self.new ≡ (outcome_of self.old request.now (replace request.now number (finite_map.get self.old request.now.key))).contents) }
         ensures err { OnErr result (self.new ≡ self.old) }
     {
         match self.find(request.key.as_slice()) {
@@ -49,8 +49,8 @@ impl Cache {
 
     /// Stores where the item that is there has the request's number.
     pub(crate) fn swap(&mut self, request: &Request, number: u64) -> Result<Reply, OutOfMemory>
-        ensures reply { IfOk result (λ reply. reply ≡ (acted self.old request.now (swapped request.now number (finite_map.get self.old request.now.key))).reply) }
-        ensures contents { IfOk result (λ _. self.new ≡ (acted self.old request.now (swapped request.now number (finite_map.get self.old request.now.key))).contents) }
+        ensures reply { IfOk result (λ reply. reply ≡ (outcome_of self.old request.now (swap request.now number (finite_map.get self.old request.now.key))).reply) }
+        ensures contents { IfOk result (λ _. self.new ≡ (outcome_of self.old request.now (swap request.now number (finite_map.get self.old request.now.key))).contents) }
         ensures err { OnErr result (self.new ≡ self.old) }
     {
         let Some(item) = self.find(request.key.as_slice()) else {
@@ -65,8 +65,8 @@ impl Cache {
 
     /// Puts the request's body after the old one.
     pub(crate) fn append(&mut self, request: &Request, number: u64) -> Result<Reply, OutOfMemory>
-        ensures reply { IfOk result (λ reply. reply ≡ (acted self.old request.now (appended request.now number (finite_map.get self.old request.now.key))).reply) }
-        ensures contents { IfOk result (λ _. self.new ≡ (acted self.old request.now (appended request.now number (finite_map.get self.old request.now.key))).contents) }
+        ensures reply { IfOk result (λ reply. reply ≡ (outcome_of self.old request.now (append request.now number (finite_map.get self.old request.now.key))).reply) }
+        ensures contents { IfOk result (λ _. self.new ≡ (outcome_of self.old request.now (append request.now number (finite_map.get self.old request.now.key))).contents) }
         ensures err { OnErr result (self.new ≡ self.old) }
     {
         let Some(item) = self.find(request.key.as_slice()) else {
@@ -83,8 +83,8 @@ impl Cache {
 
     /// Puts the request's body before the old one.
     pub(crate) fn prepend(&mut self, request: &Request, number: u64) -> Result<Reply, OutOfMemory>
-        ensures reply { IfOk result (λ reply. reply ≡ (acted self.old request.now (prepended request.now number (finite_map.get self.old request.now.key))).reply) }
-        ensures contents { IfOk result (λ _. self.new ≡ (acted self.old request.now (prepended request.now number (finite_map.get self.old request.now.key))).contents) }
+        ensures reply { IfOk result (λ reply. reply ≡ (outcome_of self.old request.now (prepend request.now number (finite_map.get self.old request.now.key))).reply) }
+        ensures contents { IfOk result (λ _. self.new ≡ (outcome_of self.old request.now (prepend request.now number (finite_map.get self.old request.now.key))).contents) }
         ensures err { OnErr result (self.new ≡ self.old) }
     {
         let Some(item) = self.find(request.key.as_slice()) else {
@@ -101,7 +101,7 @@ impl Cache {
 
     /// Puts an item at the request's key.
     pub(crate) fn put_item(&mut self, request: &Request, item: Item) -> Result<(), OutOfMemory>
-        ensures ok { OnOk result (self.new ≡ changed self.old request.now.key (Puts item)) }
+        ensures ok { OnOk result (self.new ≡ with_change self.old request.now.key (Puts item)) }
         ensures err { OnErr result (self.new ≡ self.old) }
     {
         let key = request.key.copy(self.allocator())?;

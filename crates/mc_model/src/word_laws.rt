@@ -42,12 +42,12 @@ pub fn what_is_printed_spells_the_reply()
     ensures { PrintedWordsSpellTheReply }
 {}
 
-/// A request that some words spell is one of which the printed words do: `has_words` is true of it.
+/// Where some words spell a request, the printed words do too: `has_words` is true of the request.
 pub fn spelled_requests_have_words()
     ensures { SpelledRequestsHaveWords }
 {}
 
-/// A reply that some words spell is one of which the printed words do: `has_short_body` is true of it.
+/// Where some words spell a reply, the printed words do too: `has_short_body` is true of the reply.
 pub fn spelled_replies_have_short_bodies()
     ensures { SpelledRepliesHaveShortBodies }
 {}

@@ -168,7 +168,7 @@ fn amount(alloc: Global, verb: Verb, key: Bytes, fields: &[&[u8]]) -> Result<Req
 
 /// Reads the flags, a number of 32 bits.
 fn read_flags(word: &[u8]) -> Result<u32, WordsFault>
-    ensures exact { reading.Gives (λ n. n) result (reading.flags_in word.now) }
+    ensures exact { result ≡ reading.flags_in word.now }
 {
     let flags = read_number(u64::from(u32::MAX), word)?;
     Ok(flags as u32)
@@ -240,7 +240,7 @@ fn reply_in(alloc: Global, words: &[&[u8]]) -> Result<Reply, WordsFault>
 
 /// A reply with nothing after its word.
 fn bare(reply: Reply, fields: &[&[u8]]) -> Result<Reply, WordsFault>
-    ensures exact { reading.Gives (λ r. r) result (reading.bare_in reply (map (λ w. w.now) fields.now)) }
+    ensures exact { result ≡ reading.bare_in reply (map (λ w. w.now) fields.now) }
 {
     if !fields.is_empty() {
         return Err(WordsFault::Form);
@@ -248,9 +248,9 @@ fn bare(reply: Reply, fields: &[&[u8]]) -> Result<Reply, WordsFault>
     Ok(reply)
 }
 
-/// A number that was counted.
+/// The new value of `incr` or `decr`.
 fn count(fields: &[&[u8]]) -> Result<Reply, WordsFault>
-    ensures exact { reading.Gives (λ r. r) result (reading.count_in (map (λ w. w.now) fields.now)) }
+    ensures exact { result ≡ reading.count_in (map (λ w. w.now) fields.now) }
 {
     let [number, rest @ ..] = fields else {
         return Err(WordsFault::Form);
@@ -280,7 +280,7 @@ fn hit(alloc: Global, fields: &[&[u8]]) -> Result<Reply, WordsFault>
 
 /// The cas number that the last word shows, if there is one.
 fn shown_number(words: &[&[u8]]) -> Result<Option<u64>, WordsFault>
-    ensures exact { reading.Gives (λ n. n) result (reading.shown_number_in (map (λ w. w.now) words.now)) }
+    ensures exact { result ≡ reading.shown_number_in (map (λ w. w.now) words.now) }
 {
     match words {
         [] => Ok(None),

@@ -7,7 +7,7 @@ use Rattle.mc_model.proofs.cache.Cache.put.Goals as goal
 pub returns-clause-ok : goal.returns-clause-ok
 returns-clause-ok c =
     let kept : contents_of c.remove_key.new.entries.items ≡ remove c.args.self.now c.args.key =
-    c.remove_key.ensures.removed
+    c.remove_key.ensures.removes
     ∙ ap (λ es. remove (contents_of es) c.as_slice.result.now) c.reserve.ensures.items
     ∙ ap (λ m. remove m c.as_slice.result.now) c.self.view_is
     ∙ ap (remove c.args.self.now) c.as_slice.ensures in

@@ -1,5 +1,5 @@
 use Rattle.std.proofs.Common.{◌≡◌, take}
-use Rattle.mc_model.proofs.cache.copied_entries.Given as goal
+use Rattle.mc_model.proofs.cache.copy_entries.Given as goal
 
 abbrev pub invariant-copying : goal.invariant-copying
 invariant-copying l = l.copies.items ≡ take l.entry-index l.entries
