@@ -1,6 +1,6 @@
 -- What the readers of words answer, fault by fault. Of the public contracts only those of `read_number` and `read_body`
 -- cite it, to say which fault comes. `Words.antt` says what words spell, and the proofs join the two.
-use Rattle.std.specs.Prelude.{◌≡◌, ℕ, ◌+◌, ◌*◌, ◌==◌, nat_le, nat_lt, not, ◌||◌, Option, Some, None, Result, Ok, Err, List, [], ◌∷◌, length, if◌then◌else◌}
+use Rattle.std.specs.Prelude.{◌≡◌, ℕ, ◌+◌, ◌*◌, ◌==◌, nat_le, Option, Some, None, Result, Ok, Err, List, [], ◌∷◌, length, if◌then◌else◌}
 use Rattle.std.specs.List.{find}
 use Rattle.std.specs.Str.{bytes_eq}
 use Rattle.mc_protocol.specs.Words.{verb_of, all_classes}
