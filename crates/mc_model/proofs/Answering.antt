@@ -16,7 +16,7 @@ use Rattle.mc_protocol.specs.declared.reply.Reply.{Reply}
 use Rattle.mc_model.specs.declared.sent.Sent.{Sent}
 use Rattle.mc_model.specs.declared.rules.HistoryKind.{HistoryKind}
 use Rattle.mc_model.specs.declared.rules.HistoryKind.TheVariants as kind
-use Rattle.mc_model.specs.Sections.{Sections, section_of, added}
+use Rattle.mc_model.specs.Sections.{Sections, section_of, with_sent}
 use Rattle.mc_model.specs.History.{are_answered, has_words, has_no_branch, keys_of, key_count, is_history, fault_at, comes_late}
 use Rattle.mc_model.specs.Next.{is_full, may_come, clears, number_is_seen, last_of, reply_fault, with_last_reply, answered}
 use Rattle.mc_model.proofs.Faults.{first_failed, fault_by_tests, no_fault, no_fault_of, rules_of}
@@ -101,7 +101,7 @@ replied true false true true true false e = refl
 
 -- a request that waits, and the same with a reply: the reply is what may be wrong
 pub fault_with_reply : (s : Sections) (who : Actor) (request : Request) (reply : Reply) → comes_late s who ≡ false
-    → is_history (added s who (record { request = request; reply = None })) ≡ true
+    → is_history (with_sent s who (record { request = request; reply = None })) ≡ true
     → fault_at s who (record { request = request; reply = Some reply }) ≡ (if is_fit request reply then None else Some kind.WrongReply)
 fault_with_reply s who request reply late h =
     let open_one : Sent = record { request = request; reply = None } in
@@ -114,9 +114,9 @@ fault_with_reply s who request reply late h =
 -- sections whose last request of one section waits: what stands before it, with it
 pub record IsWaiting (s : Sections) (who : Actor) (request : Request) (reply : Reply) : Type 0 where
   pub earlier : Sections
-  pub is : s ≡ added earlier who (record { request = request; reply = None })
+  pub is : s ≡ with_sent earlier who (record { request = request; reply = None })
   pub late : comes_late earlier who ≡ false
-  pub with_reply : answered s who reply ≡ added earlier who (record { request = request; reply = Some reply })
+  pub with_reply : answered s who reply ≡ with_sent earlier who (record { request = request; reply = Some reply })
 
 -- ---- whether a section waits
 
@@ -207,8 +207,8 @@ waits_for s who reply h none =
 
 -- what is a history with the reply is one without it
 pub unanswered_history : (s : Sections) (who : Actor) (request : Request) (reply : Reply) → comes_late s who ≡ false
-    → is_history (added s who (record { request = request; reply = Some reply })) ≡ true
-    → is_history (added s who (record { request = request; reply = None })) ≡ true
+    → is_history (with_sent s who (record { request = request; reply = Some reply })) ≡ true
+    → is_history (with_sent s who (record { request = request; reply = None })) ≡ true
 unanswered_history s who request reply late h =
     let open_one : Sent = record { request = request; reply = None } in
     let whole : Sent = record { request = request; reply = Some reply } in
@@ -229,7 +229,7 @@ unanswered_history s who request reply late h =
 pub answered_history : (s : Sections) (who : Actor) (reply : Reply) → is_history s ≡ true → reply_fault (last_of (section_of s who)) reply ≡ None → is_history (answered s who reply) ≡ true
 answered_history s who reply h none =
     let (request, w, fits) = waits_for s who reply h none in
-    let whole : is_history (added w.earlier who (record { request = request; reply = None })) ≡ true = sym (ap is_history w.is) ∙ h in
+    let whole : is_history (with_sent w.earlier who (record { request = request; reply = None })) ≡ true = sym (ap is_history w.is) ∙ h in
     let fault = fault_with_reply w.earlier who request reply w.late whole ∙ ap (λ b. if b then None else Some kind.WrongReply) fits in
     ap is_history w.with_reply ∙ (no_fault w.earlier who (record { request = request; reply = Some reply }) fault).1
 

@@ -12,7 +12,7 @@ use Rattle.mc_model.specs.declared.sent.Sent.{Sent}
 use Rattle.mc_model.specs.declared.note.Note.TheVariants as note
 use Rattle.mc_model.specs.declared.rules.HistoryKind.{HistoryKind}
 use Rattle.mc_model.specs.declared.rules.HistoryKind.TheVariants as kind
-use Rattle.mc_model.specs.Sections.{Sections, section_of, added}
+use Rattle.mc_model.specs.Sections.{Sections, section_of, with_sent}
 use Rattle.mc_model.specs.History.{all_have_words, is_within_limits, is_in_turn, is_cleared, numbers_are_seen, are_answered_rightly, are_answered, is_none_sent, is_history, first_broken, fault_at, comes_late}
 use Rattle.mc_model.specs.Next.{may_come, last_of, reply_fault, noted, note_fault}
 use Rattle.mc_model.specs.Notes.{Noted, requests_in, replies_in, sections_in, is_waiting, is_out_of_order, are_in_order, is_record, fault_of, IsFirstFaultOfNotes}
@@ -83,10 +83,10 @@ begin_fault notes who request r =
     let s = sections_in notes in
     let open_one : Sent = record { request = request; reply = None } in
     let h = (record_parts notes r).1 in
-    let order = or_moved (is_waiting s who || is_waiting s actor.P) (comes_late s who) (not (is_in_turn (added s who open_one))) (may_come s who)
+    let order = or_moved (is_waiting s who || is_waiting s actor.P) (comes_late s who) (not (is_in_turn (with_sent s who open_one))) (may_come s who)
     (turn_added s who open_one (rules_of s h).turn) (none_may_come s who) in
     ap (first_broken (is_out_of_order s (who, note.Begin request))) (sections-begin notes who request (balanced notes who r))
-    ∙ first_broken-order (is_out_of_order s (who, note.Begin request)) (comes_late s who) (added s who open_one) order
+    ∙ first_broken-order (is_out_of_order s (who, note.Begin request)) (comes_late s who) (with_sent s who open_one) order
 
 -- ---- a reply
 
@@ -120,7 +120,7 @@ waiting_fault notes who reply r some =
     let at : section_of s who ≡ front ++ open_one ∷ [] = section_in who notes ∙ e in
     let w = waits s who front request reply late at in
     let in_order : is_out_of_order s (who, note.Reply reply) ≡ comes_late w.earlier who = in_order_of s who reply some late ∙ sym w.late in
-    let whole : is_history (added w.earlier who open_one) ≡ true = sym (ap is_history w.is) ∙ h in
+    let whole : is_history (with_sent w.earlier who open_one) ≡ true = sym (ap is_history w.is) ∙ h in
     let last : reply_fault (last_of (section_of s who)) reply ≡ (if is_fit request reply then None else Some kind.WrongReply) =
     ap (λ l. reply_fault (last_of l) reply) at ∙ ap (λ o. reply_fault o reply) (last_of-push front open_one) in
     ap₂ first_broken in_order (sections-reply notes who reply one ∙ w.with_reply)

@@ -9,7 +9,7 @@ use Rattle.mc_protocol.specs.declared.request.Request.{Request}
 use Rattle.mc_protocol.specs.declared.reply.Reply.{Reply}
 use Rattle.mc_model.specs.declared.sent.Sent.{Sent}
 use Rattle.mc_model.specs.declared.note.Note.TheVariants as note
-use Rattle.mc_model.specs.Sections.{Sections, section_of, added}
+use Rattle.mc_model.specs.Sections.{Sections, section_of, with_sent}
 use Rattle.mc_model.specs.History.{are_answered, comes_late}
 use Rattle.mc_model.specs.Next.{with_last_reply, answered}
 use Rattle.mc_model.specs.Notes.{Noted, begun_by, replied_by, requests_in, replies_in, with_replies, sent_in, sections_in, is_waiting, is_out_of_order, are_in_order, is_same_section, begins, notes_before_each, answered_before_each}
@@ -195,7 +195,7 @@ own_request section notes noted request one none few =
 
 -- a request that begins is the last of its section
 pub sections-begin : (notes : List Noted) (who : Actor) (request : Request) → IsBalanced notes who
-    → sections_in (notes ++ (who, note.Begin request) ∷ []) ≡ added (sections_in notes) who (record { request = request; reply = None })
+    → sections_in (notes ++ (who, note.Begin request) ∷ []) ≡ with_sent (sections_in notes) who (record { request = request; reply = None })
 sections-begin notes actor.P request both =
     same_sections _ _ _ _ _ _ (own_request actor.P notes _ request refl refl both.0) (sent-other actor.A notes _ refl refl) (sent-other actor.B notes _ refl refl)
 sections-begin notes actor.A request both =

@@ -5,7 +5,7 @@ use Rattle.mc_protocol.specs.declared.actor.Actor.{Actor}
 use Rattle.mc_protocol.specs.declared.actor.Actor.TheVariants as actor
 use Rattle.mc_protocol.specs.declared.limits.TheConstants.{KEYS_LIMIT, REQUESTS_LIMIT}
 use Rattle.mc_model.specs.declared.sent.Sent.{Sent}
-use Rattle.mc_model.specs.Sections.{Sections, section_of, added}
+use Rattle.mc_model.specs.Sections.{Sections, section_of, with_sent}
 use Rattle.mc_model.specs.Notes.{Noted}
 use Rattle.mc_model.specs.declared.note.Note.TheVariants as note
 use Rattle.mc_model.specs.declared.rules.HistoryKind.{HistoryKind}
@@ -78,7 +78,7 @@ answered s actor reply = with_section s actor (with_last_reply (section_of s act
 
 -- the sections after a note
 abbrev pub noted : Sections → Noted → Sections
-noted s (section, note.Begin request) = added s section (record { request = request; reply = None })
+noted s (section, note.Begin request) = with_sent s section (record { request = request; reply = None })
 noted s (section, note.Reply reply) = answered s section reply
 
 -- what is wrong with a note after these sections
