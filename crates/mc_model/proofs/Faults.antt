@@ -72,7 +72,7 @@ fault_by_tests s who sent h =
     rw (words, limits, turn_added s who sent r.turn, cleared_added s who sent r.cleared, numbers_added s who sent r.numbers, replies, not_twice (is_full s who sent)) refl
 
 -- all rules are kept where none is broken
-none_failed : (words limits late turn cleared seen replies : Bool) → (if not words then Some kind.Line else (if not limits then Some kind.TooMany else (if late || not turn then Some kind.Order else (if not cleared then Some kind.NotCleared else (if not seen then Some kind.UnseenNumber else (if not replies then Some kind.WrongReply else None)))))) ≡ None → (late ≡ false) × ((words && limits && turn && cleared && seen && replies) ≡ true)
+pub none_failed : (words limits late turn cleared seen replies : Bool) → (if not words then Some kind.Line else (if not limits then Some kind.TooMany else (if late || not turn then Some kind.Order else (if not cleared then Some kind.NotCleared else (if not seen then Some kind.UnseenNumber else (if not replies then Some kind.WrongReply else None)))))) ≡ None → (late ≡ false) × ((words && limits && turn && cleared && seen && replies) ≡ true)
 none_failed false limits late turn cleared seen replies e = cc
 none_failed true false late turn cleared seen replies e = cc
 none_failed true true true turn cleared seen replies e = cc

@@ -22,5 +22,8 @@ pub mod Seen
 pub mod Limits
 pub mod Faults
 pub mod Prefixes
+pub mod Answering
+pub mod Noting
+pub mod NoteFaults
 pub mod FirstFaults
 pub mod NumeralReadings

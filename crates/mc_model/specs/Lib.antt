@@ -14,6 +14,7 @@ pub mod Words
 pub mod Sections
 pub mod History
 pub mod HistoryLaws
+pub mod Notes
 pub mod Kinds
 pub mod WordLaws
 -- What private contracts cite.

@@ -1,12 +1,17 @@
 -- What is tested of a request that comes next. No public contract cites these: they say of one request what the rules
 -- of `History.antt` say of all.
-use Rattle.std.specs.Prelude.{◌≡◌, ℕ, ◌+◌, nat_le, Bool, true, false, not, ◌&&◌, ◌||◌, Some, List, length, take, if◌then◌else◌, slice_get}
+use Rattle.std.specs.Prelude.{◌≡◌, ℕ, ◌+◌, nat_le, ◌-◌, Bool, true, false, not, ◌&&◌, ◌||◌, Option, Some, None, is_some, List, [], ◌∷◌, length, take, if◌then◌else◌, slice_get}
 use Rattle.mc_protocol.specs.declared.actor.Actor.{Actor}
 use Rattle.mc_protocol.specs.declared.actor.Actor.TheVariants as actor
 use Rattle.mc_protocol.specs.declared.limits.TheConstants.{KEYS_LIMIT, REQUESTS_LIMIT}
 use Rattle.mc_model.specs.declared.sent.Sent.{Sent}
-use Rattle.mc_model.specs.Sections.{Sections, section_of}
+use Rattle.mc_model.specs.Sections.{Sections, section_of, with_sent}
+use Rattle.mc_model.specs.Notes.{Noted}
+use Rattle.mc_model.specs.declared.note.Note.TheVariants as note
 use Rattle.mc_model.specs.declared.rules.HistoryKind.{HistoryKind}
+use Rattle.mc_model.specs.declared.rules.HistoryKind.TheVariants as kind
+use Rattle.mc_protocol.specs.Legal.{is_fit}
+use Rattle.mc_protocol.specs.declared.reply.Reply.{Reply}
 use Rattle.mc_model.specs.History.{is_history, fault_at, key_count, has_key, are_answered, is_none_sent, is_delete, is_seen}
 
 abbrev pub is_full : Sections → Actor → Sent → Bool
@@ -46,3 +51,37 @@ pub record FailsAt (s : Sections) (actor : Actor) (requests : List Sent) (kind :
   pub sent : Sent
   pub request : slice_get requests place ≡ Some sent
   pub fault : fault_at (with_section s actor (take place requests)) actor sent ≡ Some kind
+
+-- ---- What is tested of a reply that comes next
+
+-- the section's last request
+abbrev pub last_of : List Sent → Option Sent
+last_of section = slice_get section (length section - 1)
+
+-- what is wrong with a reply to the last request of a section
+abbrev pub reply_fault : Option Sent → Reply → Option HistoryKind
+reply_fault None reply = Some kind.Order
+reply_fault (Some sent) reply =
+    if is_some sent.reply then Some kind.Order else (if is_fit sent.request reply then None else Some kind.WrongReply)
+
+-- the last request has this reply
+abbrev pub with_last_reply : List Sent → Reply → List Sent
+with_last_reply [] reply = []
+with_last_reply (sent ∷ []) reply = record sent { reply = Some reply } ∷ []
+with_last_reply (sent ∷ next ∷ others) reply = sent ∷ with_last_reply (next ∷ others) reply
+
+-- the sections with this reply to the last request of one
+abbrev pub answered : Sections → Actor → Reply → Sections
+answered s actor reply = with_section s actor (with_last_reply (section_of s actor) reply)
+
+-- ---- What is tested of a note that comes next
+
+-- the sections after a note
+abbrev pub noted : Sections → Noted → Sections
+noted s (section, note.Begin request) = with_sent s section (record { request = request; reply = None })
+noted s (section, note.Reply reply) = answered s section reply
+
+-- what is wrong with a note after these sections
+abbrev pub note_fault : Sections → Noted → Option HistoryKind
+note_fault s (section, note.Begin request) = fault_at s section (record { request = request; reply = None })
+note_fault s (section, note.Reply reply) = reply_fault (last_of (section_of s section)) reply

@@ -2,21 +2,16 @@
 use Rattle.std.specs.Prelude.{ℕ, List, [], ◌∷◌, ◌++◌, take}
 use Rattle.mc_protocol.specs.declared.actor.Actor.{Actor}
 use Rattle.mc_protocol.specs.declared.actor.Actor.TheVariants as actor
+use Rattle.mc_protocol.specs.declared.sections.Sections as each
 use Rattle.mc_model.specs.declared.sent.Sent.{Sent}
+pub use Rattle.mc_protocol.specs.Sections.{section_of}
 
 -- what each section sent and received, in order
-pub record Sections : Type 0 where
-  pub p : List Sent
-  pub a : List Sent
-  pub b : List Sent
+abbrev pub Sections : Type 0
+Sections = each.Sections (List Sent)
 
 abbrev pub no_sections : Sections
 no_sections = record { p = []; a = []; b = [] }
-
-abbrev pub section_of : Sections → Actor → List Sent
-section_of s actor.P = s.p
-section_of s actor.A = s.a
-section_of s actor.B = s.b
 
 -- with one more request of a section
 abbrev pub with_sent : Sections → Actor → Sent → Sections

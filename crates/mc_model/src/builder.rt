@@ -3,10 +3,12 @@ ghost use Rattle.std.specs.Prelude.{◌≡◌, ◌≢◌, true, Some, None, OnOk
 ghost use Rattle.mc_model.specs.Sections as sections;
 ghost use Rattle.mc_model.specs.History as rule;
 ghost use Rattle.mc_model.specs.Next as next;
+ghost use Rattle.mc_model.specs.Notes as recorded;
 
+use crate::record::Record;
 use crate::rules::{HistoryKind, are_answered, has_key, has_words, is_answered_rightly, is_seen};
 use crate::{History, Sent};
-use mc_protocol::{Actor, KEYS_LIMIT, REQUESTS_LIMIT, Verb};
+use mc_protocol::{Actor, KEYS_LIMIT, REQUESTS_LIMIT, Reply, Verb, fits};
 use std::alloc::Global;
 use std::marker::Model;
 
@@ -68,6 +70,22 @@ impl HistoryBuilder {
         }
         self.keys = keys;
         Ok(())
+    }
+
+    /// Gives the last request of a section the reply for which it waits. The fault is Order where it waits for none, and
+    /// WrongReply where the reply is none that the request may have. An `Err` changes nothing.
+    pub fn answer(&mut self, actor: Actor, reply: Reply) -> Result<(), HistoryKind>
+        ensures ok { OnOk result (self.new ≡ next.answered self.old actor reply) }
+        ensures fits { IfOk result (λ _. next.reply_fault (next.last_of (sections.section_of self.old actor)) reply ≡ None) }
+        ensures fault { IfErr result (λ kind. next.reply_fault (next.last_of (sections.section_of self.old actor)) reply ≡ Some kind) }
+        ensures err { OnErr result (self.new ≡ self.old) }
+        ensures kept { rule.is_history self.new ≡ true }
+    {
+        match actor {
+            Actor::P => answer_last(&mut self.p, reply),
+            Actor::A => answer_last(&mut self.a, reply),
+            Actor::B => answer_last(&mut self.b, reply),
+        }
     }
 
     /// How many keys there are with the request. P has each key of a history, so its requests show whether this key is
@@ -151,10 +169,39 @@ impl HistoryBuilder {
 
     /// The history of what was added.
     pub fn finish(self) -> History
-        ensures same { result ≡ self }
-        ensures history { rule.is_history result ≡ true }
+        ensures same { result ≡ recorded.without_notes self }
+        ensures history { rule.is_history result.sections ≡ true }
     {
         let HistoryBuilder { p, a, b, .. } = self;
-        History::from_sections(p, a, b)
+        History::from_sections(p, a, b, None)
     }
+
+    /// The history of what was added, with the notes that spell it.
+    pub(crate) fn finish_with(self, noted: Record) -> History
+        requires { recorded.Keeps self (Some noted) }
+        ensures { result ≡ recorded.with_notes noted }
+    {
+        let HistoryBuilder { p, a, b, .. } = self;
+        History::from_sections(p, a, b, Some(noted))
+    }
+}
+
+/// Gives the section's last request its reply, if it waits for one that it may have.
+fn answer_last(section: &mut Vec<Sent>, reply: Reply) -> Result<(), HistoryKind>
+    ensures ok { OnOk result (section.new.items ≡ next.with_last_reply section.old.items reply) }
+    ensures fits { IfOk result (λ _. next.reply_fault (next.last_of section.old.items) reply ≡ None) }
+    ensures fault { IfErr result (λ kind. next.reply_fault (next.last_of section.old.items) reply ≡ Some kind) }
+    ensures err { OnErr result (section.new.items ≡ section.old.items) }
+{
+    let Some(sent) = section.last_mut() else {
+        return Err(HistoryKind::Order);
+    };
+    if sent.reply.is_some() {
+        return Err(HistoryKind::Order);
+    }
+    if !fits(&sent.request, &reply) {
+        return Err(HistoryKind::WrongReply);
+    }
+    sent.reply = Some(reply);
+    Ok(())
 }

@@ -1,33 +1,39 @@
 //! Histories: what three sections sent and received, if that keeps the rules of `specs/History.antt`.
 ghost use Rattle.std.specs.Prelude.{◌≡◌, ◌≢◌, [], true, false, IfOk, OnOk, IfErr};
+ghost use Rattle.std.specs.Option.{option_map};
 ghost use Rattle.mc_model.specs.Sections as sections;
 ghost use Rattle.mc_model.specs.History as rule;
 ghost use Rattle.mc_model.specs.Next as next;
+ghost use Rattle.mc_model.specs.Notes as recorded;
 
-use crate::{HistoryBuilder, HistoryKind, Sent};
+use crate::record::Record;
+use crate::{HistoryBuilder, HistoryKind, Note, NotedBuilder, Sent};
 use mc_protocol::Actor;
 use std::alloc::Global;
 use std::marker::Model;
 
-/// What three sections sent and received. Contracts see the sections, which keep the rules of a history.
+/// What three sections sent and received, and where it was noted the order of all that. Contracts see the sections and the
+/// notes, which keep the rules of a history.
 #[derive(Debug, Drop)]
 pub struct History {
     p: Vec<Sent>,
     a: Vec<Sent>,
     b: Vec<Sent>,
+    noted: Option<Record>,
 }
 
 impl Model for History {
-    ghost use Rattle.mc_model.specs.Sections.{Sections};
+    ghost use Rattle.std.specs.Option.{option_map};
+    ghost use Rattle.mc_model.specs.Notes as recorded;
 
-    ghost Value = { Sections };
+    ghost Value = { recorded.History };
 
-    ghost view = { λ h. record { p = h.p.items; a = h.a.items; b = h.b.items } };
+    ghost view = { λ h. record { sections = record { p = h.p.items; a = h.a.items; b = h.b.items }; notes = h.noted } };
 
-    ghost use Rattle.std.specs.Prelude.{◌≡◌, true};
-    ghost use Rattle.mc_model.specs.History.{is_history};
-
-    ghost invariant = { λ h. is_history (record { p = h.p.items; a = h.a.items; b = h.b.items }) ≡ true };
+    ghost invariant = { λ h. recorded.IsHistory (record {
+      sections = record { p = h.p.items; a = h.a.items; b = h.b.items };
+      notes = h.noted;
+    }) };
 }
 
 impl History {
@@ -40,8 +46,8 @@ impl History {
         a: Vec<Sent>,
         b: Vec<Sent>,
     ) -> Result<History, (HistoryKind, Actor, usize)>
-        ensures ok { IfOk result (λ h. h ≡ record { p = p.items; a = a.items; b = b.items }) }
-        ensures history { IfOk result (λ h. rule.is_history h ≡ true) }
+        ensures ok { IfOk result (λ h. h ≡ recorded.without_notes (record { p = p.items; a = a.items; b = b.items })) }
+        ensures history { IfOk result recorded.IsHistory }
         ensures fault { IfErr result (λ fault. fault.0 ≢ HistoryKind.OutOfMemory
             → rule.IsFirstFault (record { p = p.items; a = a.items; b = b.items }) fault.0 fault.1 fault.2) }
         ensures none { IfErr result (λ fault. fault.0 ≢ HistoryKind.OutOfMemory
@@ -56,23 +62,79 @@ impl History {
         Ok(builder.finish())
     }
 
-    /// The history of sections that are known to keep its rules.
-    pub(crate) fn from_sections(p: Vec<Sent>, a: Vec<Sent>, b: Vec<Sent>) -> History
-        requires { rule.is_history (record { p = p.items; a = a.items; b = b.items }) ≡ true }
-        ensures { result ≡ record { p = p.items; a = a.items; b = b.items } }
+    /// The history of notes, if they make one: of what they note, in this order. Otherwise the fault is that of the first
+    /// faulty note: the rule that it breaks, its section, and its place in the list, counted from 0. Want of memory comes
+    /// with P and 0.
+    pub fn noted(
+        alloc: Global,
+        notes: Vec<(Actor, Note)>,
+    ) -> Result<History, (HistoryKind, Actor, usize)>
+        ensures ok { IfOk result (λ h. h ≡ recorded.with_notes notes.items) }
+        ensures history { IfOk result recorded.IsHistory }
+        ensures fault { IfErr result (λ fault. fault.0 ≢ HistoryKind.OutOfMemory
+            → recorded.IsFirstFaultOfNotes notes.items fault.0 fault.1 fault.2) }
+        ensures none { IfErr result (λ fault. fault.0 ≢ HistoryKind.OutOfMemory
+            → recorded.is_record notes.items ≡ false) }
+        ensures memory { IfErr result (λ fault. fault.0 ≡ HistoryKind.OutOfMemory
+            → (fault.1 ≡ Actor.P) × (fault.2 ≡ 0)) }
     {
-        History { p, a, b }
+        let mut builder = NotedBuilder::new(alloc);
+        let mut place = 0;
+        'noting: for (actor, note) in notes {
+            if let Err(kind) = builder.push(actor, note) {
+                return Err(fault_at(kind, actor, place));
+            }
+            place += 1;
+        }
+        match builder.finish() {
+            Ok(history) => Ok(history),
+            Err(_) => Err((HistoryKind::OutOfMemory, Actor::P, 0)),
+        }
+    }
+
+    /// The history of sections that are known to keep its rules, with what was noted of them where that is known.
+    pub(crate) fn from_sections(
+        p: Vec<Sent>,
+        a: Vec<Sent>,
+        b: Vec<Sent>,
+        noted: Option<Record>,
+    ) -> History
+        requires { recorded.IsHistory (record { sections = record { p = p.items; a = a.items; b = b.items }; notes = noted }) }
+        ensures { result ≡ record { sections = record { p = p.items; a = a.items; b = b.items }; notes = noted } }
+    {
+        History { p, a, b, noted }
     }
 
     /// A section's requests with their replies, in order.
     pub fn sent(&self, actor: Actor) -> &[Sent]
-        ensures sent { result.now ≡ sections.section_of self.now actor }
-        ensures history { rule.is_history self.now ≡ true }
+        ensures sent { result.now ≡ sections.section_of self.now.sections actor }
+        ensures history { recorded.IsHistory self.now }
     {
         match actor {
             Actor::P => self.p.as_slice(),
             Actor::A => self.a.as_slice(),
             Actor::B => self.b.as_slice(),
+        }
+    }
+
+    /// What was noted, in order; `None` where the order of the sections' requests and replies isn't known.
+    pub fn notes(&self) -> Option<&[(Actor, Note)]>
+        ensures { option_map (λ r. r.now) result ≡ self.now.notes }
+    {
+        match &self.noted {
+            Some(record) => Some(record.notes()),
+            None => None,
+        }
+    }
+
+    /// How many requests of the other branch were answered before the branch's request at this place began. It is 0 for
+    /// P, where no notes are kept, and where there is no such request.
+    pub fn answered_before(&self, actor: Actor, place: usize) -> usize
+        ensures { result ≡ recorded.answered_before self.now.notes actor place }
+    {
+        match &self.noted {
+            Some(record) => record.answered_before(actor, place),
+            None => 0,
         }
     }
 }

@@ -13,10 +13,13 @@ mod counting;
 mod history;
 mod history_laws;
 mod laws;
+mod note;
+mod noted_builder;
 mod number;
 mod numeral;
 mod numeral_laws;
 mod print;
+mod record;
 mod rules;
 mod sent;
 mod storage;
@@ -37,6 +40,8 @@ pub use laws::{
     other_keys_stay, replies_fit, versions_are_reported,
 };
 pub use mc_protocol::is_key;
+pub use note::Note;
+pub use noted_builder::NotedBuilder;
 pub use number::read_number;
 pub use numeral::{Numeral, numeral_of};
 pub use numeral_laws::bodies_say_numbers;
