@@ -119,7 +119,8 @@ impl History {
 
     /// What was noted, in order; `None` where the order of the sections' requests and replies isn't known.
     pub fn notes(&self) -> Option<&[(Actor, Note)]>
-        ensures { option_map (λ r. r.now) result ≡ self.now.notes }
+        ensures notes { option_map (λ r. r.now) result ≡ self.now.notes }
+        ensures history { recorded.IsHistory self.now }
     {
         match &self.noted {
             Some(record) => Some(record.notes()),
