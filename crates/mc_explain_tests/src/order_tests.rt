@@ -57,6 +57,7 @@ fn claim(alloc: Global, sections: &[Actor]) -> Result<Explanation, OutOfMemory> 
 }
 
 const READ_FIRST: &[Actor] = &[Actor::P, Actor::B, Actor::A];
+
 const WRITE_FIRST: &[Actor] = &[Actor::P, Actor::A, Actor::B];
 
 // A writes while B reads: what was noted, an order, and whether it explains the replies.
@@ -182,12 +183,7 @@ fn do_alternate(order: &[Move]) -> bool {
     first.actor == Actor::P
         && branches.len() == 2 * ROUNDS
         && branches.iter().enumerate().all(|(index, by)| {
-            by.actor
-                == if index % 2 == 0 {
-                    Actor::A
-                } else {
-                    Actor::B
-                }
+            by.actor == if index % 2 == 0 { Actor::A } else { Actor::B }
         })
 }
 
@@ -198,7 +194,10 @@ fn finds_the_one_order_of_branches_that_alternate(rt: HostRuntime) -> Result<(),
     let Verdict::Explained(explanation) = verdict else {
         return Err(Fail::from("no explanation"));
     };
-    assert!(rt; do_alternate(explanation.order.as_slice()), "{explanation:?}");
+    assert!(rt;
+        do_alternate(explanation.order.as_slice()),
+        "{explanation:?}"
+    );
     assert_eq!(rt; turns, TURNS);
     Ok(())
 }
