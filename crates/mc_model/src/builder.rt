@@ -74,7 +74,7 @@ impl HistoryBuilder {
 
     /// Gives the last request of a section the reply for which it waits. The fault is Order where it waits for none, and
     /// WrongReply where the reply is none that the request may have. An `Err` changes nothing.
-    pub fn answer(&mut self, actor: Actor, reply: Reply) -> Result<(), HistoryKind>
+    pub(crate) fn answer(&mut self, actor: Actor, reply: Reply) -> Result<(), HistoryKind>
         ensures ok { OnOk result (self.new ≡ next.answered self.old actor reply) }
         ensures fits { IfOk result (λ _. next.reply_fault (next.last_of (sections.section_of self.old actor)) reply ≡ None) }
         ensures fault { IfErr result (λ kind. next.reply_fault (next.last_of (sections.section_of self.old actor)) reply ≡ Some kind) }

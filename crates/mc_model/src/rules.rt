@@ -12,7 +12,7 @@ use thiserror::Error;
 #[derive(Clone, Copy, Debug, Drop, PartialEq, Eq, Error)]
 pub enum HistoryKind {
     /// The text has another first line.
-    #[error("the first line is not `history 1`")]
+    #[error("the first line is neither `history 1` nor `history 2`")]
     Header,
     /// The line can't be read, or may not stand there.
     #[error("the line is not one that may stand there")]
@@ -20,8 +20,9 @@ pub enum HistoryKind {
     /// A number has more than 20 digits, or is too large.
     #[error("a number is too large")]
     Number,
-    /// A request comes before a reply that its section waits for, or one of the prefix comes after one of a branch.
-    #[error("a request stands behind an unanswered one of its section, or the prefix's requests don't come first")]
+    /// A request comes before a reply that its section waits for, a reply comes where its section waits for none, or
+    /// something of the prefix comes after something of a branch.
+    #[error("a request stands behind an unanswered one of its section, a reply answers none, or the prefix doesn't come first")]
     Order,
     /// The protocol has no such reply to the request, or a hit has the wrong fields or too long a body.
     #[error("the reply is none that the request may have")]

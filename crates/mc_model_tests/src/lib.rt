@@ -14,4 +14,6 @@ mod histories;
 #[cfg(test)]
 mod lines;
 #[cfg(test)]
+mod noted;
+#[cfg(test)]
 mod words;

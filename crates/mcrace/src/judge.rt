@@ -133,9 +133,10 @@ reply in it.
 
 A history is what three clients of one server sent and received: P, which ran
 alone first, and then A and B, which ran side by side. P comes before A and B,
-the requests of each client keep their order, and no order in time between A and
-B counts. So what is judged is sequential consistency of one cache, and not
-linearizability.
+and the requests of each client keep their order. In `history 1` no order in
+time between A and B counts: what is judged is sequential consistency of one
+cache. `history 2` keeps the recorded order: a request that was answered before
+another one began comes before it, and what is judged is linearizability.
 
 An example, in which A stores only because nobody else did after its `gets`:
 
@@ -152,6 +153,18 @@ line for each request: the client, the request, `->`, and the reply; or `?` for
 a reply that was lost or was an error line, after which the client sent nothing
 more. P's lines come first, and those of A and B may be mixed. Blank lines are
 skipped, and so are lines that begin with `#`.
+
+In a `history 2` stands a line for each request that began and a line for each
+reply that came, in the order in which that was recorded:
+
+  history 2
+  P begin delete a
+  P reply NOT_FOUND
+  A begin set a 0 =1
+  A reply STORED
+  B begin get a
+  B reply HIT 0 =1
+  end
 
   request                     replies
   set KEY FLAGS BODY          STORED, NOT_STORED, EXISTS, NOT_FOUND
@@ -211,10 +224,11 @@ one is judged, and none is searched for:
   not confirmed  it does not
 
 A text that is no history is refused, as `refused history 5 WrongReply line 4`:
-  1 Header        the first line is not `history 1`
+  1 Header        the first line is neither `history 1` nor `history 2`
   2 Line          the line or one of its words may not stand there
   3 Number        a number is too large, or has more than 20 digits
-  4 Order         a line of P after one of A or B, or a request after a `?`
+  4 Order         a line of P after one of A or B, a request before the reply
+                  that its client waits for, or a reply that answers none
   5 WrongReply    the protocol has no such reply to the request
   6 NotCleared    the key's first request is not a `delete` of P
   7 UnseenNumber  no `gets` of the key showed the number of this `cas` before
