@@ -1,6 +1,6 @@
 -- What `judge` answers to a text.
 use Rattle.std.specs.Prelude.{◌≡◌, ◌≢◌, ℕ, Option, Some, None, List, ◌++◌, codes}
-use Rattle.mc_model.specs.Sections.{Sections}
+use Rattle.mc_model.specs.Notes.{History}
 use Rattle.mc_model.specs.Kinds.{kind_name, kind_number}
 use Rattle.mc_model.specs.declared.rules.HistoryKind.TheVariants as kind
 use Rattle.mc_explain.specs.declared.fault.HistoryFault.{HistoryFault}
@@ -20,15 +20,15 @@ use Rattle.mcrace.specs.declared.judge.Judgement.TheVariants as judgement
 
 -- no history is spelled by the text
 abbrev pub SpellsNone : List ℕ → Type 0
-SpellsNone text = (s : Sections) (claim : Option Claim) → SpellsHistory text s claim → ⊥
+SpellsNone text = (h : History) (claim : Option Claim) → SpellsHistory text h claim → ⊥
 
 -- the answer is right for the text, where a search may take so many turns
 abbrev pub IsRight : ℕ → List ℕ → Judgement → Type 0
-IsRight limit text judgement.Confirmed = (s : Sections) × (claim : Claim) × SpellsHistory text s (Some claim) × Explains s claim
+IsRight limit text judgement.Confirmed = (h : History) × (claim : Claim) × SpellsHistory text h (Some claim) × Explains h claim
 IsRight limit text judgement.NotConfirmed =
-    (s : Sections) × (claim : Claim) × SpellsHistory text s (Some claim) × (Explains s claim → ⊥)
+    (h : History) × (claim : Claim) × SpellsHistory text h (Some claim) × (Explains h claim → ⊥)
 IsRight limit text (judgement.Judged found turns) =
-    (s : Sections) × SpellsHistory text s None × IsTrueOf s found × IsStated s found × IsWithin limit found turns
+    (h : History) × SpellsHistory text h None × IsTrueOf h found × IsStated h found × IsWithin limit found turns
 IsRight limit text (judgement.Refused fault) = (fault.kind ≢ kind.OutOfMemory) × SpellsNone text
 
 -- what is written for a history that is refused
@@ -73,15 +73,15 @@ Judges limit text output ended =
 -- ---- parts that private clauses cite
 
 -- the answer is right for a text that spells these
-abbrev pub ConfirmsRightly : Sections → Claim → Judgement → Type 0
-ConfirmsRightly s claim judgement.Confirmed = Explains s claim
-ConfirmsRightly s claim judgement.NotConfirmed = Explains s claim → ⊥
-ConfirmsRightly s claim (judgement.Judged found turns) = ⊥
-ConfirmsRightly s claim (judgement.Refused fault) = ⊥
+abbrev pub ConfirmsRightly : History → Claim → Judgement → Type 0
+ConfirmsRightly h claim judgement.Confirmed = Explains h claim
+ConfirmsRightly h claim judgement.NotConfirmed = Explains h claim → ⊥
+ConfirmsRightly h claim (judgement.Judged found turns) = ⊥
+ConfirmsRightly h claim (judgement.Refused fault) = ⊥
 
 -- the answer is right for a text that spells these and no claim
-abbrev pub JudgesRightly : ℕ → Sections → Judgement → Type 0
-JudgesRightly limit s judgement.Confirmed = ⊥
-JudgesRightly limit s judgement.NotConfirmed = ⊥
-JudgesRightly limit s (judgement.Judged found turns) = IsTrueOf s found × IsStated s found × IsWithin limit found turns
-JudgesRightly limit s (judgement.Refused fault) = ⊥
+abbrev pub JudgesRightly : ℕ → History → Judgement → Type 0
+JudgesRightly limit h judgement.Confirmed = ⊥
+JudgesRightly limit h judgement.NotConfirmed = ⊥
+JudgesRightly limit h (judgement.Judged found turns) = IsTrueOf h found × IsStated h found × IsWithin limit found turns
+JudgesRightly limit h (judgement.Refused fault) = ⊥
