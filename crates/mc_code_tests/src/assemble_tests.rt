@@ -1,6 +1,6 @@
 //! `assemble`: the parts of a script's code, and why a script has none.
 
-use crate::images::{COUNTER_IMAGE, LAST_FLAG_IMAGE, written};
+use crate::images::{COUNTER_IMAGE, LAST_FLAG_IMAGE, image_after};
 use crate::parts::{COUNTER, are_equal, has_parts};
 use mc_code::{AsmFault, assemble, decode};
 use mc_protocol::{Actor, OutOfMemory};
@@ -92,7 +92,7 @@ fn assembles(rt: HostRuntime) -> Result<(), Fail> {
 fn writes_an_image_after_what_is_there(rt: HostRuntime) -> Result<(), Fail> {
     let alloc = rt.alloc();
     let code = assemble(alloc, &parse(alloc, COUNTER_SCRIPT)?)?;
-    let out = written(alloc, b"before", &code)?;
+    let out = image_after(alloc, b"before", &code)?;
     assert!(rt; is_joined(&out, b"before", COUNTER_IMAGE));
     Ok(())
 }
@@ -104,7 +104,7 @@ fn takes_the_last_flag(rt: HostRuntime) -> Result<(), Fail> {
     let mut printed = Vec::new(alloc);
     print(alloc, &script, &mut printed)?;
     assert!(rt; printed.as_slice() == LAST_FLAG_SCRIPT);
-    let image = written(alloc, b"", &assemble(alloc, &script)?)?;
+    let image = image_after(alloc, b"", &assemble(alloc, &script)?)?;
     assert!(rt; image.as_slice() == LAST_FLAG_IMAGE);
     Ok(())
 }
@@ -114,7 +114,7 @@ fn writes_the_version_that_has_room(rt: HostRuntime) -> Result<(), Fail> {
     let alloc = rt.alloc();
     for (counts, start) in VERSIONS {
         let code = assemble(alloc, &parse(alloc, &script_of(alloc, counts)?)?)?;
-        let image = written(alloc, b"", &code)?;
+        let image = image_after(alloc, b"", &code)?;
         assert!(rt; image.starts_with(start));
         assert!(rt; are_equal(&decode(alloc, &image)?, &code));
     }

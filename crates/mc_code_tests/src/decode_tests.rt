@@ -1,7 +1,7 @@
 //! `decode`: the code of images, its parts and its requests, and what is read of changed images.
 
 use crate::images::{
-    COUNTER_IMAGE, COUNTER_IMAGE_2, EVERYTHING_IMAGE, LAST_FLAG_IMAGE, LONGEST_BODY, written,
+    COUNTER_IMAGE, COUNTER_IMAGE_2, EVERYTHING_IMAGE, LAST_FLAG_IMAGE, LONGEST_BODY, image_after,
 };
 use crate::parts::{COUNTER, EVERYTHING, LAST_FLAG, are_equal, has_parts};
 use mc_code::{Call, Code, ImageFault, ImageKind, decode};
@@ -26,7 +26,7 @@ fn reads_both_versions_of_an_image(rt: HostRuntime) -> Result<(), Fail> {
     let code = decode(alloc, COUNTER_IMAGE_2)?;
     assert!(rt; has_parts(&code, &COUNTER));
     assert_eq!(rt; COUNTER_IMAGE_2.len(), 266);
-    assert!(rt; written(alloc, b"", &code)?.as_slice() == COUNTER_IMAGE);
+    assert!(rt; image_after(alloc, b"", &code)?.as_slice() == COUNTER_IMAGE);
     Ok(())
 }
 
@@ -35,12 +35,12 @@ fn reads_the_last_flag(rt: HostRuntime) -> Result<(), Fail> {
     let alloc = rt.alloc();
     let code = decode(alloc, LAST_FLAG_IMAGE)?;
     assert!(rt; has_parts(&code, &LAST_FLAG));
-    assert!(rt; written(alloc, b"", &code)?.as_slice() == LAST_FLAG_IMAGE);
+    assert!(rt; image_after(alloc, b"", &code)?.as_slice() == LAST_FLAG_IMAGE);
     Ok(())
 }
 
-// Each byte of an image of version 1 takes each value in turn. What is read is written again, byte for byte. The numbers are how many of
-// these images `docs/FORMATS.md` allows; the image itself is among them once for each of its bytes.
+// Each byte of an image of version 1 takes each value in turn. What is read is written again, byte for byte. The numbers are
+// how many of these images `docs/FORMATS.md` allows; the image itself is among them once for each of its bytes.
 #[test]
 fn writes_what_it_reads(rt: HostRuntime) -> Result<(), Fail> {
     let alloc = rt.alloc();
@@ -66,7 +66,8 @@ fn count_written(alloc: Global, image: &[u8]) -> Result<Option<usize>, ImageFaul
             let mut bytes = Vec::from_slice(alloc, image)?;
             bytes[offset] = value;
             match decode(alloc, &bytes) {
-                Ok(code) if written(alloc, b"", &code)? == bytes => count = count.saturating_add(1),
+                Ok(code) if image_after(alloc, b"", &code)? == bytes => count =
+                    count.saturating_add(1),
                 Ok(_) => return Ok(None),
                 Err(fault) if fault.kind == ImageKind::OutOfMemory => return Err(fault),
                 Err(_) => {}
@@ -95,7 +96,7 @@ fn count_read_again(alloc: Global, image: &[u8]) -> Result<Option<usize>, ImageF
 }
 
 fn is_read_again(alloc: Global, code: &Code) -> Result<bool, ImageFault> {
-    let image = written(alloc, b"", code)?;
+    let image = image_after(alloc, b"", code)?;
     Ok(are_equal(&decode(alloc, &image)?, code))
 }
 

@@ -257,7 +257,7 @@ fn reports_the_first_fault(rt: HostRuntime) -> Result<(), Fail> {
 fn reports_fields_before_their_template(rt: HostRuntime) -> Result<(), Fail> {
     let alloc = rt.alloc();
     for (changes, end, kind, at) in INSIDE {
-        let bytes = changed(alloc, EVERYTHING_IMAGE, changes)?;
+        let bytes = with_changes(alloc, EVERYTHING_IMAGE, changes)?;
         let cut = bytes.get(..end).unwrap_or_default();
         assert!(rt; has_fault(alloc, cut, kind, at)?, "offset {at}");
     }
@@ -302,7 +302,7 @@ fn first_unreported(
     rows: &[(usize, u8, ImageKind, usize)],
 ) -> Result<Option<usize>, ImageFault> {
     for (row, (offset, value, kind, at)) in rows.iter().enumerate() {
-        let bytes = changed(alloc, image, &[(*offset, *value)])?;
+        let bytes = with_changes(alloc, image, &[(*offset, *value)])?;
         if !has_fault(alloc, &bytes, *kind, *at)? {
             return Ok(Some(row));
         }
@@ -336,7 +336,11 @@ fn field_at(fields: &[usize], end: usize) -> usize {
     start
 }
 
-fn changed(alloc: Global, image: &[u8], changes: &[(usize, u8)]) -> Result<Vec<u8>, ImageFault> {
+fn with_changes(
+    alloc: Global,
+    image: &[u8],
+    changes: &[(usize, u8)],
+) -> Result<Vec<u8>, ImageFault> {
     let mut bytes = Vec::from_slice(alloc, image)?;
     for (offset, value) in changes {
         if let Some(byte) = bytes.get_mut(*offset) {

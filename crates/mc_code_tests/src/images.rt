@@ -111,7 +111,11 @@ pub(crate) const LONGEST_BODY: &[u8] =
     b"0123456789abcdefghijklmnopqrstuvwxyzABCDEFGHIJKLMNOPQRSTUVWXYZ01";
 
 /// What stands there first, and the image that is appended to it.
-pub(crate) fn written(alloc: Global, front: &[u8], code: &Code) -> Result<Vec<u8>, OutOfMemory> {
+pub(crate) fn image_after(
+    alloc: Global,
+    front: &[u8],
+    code: &Code,
+) -> Result<Vec<u8>, OutOfMemory> {
     let mut out = Vec::from_slice(alloc, front)?;
     encode(code, &mut out)?;
     Ok(out)
