@@ -72,7 +72,7 @@ static ROWS: [Row; 11] = [
         "P 0\nP 1\nA 2 pad\nB 0\n",
         5,
     ),
-    // A server refuses to read a body with a letter behind a space.
+    // A server refuses to read a body with a letter after a space.
     (
         "P delete a -> NOT_FOUND\nP set a 0 =5%20x -> STORED\nA incr a 1 -> NOT_A_NUMBER\n",
         u64::MAX,

@@ -7,7 +7,7 @@ pub(crate) fn bytes(alloc: Global, text: &[u8]) -> Result<Bytes, OutOfMemory> {
     Ok(Bytes::new(Vec::from_slice(alloc, text)?))
 }
 
-// A hit with a body of so many bytes.
+/// A hit with a body of `length` bytes.
 pub(crate) fn hit(alloc: Global, length: usize, cas: Option<u64>) -> Result<Reply, OutOfMemory> {
     Ok(Reply::Hit {
         flags: 0,

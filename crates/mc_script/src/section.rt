@@ -26,7 +26,7 @@ pub struct Label {
 pub(crate) struct Section {
     pub(crate) budget: Budget,
     pub(crate) steps: Vec<Step>,
-    // in the order of the text
+    /// In the order of the text.
     pub(crate) labels: Vec<Label>,
 }
 
