@@ -50,6 +50,26 @@ fn prints_what_was_read(rt: HostRuntime) -> Result<(), Fail> {
     Ok(())
 }
 
+const NOTED: &str = "history 2
+P begin delete a
+P reply DELETED
+B begin gets a
+A begin set a 7 =%20x
+B reply HIT 7 =%20x 18446744073709551615
+A reply STORED
+A begin incr a 5
+end
+";
+
+#[test]
+fn prints_what_was_noted(rt: HostRuntime) -> Result<(), Fail> {
+    let (history, _) = parse_history(rt.alloc(), NOTED.as_bytes())?;
+    let mut text = Vec::new(rt.alloc());
+    print_history(&history, &mut text)?;
+    assert!(rt; text.as_slice() == NOTED.as_bytes());
+    Ok(())
+}
+
 const CLAIMED: &[u8] =
     b"history 1\nP delete a -> NOT_FOUND\nB set a 1 =%00 -> STORED\nA get a -> ?\nexplain\nstart b 2\nstart a 18446744073709551615\nP 1 pad refuse\nA 0 pad\nB 7 refuse\nB 8\nend\n";
 
