@@ -127,7 +127,7 @@ class Run:
         return self.shown[actor].get(key, self.shown["P"].get(key))
 
     def branch_out(self, counts, make):
-        """Lets both branches send so many requests of what `make` makes for a section, in a random order."""
+        """Lets A and B send as many requests as the two `counts` say, in a random order; `make` makes one for a section."""
         left = dict(zip("AB", counts))
         while left["A"] or left["B"]:
             actor = self.rng.choice([actor for actor in "AB" for _ in range(left[actor])])
@@ -218,7 +218,7 @@ def numbers_24(rng):
 
 
 def misses(count):
-    """So many misses in each branch, and a hit behind A's that no order gives: an order for each merge of the two."""
+    """`count` misses in each branch, and after A's a hit that no order gives: an order for each merge of the two."""
 
     def make(rng):
         get = ("get", "a")

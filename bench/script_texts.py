@@ -34,7 +34,7 @@ def names():
 
 
 def short_labels(size):
-    """Lines of labels with the shortest names that there are, of so many bytes in all, and the last label."""
+    """Lines of labels with the shortest names that there are, at most `size` bytes in all, and the last label."""
     lines, last = [], ""
     for name in names():
         if size < len(name) + 2:
@@ -56,7 +56,7 @@ def uses_of(label):
 
 
 def filled(text, size, piece):
-    """The text with so many pieces behind it that it has the size."""
+    """The text, and after it as many of the pieces as the size has room for."""
     return text + piece * ((size - len(text.encode())) // len(piece))
 
 
@@ -97,7 +97,7 @@ def last_long_label(size):
 
 
 def unknown_label(size):
-    """As `last`, and behind the uses one of a label that isn't there: the last step, and its last jump."""
+    """As `last`, but the last jump of the last step names a label that isn't there."""
     text = last_label(size)
     begin, _, end = text.rpartition("notfound:")
     name, _, lines = end.partition("\n")

@@ -7,6 +7,10 @@ import items
 from edits import BadEdit
 
 GAVE_UP = "`search` gave up at one of its limits"
+# An error of a proof whose names are all there, but which proves something else than its goal, or not what it needs on the way.
+MISFIT = re.compile(r"the two types (?:first )?differ|one side reads|: expected type|no proof of|no occurrence of")
+# How an edit can be refused, the best first.
+WAYS = ("goal", "limit", "written proof", "proof file")
 # What is said of a function that is proved; the second where others may have holes for proofs, but none on which it rests.
 PROVED = ("proved", "no holes")
 
@@ -63,22 +67,41 @@ def lines_of(answer, function):
 
 
 def refusal(edit, answer):
-    """How the answer refuses the edit in a function of its own, and what it says: by a 'goal', by a goal at which the search met
-    a 'limit', or by a 'proof file' alone. None where it doesn't refuse it."""
-    weaker = None
-    for function in edit.functions:
-        for name in lines_of(answer, function):
-            words = answer.words[name]
-            if checks.NOT_PROVED in words:
-                goals = [it for it in answer.goals[name] if GAVE_UP not in it[2]]
-                if goals or not answer.goals[name]:
-                    said = f"`{goals[0][1]}`: {goals[0][0]}" if goals else words
-                    return "goal", f"{name}: {said}"
-                weaker = "limit", f"{name}: `{answer.goals[name][0][1]}`: {answer.goals[name][0][0]}"
-            path = name.partition("::")[2]
-            if not words.startswith(PROVED) and path in answer.of_proof_files:
-                weaker = weaker or ("proof file", f"{name}: {answer.of_proof_files[path]}")
-    return weaker
+    """How the answer refuses the edit in a function of its own, and what it says; None where it doesn't. The best way there is:
+    by a 'goal', by a goal at which the search met a 'limit', by the 'written proof' of a goal, or by a 'proof file' alone."""
+    found = [how for function in edit.functions for name in lines_of(answer, function) if (how := refusal_in(name, answer))]
+    return min(found, key=lambda how: WAYS.index(how[0]), default=None)
+
+
+def refusal_in(name, answer):
+    """How the answer refuses what a function of its own does, and what it says. None where it doesn't."""
+    words, found = answer.words[name], open_goals(name, answer)
+    searched = [it for it in found if GAVE_UP not in it[2]]
+    if found:
+        said, goal, _ = (searched or found)[0]
+        return "goal" if searched else "limit", f"{name}: `{goal}`: {said}"
+    if checks.NOT_PROVED in words:
+        return "goal", f"{name}: {words}"
+    errors = [said for _, said in errors_of_proof(name, answer)]
+    if words.startswith(PROVED) or not errors:
+        return None
+    of_proof = [it for it in errors if MISFIT.search(it) and it.startswith(tuple(f"`{goal}`: " for goal in answer.written[name]))]
+    return ("written proof", f"{name}: {of_proof[0]}") if of_proof else ("proof file", f"{name}: {errors[0]}")
+
+
+def errors_of_proof(name, answer):
+    return answer.of_proof_files.get(name.partition("::")[2], [])
+
+
+def open_goals(name, answer):
+    """The goals of a function that the search left open. Where the function's proof file has a fault, these are the goals for which
+    nothing is written there: what is written for another may be what the fault is in. Without its invariants any goal may be open."""
+    if checks.NOT_PROVED in answer.words[name]:
+        return answer.goals[name]
+    if not answer.words[name].startswith("not proved") or any(file == "Invariants" for file, _ in errors_of_proof(name, answer)):
+        return []
+    written = [(goal, f"{goal}-clause-") for goal in answer.written[name]]
+    return [it for it in answer.goals[name] if not any(it[1] == goal or it[1].startswith(clauses) for goal, clauses in written)]
 
 
 def is_proved(edit, answer):

@@ -98,7 +98,7 @@ argument_takes vars bytes x fits e =
     subst (λ (y : Option Argument × List ℕ). (IsBytes y.1) × ((a : Argument) → y.0 ≡ Some a → Takes bytes (argument_bytes a) y.1)) same
     (u.0.fits, λ a is. subst (λ (text : List ℕ). Takes bytes text n.0.1) (sym (argument-shape vars s.0.0 n.0.0 a t.2 is)) both)
 
--- a number of 64 bits, or one of so many variables
+-- nothing, a number of 64 bits, or a variable below vars
 abbrev pub FitsArgument : ℕ → Argument → Type 0
 FitsArgument vars argument.Nothing = Unit {0}
 FitsArgument vars (argument.Number n) = n < 2 ^ 64

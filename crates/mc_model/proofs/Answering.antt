@@ -18,7 +18,7 @@ use Rattle.mc_model.specs.declared.rules.HistoryKind.{HistoryKind}
 use Rattle.mc_model.specs.declared.rules.HistoryKind.TheVariants as kind
 use Rattle.mc_model.specs.Sections.{Sections, section_of, with_sent}
 use Rattle.mc_model.specs.History.{are_answered, has_words, has_no_branch, keys_of, key_count, is_history, fault_at, comes_late}
-use Rattle.mc_model.specs.Next.{is_full, may_come, clears, number_is_seen, last_of, reply_fault, with_last_reply, answered}
+use Rattle.mc_model.specs.Next.{is_full, may_come, clears, number_is_seen, last_of, reply_fault, with_last_reply, after_reply}
 use Rattle.mc_model.proofs.Faults.{first_failed, fault_by_tests, no_fault, no_fault_of, rules_of}
 use Rattle.mc_model.proofs.Prefixes.{history_before}
 use Rattle.mc_model.proofs.Turns.{turn_parts}
@@ -78,10 +78,10 @@ key_of sent = sent.request.key
 keys_in_all : (xs ys zs : List Sent) → keys_of (xs ++ ys ++ zs) ≡ keys_of xs ++ keys_of ys ++ keys_of zs
 keys_in_all xs ys zs = map-append (λ (sent : Sent). sent.request.key) (xs ++ ys) zs ∙ ap (λ l. l ++ keys_of zs) (map-append (λ (sent : Sent). sent.request.key) xs ys)
 
-pub key_count-answered : (s : Sections) (who : Actor) (reply : Reply) → key_count (answered s who reply) ≡ key_count s
-key_count-answered s who reply = ap (λ keys. set.len (set.from_list {R = slice_cmp nat_cmp} keys)) (same who)
+pub key_count-after_reply : (s : Sections) (who : Actor) (reply : Reply) → key_count (after_reply s who reply) ≡ key_count s
+key_count-after_reply s who reply = ap (λ keys. set.len (set.from_list {R = slice_cmp nat_cmp} keys)) (same who)
   where
-    same : (who : Actor) → keys_of ((answered s who reply).p ++ (answered s who reply).a ++ (answered s who reply).b) ≡ keys_of (s.p ++ s.a ++ s.b)
+    same : (who : Actor) → keys_of ((after_reply s who reply).p ++ (after_reply s who reply).a ++ (after_reply s who reply).b) ≡ keys_of (s.p ++ s.a ++ s.b)
     same actor.P = keys_in_all (with_last_reply s.p reply) s.a s.b ∙ ap (λ l. l ++ keys_of s.a ++ keys_of s.b) (keys-answered s.p reply) ∙ sym (keys_in_all s.p s.a s.b)
     same actor.A = keys_in_all s.p (with_last_reply s.a reply) s.b ∙ ap (λ l. keys_of s.p ++ l ++ keys_of s.b) (keys-answered s.a reply) ∙ sym (keys_in_all s.p s.a s.b)
     same actor.B = keys_in_all s.p s.a (with_last_reply s.b reply) ∙ ap (λ l. keys_of s.p ++ keys_of s.a ++ l) (keys-answered s.b reply) ∙ sym (keys_in_all s.p s.a s.b)
@@ -116,7 +116,7 @@ pub record IsWaiting (s : Sections) (who : Actor) (request : Request) (reply : R
   pub earlier : Sections
   pub is : s ≡ with_sent earlier who (record { request = request; reply = None })
   pub late : comes_late earlier who ≡ false
-  pub with_reply : answered s who reply ≡ with_sent earlier who (record { request = request; reply = Some reply })
+  pub with_reply : after_reply s who reply ≡ with_sent earlier who (record { request = request; reply = Some reply })
 
 -- ---- whether a section waits
 
@@ -226,7 +226,7 @@ unanswered_history s who request reply late h =
     without true false true true true fits e = refl
 
 -- a history stays one when a reply comes that has no fault
-pub answered_history : (s : Sections) (who : Actor) (reply : Reply) → is_history s ≡ true → reply_fault (last_of (section_of s who)) reply ≡ None → is_history (answered s who reply) ≡ true
+pub answered_history : (s : Sections) (who : Actor) (reply : Reply) → is_history s ≡ true → reply_fault (last_of (section_of s who)) reply ≡ None → is_history (after_reply s who reply) ≡ true
 answered_history s who reply h none =
     let (request, w, fits) = waits_for s who reply h none in
     let whole : is_history (with_sent w.earlier who (record { request = request; reply = None })) ≡ true = sym (ap is_history w.is) ∙ h in
@@ -235,12 +235,12 @@ answered_history s who reply h none =
 
 -- a history with another list in the place of one section: the same list, or the list with the reply
 pub kept : {X : Type 0} (result : Result X HistoryKind) (s : Sections) (who : Actor) (with_list : List Sent → Sections) (old new : List Sent) (reply : Reply) (keys : ℕ)
-    → is_history s ≡ true → keys ≡ key_count s → with_list old ≡ s → with_list (with_last_reply old reply) ≡ answered s who reply
+    → is_history s ≡ true → keys ≡ key_count s → with_list old ≡ s → with_list (with_last_reply old reply) ≡ after_reply s who reply
     → OnOk result (new ≡ with_last_reply old reply) → IfOk result (λ _. reply_fault (last_of (section_of s who)) reply ≡ None) → OnErr result (new ≡ old)
     → (is_history (with_list new) ≡ true) × (keys ≡ key_count (with_list new))
 kept (Ok x) s who with_list old new reply keys h counted same replied_is ok none err =
-    let whole : with_list new ≡ answered s who reply = ap with_list ok ∙ replied_is in
-    (ap is_history whole ∙ answered_history s who reply h none, counted ∙ sym (key_count-answered s who reply) ∙ sym (ap key_count whole))
+    let whole : with_list new ≡ after_reply s who reply = ap with_list ok ∙ replied_is in
+    (ap is_history whole ∙ answered_history s who reply h none, counted ∙ sym (key_count-after_reply s who reply) ∙ sym (ap key_count whole))
 kept (Err e) s who with_list old new reply keys h counted same replied_is ok none err =
     let whole : with_list new ≡ s = ap with_list err ∙ same in
     (ap is_history whole ∙ h, counted ∙ sym (ap key_count whole))

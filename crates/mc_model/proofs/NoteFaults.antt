@@ -14,7 +14,7 @@ use Rattle.mc_model.specs.declared.rules.HistoryKind.{HistoryKind}
 use Rattle.mc_model.specs.declared.rules.HistoryKind.TheVariants as kind
 use Rattle.mc_model.specs.Sections.{Sections, section_of, with_sent}
 use Rattle.mc_model.specs.History.{all_have_words, is_within_limits, is_in_turn, is_cleared, numbers_are_seen, are_answered_rightly, are_answered, is_none_sent, is_history, first_broken, fault_at, comes_late}
-use Rattle.mc_model.specs.Next.{may_come, last_of, reply_fault, noted, note_fault}
+use Rattle.mc_model.specs.Next.{may_come, last_of, reply_fault, after_note, note_fault}
 use Rattle.mc_model.specs.Notes.{Noted, requests_in, replies_in, sections_in, is_waiting, is_out_of_order, are_in_order, is_record, fault_of, IsFirstFaultOfNotes}
 use Rattle.mc_model.proofs.Faults.{rules_of, none_failed, nothing_sent}
 use Rattle.mc_model.proofs.Turns.{turn_added}
@@ -145,7 +145,7 @@ fault_by_sections notes (who, note.Reply reply) r =
     ]
 
 -- the sections with a note that has no fault
-pub sections_noted : (notes : List Noted) (next : Noted) → is_record notes ≡ true → note_fault (sections_in notes) next ≡ None → sections_in (notes ++ next ∷ []) ≡ noted (sections_in notes) next
+pub sections_noted : (notes : List Noted) (next : Noted) → is_record notes ≡ true → note_fault (sections_in notes) next ≡ None → sections_in (notes ++ next ∷ []) ≡ after_note (sections_in notes) next
 sections_noted notes (who, note.Begin request) r none = sections-begin notes who request (balanced notes who r)
 sections_noted notes (who, note.Reply reply) r none =
     elim (cases_Bool (are_answered (section_of (sections_in notes) who))) [
@@ -183,13 +183,13 @@ record_push notes next r none =
 -- after a note was added to the sections, or refused
 pub added_note : {X : Type 0} (result : Result X HistoryKind) (notes after : List Noted) (next : Noted) (before sections : Sections) → is_err result ≡ false
     → is_record notes ≡ true → before ≡ sections_in notes → after ≡ notes ++ next ∷ []
-    → OnOk result (sections ≡ noted before next) → IfOk result (λ _. note_fault before next ≡ None)
+    → OnOk result (sections ≡ after_note before next) → IfOk result (λ _. note_fault before next ≡ None)
     → (is_record after ≡ true) × (sections ≡ sections_in after) × IfOk result (λ _. fault_of notes next ≡ None)
 added_note (Ok x) notes after next before sections ok r is more is_noted none =
     let no_fault : note_fault (sections_in notes) next ≡ None = sym (ap (λ s. note_fault s next) is) ∙ none in
     let free : fault_of notes next ≡ None = fault_by_sections notes next r ∙ no_fault in (
       ap is_record more ∙ record_push notes next r free,
-      is_noted ∙ ap (λ s. noted s next) is ∙ sym (sections_noted notes next r no_fault) ∙ sym (ap sections_in more),
+      is_noted ∙ ap (λ s. after_note s next) is ∙ sym (sections_noted notes next r no_fault) ∙ sym (ap sections_in more),
       free,
     )
 added_note (Err kind) notes after next before sections ok r is more is_noted none = cc

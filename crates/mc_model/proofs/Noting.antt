@@ -11,7 +11,7 @@ use Rattle.mc_model.specs.declared.sent.Sent.{Sent}
 use Rattle.mc_model.specs.declared.note.Note.TheVariants as note
 use Rattle.mc_model.specs.Sections.{Sections, section_of, with_sent}
 use Rattle.mc_model.specs.History.{are_answered, comes_late}
-use Rattle.mc_model.specs.Next.{with_last_reply, answered}
+use Rattle.mc_model.specs.Next.{with_last_reply, after_reply}
 use Rattle.mc_model.specs.Notes.{Noted, begun_by, replied_by, requests_in, replies_in, with_replies, sent_in, sections_in, is_waiting, is_out_of_order, are_in_order, is_same_section, begins, notes_before_each, answered_before_each}
 
 -- ---- requests and replies with one more note
@@ -219,7 +219,7 @@ waits_for_one notes section both some =
 
 -- a reply that comes is that to the last request of its section
 pub sections-reply : (notes : List Noted) (who : Actor) (reply : Reply) → WaitsForOne notes who
-    → sections_in (notes ++ (who, note.Reply reply) ∷ []) ≡ answered (sections_in notes) who reply
+    → sections_in (notes ++ (who, note.Reply reply) ∷ []) ≡ after_reply (sections_in notes) who reply
 sections-reply notes actor.P reply one =
     same_sections _ _ _ _ _ _ (own_reply actor.P notes _ reply refl refl ∙ reply_more (requests_in actor.P notes) (replies_in actor.P notes) reply one) (sent-other actor.A notes _ refl refl) (sent-other actor.B notes _ refl refl)
 sections-reply notes actor.A reply one =

@@ -71,15 +71,15 @@ with_last_reply (sent ∷ []) reply = record sent { reply = Some reply } ∷ []
 with_last_reply (sent ∷ next ∷ others) reply = sent ∷ with_last_reply (next ∷ others) reply
 
 -- the sections with this reply to the last request of one
-abbrev pub answered : Sections → Actor → Reply → Sections
-answered s actor reply = with_section s actor (with_last_reply (section_of s actor) reply)
+abbrev pub after_reply : Sections → Actor → Reply → Sections
+after_reply s actor reply = with_section s actor (with_last_reply (section_of s actor) reply)
 
 -- ---- What is tested of a note that comes next
 
 -- the sections after a note
-abbrev pub noted : Sections → Noted → Sections
-noted s (section, note.Begin request) = with_sent s section (record { request = request; reply = None })
-noted s (section, note.Reply reply) = answered s section reply
+abbrev pub after_note : Sections → Noted → Sections
+after_note s (section, note.Begin request) = with_sent s section (record { request = request; reply = None })
+after_note s (section, note.Reply reply) = after_reply s section reply
 
 -- what is wrong with a note after these sections
 abbrev pub note_fault : Sections → Noted → Option HistoryKind

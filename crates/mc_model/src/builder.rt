@@ -75,11 +75,11 @@ impl HistoryBuilder {
     /// Gives the last request of a section the reply for which it waits. The fault is Order where it waits for none, and
     /// WrongReply where the reply is none that the request may have. An `Err` changes nothing.
     pub(crate) fn answer(&mut self, actor: Actor, reply: Reply) -> Result<(), HistoryKind>
-        ensures ok { OnOk result (self.new ≡ next.answered self.old actor reply) }
+        ensures ok { OnOk result (self.new ≡ next.after_reply self.old actor reply) }
         ensures fits { IfOk result (λ _. next.reply_fault (next.last_of (sections.section_of self.old actor)) reply ≡ None) }
         ensures fault { IfErr result (λ kind. next.reply_fault (next.last_of (sections.section_of self.old actor)) reply ≡ Some kind) }
         ensures err { OnErr result (self.new ≡ self.old) }
-        ensures kept { rule.is_history self.new ≡ true }
+        ensures keeps { rule.is_history self.new ≡ true }
     {
         match actor {
             Actor::P => answer_last(&mut self.p, reply),

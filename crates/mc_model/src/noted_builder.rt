@@ -50,7 +50,7 @@ impl NotedBuilder {
         ensures history { IfOk result (λ _. recorded.fault_of self.old (actor, note) ≡ None) }
         ensures fault { IfErr result (λ kind. kind ≢ HistoryKind.OutOfMemory → recorded.fault_of self.old (actor, note) ≡ Some kind) }
         ensures err { OnErr result (self.new ≡ self.old) }
-        ensures kept { recorded.is_record self.new ≡ true }
+        ensures keeps { recorded.is_record self.new ≡ true }
     {
         let copy = note.copy(*self.notes.allocator())?;
         self.notes.push((actor, copy))?;
@@ -74,7 +74,7 @@ impl NotedBuilder {
 
 /// Adds a note to the sections. An `Err` changes nothing.
 fn add(sections: &mut HistoryBuilder, actor: Actor, note: Note) -> Result<(), HistoryKind>
-    ensures ok { OnOk result (sections.new ≡ next.noted sections.old (actor, note)) }
+    ensures ok { OnOk result (sections.new ≡ next.after_note sections.old (actor, note)) }
     ensures none { IfOk result (λ _. next.note_fault sections.old (actor, note) ≡ None) }
     ensures fault { IfErr result (λ kind. kind ≢ HistoryKind.OutOfMemory → next.note_fault sections.old (actor, note) ≡ Some kind) }
     ensures err { OnErr result (sections.new ≡ sections.old) }

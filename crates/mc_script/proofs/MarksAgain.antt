@@ -153,7 +153,7 @@ bind-target : (c : Class) (bind : Option ℕ) → target_of c (bind_marks bind) 
 bind-target c None = refl
 bind-target c (Some v) = refl
 
--- the jumps behind the flags decide
+-- the jumps after the flags decide
 jumps-target : (c : Class) (labels : List Label) (jumps : List (Class × ℕ)) (bind : Option ℕ)
     → target_of c (jump_marks labels jumps ++ bind_marks bind) ≡ target_of c (jump_marks labels jumps)
 jumps-target c labels [] bind = bind-target c bind

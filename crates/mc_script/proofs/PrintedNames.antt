@@ -122,7 +122,7 @@ label-place-found (l ∷ labels) place (suc index) label distinct get lt =
     names-length [] = refl
     names-length (l ∷ ls) = let e = names-length ls in omega (arith, e)
 
--- the label with an index has this index behind a step
+-- the label with an index is found by its name from each place above it
 pub label-found : (labels : List Label) (place index : ℕ) (label : Label) → are_distinct (label_names labels) ≡ true
     → slice_get labels index ≡ Some label → place < label.place → label_after labels place (label_at labels index) ≡ Some index
 label-found labels place index label distinct get lt =

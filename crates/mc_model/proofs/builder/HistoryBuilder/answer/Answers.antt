@@ -12,8 +12,8 @@ after-P c =
 pub invariant_of-self : goal.invariant_of-self
 invariant_of-self c = after-P c
 
-pub returns-in-P-clause-kept : goal.returns-in-P-clause-kept
-returns-in-P-clause-kept c = (after-P c).0
+pub returns-in-P-clause-keeps : goal.returns-in-P-clause-keeps
+returns-in-P-clause-keeps c = (after-P c).0
 
 after-A : (c : goal.After-answer_last-in-A) → (is_history (record { p = c.self.inside.p.items; a = c.answer_last-in-A.new.section.items; b = c.self.inside.b.items }) ≡ true) × (c.self.inside.keys ≡ key_count (record { p = c.self.inside.p.items; a = c.answer_last-in-A.new.section.items; b = c.self.inside.b.items }))
 after-A c =
@@ -23,8 +23,8 @@ after-A c =
 pub invariant_of-self-in-A : goal.invariant_of-self-in-A
 invariant_of-self-in-A c = after-A c
 
-pub returns-in-A-clause-kept : goal.returns-in-A-clause-kept
-returns-in-A-clause-kept c = (after-A c).0
+pub returns-in-A-clause-keeps : goal.returns-in-A-clause-keeps
+returns-in-A-clause-keeps c = (after-A c).0
 
 after-B : (c : goal.After-answer_last-in-B) → (is_history (record { p = c.self.inside.p.items; a = c.self.inside.a.items; b = c.answer_last-in-B.new.section.items }) ≡ true) × (c.self.inside.keys ≡ key_count (record { p = c.self.inside.p.items; a = c.self.inside.a.items; b = c.answer_last-in-B.new.section.items }))
 after-B c =
@@ -34,5 +34,5 @@ after-B c =
 pub invariant_of-self-in-B : goal.invariant_of-self-in-B
 invariant_of-self-in-B c = after-B c
 
-pub returns-in-B-clause-kept : goal.returns-in-B-clause-kept
-returns-in-B-clause-kept c = (after-B c).0
+pub returns-in-B-clause-keeps : goal.returns-in-B-clause-keeps
+returns-in-B-clause-keeps c = (after-B c).0

@@ -22,5 +22,5 @@ returns-then-is_err-clause-fault c =
 pub returns-else-is_err-clause-history : goal.returns-else-is_err-clause-history
 returns-else-is_err-clause-history c = rw (← c.self.view_is) (after c).2
 
-pub returns-else-is_err-clause-kept : goal.returns-else-is_err-clause-kept
-returns-else-is_err-clause-kept c = (after c).0
+pub returns-else-is_err-clause-keeps : goal.returns-else-is_err-clause-keeps
+returns-else-is_err-clause-keeps c = (after c).0

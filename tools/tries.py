@@ -1,0 +1,158 @@
+"""What is tried of a crate's wrong bodies: the checks that are to refuse them, and what came of each edit."""
+
+import shutil
+from dataclasses import dataclass
+
+import attribution
+import bodies
+import checks
+import edits
+import items
+
+# What a check takes beside the functions that it is asked for, as so many of these; and one with all bodies, which makes and
+# checks the code of all that they call.
+CHECK = 5
+CHECK_WITH_BODIES = 25
+
+
+@dataclass
+class Check:
+    """One check with these edits, in a copy of their crate of its own, in which all functions have bodies or these alone."""
+
+    tries: "Tries"
+    batch: list
+    has_bodies: bool
+
+    @property
+    def functions(self):
+        return list(dict.fromkeys(it for edit in self.batch for it in edit.functions))
+
+    def work(self):
+        """How long it takes, roughly: those that take longest begin first."""
+        return len(self.functions) + (CHECK_WITH_BODIES if self.has_bodies else CHECK)
+
+    def run(self, room, kit):
+        """The answer, and the processor seconds that it took."""
+        crate, home = self.tries.crate, room / f"check-{id(self)}"
+        copy, kept = home / crate.name, home / "kept"
+        # It begins with what `rt ci` kept.
+        checks.copy_kept(crate, kept)
+        sources = room / "copy/crates" / crate.name
+        if self.has_bodies:
+            shutil.copytree(sources, copy)
+        else:
+            own = [it for it in self.tries.items if attribution.name_of(crate, it) in self.functions]
+            bodies.copy_with_bodies_of(own, crate, self.tries.items, sources, copy)
+        edits.apply(self.batch, copy)
+        answer = checks.check(crate, copy, self.functions, kit, kept, *([] if self.has_bodies else ["--allow-holes"]))
+        shutil.rmtree(home)
+        return answer
+
+    def settle(self, outcome):
+        """Settles what the answer settles, and answers the checks that are to follow."""
+        answer, seconds = outcome
+        tries = self.tries
+        tries.checks, tries.seconds = tries.checks + 1, tries.seconds + seconds
+        if self.has_bodies:
+            return [Check(tries, it, True) for it in tries.settle_with_bodies(self.batch, answer)]
+        tries.settle_without_bodies(self.batch, answer)
+        tries.first_checks -= 1
+        return [Check(tries, it, True) for it in batches_of(tries.unsettled)] if tries.first_checks == 0 else []
+
+    def __str__(self):
+        which = "all bodies" if self.has_bodies else "no other bodies"
+        mine = self.tries.of_contracts
+        settled = sum(str(it) in self.tries.refused or str(it) in self.tries.failed for it in mine)
+        return f"{self.tries.crate.name}: a check with {which}, of {len(self.batch)} edits; {settled} of {len(mine)} are settled"
+
+
+class Tries:
+    """The edits of a crate, and what came of each: how it was refused and by what."""
+
+    def __init__(self, crate, is_whole, paths, say):
+        self.crate, self.say, self.refused, self.failed = crate, say, {}, {}
+        self.checks, self.seconds = 0, 0.0
+        self.items = items.items_of(crate.folder)
+        self.edits = [it for it in map(self.read, paths) if it]
+        # Those that no test is named for.
+        self.of_contracts = [it for it in self.edits if it.test is None]
+        # What the checks without other bodies leave to those with all, and how many of the former are still to end.
+        self.unsettled, self.first_checks = [], 0
+        if is_whole:
+            self.look_at_public_functions()
+
+    def read(self, path):
+        """The edit that a file holds; where it is a bad one, that is reported."""
+        try:
+            edit = edits.read(path, self.crate)
+            attribution.place(edit, self.crate, self.items)
+            return edit
+        except (edits.BadEdit, OSError, UnicodeDecodeError) as fault:
+            self.fail(f"{self.crate.name}/{path.stem}", f"bad edit: {fault}")
+            return None
+
+    def look_at_public_functions(self):
+        """Fails for each public function in which no edit stands, of those that are tried here or by `rt ci`."""
+        by_gate = map(self.read, sorted((self.crate.folder / "must-fail").glob("*.edit")))
+        tried = {name for edit in (*self.edits, *filter(None, by_gate)) for name in edit.functions}
+        for item in items.public_functions(self.crate.folder):
+            name = attribution.name_of(self.crate, item)
+            if name not in tried:
+                self.fail(name, "no wrong body stands in this public function")
+
+    def fail(self, what, why):
+        self.failed[str(what)] = why
+        self.say(f"failed: {what}: {why}")
+
+    def begin(self):
+        """The checks to begin with: batches without the other bodies. What these don't refuse is tried with them, and then alone."""
+        found = [Check(self, it, False) for it in batches_of(self.of_contracts)]
+        self.first_checks = len(found)
+        return found
+
+    def settle_without_bodies(self, batch, answer):
+        """Settles the edits that the answer refuses, and keeps the others."""
+        if answer.has_verdict:
+            found = {str(it): attribution.refusal(it, answer) for it in batch}
+            self.refused |= {it: how for it, how in found.items() if how}
+        self.unsettled += [it for it in batch if str(it) not in self.refused]
+
+    def settle_with_bodies(self, batch, answer):
+        """Settles the edits that the answer settles, and answers the batches in which the others are to be tried."""
+        if not answer.has_verdict:
+            faults = {str(it): attribution.fault_of(it, answer) for it in batch}
+            rest = [it for it in batch if not faults[str(it)]]
+            for it in batch:
+                if faults[str(it)]:
+                    self.fail(it, faults[str(it)])
+            if len(rest) < len(batch):
+                return [rest] if rest else []
+            if len(batch) == 1:
+                said = [it for it in answer.said.splitlines() if "error" in it or "no verdict" in it]
+                self.fail(batch[0], f"the check has no verdict: {' / '.join(said[:3])[:400]}")
+                return []
+            return [batch[: len(batch) // 2], batch[len(batch) // 2 :]]
+        again = []
+        for it in batch:
+            how = attribution.refusal(it, answer)
+            if how:
+                self.refused[str(it)] = how
+            elif len(batch) > 1 and not attribution.is_proved(it, answer):
+                again.append([it])
+            else:
+                self.fail(it, attribution.why_not(it, answer))
+        return again
+
+
+def batches_of(found):
+    """Splits edits into batches in which no two stand in one function or change one line. One that changes more than bodies
+    has a batch of its own."""
+    batches = []
+    for edit in [it for it in found if not it.is_alone]:
+        for batch in batches:
+            if not any(set(edit.functions) & set(it.functions) or edit.meets(it) for it in batch):
+                batch.append(edit)
+                break
+        else:
+            batches.append([edit])
+    return batches + [[it] for it in found if it.is_alone]
