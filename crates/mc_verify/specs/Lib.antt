@@ -1,0 +1,18 @@
+-- What the public contracts cite.
+pub mod Flags
+pub mod Ways
+pub mod Costs
+pub mod Structure
+pub mod Faults
+pub mod Refusals
+pub mod Checked
+pub mod Laws
+pub mod Examples
+pub mod ExampleLaws
+-- What private contracts cite.
+pub mod CostTables
+pub mod Kinds
+pub mod RunKinds
+pub mod FlagTables
+pub mod Lowest
+pub mod VariableFaults

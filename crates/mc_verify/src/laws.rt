@@ -1,0 +1,32 @@
+//! What follows from the definitions of faults, whatever the code is.
+ghost use Rattle.mc_verify.specs.Laws.{LeastIsOne, NoFlagsNoFaults, PrefixesCostLess, SentIsAdmitted, SoundIsAdmitted, SoundIsRight};
+
+/// Code without flags has no fault of flags.
+pub fn no_flags_no_faults()
+    ensures { NoFlagsNoFaults }
+{}
+
+/// The first of some calls cost no more than all of them.
+pub fn prefixes_cost_less()
+    ensures { PrefixesCostLess }
+{}
+
+/// The sections of sound code come to nothing wrong.
+pub fn sound_is_right()
+    ensures { SoundIsRight }
+{}
+
+/// The calls of sound code find the flags as they need them.
+pub fn sound_is_admitted()
+    ensures { SoundIsAdmitted }
+{}
+
+/// What the sections of sound code may have sent finds the flags as it needs them, in every merge, whether answered or not.
+pub fn sent_is_admitted()
+    ensures { SentIsAdmitted }
+{}
+
+/// Code has one least fault at most, and has none where it is sound.
+pub fn least_is_one()
+    ensures { LeastIsOne }
+{}
