@@ -22,7 +22,7 @@ end
 // Every mark, and labels at the end of a section.
 const MARKS: &str = "script 1
 keys item
-flags ready done
+flags ready done late
 vars unique count
 budget P 2 100
 budget A 2 100
@@ -34,7 +34,7 @@ gets item ?ready miss:gone >unique
 cas item 0 =7 $unique exists:gone +done -ready
 gone:
 B
-incr item 1 !done notfound:gone notnumber:gone
+incr item 1 !late notfound:gone notnumber:gone
 bind count
 decr item $count
 gone:
@@ -44,7 +44,7 @@ end
 // The same, as it is printed: of two changes `+` goes before `-`, and both go before jumps.
 const MARKS_PRINTED: &str = "script 1
 keys item
-flags ready done
+flags ready done late
 vars unique count
 budget P 2 100
 budget A 2 100
@@ -56,7 +56,7 @@ gets item ?ready miss:gone >unique
 cas item 0 =7 $unique +done -ready exists:gone
 gone:
 B
-incr item 1 !done notfound:gone notnumber:gone
+incr item 1 !late notfound:gone notnumber:gone
 bind count
 decr item $count
 gone:

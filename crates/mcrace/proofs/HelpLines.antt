@@ -16,6 +16,10 @@ judge_help : (program : List ℕ) → line_faults (program ∷ codes "judge" ∷
 unfolding line_faults clap_on_literals
 judge_help program = refl
 
+check_help : (program : List ℕ) → line_faults (program ∷ codes "check" ∷ codes "--help" ∷ []) ≡ kind.DisplayHelp ∷ []
+unfolding line_faults clap_on_literals
+check_help program = refl
+
 asm_help : (program : List ℕ) → line_faults (program ∷ codes "asm" ∷ codes "--help" ∷ []) ≡ kind.DisplayHelp ∷ []
 unfolding line_faults clap_on_literals
 asm_help program = refl
@@ -44,5 +48,6 @@ help_is_shown words (program, line) = elim line [
   | inl is ↦ rw is (shown_alone _ kind.DisplayHelp (program_help program) (inl refl))
   | inr (inl is) ↦ rw is (shown_alone _ kind.DisplayHelp (judge_help program) (inl refl))
   | inr (inr (inl is)) ↦ rw is (shown_alone _ kind.DisplayHelp (asm_help program) (inl refl))
-  | inr (inr (inr is)) ↦ rw is (shown_alone _ kind.DisplayVersion (version program) (inr refl))
+  | inr (inr (inr (inl is))) ↦ rw is (shown_alone _ kind.DisplayHelp (check_help program) (inl refl))
+  | inr (inr (inr (inr is))) ↦ rw is (shown_alone _ kind.DisplayVersion (version program) (inr refl))
 ]

@@ -1,5 +1,6 @@
 pub mod HelpLines
 pub mod Line
+pub mod Maxima
 pub mod OptionValue
 pub mod PlainLines
 pub mod Right

@@ -1,5 +1,5 @@
 -- What clap finds in the program's command line, and what it says of a fault.
-use Rattle.std.proofs.Common.{[], refl, sym, ap, inl, inr, codes, true, Option, ℕ, List, ◌≡◌, ◌≢◌, ◌⊎◌, ◌∙◌, Some, None, option_map}
+use Rattle.std.proofs.Common.{arith, [], ◌∷◌, refl, sym, ap, inl, inr, codes, true, Option, ℕ, List, ◌≡◌, ◌≢◌, ◌⊎◌, ◌∙◌, Some, None, option_map}
 use Rattle.std.specs.Prelude.{option_and_then}
 use Rattle.clap.specs.Words.{App, HasKind, IsAmong, Row, Text, fault_of, first_of, first_value, found_of, is_simple_and_free, kind_of, rows_of, subcommand_name_of, subcommand_of, subcommand_rows_of, HasMatchesOf, is_simple}
 use Rattle.clap.specs.declared.parser.matches.ArgMatches.{ArgMatches}
@@ -85,11 +85,33 @@ is_told : (found : ErrorKind) → found ≢ kind.DisplayHelp → found ≢ kind.
 is_told found help version (inl is) = help is
 is_told found help version (inr is) = version is
 
+-- the names of subcommands differ, by their first bytes
+abbrev first_byte : Option Text → ℕ
+first_byte None = 0
+first_byte (Some []) = 0
+first_byte (Some (b ∷ bs)) = b
+
+pub judge_is_not_check : Some (codes "judge") ≢ Some (codes "check")
+judge_is_not_check same =
+    let first : 106 ≡ 99 = ap first_byte same in
+    omega (arith, first)
+
+pub judge_is_not_asm : Some (codes "judge") ≢ Some (codes "asm")
+judge_is_not_asm same =
+    let first : 106 ≡ 97 = ap first_byte same in
+    omega (arith, first)
+
+pub check_is_not_asm : Some (codes "check") ≢ Some (codes "asm")
+check_is_not_asm same =
+    let first : 99 ≡ 97 = ap first_byte same in
+    omega (arith, first)
+
 -- the limit's word is none
 nothing_judged : (command : Option Text) (word : Option Text) → command ≡ Some (codes "judge") → ((limit : ℕ) → IsLimit word limit → ⊥)
     → (wanted : Asked) → IsAskedBy command word wanted → ⊥
 nothing_judged command word judge none (asked.Judge limit) asks = none limit asks.1
-nothing_judged command word judge none asked.Asm asks = absurd (cc)
+nothing_judged command word judge none asked.Check asks = judge_is_not_check (sym judge ∙ asks)
+nothing_judged command word judge none asked.Asm asks = judge_is_not_asm (sym judge ∙ asks)
 
 pub no_limit : (words : List (List ℕ)) (found : ErrorKind) → found ≡ kind.ValueValidation → line_faults words ≡ [] → line_command words ≡ Some (codes "judge")
     → ((limit : ℕ) → IsLimit (line_limit words) limit → ⊥) → IsFaultOf words found
@@ -97,15 +119,16 @@ no_limit words found is clear judge none =
     found_by_program words found clear (nothing_judged _ _ judge none) (is_told found (λ help. absurd (cc)) (λ version. absurd (cc)))
 
 -- the subcommand is another one
-nothing_asked : (command : Option Text) (word : Option Text) → command ≢ Some (codes "judge") → command ≢ Some (codes "asm")
-    → (wanted : Asked) → IsAskedBy command word wanted → ⊥
-nothing_asked command word judge asm (asked.Judge limit) asks = judge asks.0
-nothing_asked command word judge asm asked.Asm asks = asm asks
+nothing_asked : (command : Option Text) (word : Option Text) → command ≢ Some (codes "judge") → command ≢ Some (codes "check")
+    → command ≢ Some (codes "asm") → (wanted : Asked) → IsAskedBy command word wanted → ⊥
+nothing_asked command word judge check asm (asked.Judge limit) asks = judge asks.0
+nothing_asked command word judge check asm asked.Check asks = check asks
+nothing_asked command word judge check asm asked.Asm asks = asm asks
 
 pub no_subcommand : (words : List (List ℕ)) (found : ErrorKind) → found ≡ kind.MissingSubcommand → line_faults words ≡ [] → line_command words ≢ Some (codes "judge")
-    → line_command words ≢ Some (codes "asm") → IsFaultOf words found
-no_subcommand words found is clear judge asm =
-    found_by_program words found clear (nothing_asked _ _ judge asm) (is_told found (λ help. absurd (cc)) (λ version. absurd (cc)))
+    → line_command words ≢ Some (codes "check") → line_command words ≢ Some (codes "asm") → IsFaultOf words found
+no_subcommand words found is clear judge check asm =
+    found_by_program words found clear (nothing_asked _ _ judge check asm) (is_told found (λ help. absurd (cc)) (λ version. absurd (cc)))
 
 -- a line that asks for something fails only where memory runs out
 pub asking_lacks_memory : (words : List (List ℕ)) (wanted : Asked) (found : ErrorKind) → AsksFor words wanted

@@ -8,6 +8,7 @@ use Rattle.clap.specs.Simple.{label_of}
 use Rattle.clap.specs.Walk.{Walk, answers_to, finished, nothing_held, settled, walk, walk_from}
 use Rattle.clap.proofs.OnLiterals.{clap_on_literals}
 use Rattle.mc_protocol.specs.Decimals.{SpellsNumber, are_digits, is_digit}
+use Rattle.mcrace.proofs.Line.{check_is_not_asm, judge_is_not_asm, judge_is_not_check}
 use Rattle.mcrace.proofs.OptionValue.{IsNoFlag, no_flag, value_walked, value_has_no_fault}
 use Rattle.mcrace.specs.declared.arguments.Asked.TheVariants as asked
 use Rattle.mcrace.specs.Command.{AsksFor, IsLimit}
@@ -84,6 +85,16 @@ joined_is_named : (program : List ℕ) (number : List ℕ) → line_command (pro
 unfolding line_command clap_on_literals
 joined_is_named program number = refl
 
+-- ---- `check`
+
+check_has_no_faults : (program : List ℕ) → line_faults (program ∷ codes "check" ∷ []) ≡ []
+unfolding line_faults clap_on_literals
+check_has_no_faults program = refl
+
+check_is_named : (program : List ℕ) → line_command (program ∷ codes "check" ∷ []) ≡ Some (codes "check")
+unfolding line_command clap_on_literals
+check_is_named program = refl
+
 -- ---- `asm`
 
 asm_has_no_faults : (program : List ℕ) → line_faults (program ∷ codes "asm" ∷ []) ≡ []
@@ -119,13 +130,15 @@ judge_asks program others limit (inr (number, spells, inr joined)) =
 
 pub plain_lines_ask : PlainLinesAsk
 plain_lines_ask words (asked.Judge limit) (program, others, is, names) = rw is (judge_asks program others limit names)
+plain_lines_ask words asked.Check (program, is) = rw is (check_has_no_faults program, check_is_named program)
 plain_lines_ask words asked.Asm (program, is) = rw is (asm_has_no_faults program, asm_is_named program)
 
 pub signed_limits_are_faulty : SignedLimitsAreFaulty
 signed_limits_are_faulty program sign number other (asked.Judge limit) asks =
     let spells = rw (joined_is_found program (sign ∷ number)) at asks.1.1 in
     absurd (cc (first_digit sign number spells.digits, other))
-signed_limits_are_faulty program sign number other asked.Asm asks = absurd (cc (sym (joined_is_named program (sign ∷ number)) ∙ asks.1))
+signed_limits_are_faulty program sign number other asked.Check asks = judge_is_not_check (sym (joined_is_named program (sign ∷ number)) ∙ asks.1)
+signed_limits_are_faulty program sign number other asked.Asm asks = judge_is_not_asm (sym (joined_is_named program (sign ∷ number)) ∙ asks.1)
 
 -- a word names one limit at most
 one_limit : (word : _) (one : ℕ) (other : ℕ) → IsLimit word one → IsLimit word other → one ≡ other
@@ -134,6 +147,11 @@ one_limit (Some word) one other is also = sym is.value ∙ also.value
 
 pub lines_ask_once : LinesAskOnce
 lines_ask_once words (asked.Judge one) (asked.Judge other) is also = ap asked.Judge (one_limit _ one other is.1.1 also.1.1)
-lines_ask_once words (asked.Judge one) asked.Asm is also = absurd (cc (sym is.1.0 ∙ also.1))
-lines_ask_once words asked.Asm (asked.Judge other) is also = absurd (cc (sym is.1 ∙ also.1.0))
+lines_ask_once words (asked.Judge one) asked.Check is also = absurd (judge_is_not_check (sym is.1.0 ∙ also.1))
+lines_ask_once words (asked.Judge one) asked.Asm is also = absurd (judge_is_not_asm (sym is.1.0 ∙ also.1))
+lines_ask_once words asked.Check (asked.Judge other) is also = absurd (judge_is_not_check (sym also.1.0 ∙ is.1))
+lines_ask_once words asked.Check asked.Check is also = refl
+lines_ask_once words asked.Check asked.Asm is also = absurd (check_is_not_asm (sym is.1 ∙ also.1))
+lines_ask_once words asked.Asm (asked.Judge other) is also = absurd (judge_is_not_asm (sym also.1.0 ∙ is.1))
+lines_ask_once words asked.Asm asked.Check is also = absurd (check_is_not_asm (sym also.1 ∙ is.1))
 lines_ask_once words asked.Asm asked.Asm is also = refl

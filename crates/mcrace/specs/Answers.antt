@@ -5,6 +5,7 @@ use Rattle.mcrace.specs.declared.arguments.Asked.TheVariants as asked
 use Rattle.mcrace.specs.declared.status.Status.{Status}
 use Rattle.mcrace.specs.declared.status.Status.TheVariants as status
 use Rattle.mcrace.specs.AsmAnswers.{Assembles}
+use Rattle.mcrace.specs.CheckAnswers.{Checks}
 use Rattle.mcrace.specs.JudgeAnswers.{Judges}
 
 -- the most bytes of an input
@@ -14,6 +15,7 @@ INPUT_LIMIT = 1048576
 -- doing what is asked for with the text, these bytes may be written, and this is the exit status with them
 abbrev pub Does : Asked → List ℕ → List ℕ → Status → Type 0
 Does (asked.Judge limit) text output ended = Judges limit text output ended
+Does asked.Check text output ended = Checks text output ended
 Does asked.Asm text output ended = Assembles text output ended
 
 abbrev pub too_long_text : List ℕ

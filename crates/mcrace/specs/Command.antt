@@ -19,6 +19,7 @@ IsLimit (Some word) limit = SpellsNumber GREATEST_LIMIT word limit
 -- what a subcommand and the word of its limit ask for
 abbrev pub IsAskedBy : Option (List ℕ) → Option (List ℕ) → Asked → Type 0
 IsAskedBy command word (asked.Judge limit) = (command ≡ Some (codes "judge")) × IsLimit word limit
+IsAskedBy command word asked.Check = command ≡ Some (codes "check")
 IsAskedBy command word asked.Asm = command ≡ Some (codes "asm")
 
 -- what the words ask for: clap finds no fault in them, and reads this

@@ -25,6 +25,10 @@ judge_app = with_rule (new_app (codes "judge")) limit_rule
 abbrev pub asm_app : App
 asm_app = new_app (codes "asm")
 
+-- the subcommand `check`
+abbrev pub check_app : App
+check_app = new_app (codes "check")
+
 -- the program, without its subcommands
 abbrev pub bare_app : App
 bare_app = record {
@@ -38,7 +42,7 @@ bare_app = record {
 
 -- what clap reads of the program's command
 abbrev pub program_app : App
-program_app = with_subcommand (with_subcommand bare_app judge_app.top) asm_app.top
+program_app = with_subcommand (with_subcommand (with_subcommand bare_app judge_app.top) check_app.top) asm_app.top
 
 -- the kinds of the first fault that clap finds in the words, of which it gives one; a call for help or for the version is one too
 unfoldable pub line_faults : List (List ℕ) → Kinds

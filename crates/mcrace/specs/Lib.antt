@@ -1,10 +1,12 @@
 pub mod Answers
 pub mod AsmAnswers
+pub mod CheckAnswers
 pub mod Command
 pub mod CommandLine
 pub mod Input
 pub mod JudgeAnswers
 pub mod LineLaws
+pub mod Loading
 pub mod Refusals
 pub mod Statuses
 pub mod Streams

@@ -16,6 +16,7 @@ NamesLimit words limit = ((words ≡ []) × (limit ≡ DEFAULT_LIMIT))
 abbrev pub IsPlainLine : List (List ℕ) → Asked → Type 0
 IsPlainLine words (asked.Judge limit) =
     (program : List ℕ) × (others : List (List ℕ)) × (words ≡ program ∷ codes "judge" ∷ others) × NamesLimit others limit
+IsPlainLine words asked.Check = (program : List ℕ) × (words ≡ program ∷ codes "check" ∷ [])
 IsPlainLine words asked.Asm = (program : List ℕ) × (words ≡ program ∷ codes "asm" ∷ [])
 
 abbrev pub PlainLinesAsk : Type 0
@@ -29,7 +30,8 @@ SignedLimitsAreFaulty = (program : List ℕ) (sign : ℕ) (number : List ℕ) �
 abbrev pub IsHelpLine : List (List ℕ) → Type 0
 IsHelpLine words = (program : List ℕ)
     × ((words ≡ program ∷ codes "--help" ∷ []) ⊎ ((words ≡ program ∷ codes "judge" ∷ codes "--help" ∷ [])
-    ⊎ ((words ≡ program ∷ codes "asm" ∷ codes "--help" ∷ []) ⊎ (words ≡ program ∷ codes "--version" ∷ []))))
+    ⊎ ((words ≡ program ∷ codes "asm" ∷ codes "--help" ∷ []) ⊎ ((words ≡ program ∷ codes "check" ∷ codes "--help" ∷ [])
+    ⊎ (words ≡ program ∷ codes "--version" ∷ [])))))
 
 abbrev pub HelpIsShown : Type 0
 HelpIsShown = (words : List (List ℕ)) → IsHelpLine words → IsFaulty words × (MayTell words → ⊥)

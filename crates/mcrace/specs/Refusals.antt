@@ -9,7 +9,9 @@ use Rattle.mcrace.specs.declared.refusal.Refusal.{Refusal}
 abbrev pub place_text : Place → List ℕ
 place_text place.Whole = []
 place_text (place.Line line) = codes " line " ++ decimal line
+place_text (place.Byte offset) = codes " byte " ++ decimal offset
 place_text (place.Section actor) = codes " " ++ actor_word actor
+place_text (place.Instruction actor number) = codes " " ++ (actor_word actor ++ (codes " " ++ decimal number))
 
 -- what is refused, the number and the name of the fault, and where it is
 abbrev pub refusal_text : List ℕ → ℕ → List ℕ → Place → List ℕ

@@ -2,11 +2,13 @@
 ghost use Rattle.std.specs.Prelude.{◌≡◌, IfOk};
 ghost use Rattle.mcrace.specs.Answers as answers;
 ghost use Rattle.mcrace.specs.AsmAnswers.{Assembles};
+ghost use Rattle.mcrace.specs.CheckAnswers.{Checks};
 ghost use Rattle.mcrace.specs.JudgeAnswers.{Judges};
 
 use crate::arguments::Asked;
+use crate::loading::load_script;
 use crate::status::Status;
-use crate::{asm, judge};
+use crate::{asm, check, judge};
 use std::alloc::{AllocError, Global};
 
 /// The most bytes of an input.
@@ -37,6 +39,7 @@ pub fn answer_to(alloc: Global, asked: Asked, text: &[u8]) -> Result<Answer, All
     }
     match asked {
         Asked::Judge(limit) => judge_answer(alloc, text, limit),
+        Asked::Check => check_answer(alloc, text),
         Asked::Asm => asm_answer(alloc, text),
     }
 }
@@ -50,11 +53,20 @@ fn judge_answer(alloc: Global, text: &[u8], limit: u64) -> Result<Answer, AllocE
     Ok(Answer { output, status })
 }
 
+fn check_answer(alloc: Global, input: &[u8]) -> Result<Answer, AllocError>
+    ensures { IfOk result (λ answer. Checks input.now answer.output.items answer.status) }
+{
+    let verification = check::check_input(alloc, input)?;
+    let output = check::text_of(alloc, &verification)?;
+    let status = check::status_of(&verification);
+    Ok(Answer { output, status })
+}
+
 fn asm_answer(alloc: Global, text: &[u8]) -> Result<Answer, AllocError>
     ensures { IfOk result (λ answer. Assembles text.now answer.output.items answer.status) }
 {
-    let assembly = asm::assemble_text(alloc, text)?;
-    let output = asm::text_of(alloc, &assembly)?;
-    let status = asm::status_of(&assembly);
+    let loaded = load_script(alloc, text)?;
+    let output = asm::text_of(alloc, &loaded)?;
+    let status = asm::status_of(&loaded);
     Ok(Answer { output, status })
 }

@@ -4,7 +4,7 @@ ghost use Rattle.clap.specs.Words.{app_of, first_value, found_of, kind_of};
 ghost use Rattle.mcrace.specs.CommandLine.{program_app};
 ghost use Rattle.mcrace.specs.Command.{AsksFor, IsFaultOf, IsLimit};
 
-use crate::{asm, judge, limit};
+use crate::{asm, check, judge, limit};
 use clap::error::ErrorKind;
 use clap::{ArgMatches, Command, Error};
 use std::alloc::{AllocError, Global};
@@ -14,11 +14,11 @@ const ABOUT: &str = "Tests servers that speak memcached's text protocol";
 const VERSION: &str = "0.1.0";
 
 const STATUSES: &str = "Exit status:
-  0  explained, confirmed or assembled; or help or the version
+  0  explained, confirmed, accepted or assembled; or help or the version
   1  unexplained, or not confirmed
   2  the command line is wrong
-  3  refused: the input is no history, no script, a script that is too large, or
-     has more than 1,048,576 bytes
+  3  refused: the input is no history, no script or no image, a script that is
+     too large, or code that may not run; or has more than 1,048,576 bytes
   4  undecided; or out of memory; or input or output failed";
 
 /// What a line asks for.
@@ -26,6 +26,8 @@ const STATUSES: &str = "Exit status:
 pub enum Asked {
     /// A judgement. A search takes at most this many turns.
     Judge(u64),
+    /// Whether the code of a script or of an image is sound.
+    Check,
     /// The image of a script.
     Asm,
 }
@@ -40,6 +42,7 @@ pub fn read_line(alloc: Global, line: &[String]) -> Result<Asked, Error>
     match matches.subcommand() {
         Some((name, options)) => match name {
             "judge" => read_judge_options(alloc, options),
+            "check" => Ok(Asked::Check),
             "asm" => Ok(Asked::Asm),
             _ => Err(no_subcommand(alloc)?),
         },
@@ -78,5 +81,6 @@ fn program<'a>(alloc: Global) -> Result<Command<'a>, AllocError>
         .subcommand_required(true)
         .arg_required_else_help(true)
         .subcommand(judge::subcommand(alloc)?)?
+        .subcommand(check::subcommand(alloc))?
         .subcommand(asm::subcommand(alloc))
 }

@@ -4,61 +4,21 @@ ghost use Rattle.mc_code.specs.Image.{image_of};
 ghost use Rattle.clap.specs.Words.{app_of};
 ghost use Rattle.mcrace.specs.AsmAnswers as answers;
 ghost use Rattle.mcrace.specs.CommandLine.{asm_app};
-ghost use Rattle.mcrace.specs.Refusals as refusals;
 
-use crate::refusal::{Place, Refusal, refusal_text};
+use crate::loading::{LoadFault, refusal_of};
+use crate::refusal::refusal_text;
 use crate::status::Status;
 use clap::Command;
-use mc_code::{AsmFault, Code, assemble, encode};
-use mc_script::{Script, ScriptFault, ScriptKind, parse};
+use mc_code::{Code, encode};
 use std::alloc::{AllocError, Global};
 
-/// What is answered to a text.
-#[derive(Debug, Drop)]
-pub enum Assembly {
-    /// The text spells a script, and this is its code.
-    Assembled(Code),
-    /// The text is no script.
-    NoScript(ScriptFault),
-    /// The script is too large, by this limit.
-    TooLarge(AsmFault),
-}
-
-/// Reads the text, and assembles the script that it spells.
-pub fn assemble_text(alloc: Global, text: &[u8]) -> Result<Assembly, AllocError>
-    ensures { IfOk result (answers.IsRight text.now) }
+/// What is written for the code of a text, its image, or for the want of it.
+pub fn text_of(alloc: Global, loaded: &Result<Code, LoadFault>) -> Result<Vec<u8>, AllocError>
+    ensures { IfOk result (λ text. text.items ≡ answers.text_of loaded.now) }
 {
-    match parse(alloc, text) {
-        Ok(script) => assemble_script(alloc, &script),
-        // Want of memory is no fault of the text.
-        Err(fault) => match fault.kind {
-            ScriptKind::OutOfMemory => Err(AllocError),
-            _ => Ok(Assembly::NoScript(fault)),
-        },
-    }
-}
-
-fn assemble_script(alloc: Global, script: &Script) -> Result<Assembly, AllocError>
-    ensures { IfOk result (answers.IsRightFor script.now) }
-{
-    match assemble(alloc, script) {
-        Ok(code) => Ok(Assembly::Assembled(code)),
-        // Want of memory is no fault of the script.
-        Err(fault) => match fault {
-            AsmFault::OutOfMemory => Err(AllocError),
-            _ => Ok(Assembly::TooLarge(fault)),
-        },
-    }
-}
-
-/// What is written for an answer: an image, or why there is none.
-pub fn text_of(alloc: Global, answer: &Assembly) -> Result<Vec<u8>, AllocError>
-    ensures { IfOk result (λ text. text.items ≡ answers.text_of answer.now) }
-{
-    match answer {
-        Assembly::Assembled(code) => image(alloc, code),
-        Assembly::NoScript(fault) => refusal_text(alloc, refusal_of_script(*fault)),
-        Assembly::TooLarge(fault) => refusal_text(alloc, refusal_of_size(*fault)),
+    match loaded {
+        Ok(code) => image(alloc, code),
+        Err(fault) => refusal_text(alloc, refusal_of(*fault)),
     }
 }
 
@@ -70,39 +30,13 @@ fn image(alloc: Global, code: &Code) -> Result<Vec<u8>, AllocError>
     Ok(image)
 }
 
-fn refusal_of_script(fault: ScriptFault) -> Refusal
-    ensures { refusals.text_of result ≡ answers.script_refusal fault }
+/// The exit status with it.
+pub fn status_of(loaded: &Result<Code, LoadFault>) -> Status
+    ensures { result ≡ answers.status_of loaded.now }
 {
-    Refusal {
-        what: "script",
-        number: fault.kind.number(),
-        name: fault.kind.name(),
-        place: Place::Line(fault.line),
-    }
-}
-
-fn refusal_of_size(fault: AsmFault) -> Refusal
-    ensures { refusals.text_of result ≡ answers.size_refusal fault }
-{
-    let place = match fault {
-        AsmFault::TooManyInstructions(actor) => Place::Section(actor),
-        _ => Place::Whole,
-    };
-    Refusal {
-        what: "asm",
-        number: fault.number(),
-        name: fault.name(),
-        place,
-    }
-}
-
-/// The exit status of an answer.
-pub fn status_of(answer: &Assembly) -> Status
-    ensures { result ≡ answers.status_of answer.now }
-{
-    match answer {
-        Assembly::Assembled(_) => Status::Success,
-        Assembly::NoScript(_) | Assembly::TooLarge(_) => Status::Refused,
+    match loaded {
+        Ok(_) => Status::Success,
+        Err(_) => Status::Refused,
     }
 }
 
@@ -174,7 +108,8 @@ The image begins with `MCR1`, or with `MCR2` where there are more than 32 flags
 or a section has more than 64 instructions. Its templates are first a `delete`
 of each key, with which P begins, and which P's budget pays for, and then the
 requests.
-Whether the code keeps its budgets and its flags isn't looked at.
+Whether the code keeps its budgets and its flags isn't looked at: `mcrace check`
+does that.
 
 A text that is no script is refused, as `refused script 5 UnknownKey line 9`:
   1 Header         the version or a declaration is missing, or out of its place

@@ -23,6 +23,7 @@ const NOT_UTF8: &[u8] = b"error: the command line is not UTF-8\n";
 ///
 /// At most 1,048,577 bytes of the input are read, and they are read whole before a byte is written. Of a line with a fault
 /// nothing is read. The fault goes to the faults, and help, the version and want of memory go to the output.
+#[tactic(auto, using(crate::proofs::PlainLines::lines_ask_once))]
 pub fn command<I: Source, O: Sink, F: Sink>(
     alloc: Global,
     line: &[String],

@@ -1,8 +1,8 @@
 //! What the definition of a line says of the lines that are mostly written, and of any line.
 ghost use Rattle.mcrace.specs.LineLaws.{HelpIsShown, LinesAskOnce, PlainLinesAsk, SignedLimitsAreFaulty};
 
-/// `mcrace judge`, `mcrace judge --limit N`, `mcrace judge --limit=N` and `mcrace asm` have no fault, and ask for what they
-/// say.
+/// `mcrace judge`, `mcrace judge --limit N`, `mcrace judge --limit=N`, `mcrace check` and `mcrace asm` have no fault, and ask
+/// for what they say.
 pub fn plain_lines_ask()
     ensures { PlainLinesAsk }
 {}
@@ -13,8 +13,8 @@ pub fn signed_limits_are_faulty()
     ensures { SignedLimitsAreFaulty }
 {}
 
-/// `mcrace --help`, `mcrace judge --help`, `mcrace asm --help` and `mcrace --version` ask for nothing and are no faulty lines:
-/// they show help or the version.
+/// `mcrace --help`, `mcrace judge --help`, `mcrace check --help`, `mcrace asm --help` and `mcrace --version` ask for nothing and
+/// are no faulty lines: they show help or the version.
 pub fn help_is_shown()
     ensures { HelpIsShown }
 {}

@@ -4,11 +4,13 @@
 mod answer;
 mod arguments;
 mod asm;
+mod check;
 mod command;
 mod input;
 mod judge;
 mod limit;
 mod line_laws;
+mod loading;
 mod refusal;
 mod status;
 mod streams;
@@ -42,5 +44,7 @@ fn line_of<R: Env + AllocGlobal>(rt: &R) -> io::Result<Vec<String>> {
 
 #[cfg(test)]
 mod asm_tests;
+#[cfg(test)]
+mod check_tests;
 #[cfg(test)]
 mod tests;

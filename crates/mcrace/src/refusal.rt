@@ -12,14 +12,18 @@ pub enum Place {
     Whole,
     /// In this line.
     Line(u32),
+    /// At this byte, counted from 0.
+    Byte(usize),
     /// In this section.
     Section(Actor),
+    /// At this instruction of the section, counted from 0.
+    Instruction(Actor, u8),
 }
 
 /// Why an input is refused.
 #[derive(Clone, Copy, Debug, Drop, PartialEq, Eq)]
 pub struct Refusal {
-    /// What was to be read or made: `history`, `script` or `asm`.
+    /// What was to be read or made, or looked at: `history`, `script`, `image`, `asm` or `verify`.
     pub what: &'static str,
     pub number: u32,
     pub name: &'static str,
@@ -47,9 +51,8 @@ fn place_text(alloc: Global, place: Place) -> Result<String, AllocError>
     match place {
         Place::Whole => Ok(String::new(alloc)),
         Place::Line(line) => format!(in alloc; " line {line}"),
-        Place::Section(actor) => {
-            let section = actor.word();
-            format!(in alloc; " {section}")
-        }
+        Place::Byte(offset) => format!(in alloc; " byte {offset}"),
+        Place::Section(actor) => format!(in alloc; " {}", actor.word()),
+        Place::Instruction(actor, number) => format!(in alloc; " {} {number}", actor.word()),
     }
 }

@@ -42,6 +42,14 @@ returns-in-asm-clause-asked c =
     let none = sym (line_faults-is _ words program) ∙ c.in_ok-matches.ensures.kinds (program_is_simple _ program) in
     (none, command_is _ words _ program matches _ c.in-Some.ensures.name ∙ search rules)
 
+pub returns-in-check-clause-asked : goal.returns-in-check-clause-asked
+returns-in-check-clause-asked c =
+    let words = map string_bytes c.args.line.now in
+    let program = c.in_ok-program.ensures in
+    let matches = c.in_ok-matches.ensures.matches in
+    let none = sym (line_faults-is _ words program) ∙ c.in_ok-matches.ensures.kinds (program_is_simple _ program) in
+    (none, command_is _ words _ program matches _ c.in-Some.ensures.name ∙ search rules)
+
 pub returns-in-Some-clause-fault : goal.returns-in-Some-clause-fault
 returns-in-Some-clause-fault c =
     let words = map string_bytes c.args.line.now in
@@ -49,7 +57,8 @@ returns-in-Some-clause-fault c =
     let clear = sym (line_faults-is _ words program) ∙ c.in_ok-matches.ensures.kinds (program_is_simple _ program) in
     let command = command_is _ words _ program c.in_ok-matches.ensures.matches _ c.in-Some.ensures.name in
     inr (no_subcommand words _ c.in_ok-no_subcommand-in_default.ensures clear
-    (λ is. c.in_default.not-judge (other (sym command ∙ is))) (λ is. c.in_default.not-asm (other (sym command ∙ is))))
+    (λ is. c.in_default.not-judge (other (sym command ∙ is))) (λ is. c.in_default.not-check (other (sym command ∙ is)))
+    (λ is. c.in_default.not-asm (other (sym command ∙ is))))
   where
     other : {X : Type 0} {x y : X} → Some x ≡ Some y → x ≡ y
     other is = cc

@@ -1,4 +1,4 @@
-use Rattle.mcrace.proofs.asm.assemble_text.Goals as goal
+use Rattle.mcrace.proofs.loading.load_script.Goals as goal
 
 pub returns-in_default : goal.returns-in_default
 returns-in_default c = (
