@@ -34,7 +34,7 @@ swap_templates = swap_code.templates
 abbrev swap_section : List Instr
 swap_section = instructions_in swap_code actor.A
 
--- where A stands, and at most so many bytes were sent on the way
+-- what A has sent where it stands at the place: nothing at its start, and then at most the 8 bytes of its read
 abbrev Within : ℕ → ℕ → Type 0
 Within zero bytes = bytes ≤ 0
 Within (suc zero) bytes = bytes ≤ 8
