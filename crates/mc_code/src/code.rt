@@ -1,5 +1,5 @@
 //! Code, and the requests that it makes.
-ghost use Rattle.std.specs.Prelude.{◌≡◌, ◌<◌, length, IfOk};
+ghost use Rattle.std.specs.Prelude.{◌≡◌, ◌<◌, Some, length, slice_get, IfOk};
 ghost use Rattle.mc_code.specs.Code as spec;
 ghost use Rattle.mc_code.specs.Image as image;
 ghost use Rattle.mc_code.specs.Requests as requests;
@@ -66,7 +66,8 @@ impl Code {
 
     /// How many variables there are.
     pub fn vars(&self) -> usize
-        ensures { result ≡ self.now.vars }
+        ensures vars { result ≡ self.now.vars }
+        ensures kept { spec.IsCode self.now }
     {
         self.vars as usize
     }
@@ -87,11 +88,28 @@ impl Code {
         self.templates.as_slice()
     }
 
+    /// The template with this index.
+    pub fn template(&self, index: u8) -> &Template
+        requires { index < length self.now.templates }
+        ensures { slice_get self.now.templates index ≡ Some result.now }
+    {
+        &self.templates[usize::from(index)]
+    }
+
     /// The instructions of a section, which begins with the first.
     pub fn section(&self, actor: Actor) -> &[Instr]
-        ensures { result.now ≡ (spec.section_of self.now actor).instructions }
+        ensures instructions { result.now ≡ (spec.section_of self.now actor).instructions }
+        ensures kept { spec.IsCode self.now }
     {
         self.sections.get(actor).instructions.as_slice()
+    }
+
+    /// The instruction of a section at this place.
+    pub fn instruction(&self, actor: Actor, place: usize) -> Instr
+        requires { place < length (spec.instructions_in self.now actor) }
+        ensures { slice_get (spec.instructions_in self.now actor) place ≡ Some result }
+    {
+        self.section(actor)[place]
     }
 
     /// The request of a call: that of its template, with the call's number. Its key and its body are copies, for which
@@ -100,7 +118,7 @@ impl Code {
         requires { call.template < length self.now.templates }
         ensures { IfOk result (requests.IsRequest self.now call) }
     {
-        let template = &self.templates[usize::from(call.template)];
+        let template = self.template(call.template);
         Ok(Request {
             verb: template.verb,
             key: self.keys[usize::from(template.key)].copy(alloc)?,

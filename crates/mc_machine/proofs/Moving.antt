@@ -1,0 +1,172 @@
+-- How a machine goes on: from one instruction to the next without a reply, and with one.
+use Rattle.std.proofs.Common.{◌≡◌, ◌≢◌, inl, inr, ℕ, ◌+◌, ◌<◌, ◌≤◌, ◌==◌, Bool, true, false, Option, Some, None, List, [], ◌∷◌, ◌++◌, length, slice_get, slice_set, slice_index, slice_index_or, refl, ap, sym, subst, ◌∙◌, arith, if◌then◌else◌}
+use Rattle.std.proofs.Math.ListN.{length-set}
+use Rattle.std.proofs.lemmas.Bool.{eqb-true}
+use Rattle.std.proofs.lemmas.Bool.Decides.{eqb_tells}
+use Rattle.std.proofs.lemmas.List.{append-nil, get_or-set_same, get_or-set_other}
+use Rattle.std.proofs.lemmas.Option.{slice_get-get_or}
+use Rattle.mc_protocol.specs.Legal.{class_of, is_fit_for}
+use Rattle.mc_protocol.specs.declared.reply.Reply.{Reply}
+use Rattle.mc_script.specs.declared.step.Template.{Template}
+use Rattle.mc_code.specs.declared.instr.Call.{Call}
+use Rattle.mc_code.specs.declared.instr.Instr.{Instr}
+use Rattle.mc_code.specs.declared.instr.Instr.TheVariants as instr
+use Rattle.mc_code.specs.Calls.{IsCalling, exchange_of, no_template, template_of}
+use Rattle.mc_code.specs.Code.{Code, IsCode, instructions_in}
+use Rattle.mc_code.specs.Paths.{Slides, entry_of}
+use Rattle.mc_code.specs.Runs.{Exchange, met_at}
+use Rattle.mc_code.specs.Standing.{StandsAt, is_right, met_in}
+use Rattle.mc_code.specs.States.{Tagged, nothing, State, initial_state, after_reply, after_bind, Outcome, is_number, nothing_to_bind, shown_of}
+use Rattle.mc_code.proofs.RunLemmas.{run_sends, run_slides}
+use Rattle.mc_code.proofs.StepFacts.{fit_is_legal}
+use Rattle.mc_code.proofs.Stopping.{StopsAt, one_stop}
+use Rattle.mc_verify.specs.Faults.{IsSound}
+use Rattle.mc_verify.proofs.Right.{sound_right, sound_structured}
+use Rattle.mc_verify.proofs.RunKinds.{begins_length, run_keeps_length}
+use Rattle.mc_verify.proofs.Structured.{structured_slides, structured_stands, structured_template, structured_variable}
+use Rattle.mc_machine.specs.declared.machine.Machine.{Machine}
+use Rattle.mc_machine.specs.Machine.{AreNumbersOf, Follows, Goes, IsAt, IsOnWay, waits_at}
+
+-- ---- a machine on its way through sound code
+
+way_inside : (c : Code) (m : Machine) (variables : List Tagged) (exchanges : List Exchange) (st : State) → IsSound c
+    → IsOnWay c m variables exchanges st → m.place < length (instructions_in c m.actor)
+way_inside c m variables exchanges st sound way =
+    structured_stands c m.actor (sound_structured c m.actor sound) variables exchanges m.place st way.stands
+
+pub goes_inside : (c : Code) (m : Machine) → IsSound c → Goes c m → m.place < length (instructions_in c m.actor)
+goes_inside c m sound (variables, exchanges, st, way) = way_inside c m variables exchanges st sound way
+
+pub way_length : (c : Code) (m : Machine) (variables : List Tagged) (exchanges : List Exchange) (st : State)
+    → IsOnWay c m variables exchanges st → length st.variables ≡ c.vars
+way_length c m variables exchanges st way =
+    run_keeps_length c.templates (instructions_in c m.actor) 0 m.place (initial_state variables) st exchanges way.stands
+    ∙ begins_length c way.begins.0 m.actor variables way.begins.1
+
+pub way_right : (c : Code) (m : Machine) (variables : List Tagged) (exchanges : List Exchange) (st : State) (outcome : Outcome) → IsSound c
+    → IsOnWay c m variables exchanges st → met_in c m.actor m.place st ≡ Some outcome → is_right outcome ≡ true
+way_right c m variables exchanges st outcome sound way met =
+    sound_right c m.actor variables exchanges sound way.begins exchanges [] st outcome (sym (append-nil exchanges)) (m.place, way.stands, met)
+
+-- a bind in sound code finds a number that was shown
+bind_finds : (c : Code) (m : Machine) (variables : List Tagged) (exchanges : List Exchange) (st : State) (v : ℕ) → IsSound c
+    → IsOnWay c m variables exchanges st → slice_get (instructions_in c m.actor) m.place ≡ Some (instr.Bind v)
+    → is_number st.last.0 ≡ true
+bind_finds c m variables exchanges st v sound way at = by_number (is_number st.last.0) refl
+  where
+    by_number : (b : Bool) → is_number st.last.0 ≡ b → is_number st.last.0 ≡ true
+    by_number true e = e
+    by_number false e =
+        let met : met_in c m.actor m.place st ≡ Some (nothing_to_bind v) =
+        ap (λ o. met_at c.templates o st) at ∙ ap (λ (b : Bool). if b then None else Some (nothing_to_bind v)) e in
+        let wrong : false ≡ true = way_right c m variables exchanges st (nothing_to_bind v) sound way met in
+        absurd (cc)
+
+-- ---- without a reply
+
+pub follows_goto : (c : Code) (m : Machine) (target : ℕ) → slice_get (instructions_in c m.actor) m.place ≡ Some (instr.Goto target)
+    → Follows c m (record m { place = target })
+follows_goto c m target at variables exchanges st way = (st, record {
+      begins = way.begins;
+      stands = run_slides way.stands (instr.Goto target) at refl;
+      numbers = way.numbers;
+      shown = way.shown;
+    })
+
+-- numbers and variables after the same change of both
+set_numbers : (numbers : List ℕ) (variables : List Tagged) (v : ℕ) (x : Tagged) (n : ℕ) → v < length numbers → v < length variables
+    → n ≡ x.1 → AreNumbersOf numbers variables → AreNumbersOf (slice_set numbers v n) (slice_set variables v x)
+set_numbers numbers variables v x n long inside same are w within = by_same (v == w) refl
+  where
+    number : Tagged → ℕ
+    number x = x.1
+
+    by_same : (b : Bool) → (v == w) ≡ b
+        → slice_index (slice_set numbers v n) w ≡ (slice_index_or (slice_set variables v x) w nothing).1
+    by_same true e =
+        subst (λ w. slice_index (slice_set numbers v n) w ≡ (slice_index_or (slice_set variables v x) w nothing).1) (eqb-true v w e)
+        (get_or-set_same numbers v n 0 long ∙ same ∙ sym (ap number (get_or-set_same variables v x nothing inside)))
+    by_same false e =
+        get_or-set_other numbers v w n 0 apart ∙ are w (subst (λ size. w < size) (length-set variables v x) within)
+        ∙ sym (ap number (get_or-set_other variables v w x nothing apart))
+      where
+        apart : w ≢ v
+        apart is = elim (eqb_tells v w) [
+          | inl there ↦ absurd (let clash : true ≡ false = sym there.0 ∙ e in cc)
+          | inr other ↦ other.1 (sym is)
+        ]
+
+-- the state after a bind that was shown a number
+bound : ℕ → State → State
+bound v st = record { variables = slice_set st.variables v st.last; last = st.last }
+
+pub follows_bind : (c : Code) (m : Machine) (v : ℕ) → IsSound c
+    → slice_get (instructions_in c m.actor) m.place ≡ Some (instr.Bind v) → c.vars ≤ length m.numbers
+    → Follows c m (record m { place = m.place + 1; numbers = slice_set m.numbers v m.shown })
+follows_bind c m v sound at long variables exchanges st way =
+    let declared : v < c.vars = structured_variable c m.actor (sound_structured c m.actor sound) m.place v at in
+    let inside : v < length st.variables = subst (λ n. v < n) (sym (way_length c m variables exchanges st way)) declared in
+    let is : after_bind v st ≡ bound v st =
+    ap (λ (b : Bool). if b then bound v st else st) (bind_finds c m variables exchanges st v sound way at) in (bound v st, record {
+      begins = way.begins;
+      stands =
+          subst (λ after. StandsAt c m.actor variables exchanges (m.place + 1) after) is (run_slides way.stands (instr.Bind v) at refl);
+      numbers = set_numbers m.numbers st.variables v st.last m.shown (omega (arith, declared, long)) inside way.shown way.numbers;
+      shown = way.shown;
+    })
+
+pub follows_self : (c : Code) (m : Machine) → Follows c m m
+follows_self c m variables exchanges st way = (st, way)
+
+pub follows_on : (c : Code) (m n o : Machine) → Follows c m n → Follows c n o → Follows c m o
+follows_on c m n o first more variables exchanges st way =
+    let mid = first variables exchanges st way in more variables exchanges mid.0 mid.1
+
+pub goes_on : (c : Code) (m n : Machine) → Goes c m → Follows c m n → Goes c n
+goes_on c m n (variables, exchanges, st, way) follows =
+    let after = follows variables exchanges st way in (variables, exchanges, after.0, after.1)
+
+-- a bind or a goto leads ahead, inside the section
+pub goes_ahead : (c : Code) (m : Machine) (i : Instr) (q : ℕ) → IsSound c
+    → slice_get (instructions_in c m.actor) m.place ≡ Some i → Slides i m.place q
+    → (m.place < q) × (q < length (instructions_in c m.actor))
+goes_ahead c m i q sound at leads = structured_slides c m.actor (sound_structured c m.actor sound) i m.place q at leads
+
+-- ---- with a reply
+
+pub stops_waiting : (section : List Instr) (p : ℕ) → waits_at (slice_get section p) ≡ true → StopsAt section p
+stops_waiting section p waits i q at leads = by_instr i (sym (ap waits_at at) ∙ waits) leads
+  where
+    by_instr : (i : Instr) → waits_at (Some i) ≡ true → Slides i p q → ⊥
+    by_instr (instr.Send n next) w leads = leads
+    by_instr (instr.Bind v) w leads = absurd (cc)
+    by_instr (instr.Goto target) w leads = absurd (cc)
+    by_instr instr.Halt w leads = leads
+
+-- a machine with a call outstanding stands at the call's send
+pub sends_there : (c : Code) (m : Machine) (variables : List Tagged) (exchanges : List Exchange) (st : State) (made : Call)
+    → IsAt c m variables exchanges st → m.outstanding ≡ Some made
+    → (next : List ℕ) × (slice_get (instructions_in c m.actor) m.place ≡ Some (instr.Send made.template next))
+sends_there c m variables exchanges st made at outstanding =
+    let section = instructions_in c m.actor in
+    let calling = at.outstanding made outstanding in
+    let same = one_stop c.templates section calling.stands (stops_waiting section calling.p (ap waits_at calling.sends))
+    m.place st at.way.stands (stops_waiting section m.place at.waits) in
+    (calling.next, sym (ap (slice_get section) same.0) ∙ calling.sends)
+
+pub takes : (c : Code) (m : Machine) (variables : List Tagged) (exchanges : List Exchange) (st : State) (made : Call) (reply : Reply)
+    (next : List ℕ) (shown : ℕ) → IsSound c → IsAt c m variables exchanges st
+    → slice_get (instructions_in c m.actor) m.place ≡ Some (instr.Send made.template next)
+    → is_fit_for (template_of c made).verb reply ≡ true → ((key : ℕ) → shown ≡ (shown_of key reply).1)
+    → IsOnWay c (record { actor = m.actor; place = entry_of next (class_of reply); numbers = m.numbers; shown = shown; outstanding = None })
+    variables (exchanges ++ exchange_of c (made, reply) ∷ []) (after_reply (template_of c made) reply st)
+takes c m variables exchanges st made reply next shown sound at there fit is_shown =
+    let t = template_of c made in
+    let inside = structured_template c m.actor (sound_structured c m.actor sound) m.place made.template next there in
+    let named = slice_get-get_or c.templates made.template no_template inside in
+    record {
+      begins = at.way.begins;
+      stands = run_sends at.way.stands (instr.Send made.template next) t reply there (named, fit_is_legal t.verb reply fit, refl) fit;
+      numbers = at.way.numbers;
+      shown = is_shown t.key;
+    }

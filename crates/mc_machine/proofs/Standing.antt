@@ -1,0 +1,152 @@
+-- Where a machine starts, the call that it makes, and its end.
+use Rattle.std.proofs.Common.{◌≡◌, ◌↔◌, ℕ, ◌<◌, ◌≤◌, Bool, true, false, Option, Some, None, List, [], length, replicate, slice_get, slice_index, slice_index_or, refl, ap, sym, subst, ◌∙◌, arith, if◌then◌else◌}
+use Rattle.std.proofs.lemmas.List.{get_or-replicate, length-replicate}
+use Rattle.mc_protocol.specs.declared.actor.Actor.{Actor}
+use Rattle.mc_protocol.specs.declared.actor.Actor.TheVariants as actor
+use Rattle.mc_script.specs.declared.step.Argument.{Argument}
+use Rattle.mc_script.specs.declared.step.Argument.TheVariants as argument
+use Rattle.mc_script.specs.declared.step.Template.{Template}
+use Rattle.mc_code.specs.declared.instr.Call.{Call}
+use Rattle.mc_code.specs.declared.instr.Instr.{Instr}
+use Rattle.mc_code.specs.declared.instr.Instr.TheVariants as instr
+use Rattle.mc_code.specs.declared.kind.Kind.TheVariants as kind
+use Rattle.mc_code.specs.Calls.{IsCalling}
+use Rattle.mc_code.specs.Code.{Code, IsCode, instructions_in}
+use Rattle.mc_code.specs.Runs.{Exchange, met_at, met_by_send, rests}
+use Rattle.mc_code.specs.Standing.{ComesTo, BeginsWith, is_right, met_in, no_variables}
+use Rattle.mc_code.specs.States.{Tagged, nothing, State, initial_state, call, wrong_kind, nothing_to_bind, ended, call_with, with_argument, send_outcome, wanted_by, is_same, is_number}
+use Rattle.mc_code.proofs.LookUps.{some_is}
+use Rattle.mc_code.proofs.Stopping.{one_stop}
+use Rattle.mc_verify.specs.Faults.{IsSound}
+use Rattle.mc_script.specs.declared.limits.TheConstants.{VARIABLES_LIMIT}
+use Rattle.mc_verify.proofs.FaultsAt.{variable_declared}
+use Rattle.mc_verify.proofs.Right.{sound_structured}
+use Rattle.mc_verify.proofs.Structured.{structured_template}
+use Rattle.mc_machine.specs.declared.machine.Machine.{Machine}
+use Rattle.mc_machine.specs.Machine.{AreNumbersOf, IsAt, IsOnWay, StartsFrom, plain_number, waits_at}
+use Rattle.mc_machine.proofs.Moving.{stops_waiting, way_length, way_right}
+
+-- ---- the start
+
+starts_begun : (c : Code) (a : Actor) (numbers : List ℕ) (variables : List Tagged) → StartsFrom c a numbers variables → BeginsWith c a variables
+starts_begun c actor.P numbers variables starts = ([], starts)
+starts_begun c actor.A numbers variables starts = starts.0
+starts_begun c actor.B numbers variables starts = starts.0
+
+pub starts_on_way : (c : Code) (a : Actor) (given numbers : List ℕ) (variables : List Tagged) → StartsFrom c a given variables
+    → AreNumbersOf numbers variables
+    → IsOnWay c (record { actor = a; place = 0; numbers = numbers; shown = 0; outstanding = None }) variables [] (initial_state variables)
+starts_on_way c a given numbers variables starts are =
+    record { begins = starts_begun c a given variables starts; stands = rests; numbers = are; shown = refl }
+
+-- numbers that are all 0 are those of variables that have none
+pub no_numbers : (c : Code) (size : ℕ) (variables : List Tagged) → variables ≡ no_variables c → c.vars ≤ size
+    → AreNumbersOf (replicate size 0) variables
+no_numbers c size variables is long v inside =
+    let declared : v < c.vars = subst (λ n. v < n) (ap length is ∙ length-replicate c.vars nothing) inside in
+    get_or-replicate size v 0 0 (omega (arith, declared, long))
+    ∙ sym (ap (λ (variables : List Tagged). (slice_index_or variables v nothing).1) is
+    ∙ ap (λ (x : Tagged). x.1) (get_or-replicate c.vars v nothing nothing declared))
+
+-- ---- the call
+
+sent_plainly : (t : Template) (a : Argument) (variables : List Tagged) (numbers : List ℕ)
+    → is_right (with_argument t a variables) ≡ true → AreNumbersOf numbers variables
+    → ((v : ℕ) → a ≡ argument.Variable v → v < length variables) → with_argument t a variables ≡ call t (plain_number a numbers)
+sent_plainly t argument.Nothing variables numbers right are inside = refl
+sent_plainly t (argument.Number number) variables numbers right are inside = refl
+sent_plainly t (argument.Variable v) variables numbers right are inside =
+    by_given (slice_index_or variables v nothing) right ∙ ap (call t) (sym (are v (inside v refl)))
+  where
+    by_kind : (b : Bool) (n : ℕ) → is_right (if b then call t n else wrong_kind t) ≡ true → (if b then call t n else wrong_kind t) ≡ call t n
+    by_kind true n right = refl
+    by_kind false n right = absurd (cc)
+
+    by_given : (x : Tagged) → is_right (call_with t x) ≡ true → call_with t x ≡ call t x.1
+    by_given (kind.Unbound, n) right = absurd (cc)
+    by_given (kind.Cas key, n) right = by_kind (is_same (kind.Cas key) (wanted_by t.verb t.key)) n right
+    by_given (kind.Num, n) right = by_kind (is_same kind.Num (wanted_by t.verb t.key)) n right
+
+-- the call of the send at which a machine stands
+pub calls_there : (c : Code) (m : Machine) (variables : List Tagged) (exchanges : List Exchange) (st : State) (made : Call) (next : List ℕ) (t : Template)
+    → IsSound c → IsCode c → IsOnWay c m variables exchanges st
+    → slice_get (instructions_in c m.actor) m.place ≡ Some (instr.Send made.template next)
+    → slice_get c.templates made.template ≡ Some t → made.number ≡ plain_number t.argument m.numbers
+    → IsCalling c m.actor variables exchanges made
+calls_there c m variables exchanges st made next t sound kept way at named is =
+    let met : met_in c m.actor m.place st ≡ Some (send_outcome t st) =
+    ap (λ o. met_at c.templates o st) at ∙ ap (λ o. Some (met_by_send o st)) named in
+    let inside : (v : ℕ) → t.argument ≡ argument.Variable v → v < length st.variables =
+    λ v e. subst (λ n. v < n) (sym (way_length c m variables exchanges st way)) (variable_declared c made.template t kept named v e) in
+    let right = way_right c m variables exchanges st (send_outcome t st) sound way met in
+    let sent = sent_plainly t t.argument st.variables m.numbers right way.numbers inside in
+    record {
+      p = m.place;
+      st = st;
+      t = t;
+      next = next;
+      stands = way.stands;
+      sends = at;
+      meets = met ∙ ap Some (sent ∙ ap (call t) (sym is));
+    }
+
+-- ---- the end
+
+-- only a halt ends a section
+halt_ends : (c : Code) (o : Option Instr) (st : State) → met_at c.templates o st ≡ Some ended → o ≡ Some instr.Halt
+halt_ends c None st met = absurd (cc)
+halt_ends c (Some (instr.Send n next)) st met = by_template (slice_get c.templates n) met
+  where
+    by_template : (t : Option Template) → Some (met_by_send t st) ≡ Some ended → Some (instr.Send n next) ≡ Some instr.Halt
+    by_template None met = absurd (cc)
+    by_template (Some t) met = by_argument t.argument (some_is (send_outcome t st) ended met)
+      where
+        by_kind : (b : Bool) (n : ℕ) → (if b then call t n else wrong_kind t) ≡ ended → ⊥
+        by_kind true n e = absurd (cc)
+        by_kind false n e = absurd (cc)
+
+        by_given : (x : Tagged) → call_with t x ≡ ended → ⊥
+        by_given (kind.Unbound, n) e = absurd (cc)
+        by_given (kind.Cas key, n) e = by_kind (is_same (kind.Cas key) (wanted_by t.verb t.key)) n e
+        by_given (kind.Num, n) e = by_kind (is_same kind.Num (wanted_by t.verb t.key)) n e
+
+        by_argument : (a : Argument) → with_argument t a st.variables ≡ ended → Some (instr.Send n next) ≡ Some instr.Halt
+        by_argument argument.Nothing e = absurd (cc)
+        by_argument (argument.Number number) e = absurd (cc)
+        by_argument (argument.Variable v) e = absurd (by_given (slice_index_or st.variables v nothing) e)
+halt_ends c (Some (instr.Bind v)) st met = absurd (by_number (is_number st.last.0) met)
+  where
+    by_number : (b : Bool) → (if b then None else Some (nothing_to_bind v)) ≡ Some ended → ⊥
+    by_number true e = absurd (cc)
+    by_number false e = absurd (cc)
+halt_ends c (Some (instr.Goto target)) st met = absurd (cc)
+halt_ends c (Some instr.Halt) st met = refl
+
+-- a machine stands at a halt exactly where its section is done
+pub halts_at_end : (c : Code) (m : Machine) (variables : List Tagged) (exchanges : List Exchange) (st : State) → IsAt c m variables exchanges st
+    → (slice_get (instructions_in c m.actor) m.place ≡ Some instr.Halt) ↔ ComesTo c m.actor variables exchanges st ended
+halts_at_end c m variables exchanges st at = (there, back)
+  where
+    section : List Instr
+    section = instructions_in c m.actor
+
+    there : slice_get section m.place ≡ Some instr.Halt → ComesTo c m.actor variables exchanges st ended
+    there halt = (m.place, at.way.stands, ap (λ o. met_at c.templates o st) halt)
+
+    back : ComesTo c m.actor variables exchanges st ended → slice_get section m.place ≡ Some instr.Halt
+    back (p, stands, met) =
+        let halt = halt_ends c (slice_get section p) st met in
+        let same = one_stop c.templates section at.way.stands (stops_waiting section m.place at.waits)
+        p st stands (stops_waiting section p (ap waits_at halt)) in
+        ap (slice_get section) same.0 ∙ halt
+
+-- ---- what a machine finds where it stands
+
+pub template_there : (c : Code) (m : Machine) (n : ℕ) (next : List ℕ) → IsSound c
+    → slice_get (instructions_in c m.actor) m.place ≡ Some (instr.Send n next) → n < length c.templates
+template_there c m n next sound at = structured_template c m.actor (sound_structured c m.actor sound) m.place n next at
+
+-- a request's variable is one of a machine's numbers
+pub declared_there : (c : Code) (n : ℕ) (t : Template) → IsCode c → slice_get c.templates n ≡ Some t → (v : ℕ) → t.argument ≡ argument.Variable v
+    → v < VARIABLES_LIMIT
+declared_there c n t kept named v is = let declared = variable_declared c n t kept named v is in let few = kept.vars in omega (arith, declared, few)
