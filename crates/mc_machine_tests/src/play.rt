@@ -32,7 +32,11 @@ pub(crate) fn play(
     let checked = verify(alloc, code).map_err(|(refusal, _)| refusal)?;
     let mut p = Machine::start(&checked, Actor::P, [0; VARIABLES_LIMIT]);
     let calls = follow(alloc, &checked, &mut p, prefix)?;
-    if branch == Actor::P || !p.at_halt(&checked) {
+    match branch {
+        Actor::P => return Ok(seen(calls, &p, &checked)),
+        Actor::A | Actor::B => {}
+    }
+    if !p.at_halt(&checked) {
         return Ok(seen(calls, &p, &checked));
     }
     let mut machine = Machine::start(&checked, branch, p.numbers());

@@ -1,11 +1,10 @@
-use Rattle.std.proofs.Common.{◌≡◌, ◌<◌, true, Some, length, slice_get, ap, sym, subst, ◌∙◌}
+use Rattle.std.proofs.Common.{◌≡◌, Some, slice_get, ap, sym, subst, ◌∙◌}
 use Rattle.std.proofs.lemmas.Option.{slice_get_within}
 use Rattle.mc_protocol.specs.Legal.{is_fit_for}
 use Rattle.mc_script.specs.declared.step.Template.{Template}
 use Rattle.mc_code.specs.Calls.{template_of}
 use Rattle.mc_code.specs.Code.{Code}
 use Rattle.mc_code.proofs.LookUps.{some_is}
-use Rattle.mc_machine.specs.Machine.{IsAnswered}
 use Rattle.mc_machine.proofs.Standing.{outstanding_is_named}
 use Rattle.mc_machine_tests.proofs.play.exchange.Goals as goal
 
@@ -24,4 +23,4 @@ answer-requires-clause-fits c =
     let named = outstanding_is_named code c.next.new.self stands.0 stands.1 stands.2 c.in-Some.call stands.3 waits in
     let here = subst (λ (code : Code). slice_get code.templates c.in-Some.call.template ≡ Some c.template.result.now) c.code.ensures.code c.template.ensures.template in
     let is : c.template.result.now ≡ template_of code c.in-Some.call = some_is _ _ (sym here ∙ named) in
-    (c.in-Some.call, waits, ?)
+    (c.in-Some.call, waits, ap (λ (t : Template). is_fit_for t.verb c.reply-reply.result) (sym is) ∙ sym c.may_answer.ensures ∙ c.if-not-may_answer.false)
