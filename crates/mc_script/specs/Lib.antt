@@ -4,6 +4,7 @@ pub use Rattle.mc_protocol.specs.Fields
 pub use Rattle.mc_protocol.specs.Legal
 pub use Rattle.mc_protocol.specs.Lines
 pub use Rattle.mc_protocol.specs.Names
+pub use Rattle.mc_protocol.specs.Spelling
 pub use Rattle.mc_protocol.specs.Words as VerbWords
 pub mod Versions
 pub mod Script
