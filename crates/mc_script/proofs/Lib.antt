@@ -12,6 +12,8 @@ pub mod Declared
 pub mod NewNames
 pub mod WholeScript
 pub mod ScriptRead
+pub mod FrontLines
+pub mod Fronts
 pub mod Readings
 pub mod Bits
 pub mod Masks

@@ -13,6 +13,7 @@ pub mod Marks
 pub mod Steps
 pub mod SectionText
 pub mod ScriptText
+pub mod FrontText
 pub mod Templates
 pub mod WellFormed
 pub mod PrintedScript
@@ -20,3 +21,4 @@ pub mod Kinds
 -- What private contracts cite.
 pub mod Reading
 pub mod TextReading
+pub mod FrontReading
