@@ -1,7 +1,7 @@
 //! Scripts: what the three sections of a run send, and the text that says it.
 //!
-//! Below it stands `mc_protocol`. The crates above use what a script is (`specs/Script.antt`),
-//! and what script a text spells (`specs/ScriptText.antt`).
+//! Below it stands `mc_protocol`. The crates above use what a script is (`specs/Script.antt`), what script a text spells
+//! (`specs/ScriptText.antt`), and what script the front of a text spells, if something may follow it (`specs/FrontText.antt`).
 #![tactic(auto)]
 
 mod declarations;
