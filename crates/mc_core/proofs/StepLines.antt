@@ -14,6 +14,7 @@ use Rattle.mc_model.proofs.ReplyWords.{one_reply}
 use Rattle.mc_core.specs.declared.event.Event.{Event}
 use Rattle.mc_core.specs.declared.event.Event.TheVariants as event
 use Rattle.mc_core.specs.StepText.{SpellsEvent, SpellsStep, end_line}
+use Rattle.mc_core.specs.StepReading.{SpellsFault}
 
 -- ---- first words
 
@@ -85,3 +86,9 @@ one_step line x y (v, e, f) (w, d, g) =
 -- the line of a step is not `end`
 pub step_is_not_end : (line : Words) (x : Actor × Event) → SpellsStep line x → line ≡ end_line → ⊥
 step_is_not_end line x (v, e, f) is = actor_is_not_end x.0 v [] (sym e ∙ is)
+
+-- words after `fail` that are no number of a fault
+pub no_fail : (words others : Words) → words ≡ codes "fail" ∷ others → ((f : Fault) → SpellsFault others f → ⊥) → (x : Event) → SpellsEvent words x → ⊥
+no_fail words others e none event.Begin f = begin_is_not_fail [] others (sym f ∙ e)
+no_fail words others e none (event.Reply r) (w, d, f) = reply_is_not_fail w others (sym d ∙ e)
+no_fail words others e none (event.Fail x) (w, d, f) = none x (w, rest_is (codes "fail") (codes "fail") others (w ∷ []) (sym e ∙ d), f)

@@ -13,6 +13,7 @@ pub mod NewNames
 pub mod WholeScript
 pub mod ScriptRead
 pub mod FrontLines
+pub mod FrontReads
 pub mod Fronts
 pub mod Readings
 pub mod Bits
