@@ -83,10 +83,11 @@ ends-after b (c ∷ bs) is =
 first-ends-by : (b : ℕ) (rest : List ℕ) (ends : Bool) → (b == 10) ≡ ends → EndsLine (take (line_len rest) rest) ⊎ (line_len rest ≡ length rest)
     → (0 < length rest → 0 < line_len rest)
     → EndsLine (take (cond ends 1 (suc (line_len rest))) (b ∷ rest)) ⊎ (cond ends 1 (suc (line_len rest)) ≡ length (b ∷ rest))
+unfolding line_len
 first-ends-by b rest true is h some = inl (inr (eqb-true b 10 is))
 first-ends-by b rest false is (inr whole) some = inr (ap suc whole)
 first-ends-by b rest false is (inl (inr feed)) some = inl (inr (ends-after b (take (line_len rest) rest) feed))
-first-ends-by b [] false is (inl (inl none)) some = inl (inl none)
+first-ends-by b [] false is (inl (inl none)) some = inr refl
 first-ends-by b (c ∷ rest) false is (inl (inl none)) some =
     let size = length-take (line_len (c ∷ rest)) (c ∷ rest) in
     let positive = some (omega arith) in

@@ -44,8 +44,8 @@ within-more text line lines len r =
 -- one line further on, where it is not `end`
 pub reaches-more : (text line : List ℕ) (lines : List (List ℕ)) (len : ℕ) → Reaches text len (line ∷ lines) → is_end line ≡ false
     → Reaches text (len + length line) lines
-reaches-more text line lines len r no =
-    let next : concat (to_end (line ∷ lines)) ≡ line ++ concat (to_end lines) = rw no refl in
+reaches-more text line lines len r unlike =
+    let next : concat (to_end (line ∷ lines)) ≡ line ++ concat (to_end lines) = rw unlike refl in
     record {
       within = within-more text line lines len r;
       left = ap (drop (len + length line)) (joined text line lines len r.left)
@@ -57,8 +57,8 @@ reaches-more text line lines len r no =
 -- at `end`
 pub reaches-end : (text line : List ℕ) (lines : List (List ℕ)) (len : ℕ) → Reaches text len (line ∷ lines) → is_end line ≡ true
     → take (len + length line) text ≡ concat (to_end (lines_of text))
-reaches-end text line lines len r yes =
-    let last : concat (to_end (line ∷ lines)) ≡ line = rw yes (append-nil line) in
+reaches-end text line lines len r like =
+    let last : concat (to_end (line ∷ lines)) ≡ line = rw like (append-nil line) in
     taken-more text line lines len r ∙ sym (r.same ∙ ap (λ rest. take len text ++ rest) last)
 
 -- after the last line

@@ -68,13 +68,13 @@ ends-later line (next ∷ lines) other h = h.1
 other-first : (word : Word) (words : Words) → length word ≢ 3 → IsOther (word ∷ words)
 other-first word words long e = long (ap length (head_is word (codes "end") words [] e))
 
-four : 4 ≢ 3
+four : ◌≢◌ {A = ℕ} 4 3
 four e = absurd (omega (arith, e))
 
-five : 5 ≢ 3
+five : ◌≢◌ {A = ℕ} 5 3
 five e = absurd (omega (arith, e))
 
-six : 6 ≢ 3
+six : ◌≢◌ {A = ℕ} 6 3
 six e = absurd (omega (arith, e))
 
 other-names : (word : Word) (names : List Word) → length word ≢ 3 → AllByRecursion IsOther (names_line word names)
@@ -83,9 +83,12 @@ other-names word (name ∷ names) long = (other-first word (name ∷ names) long
 
 other-declared : (names : Names) → AllByRecursion IsOther (names_lines names)
 other-declared names =
-    all-joined IsOther (names_line (codes "keys") names.keys) (names_line (codes "flags") names.flags ++ names_line (codes "vars") names.vars)
-    (other-names (codes "keys") names.keys four)
-    (all-joined IsOther (names_line (codes "flags") names.flags) (names_line (codes "vars") names.vars) (other-names (codes "flags") names.flags five) (other-names (codes "vars") names.vars four))
+    let keys = names_line (codes "keys") names.keys in
+    let flags = names_line (codes "flags") names.flags in
+    let vars = names_line (codes "vars") names.vars in
+    all-joined IsOther (keys ++ flags) vars
+    (all-joined IsOther keys flags (other-names (codes "keys") names.keys four) (other-names (codes "flags") names.flags five))
+    (other-names (codes "vars") names.vars four)
 
 other-budget : (a : Actor) (line : Words) (budget : Budget) → SpellsBudget a line budget → IsOther line
 other-budget a line budget (r, y, e, n, m) is = other-first (codes "budget") (actor_word a ∷ r ∷ y ∷ []) six (sym e ∙ is)
@@ -107,18 +110,25 @@ other-header v = other-first (codes "script") _ six
 
 script-ends : (v : Version) (text : List ℕ) (s : Script) → SpellsInVersion v text s → EndsOnce (words_of_text SpaceOrTab text)
 script-ends v text s h =
-    let names = s.names in
     let p = h.spelled actor.P in
     let a = h.spelled actor.A in
     let b = h.spelled actor.B in
-    let of_b : EndsOnce (h.bodies.b ++ end_line ∷ []) = ends-joined h.bodies.b (end_line ∷ []) (other-entries names h.bodies.b b.entries b.spelled) refl in
-    let of_a = ends-joined h.bodies.a _ (other-entries names h.bodies.a a.entries a.spelled) (ends-more (section_line actor.B) _ (other-section actor.B) of_b) in
-    let of_p = ends-joined h.bodies.p _ (other-entries names h.bodies.p p.entries p.spelled) (ends-more (section_line actor.A) _ (other-section actor.A) of_a) in
-    let body : EndsOnce (body_lines h.bodies) = ends-more (section_line actor.P) _ (other-section actor.P) of_p in
-    let budgets = ends-more h.budgets.p _ (other-budget actor.P h.budgets.p s.sections.p.budget (h.allowed actor.P))
-    (ends-more h.budgets.a _ (other-budget actor.A h.budgets.a s.sections.a.budget (h.allowed actor.A))
-    (ends-more h.budgets.b _ (other-budget actor.B h.budgets.b s.sections.b.budget (h.allowed actor.B)) body)) in
-    subst EndsOnce (sym h.lines) (ends-more (header v) _ (other-header v) (ends-joined (names_lines names) _ (other-declared names) budgets))
+    let lines_b = h.bodies.b ++ end_line ∷ [] in
+    let lines_a = h.bodies.a ++ section_line actor.B ∷ lines_b in
+    let lines_p = h.bodies.p ++ section_line actor.A ∷ lines_a in
+    let body = section_line actor.P ∷ lines_p in
+    let of_b : EndsOnce lines_b = ends-joined h.bodies.b (end_line ∷ []) (other-entries s.names h.bodies.b b.entries b.spelled) refl in
+    let of_a : EndsOnce lines_a =
+    ends-joined h.bodies.a (section_line actor.B ∷ lines_b) (other-entries s.names h.bodies.a a.entries a.spelled) (ends-more (section_line actor.B) lines_b (other-section actor.B) of_b) in
+    let of_p : EndsOnce lines_p =
+    ends-joined h.bodies.p (section_line actor.A ∷ lines_a) (other-entries s.names h.bodies.p p.entries p.spelled) (ends-more (section_line actor.A) lines_a (other-section actor.A) of_a) in
+    let of_body : EndsOnce body = ends-more (section_line actor.P) lines_p (other-section actor.P) of_p in
+    let third = ends-more h.budgets.b body (other-budget actor.B h.budgets.b s.sections.b.budget (h.allowed actor.B)) of_body in
+    let second = ends-more h.budgets.a (h.budgets.b ∷ body) (other-budget actor.A h.budgets.a s.sections.a.budget (h.allowed actor.A)) third in
+    let budgets = h.budgets.p ∷ h.budgets.a ∷ h.budgets.b ∷ body in
+    let first : EndsOnce budgets = ends-more h.budgets.p (h.budgets.a ∷ h.budgets.b ∷ body) (other-budget actor.P h.budgets.p s.sections.p.budget (h.allowed actor.P)) second in
+    let declared = ends-joined (names_lines s.names) budgets (other-declared s.names) first in
+    subst EndsOnce (sym h.lines) (ends-more (header v) (names_lines s.names ++ budgets) (other-header v) declared)
 
 -- ---- a line that is `end`, and one that is not
 
@@ -131,13 +141,13 @@ Passes line = is_end line ≡ false
 -- the words of a line that is not `end` leave the end to the lines after it
 passed : (skips : Bool) (w : Words) (lines : List Words) → begins_with_end (if skips then [] else w ∷ []) ≡ false
     → EndsOnce ((if skips then [] else w ∷ []) ++ lines) → EndsOnce lines
-passed true w lines no h = h
-passed false w lines no h = ends-later w lines (λ e. let yes = ap (λ l. is_only (codes "end") l) e ∙ only-itself (codes "end") in let both = sym no ∙ yes in cc) h
+passed true w lines unlike h = h
+passed false w lines unlike h = ends-later w lines (λ e. let like = ap (λ l. is_only (codes "end") l) e ∙ only-itself (codes "end") in let both = sym unlike ∙ like in cc) h
 
 pass : (line : List ℕ) (lines : List Words) → IsLine line → Passes line → EndsOnce (words line ++ lines) → EndsOnce lines
-pass line lines one no h =
+pass line lines one unlike h =
     let text = without_terminator line in
-    passed (is_skipped SpaceOrTab text) (words_of SpaceOrTab text) lines (sym (ap begins_with_end (words-of_line SpaceOrTab line one)) ∙ no) h
+    passed (is_skipped SpaceOrTab text) (words_of SpaceOrTab text) lines (sym (ap begins_with_end (words-of_line SpaceOrTab line one)) ∙ unlike) h
 
 -- where no line is `end`, the text ends no script
 none-end : (lines : List (List ℕ)) → AllByRecursion IsLine lines → AllByRecursion Passes lines → EndsOnce (flat_map words lines) → ⊥
@@ -145,15 +155,15 @@ none-end [] ones passes h = h
 none-end (line ∷ lines) ones passes h = none-end lines ones.1 passes.1 (pass line (flat_map words lines) ones.0 passes.0 h)
 
 only-end : (skips : Bool) (w : Words) → begins_with_end (if skips then [] else w ∷ []) ≡ true → (if skips then [] else w ∷ []) ≡ end_line ∷ []
-only-end true w yes = absurd (cc)
-only-end false w yes = ap (λ l. l ∷ []) (only-line (codes "end") w yes)
+only-end true w like = absurd (cc)
+only-end false w like = ap (λ l. l ∷ []) (only-line (codes "end") w like)
 
 -- a line is `end` where the test says so
 end-from_test : (line : List ℕ) → IsLine line → is_end line ≡ true → IsEnd line
-end-from_test line one yes =
+end-from_test line one like =
     let text = without_terminator line in
     let same = words-of_line SpaceOrTab line one in
-    same ∙ only-end (is_skipped SpaceOrTab text) (words_of SpaceOrTab text) (sym (ap begins_with_end same) ∙ yes)
+    same ∙ only-end (is_skipped SpaceOrTab text) (words_of SpaceOrTab text) (sym (ap begins_with_end same) ∙ like)
 
 end-to_test : (line : List ℕ) → IsEnd line → is_end line ≡ true
 end-to_test line is = ap begins_with_end is ∙ only-itself (codes "end")
@@ -187,7 +197,7 @@ before-by : (skips : Bool) (w first : Words) (lines all : List Words) → all �
 before-by true w first lines all e h = (refl, h)
 before-by false w first lines all e h =
     let parts = not-last w first lines all e h in
-    (false-unless (is_only (codes "end") w) (λ yes. parts.0 (only-line (codes "end") w yes)), parts.1)
+    (false-unless (is_only (codes "end") w) (λ like. parts.0 (only-line (codes "end") w like)), parts.1)
 
 -- no line before the last one is `end`
 none-before : (before : List (List ℕ)) (last : List ℕ) → AllByRecursion IsLine before → words last ≡ end_line ∷ []
@@ -203,8 +213,8 @@ none-before (line ∷ before) last ones is h =
 
 to_end-at : (before : List (List ℕ)) (last : List ℕ) (others : List (List ℕ)) → AllByRecursion Passes before → is_end last ≡ true
     → to_end (before ++ last ∷ others) ≡ before ++ last ∷ []
-to_end-at [] last others passes yes = rw yes refl
-to_end-at (line ∷ before) last others passes yes = rw passes.0 (ap (λ ls. line ∷ ls) (to_end-at before last others passes.1 yes))
+to_end-at [] last others passes like = rw like refl
+to_end-at (line ∷ before) last others passes like = rw passes.0 (ap (λ ls. line ∷ ls) (to_end-at before last others passes.1 like))
 
 record Split (lines : List (List ℕ)) : Type 0 where
   before : List (List ℕ)
@@ -218,23 +228,23 @@ abbrev Whole : List (List ℕ) → Type 0
 Whole lines = AllByRecursion Passes lines × (to_end lines ≡ lines)
 
 split-here : (line : List ℕ) (lines : List (List ℕ)) → is_end line ≡ true → Split (line ∷ lines)
-split-here line lines yes = record {
+split-here line lines like = record {
   before = [];
   last = line;
   others = lines;
   lines_are = refl;
-  ended = yes;
-  front = rw yes refl;
+  ended = like;
+  front = rw like refl;
 }
 
 split-after : (line : List ℕ) (lines : List (List ℕ)) → is_end line ≡ false → Split lines → Split (line ∷ lines)
-split-after line lines no s = record {
+split-after line lines unlike s = record {
   before = line ∷ s.before;
   last = s.last;
   others = s.others;
   lines_are = ap (λ ls. line ∷ ls) s.lines_are;
   ended = s.ended;
-  front = rw no (ap (λ ls. line ∷ ls) s.front);
+  front = rw unlike (ap (λ ls. line ∷ ls) s.front);
 }
 
 split-by : (line : List ℕ) (lines : List (List ℕ)) (found : Bool) → is_end line ≡ found → Split lines ⊎ Whole lines → Split (line ∷ lines) ⊎ Whole (line ∷ lines)
