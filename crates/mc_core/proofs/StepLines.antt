@@ -37,8 +37,9 @@ reply_is_not_fail xs ys e =
 
 fault_in : ℕ → Fault
 fault_in n =
-    if n == 1 then fault.WriteFailed else (if n == 2 then fault.ReadFailed else (if n == 3 then fault.Ended else (if n == 4 then fault.BadReply
-    else (if n == 5 then fault.ErrorLine else (if n == 6 then fault.TooMuch else (if n == 7 then fault.Closed else fault.Memory))))))
+    if n == 1 then fault.WriteFailed else (if n == 2 then fault.ReadFailed else (if n == 3 then fault.Ended
+    else (if n == 4 then fault.BadReply else (if n == 5 then fault.ErrorLine else (if n == 6 then fault.TooMuch
+    else (if n == 7 then fault.Closed else fault.Memory))))))
 
 fault_in-fault_number : (f : Fault) → fault_in (fault_number f) ≡ f
 unfolding fault_in
@@ -88,7 +89,8 @@ pub step_is_not_end : (line : Words) (x : Actor × Event) → SpellsStep line x 
 step_is_not_end line x (v, e, f) is = actor_is_not_end x.0 v [] (sym e ∙ is)
 
 -- words after `fail` that are no number of a fault
-pub no_fail : (words others : Words) → words ≡ codes "fail" ∷ others → ((f : Fault) → SpellsFault others f → ⊥) → (x : Event) → SpellsEvent words x → ⊥
+pub no_fail : (words others : Words) → words ≡ codes "fail" ∷ others → ((f : Fault) → SpellsFault others f → ⊥)
+    → (x : Event) → SpellsEvent words x → ⊥
 no_fail words others e none event.Begin f = begin_is_not_fail [] others (sym f ∙ e)
 no_fail words others e none (event.Reply r) (w, d, f) = reply_is_not_fail w others (sym d ∙ e)
 no_fail words others e none (event.Fail x) (w, d, f) = none x (w, rest_is (codes "fail") (codes "fail") others (w ∷ []) (sym e ∙ d), f)

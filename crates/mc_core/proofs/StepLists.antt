@@ -20,7 +20,8 @@ Steps = List (Actor × Event)
 after : (begun : Steps) (line : Words) (lines : List Words) (next : Actor × Event) (all : Steps) → SpellsStep line next
     → (left : List Words) (others : Steps) → line ∷ lines ≡ left ++ end_line ∷ [] → SpellEach SpellsStep left others → all ≡ begun ++ others
     → length all ≤ STEP_LIST_LIMIT → SpellsOnward (begun ++ next ∷ []) lines all
-after begun line lines next all spelled [] others e each is few = absurd (step_is_not_end line next spelled (head_is line end_line lines [] e))
+after begun line lines next all spelled [] others e each is few =
+    absurd (step_is_not_end line next spelled (head_is line end_line lines [] e))
 after begun line lines next all spelled (first ∷ left) [] e each is few = absurd each
 after begun line lines next all spelled (first ∷ left) (other ∷ others) e each is few =
     let lines_same = head_is line first lines (left ++ end_line ∷ []) e in
@@ -36,7 +37,8 @@ after begun line lines next all spelled (first ∷ left) (other ∷ others) e ea
 
 onward_after : (begun : Steps) (line : Words) (lines : List Words) (next : Actor × Event) (all : Steps) → SpellsStep line next
     → SpellsOnward begun (line ∷ lines) all → SpellsOnward (begun ++ next ∷ []) lines all
-onward_after begun line lines next all spelled o = after begun line lines next all spelled o.left o.others o.lines_are o.spelled o.steps_are o.few
+onward_after begun line lines next all spelled o =
+    after begun line lines next all spelled o.left o.others o.lines_are o.spelled o.steps_are o.few
 
 onward_before : (begun : Steps) (line : Words) (lines : List Words) (next : Actor × Event) (all : Steps) → SpellsStep line next
     → SpellsOnward (begun ++ next ∷ []) lines all → SpellsOnward begun (line ∷ lines) all
@@ -80,7 +82,8 @@ stopped line lines (first ∷ left) (other ∷ others) going none e each =
 -- a line that spells no step, and is not `end`
 pub onward_stopped : (begun : Steps) (line : Words) (here lines : List Words) → here ≡ line ∷ lines → line ≢ end_line
     → ((step : Actor × Event) → SpellsStep line step → ⊥) → (all : Steps) → SpellsOnward begun here all → ⊥
-onward_stopped begun line here lines e going none all o = stopped line lines o.left o.others going none (sym e ∙ o.lines_are) o.spelled
+onward_stopped begun line here lines e going none all o =
+    stopped line lines o.left o.others going none (sym e ∙ o.lines_are) o.spelled
 
 -- a step beyond the most that there may be
 pub onward_full : (begun : Steps) (line : Words) (here lines : List Words) (next : Actor × Event) → here ≡ line ∷ lines → SpellsStep line next
@@ -105,7 +108,8 @@ ended begun line lines all is (first ∷ left) (other ∷ others) e each steps =
     absurd (step_is_not_end first other each.0 (sym (head_is line first lines (left ++ end_line ∷ []) e) ∙ is))
 
 -- at `end`, the steps are those that were read, and no line is left
-pub onward_exit : (begun : Steps) (line : Words) (here lines : List Words) → here ≡ line ∷ lines → line ≡ end_line → length begun ≤ STEP_LIST_LIMIT
+pub onward_exit : (begun : Steps) (line : Words) (here lines : List Words) → here ≡ line ∷ lines → line ≡ end_line
+    → length begun ≤ STEP_LIST_LIMIT
     → (all : Steps) → SpellsOnward begun here all ↔ ((all ≡ begun) × (lines ≡ []))
 onward_exit begun line here lines e is few all = (
   (λ o. ended begun line lines all is o.left o.others (sym e ∙ o.lines_are) o.spelled o.steps_are),
@@ -166,4 +170,5 @@ one_list (line ∷ left) (other ∷ more) (u ∷ s) (v ∷ t) e f g =
 -- a text spells at most one step list
 pub text_spells_one_list : SpellsOneStepList
 text_spells_one_list text s t f g =
-    one_list f.lines g.lines s t (rest_is steps_line steps_line (f.lines ++ end_line ∷ []) (g.lines ++ end_line ∷ []) (sym f.text_is ∙ g.text_is)) f.spelled g.spelled
+    let same = rest_is steps_line steps_line (f.lines ++ end_line ∷ []) (g.lines ++ end_line ∷ []) (sym f.text_is ∙ g.text_is) in
+    one_list f.lines g.lines s t same f.spelled g.spelled

@@ -10,14 +10,23 @@ use std::test::Fail;
 // Texts that are step lists, each with its steps as one would write them plainly.
 static LISTS: &[(&str, &str)] = &[
     ("steps\nend\n", ""),
+    // what a run may take, and what it may not
     (
-        "steps\nA begin\nP begin\nP reply NOT_FOUND\nP begin\nP reply STORED\nA begin\nA fail 3\nA begin\nB begin\nB reply STORED\nB reply NUMBER 6\nend\n",
-        "A begin\nP begin\nP reply NOT_FOUND\nP begin\nP reply STORED\nA begin\nA fail 3\nA begin\nB begin\nB reply STORED\nB reply NUMBER 6\n",
+        "steps\nA begin\nP begin\nP reply NOT_FOUND\nA begin\nA fail 3\nA begin\nB reply NUMBER 6\nend\n",
+        "A begin\nP begin\nP reply NOT_FOUND\nA begin\nA fail 3\nA begin\nB reply NUMBER 6\n",
     ),
     // replies of each class
     (
-        "steps\nP reply STORED\nA reply NOT_STORED\nB reply EXISTS\nP reply NOT_FOUND\nA reply HIT 7 =a%2Fb%0a\nB reply HIT 04294967295 = 18446744073709551615\nP reply MISS\nA reply DELETED\nB reply TOUCHED\nP reply NUMBER 007\nA reply NOT_A_NUMBER\nend\n",
-        "P reply STORED\nA reply NOT_STORED\nB reply EXISTS\nP reply NOT_FOUND\nA reply HIT 7 =a/b%0a\nB reply HIT 4294967295 = 18446744073709551615\nP reply MISS\nA reply DELETED\nB reply TOUCHED\nP reply NUMBER 7\nA reply NOT_A_NUMBER\n",
+        "steps\nP reply STORED\nA reply NOT_STORED\nB reply EXISTS\nP reply NOT_FOUND\nA reply MISS\nend\n",
+        "P reply STORED\nA reply NOT_STORED\nB reply EXISTS\nP reply NOT_FOUND\nA reply MISS\n",
+    ),
+    (
+        "steps\nA reply DELETED\nB reply TOUCHED\nP reply NUMBER 007\nA reply NOT_A_NUMBER\nend\n",
+        "A reply DELETED\nB reply TOUCHED\nP reply NUMBER 7\nA reply NOT_A_NUMBER\n",
+    ),
+    (
+        "steps\nA reply HIT 7 =a%2Fb%0a\nB reply HIT 04294967295 = 18446744073709551615\nend\n",
+        "A reply HIT 7 =a/b%0a\nB reply HIT 4294967295 = 18446744073709551615\n",
     ),
     // each fault, also with zeros in front of its number
     (
@@ -153,7 +162,7 @@ fn takes_a_thousand_steps(rt: HostRuntime) -> Result<(), Fail> {
     Ok(())
 }
 
-// What follows a thousand steps, and the fault; the line after the thousandth step is the 1,002nd of the text.
+// What follows a thousand steps, where the first line is 13, and the fault. The first line of these is 1014.
 static BEYOND: &[(&str, StepsKind, u32)] = &[
     ("B fail 8\nend\n", TooMany, 1014),
     ("\nP begin\nP begins\nend\n", TooMany, 1015),

@@ -23,16 +23,19 @@ counted-first separator true first others = refl
 counted-first separator false first others = refl
 
 words-counted : (separator : Separator) (number : ℕ) (lines : List (List ℕ))
-    → map (λ line. words_of separator line.text) (counted_from separator number (map without_terminator lines)) ≡ flat_map (line_words separator) lines
+    → map (λ line. words_of separator line.text) (counted_from separator number (map without_terminator lines))
+    ≡ flat_map (line_words separator) lines
 words-counted separator number [] = refl
 words-counted separator number (line ∷ lines) =
     let here = min (number + 1) LAST_NUMBER in
     let text = without_terminator line in
-    counted-first separator (is_skipped separator text) (record { number = here; text = text }) (counted_from separator here (map without_terminator lines))
+    let others = counted_from separator here (map without_terminator lines) in
+    counted-first separator (is_skipped separator text) (record { number = here; text = text }) others
     ∙ ap (λ words. line_words separator line ++ words) (words-counted separator here lines)
 
 -- the words of a text are those of its lines
-pub words-by_lines : (separator : Separator) (text : List ℕ) → words_of_text separator text ≡ flat_map (line_words separator) (lines_of text)
+pub words-by_lines : (separator : Separator) (text : List ℕ)
+    → words_of_text separator text ≡ flat_map (line_words separator) (lines_of text)
 words-by_lines separator text = words-counted separator 0 (lines_of text)
 
 -- ---- lines
@@ -80,7 +83,8 @@ ends-after b (c ∷ bs) is =
     is-at : (i j : ℕ) → j ≡ suc i → get_or (c ∷ bs) i 0 ≡ 10 → get_or (b ∷ c ∷ bs) j 0 ≡ 10
     is-at i j e h = subst (λ n. get_or (b ∷ c ∷ bs) n 0 ≡ 10) (sym e) h
 
-first-ends-by : (b : ℕ) (rest : List ℕ) (ends : Bool) → (b == 10) ≡ ends → EndsLine (take (line_len rest) rest) ⊎ (line_len rest ≡ length rest)
+first-ends-by : (b : ℕ) (rest : List ℕ) (ends : Bool) → (b == 10) ≡ ends
+    → EndsLine (take (line_len rest) rest) ⊎ (line_len rest ≡ length rest)
     → (0 < length rest → 0 < line_len rest)
     → EndsLine (take (cond ends 1 (suc (line_len rest))) (b ∷ rest)) ⊎ (cond ends 1 (suc (line_len rest)) ≡ length (b ∷ rest))
 unfolding line_len

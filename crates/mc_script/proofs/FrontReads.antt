@@ -19,7 +19,8 @@ reaches-start text = record {
   same = refl;
 }
 
-joined : (text line : List ℕ) (lines : List (List ℕ)) (len : ℕ) → drop len text ≡ line ++ concat lines → text ≡ (take len text ++ line) ++ concat lines
+joined : (text line : List ℕ) (lines : List (List ℕ)) (len : ℕ) → drop len text ≡ line ++ concat lines
+    → text ≡ (take len text ++ line) ++ concat lines
 joined text line lines len left =
     sym (take-append-drop len text) ∙ ap (λ rest. take len text ++ rest) left ∙ sym (append_assoc (take len text) line (concat lines))
 
@@ -30,9 +31,11 @@ size text line len within =
     omega (arith, both, first, within)
 
 -- one line more
-pub taken-more : (text line : List ℕ) (lines : List (List ℕ)) (len : ℕ) → Reaches text len (line ∷ lines) → take (len + length line) text ≡ take len text ++ line
+pub taken-more : (text line : List ℕ) (lines : List (List ℕ)) (len : ℕ) → Reaches text len (line ∷ lines)
+    → take (len + length line) text ≡ take len text ++ line
 taken-more text line lines len r =
-    ap (take (len + length line)) (joined text line lines len r.left) ∙ take_at (take len text ++ line) (concat lines) (len + length line) (size text line len r.within)
+    ap (take (len + length line)) (joined text line lines len r.left)
+    ∙ take_at (take len text ++ line) (concat lines) (len + length line) (size text line len r.within)
 
 pub within-more : (text line : List ℕ) (lines : List (List ℕ)) (len : ℕ) → Reaches text len (line ∷ lines) → len + length line ≤ length text
 within-more text line lines len r =
@@ -44,8 +47,8 @@ within-more text line lines len r =
 -- one line further on, where it is not `end`
 pub reaches-more : (text line : List ℕ) (lines : List (List ℕ)) (len : ℕ) → Reaches text len (line ∷ lines) → is_end line ≡ false
     → Reaches text (len + length line) lines
-reaches-more text line lines len r unlike =
-    let next : concat (to_end (line ∷ lines)) ≡ line ++ concat (to_end lines) = rw unlike refl in
+reaches-more text line lines len r goes =
+    let next : concat (to_end (line ∷ lines)) ≡ line ++ concat (to_end lines) = rw goes refl in
     record {
       within = within-more text line lines len r;
       left = ap (drop (len + length line)) (joined text line lines len r.left)
@@ -57,8 +60,8 @@ reaches-more text line lines len r unlike =
 -- at `end`
 pub reaches-end : (text line : List ℕ) (lines : List (List ℕ)) (len : ℕ) → Reaches text len (line ∷ lines) → is_end line ≡ true
     → take (len + length line) text ≡ concat (to_end (lines_of text))
-reaches-end text line lines len r like =
-    let last : concat (to_end (line ∷ lines)) ≡ line = rw like (append-nil line) in
+reaches-end text line lines len r is =
+    let last : concat (to_end (line ∷ lines)) ≡ line = rw is (append-nil line) in
     taken-more text line lines len r ∙ sym (r.same ∙ ap (λ rest. take len text ++ rest) last)
 
 -- after the last line

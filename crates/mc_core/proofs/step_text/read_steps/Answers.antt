@@ -29,8 +29,8 @@ returns-in_err-step-clause-none c =
 pub returns-then-len-ge-STEP_LIST_LIMIT-clause-none : goal.returns-then-len-ge-STEP_LIST_LIMIT-clause-none
 returns-then-len-ge-STEP_LIST_LIMIT-clause-none c = λ real all spelled.
     let full : STEP_LIST_LIMIT ≤ length c.steps.steps.items = omega (arith, c.if-len-ge-STEP_LIST_LIMIT.true, c.len.ensures) in
-    onward_full c.steps.steps.items c.in_ok-line.line.words _ _ c.in_ok-step.step c.in_ok-line.ensures.line c.in_ok-step.ensures.found full all
-    ((c.steps.invariant.same all).1 spelled)
+    onward_full c.steps.steps.items c.in_ok-line.line.words _ _ c.in_ok-step.step c.in_ok-line.ensures.line c.in_ok-step.ensures.found
+    full all ((c.steps.invariant.same all).1 spelled)
 
 pub steps-preserved : goal.steps-preserved
 steps-preserved c =
@@ -38,8 +38,8 @@ steps-preserved c =
     record {
       few = omega (arith, c.if-len-ge-STEP_LIST_LIMIT.false, c.len.ensures, longer);
       same = λ all.
-          let step = onward_step c.steps.steps.items c.push.new.self.items c.in_ok-line.line.words _ _ c.in_ok-step.step c.in_ok-line.ensures.line
-          c.in_ok-push.ensures.items c.in_ok-step.ensures.found all in
+          let step = onward_step c.steps.steps.items c.push.new.self.items c.in_ok-line.line.words _ _ c.in_ok-step.step
+          c.in_ok-line.ensures.line c.in_ok-push.ensures.items c.in_ok-step.ensures.found all in
           let here = c.steps.invariant.same all in
           ((λ h. here.0 (step.0 h)), (λ h. step.1 (here.1 h)));
     }

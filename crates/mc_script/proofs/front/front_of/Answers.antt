@@ -8,7 +8,8 @@ lines-init c = rw c.lines_with_terminator-lines.ensures.value (reaches-start c.a
 pub slice_bounds-result-end : goal.slice_bounds-result-end
 slice_bounds-result-end c =
     let here = rw c.in-Some.ensures.steps at c.lines.invariant in
-    sym (length-take-le (c.lines.len + length c.in-Some.line.now) c.args.text.now (within-more c.args.text.now c.in-Some.line.now c.next.new.self c.lines.len here))
+    let within = within-more c.args.text.now c.in-Some.line.now c.next.new.self c.lines.len here in
+    sym (length-take-le (c.lines.len + length c.in-Some.line.now) c.args.text.now within)
 
 pub returns-then-branch : goal.returns-then-branch
 returns-then-branch c =
