@@ -86,8 +86,8 @@ onward_stopped begun line here lines e going none all o =
     stopped line lines o.left o.others going none (sym e ∙ o.lines_are) o.spelled
 
 -- a step beyond the most that there may be
-pub onward_full : (begun : Steps) (line : Words) (here lines : List Words) (next : Actor × Event) → here ≡ line ∷ lines → SpellsStep line next
-    → STEP_LIST_LIMIT ≤ length begun → (all : Steps) → SpellsOnward begun here all → ⊥
+pub onward_full : (begun : Steps) (line : Words) (here lines : List Words) (next : Actor × Event) → here ≡ line ∷ lines
+    → SpellsStep line next → STEP_LIST_LIMIT ≤ length begun → (all : Steps) → SpellsOnward begun here all → ⊥
 onward_full begun line here lines next e spelled full all o =
     let Q : List Words → Type 0 = λ ls. SpellsOnward begun ls all in
     let onward = onward_after begun line lines next all spelled (subst Q e o) in

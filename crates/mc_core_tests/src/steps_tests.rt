@@ -80,7 +80,12 @@ static FAULTS: &[(&str, u32, StepsKind, u32)] = &[
     ("steps\nP reply\nend\n", 1, Line, 2),
     ("steps\nP reply stored\nend\n", 1, Line, 2),
     ("steps\nP reply STORED 1\nend\n", 1, Line, 2),
-    ("steps\nP reply NUMBER 18446744073709551616\nend\n", 1, Line, 2),
+    (
+        "steps\nP reply NUMBER 18446744073709551616\nend\n",
+        1,
+        Line,
+        2,
+    ),
     ("steps\nP reply HIT 4294967296 =\nend\n", 1, Line, 2),
     ("steps\nP reply HIT 0 5\nend\n", 1, Line, 2),
     // the greatest number of a line
@@ -125,7 +130,10 @@ fn steps_in(alloc: Global, text: &str) -> Result<Vec<u8>, Fail> {
 #[test]
 fn reads_step_lists(rt: HostRuntime) -> Result<(), Fail> {
     for (text, wanted) in LISTS {
-        assert!(rt; steps_in(rt.alloc(), text)?.as_slice() == wanted.as_bytes(), "{text}");
+        assert!(rt;
+            steps_in(rt.alloc(), text)?.as_slice() == wanted.as_bytes(),
+            "{text}"
+        );
     }
     Ok(())
 }
@@ -175,7 +183,11 @@ static BEYOND: &[(&str, StepsKind, u32)] = &[
 fn refuses_more_steps(rt: HostRuntime) -> Result<(), Fail> {
     for (others, kind, line) in BEYOND {
         let text = text_with(rt.alloc(), 1000, others)?;
-        assert_eq!(rt; fault_of(rt.alloc(), &text, 13), Some((*kind, *line)), "{others}");
+        assert_eq!(rt;
+            fault_of(rt.alloc(), &text, 13),
+            Some((*kind, *line)),
+            "{others}"
+        );
     }
     Ok(())
 }
