@@ -5,7 +5,7 @@ use Rattle.mc_protocol.specs.declared.actor.Actor.{Actor}
 use Rattle.mc_protocol.specs.declared.fault.Fault.{Fault}
 use Rattle.mc_protocol.specs.declared.fault.Fault.TheVariants as fault
 use Rattle.mc_protocol.specs.Faults.{fault_number}
-use Rattle.mc_protocol.specs.Lines.{Word, Words}
+use Rattle.mc_protocol.specs.Lines.{Words}
 use Rattle.mc_protocol.specs.Words.{actor_word}
 use Rattle.mc_protocol.proofs.ActorWords.{actor_is_not_end, one_actor}
 use Rattle.mc_protocol.proofs.FirstItems.{head_is, rest_is}

@@ -1,6 +1,6 @@
 -- What the lines that are left of a step list spell, and when a reader of them gives up. No public contract cites these:
 -- they say of a part what `StepText.antt` says of the whole.
-use Rattle.std.specs.Prelude.{◌≡◌, ◌≢◌, ℕ, ◌≤◌, List, [], ◌∷◌, ◌++◌, length}
+use Rattle.std.specs.Prelude.{◌≡◌, ◌≢◌, ◌≤◌, List, [], ◌∷◌, ◌++◌, length}
 use Rattle.mc_protocol.specs.declared.actor.Actor.{Actor}
 use Rattle.mc_protocol.specs.declared.fault.Fault.{Fault}
 use Rattle.mc_protocol.specs.Decimals.{SpellsNumber, MAX_64}
