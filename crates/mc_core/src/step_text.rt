@@ -1,5 +1,5 @@
 //! Reads the text of a step list.
-ghost use Rattle.std.specs.Prelude.{◌≡◌, ◌≢◌, ◌↔◌, List, [], ◌∷◌, IfOk, IfErr, OnOk};
+ghost use Rattle.std.specs.Prelude.{◌≡◌, ◌≢◌, ◌≤◌, ◌↔◌, List, [], ◌∷◌, IfOk, IfErr, OnOk};
 ghost use Rattle.mc_protocol.specs.declared.actor.Actor.{Actor};
 ghost use Rattle.mc_protocol.specs.Lines.{Words};
 ghost use Rattle.mc_core.specs.StepText.{SpellsSteps, steps_line};
@@ -25,6 +25,7 @@ pub fn parse_steps(
     ensures found { IfOk result (λ steps. SpellsSteps text.now steps.items) }
     ensures none { IfErr result (λ fault. fault.kind ≢ StepsKind.OutOfMemory
         → (steps : List (Actor × Event)) → SpellsSteps text.now steps → ⊥) }
+    ensures line { IfErr result (λ fault. fault.kind ≢ StepsKind.OutOfMemory → first_line ≤ fault.line) }
     ensures memory { IfErr result (λ fault. fault.kind ≡ StepsKind.OutOfMemory → fault.line ≡ 0) }
 {
     match read_text(alloc, text) {
