@@ -1,4 +1,5 @@
 -- What the crates above may cite.
+pub mod ActorWords
 pub mod Decimals
 pub mod Digits
 pub mod FirstItems

@@ -7,6 +7,7 @@ pub mod Lines
 pub mod Merge
 pub mod Names
 pub mod Sections
+pub mod Spelling
 pub mod Texts
 pub mod TextLines
 pub mod WordLines

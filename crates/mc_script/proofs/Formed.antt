@@ -16,6 +16,7 @@ use Rattle.mc_protocol.specs.Lines.{Word, Words}
 use Rattle.mc_protocol.specs.Names.{index_of}
 use Rattle.mc_protocol.specs.Decimals.{MAX_32, MAX_64}
 use Rattle.mc_protocol.specs.Words.{all_classes}
+use Rattle.mc_protocol.specs.Spelling.{SpellEach}
 use Rattle.mc_script.specs.declared.entry.Entry.{Entry}
 use Rattle.mc_script.specs.declared.entry.Entry.TheVariants as entry
 use Rattle.mc_script.specs.declared.entry.Mark.{Mark}
@@ -29,7 +30,7 @@ use Rattle.mc_script.specs.declared.step.Step.TheVariants as step
 use Rattle.mc_script.specs.declared.step.Template.{Template}
 use Rattle.mc_script.specs.Script.{Names, Section, Script}
 use Rattle.mc_script.specs.Marks.{SpellsMark, may_stand, may_stand_together, have_no_twins, shows_numbers, is_bind, is_number_jump, bound_by}
-use Rattle.mc_script.specs.SectionText.{SpellEach, SpellsAmount, SpellsUnique, SpellsFields, SpellsRequest, SpellsEntry, SpellsSection}
+use Rattle.mc_script.specs.SectionText.{SpellsAmount, SpellsUnique, SpellsFields, SpellsRequest, SpellsEntry, SpellsSection}
 use Rattle.mc_script.specs.Steps.{in_front, sends, goes, with_marks, jumps_on, label_after, labels_from, steps_from}
 use Rattle.mc_script.specs.declared.version.Version.{Version}
 use Rattle.mc_script.specs.ScriptText.{SpellsBudget, SpellsScript}

@@ -12,6 +12,10 @@ pub mod Declared
 pub mod NewNames
 pub mod WholeScript
 pub mod ScriptRead
+pub mod ScriptEnds
+pub mod FrontLines
+pub mod FrontReads
+pub mod Fronts
 pub mod Readings
 pub mod Bits
 pub mod Masks

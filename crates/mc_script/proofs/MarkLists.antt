@@ -7,13 +7,13 @@ use Rattle.mc_protocol.specs.declared.reply.Class.{Class}
 use Rattle.mc_protocol.specs.declared.reply.Class.TheVariants as class
 use Rattle.mc_protocol.specs.Lines.{Word, Words}
 use Rattle.mc_protocol.specs.Words.{class_word}
+use Rattle.mc_protocol.specs.Spelling.{SpellEach}
 use Rattle.mc_script.specs.declared.entry.Mark.{Mark}
 use Rattle.mc_script.specs.declared.entry.Mark.TheVariants as mark
 use Rattle.mc_script.specs.declared.entry.Sign.{Sign}
 use Rattle.mc_script.specs.declared.entry.Sign.TheVariants as sign
 use Rattle.mc_script.specs.Script.{Names}
 use Rattle.mc_script.specs.Marks.{SpellsMark, may_stand, are_twins, have_no_twins, is_bind, is_number_jump, may_stand_together, sign_byte}
-use Rattle.mc_script.specs.SectionText.{SpellEach}
 use Rattle.mc_script.specs.Reading.{mark_in, marks_in, may_join, joining, binds}
 use Rattle.mc_script.proofs.Outcomes.{then-some, some-same, only-then}
 use Rattle.mc_script.proofs.MarkWords.{mark-spelled, mark-read}

@@ -9,13 +9,13 @@ use Rattle.std.proofs.lemmas.Nat.Bits.{bit_at_and, bit_at_or, bit_at-pow_other, 
 use Rattle.std.proofs.lemmas.List.Quantifiers.{position-Some}
 use Rattle.mc_protocol.specs.Lines.{Word, Words}
 use Rattle.mc_protocol.specs.Legal.{same}
+use Rattle.mc_protocol.specs.Spelling.{SpellEach}
 use Rattle.mc_script.specs.declared.entry.Mark.{Mark}
 use Rattle.mc_script.specs.declared.entry.Mark.TheVariants as mark
 use Rattle.mc_script.specs.declared.entry.Sign.{Sign}
 use Rattle.mc_script.specs.declared.entry.Sign.TheVariants as sign
 use Rattle.mc_script.specs.Script.{Names}
 use Rattle.mc_script.specs.Marks.{SpellsMark, sign_byte, is_need, are_twins, have_no_twins, says, with_flag, mask_of}
-use Rattle.mc_script.specs.SectionText.{SpellEach}
 use Rattle.mc_script.specs.Reading.{sign_of}
 use Rattle.mc_script.proofs.Outcomes.{some-same}
 

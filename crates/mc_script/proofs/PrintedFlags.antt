@@ -10,6 +10,7 @@ use Rattle.std.proofs.lemmas.Nat.Bits.{bit_at_and, bit_at-lt, bit_at-zero}
 use Rattle.mc_protocol.specs.Lines.{Word, Words}
 use Rattle.mc_protocol.specs.Names.{index_of}
 use Rattle.mc_protocol.specs.Legal.{same}
+use Rattle.mc_protocol.specs.Spelling.{SpellEach}
 use Rattle.mc_script.specs.declared.entry.Mark.{Mark}
 use Rattle.mc_script.specs.declared.entry.Mark.TheVariants as mark
 use Rattle.mc_script.specs.declared.entry.Sign.{Sign}
@@ -17,7 +18,6 @@ use Rattle.mc_script.specs.declared.entry.Sign.TheVariants as sign
 use Rattle.mc_script.specs.declared.step.Template.{Template}
 use Rattle.mc_script.specs.Script.{Names}
 use Rattle.mc_script.specs.Marks.{SpellsMark, sign_byte, is_need, are_twins, have_no_twins, says, with_flag}
-use Rattle.mc_script.specs.SectionText.{SpellEach}
 use Rattle.mc_script.specs.PrintedScript.{flag_words, all_flag_words}
 use Rattle.mc_script.proofs.Masks.{gathered}
 

@@ -8,6 +8,7 @@ use Rattle.mc_protocol.specs.declared.reply.Class.{Class}
 use Rattle.mc_protocol.specs.Lines.{Word}
 use Rattle.mc_protocol.specs.Names.{are_distinct}
 use Rattle.mc_protocol.specs.Words.{class_index}
+use Rattle.mc_protocol.specs.Spelling.{SpellEach}
 use Rattle.mc_script.specs.declared.entry.Mark.{Mark}
 use Rattle.mc_script.specs.declared.entry.Mark.TheVariants as mark
 use Rattle.mc_script.specs.declared.entry.Sign.{Sign}
@@ -15,7 +16,6 @@ use Rattle.mc_script.specs.declared.section.Label.{Label}
 use Rattle.mc_script.specs.declared.step.Template.{Template}
 use Rattle.mc_script.specs.Script.{Names}
 use Rattle.mc_script.specs.Marks.{SpellsMark, are_twins, have_no_twins, may_stand, may_stand_together, shows_numbers, is_bind, is_number_jump}
-use Rattle.mc_script.specs.SectionText.{SpellEach}
 use Rattle.mc_script.specs.WellFormed.{AreJumps, MayBind, is_number_class, jumps_on_number}
 use Rattle.mc_script.specs.Templates.{IsTemplate}
 use Rattle.mc_script.specs.PrintedScript.{name_at, label_at, jump_words, bind_words, all_flag_words, mark_words}

@@ -10,6 +10,7 @@ use Rattle.mc_protocol.specs.Lines.{Word, Words}
 use Rattle.mc_protocol.specs.Names.{is_name, are_distinct}
 use Rattle.mc_protocol.specs.Sections as sections
 use Rattle.mc_protocol.specs.Words.{actor_word}
+use Rattle.mc_protocol.specs.Spelling.{SpellEach}
 use Rattle.mc_protocol.proofs.Decimals.{decimal-spells}
 use Rattle.mc_script.specs.declared.entry.Entry.{Entry}
 use Rattle.mc_script.specs.declared.entry.Entry.TheVariants as entry
@@ -23,7 +24,7 @@ use Rattle.mc_script.specs.Versions.{steps_limit}
 use Rattle.mc_script.specs.Script.{Names, Section, Script, section_of, longest, version_of}
 use Rattle.mc_script.specs.ScriptWords.{is_label_name, label_word}
 use Rattle.mc_script.specs.ScriptText.{SpellsBudget, header, names_line, names_lines, section_line, end_line, body_lines}
-use Rattle.mc_script.specs.SectionText.{SpellEach, SpellsEntry, SpellsSection, label_names}
+use Rattle.mc_script.specs.SectionText.{SpellsEntry, SpellsSection, label_names}
 use Rattle.mc_script.specs.Steps.{in_front, labels_from, steps_from}
 use Rattle.mc_script.specs.WellFormed.{AreSteps, AreLabels, IsSection, IsScript}
 use Rattle.mc_script.specs.PrintedScript.{label_lines, step_words, step_lines, section_lines, bodies_of, budget_line, script_lines, script_text, PrintedScriptsAreSpelled, PrintedScriptsAreReadAgain}

@@ -6,10 +6,11 @@ use Rattle.std.proofs.lemmas.Bool.{and_parts, and_from, ltb-true, lt-ltb}
 use Rattle.std.proofs.lemmas.Slice.Eq.{bytes_eq-Decides}
 use Rattle.mc_protocol.specs.Lines.{Word, Words, is_only}
 use Rattle.mc_protocol.specs.Names.{is_new, are_distinct}
+use Rattle.mc_protocol.specs.Spelling.{SpellEach}
 use Rattle.mc_script.specs.declared.entry.Entry.{Entry}
 use Rattle.mc_script.specs.declared.entry.Entry.TheVariants as entry
 use Rattle.mc_script.specs.Script.{Names}
-use Rattle.mc_script.specs.SectionText.{SpellEach, SpellsEntry}
+use Rattle.mc_script.specs.SectionText.{SpellsEntry}
 use Rattle.mc_script.specs.Steps.{◌>>=◌}
 use Rattle.mc_script.specs.Reading.{entry_in}
 use Rattle.mc_script.specs.TextReading.{entries_in, may_follow, following, step_count, with_label}

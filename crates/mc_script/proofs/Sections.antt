@@ -3,6 +3,7 @@ use Rattle.std.proofs.Common.{◌≡◌, ℕ, ◌+◌, ◌≤◌, true, Option, 
 use Rattle.mc_protocol.specs.Lines.{Word, Words}
 use Rattle.mc_protocol.specs.Names.{are_distinct}
 use Rattle.mc_protocol.specs.Words.{all_classes}
+use Rattle.mc_protocol.specs.Spelling.{SpellEach}
 use Rattle.mc_script.specs.declared.entry.Entry.{Entry}
 use Rattle.mc_script.specs.declared.entry.Entry.TheVariants as entry
 use Rattle.mc_script.specs.declared.section.Budget.{Budget}
@@ -12,7 +13,7 @@ use Rattle.mc_script.specs.declared.step.Step.TheVariants as step
 use Rattle.mc_script.specs.declared.version.Version.{Version}
 use Rattle.mc_script.specs.Versions.{steps_limit}
 use Rattle.mc_script.specs.Script.{Names, Section}
-use Rattle.mc_script.specs.SectionText.{SpellEach, SpellsEntry, SpellsSection, label_names}
+use Rattle.mc_script.specs.SectionText.{SpellsEntry, SpellsSection, label_names}
 use Rattle.mc_script.specs.Steps.{labels_from, steps_from, in_front, jumps_on, sends, goes, label_after}
 use Rattle.mc_script.specs.Reading.{entry_in}
 use Rattle.mc_script.specs.TextReading.{entries_in, section_in}

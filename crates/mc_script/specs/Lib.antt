@@ -4,6 +4,7 @@ pub use Rattle.mc_protocol.specs.Fields
 pub use Rattle.mc_protocol.specs.Legal
 pub use Rattle.mc_protocol.specs.Lines
 pub use Rattle.mc_protocol.specs.Names
+pub use Rattle.mc_protocol.specs.Spelling
 pub use Rattle.mc_protocol.specs.Words as VerbWords
 pub mod Versions
 pub mod Script
@@ -12,6 +13,7 @@ pub mod Marks
 pub mod Steps
 pub mod SectionText
 pub mod ScriptText
+pub mod FrontText
 pub mod Templates
 pub mod WellFormed
 pub mod PrintedScript
@@ -19,3 +21,4 @@ pub mod Kinds
 -- What private contracts cite.
 pub mod Reading
 pub mod TextReading
+pub mod FrontReading

@@ -7,6 +7,7 @@ use Rattle.mc_protocol.specs.declared.request.Fields.TheVariants as fields
 use Rattle.mc_protocol.specs.Lines.{Word, Words}
 use Rattle.mc_protocol.specs.Names.{are_distinct, index_of}
 use Rattle.mc_protocol.specs.Decimals.{SpellsNumber, MAX_32, MAX_64}
+use Rattle.mc_protocol.specs.Spelling.{SpellEach}
 use Rattle.mc_script.specs.declared.entry.Entry.{Entry}
 use Rattle.mc_script.specs.declared.entry.Entry.TheVariants as entry
 use Rattle.mc_script.specs.declared.entry.Mark.{Mark}
@@ -20,13 +21,6 @@ use Rattle.mc_script.specs.Script.{Names, Section}
 use Rattle.mc_script.specs.ScriptWords.{is_label_name, is_body, body_word, variable_word, label_word}
 use Rattle.mc_script.specs.Marks.{SpellsMark, may_stand_together}
 use Rattle.mc_script.specs.Steps.{labels_from, steps_from}
-
--- each item spells its value, one for one
-abbrev pub SpellEach : {X V : Type 0} → (X → V → Type 0) → List X → List V → Type 0
-SpellEach Spells [] [] = Unit {0}
-SpellEach Spells [] (value ∷ values) = ⊥
-SpellEach Spells (x ∷ xs) [] = ⊥
-SpellEach Spells (x ∷ xs) (value ∷ values) = Spells x value × SpellEach Spells xs values
 
 -- ---- `L:`
 

@@ -1,13 +1,14 @@
 //! Scripts: what the three sections of a run send, and the text that says it.
 //!
-//! Below it stands `mc_protocol`. The crates above use what a script is (`specs/Script.antt`),
-//! and what script a text spells (`specs/ScriptText.antt`).
+//! Below it stands `mc_protocol`. The crates above use what a script is (`specs/Script.antt`), what script a text spells
+//! (`specs/ScriptText.antt`), and what script the front of a text spells, if something may follow it (`specs/FrontText.antt`).
 #![tactic(auto)]
 
 mod declarations;
 mod entry;
 mod fault;
 mod fields;
+mod front;
 mod limits;
 mod lines;
 mod marks;
@@ -28,6 +29,7 @@ mod version;
 mod words;
 
 pub use fault::{ScriptFault, ScriptKind};
+pub use front::parse_front;
 pub use limits::{FLAGS_LIMIT, Mask, NAME_BYTES_LIMIT, STEPS_LIMIT, VARIABLES_LIMIT};
 pub use print_laws::{printed_scripts_are_read_again, printed_scripts_are_spelled};
 pub use print_script::print;
@@ -35,6 +37,6 @@ pub use script::Script;
 pub use section::{Budget, Label};
 pub use step::{Argument, Jumps, Step, Template};
 pub use text::parse;
-pub use text_laws::texts_spell_one_script;
+pub use text_laws::{fronts_spell_one_script, texts_spell_one_script};
 pub use version::Version;
 pub use words::is_body;

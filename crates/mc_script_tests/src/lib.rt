@@ -3,6 +3,8 @@
 #![tactic(auto)]
 
 #[cfg(test)]
+mod front_tests;
+#[cfg(test)]
 mod part_tests;
 #[cfg(test)]
 mod print_tests;

@@ -1,0 +1,86 @@
+//! A script that something may follow: how far it goes, and which fault another text has.
+
+use mc_script::ScriptKind::{Header, Line, Unended, UnknownLabel};
+use mc_script::{ScriptKind, parse_front, print};
+use std::alloc::Global;
+use std::test::Fail;
+
+static HEAD: &str = "script 1
+keys a
+budget P 2 26
+budget A 1 10
+budget B 1 10
+";
+
+// P stores 5, and both branches add 1.
+static SECTIONS: &str = "P\nset a 0 =5\nA\nincr a 1\nB\nincr a 1\n";
+
+// How a script may end, and what may follow it.
+static ENDS: &[(&str, &str)] = &[
+    ("end\n", ""),
+    ("end", ""),
+    ("end\r\n", ""),
+    ("\n# the end\n\t end \t\r\n", ""),
+    ("end\n", "steps\nend\n"),
+    ("end\n", "end\n"),
+    ("end\n", "end"),
+    ("end\n", "\n# what follows\n"),
+    ("end\n", "script 1\n"),
+    ("# end\n#end\nend\n", "P\nset b 0 =6\n"),
+    ("end\r\n", "\r\n\x00\x7f"),
+];
+
+// Texts of which no front is a script.
+static FAULTS: &[(&str, ScriptKind, u32)] = &[
+    ("", Header, 1),
+    ("end\n", Header, 1),
+    ("\n\nend\nscript 1\n", Header, 3),
+    ("script 1\nend\n", Header, 2),
+    ("script 1\nkeys a\n", Header, 3),
+];
+
+// The same of texts that begin with the lines of `HEAD`.
+static FAULTS_AFTER_HEAD: &[(&str, ScriptKind, u32)] = &[
+    ("", Unended, 6),
+    ("end\n", Line, 6),
+    ("P\nend\nA\nB\nend\n", Line, 7),
+    ("P\nA\nB\nend steps\n", Line, 9),
+    ("P\nA\nB\nend\r", Line, 9),
+    ("P\nA\nB\nsteps\nP begin\n", Line, 9),
+    ("P\nA\nB\nhalt\n# steps\n", Unended, 11),
+    ("P\nA\ngoto l\nB\nend\nl:\nend\n", UnknownLabel, 8),
+];
+
+fn fault_of(alloc: Global, text: &str) -> Option<(ScriptKind, u32)> {
+    match parse_front(alloc, text.as_bytes()) {
+        Ok(_) => None,
+        Err(fault) => Some((fault.kind, fault.line)),
+    }
+}
+
+#[test]
+fn reads_up_to_the_end(rt: HostRuntime) -> Result<(), Fail> {
+    let wanted = format!(in rt.alloc(); "{HEAD}{SECTIONS}end\n")?;
+    for (end, others) in ENDS {
+        let script = format!(in rt.alloc(); "{HEAD}{SECTIONS}{end}")?;
+        let text = format!(in rt.alloc(); "{script}{others}")?;
+        let (read, size) = parse_front(rt.alloc(), text.as_bytes())?;
+        let mut printed = Vec::new(rt.alloc());
+        print(rt.alloc(), &read, &mut printed)?;
+        assert_eq!(rt; size, script.len(), "{text}");
+        assert!(rt; printed.as_slice() == wanted.as_bytes(), "{text}");
+    }
+    Ok(())
+}
+
+#[test]
+fn tells_the_fault_of_a_front(rt: HostRuntime) -> Result<(), Fail> {
+    for (text, kind, line) in FAULTS {
+        assert_eq!(rt; fault_of(rt.alloc(), text), Some((*kind, *line)), "{text}");
+    }
+    for (others, kind, line) in FAULTS_AFTER_HEAD {
+        let text = format!(in rt.alloc(); "{HEAD}{others}")?;
+        assert_eq!(rt; fault_of(rt.alloc(), &text), Some((*kind, *line)), "{text}");
+    }
+    Ok(())
+}
