@@ -31,7 +31,7 @@ pub(crate) fn read_on(
     stage: Stage,
     piece: &[u8],
 ) -> Result<Step<Stage>, ReadFault>
-    requires { spec.IsStage shape.entry.verb shape.entry.key.now stage }
+    requires { spec.IsStage shape.verb shape.key.now stage }
     ensures { spec.IsStepFrom shape.entry.verb shape.entry.key.now (spec.stage_fed stage) piece.now result }
 {
     match stage {
