@@ -15,11 +15,11 @@ use Rattle.mc_protocol.specs.declared.request.Verb.{Verb}
 use Rattle.mc_reader.specs.Laws.{SpelledRepliesFit}
 use Rattle.mc_reader.specs.Lines.{text_of, line_says, says_of_text, end_says, end_fault_of_text, outcome_after}
 use Rattle.mc_reader.specs.Replies.{Outcome, hit_of, LastLineEnds, long_last, last_line, BodyEnds, not_cr, not_lf, after_crlf, BlockEnds, Ends, too_long, one_line, with_block}
-use Rattle.mc_reader.specs.Words.{reply_of_word, error_of, error_says, number_says, item_says, hit_says, others_say, text_says, says_after_word, says_after_words, words_of, first_word, are_spaces, are_item_words, is_too_large}
+use Rattle.mc_reader.specs.Words.{reply_of_word, error_of, error_says, number_says, item_says, hit_says, others_say, text_says, says_after_word, says_after_words, words_of, first_word, are_spaces, are_item_words, is_too_large, end_fault, end_fault_after}
 use Rattle.mc_reader.specs.declared.fault.ErrorKind.{ErrorKind}
 use Rattle.mc_reader.specs.declared.fault.ErrorKind.TheVariants.{Error, Client, Server}
 use Rattle.mc_reader.specs.declared.fault.ReadFault.{ReadFault}
-use Rattle.mc_reader.specs.declared.fault.ReadFault.TheVariants.{NotAReply, WrongKey, NumberTooLarge, DataTooLong, ErrorLine}
+use Rattle.mc_reader.specs.declared.fault.ReadFault.TheVariants.{NotAReply, WrongKey, NumberTooLarge, DataTooLong, ErrorLine, OutOfMemory, Failed}
 use Rattle.mc_reader.specs.declared.limits.TheConstants.{NUMBER_SPACES_LIMIT}
 use Rattle.mc_reader.specs.declared.said.HitLine.{HitLine}
 use Rattle.mc_reader.specs.declared.said.Said.{Said}
@@ -30,9 +30,15 @@ abbrev SaidFits : Verb → Said → Type 0
 SaidFits verb (Whole r) = is_fit_for verb r ≡ true
 SaidFits verb (Hit h) = (is_legal verb class.Hit ≡ true) × (same (is_some h.cas) (shows_number verb) ≡ true) × (h.body_len ≤ REPLY_BODY_LIMIT)
 
+-- a fault for which a line may fail: neither want of memory nor an answer before
+abbrev pub IsOfLine : ReadFault → Type 0
+IsOfLine OutOfMemory = ⊥
+IsOfLine Failed = ⊥
+IsOfLine fault = Unit {0}
+
 abbrev Fits : Verb → Result Said ReadFault → Type 0
 Fits verb (Ok said) = SaidFits verb said
-Fits verb (Err fault) = Unit {0}
+Fits verb (Err fault) = IsOfLine fault
 
 either_fits : (verb : Verb) (b : Bool) (x y : Result Said ReadFault) → (b ≡ true → Fits verb x) → (b ≡ false → Fits verb y) → Fits verb (cond b x y)
 either_fits verb true x y p q = p refl
@@ -159,6 +165,9 @@ of_text_fits verb key (Some text) = text_fits verb key text
 line_fits : (verb : Verb) (key : Word) (line : List ℕ) → Fits verb (line_says verb key line)
 line_fits verb key line = of_text_fits verb key (text_of line)
 
+pub line_fault : (verb : Verb) (key line : Word) (fault : ReadFault) → line_says verb key line ≡ Err fault → IsOfLine fault
+line_fault verb key line fault e = subst (Fits verb) e (line_fits verb key line)
+
 -- ---- whole replies
 
 whole_fits : (verb : Verb) (key line : Word) (r : Reply) → line_says verb key line ≡ Ok (Whole r) → is_fit_for verb r ≡ true
@@ -191,3 +200,28 @@ spelled_fits verb key text r (too_long p e) = absurd (cc)
 spelled_fits verb key text r (one_line line l e d) = whole_fits verb key line r e
 spelled_fits verb key text r (with_block line block hit l says p d) =
     rw (body_reply (hit_of hit p.body) r p.rest p.ends) (hit_body_fits verb hit p.body (hit_line_fits verb key line hit says) p.whole)
+
+-- ---- last lines
+
+abbrev IsLast : Option ReadFault → Type 0
+IsLast None = Unit {0}
+IsLast (Some fault) = IsOfLine fault
+
+after_error_last : (kind : Option ErrorKind) → IsOfLine (end_fault_after kind)
+after_error_last None = tt
+after_error_last (Some kind) = tt
+
+either_last : (b : Bool) (fault : ReadFault) → IsOfLine fault → IsLast (cond b None (Some fault))
+either_last true fault p = tt
+either_last false fault p = p
+
+text_last : (text : List ℕ) → IsLast (end_fault text)
+unfolding end_fault
+text_last text = either_last (bytes_eq text (codes "END")) (end_fault_after (error_of text)) (after_error_last (error_of text))
+
+of_text_last : (text : Option (List ℕ)) → IsLast (end_fault_of_text text)
+of_text_last None = tt
+of_text_last (Some text) = text_last text
+
+pub end_line_fault : (line : List ℕ) (fault : ReadFault) → end_fault_of_text (text_of line) ≡ Some fault → IsOfLine fault
+end_line_fault line fault e = subst IsLast e (of_text_last (text_of line))

@@ -1,6 +1,11 @@
 -- What these proofs alone cite.
+mod Blocks
+mod Feeding
+mod FirstLines
 mod Fits
+mod Gathers
 mod LineEnds
-mod Unique
-mod Unfinished
+mod Searches
 mod StepLemmas
+mod Unfinished
+mod Unique

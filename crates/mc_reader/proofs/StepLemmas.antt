@@ -1,9 +1,10 @@
 -- A step of a part of a piece is one of the whole.
-use Rattle.std.proofs.Common.{◌≡◌, ℕ, ◌+◌, Option, Some, Result, Ok, Err, List, [], ◌∷◌, ◌++◌, length, refl, sym, ap, ◌∙◌, subst, arith, append_assoc, Vec}
+use Rattle.std.proofs.Common.{◌≡◌, ℕ, ◌+◌, Option, Some, Result, Ok, Err, List, [], ◌∷◌, ◌++◌, length, take, drop, refl, sym, ap, ◌∙◌, subst, arith, append_assoc, Vec}
 use Rattle.std.specs.declared.alloc.Global.{Global}
 use Rattle.mc_protocol.specs.Lines.{Word}
 use Rattle.mc_protocol.specs.declared.request.Verb.{Verb}
 use Rattle.mc_reader.specs.Block.{IsBlockOf, block_read}
+use Rattle.mc_reader.specs.Gathered.{IsGathered}
 use Rattle.mc_reader.specs.Lines.{LF, IsLine, line_says}
 use Rattle.mc_reader.specs.Replies.{Outcome, BlockEnds, Ends, too_long, one_line, with_block}
 use Rattle.mc_reader.specs.Stages.{IsStageAt, IsStage, stage_fed, after_block}
@@ -17,6 +18,8 @@ use Rattle.mc_reader.specs.declared.stage.Stage.{Stage}
 use Rattle.mc_reader.specs.declared.stage.Stage.TheVariants as stage
 use Rattle.mc_reader.specs.declared.step.Step.{Step}
 use Rattle.mc_reader.specs.declared.step.Step.TheVariants.{More, Done}
+use Rattle.mc_reader.proofs.Blocks.{line_in}
+use Rattle.mc_reader.proofs.Fits.{IsOfLine}
 
 -- a piece of which a front was read before
 ends_after : (E : List ℕ → Outcome → Type 0) (text front piece : List ℕ) (outcome : Outcome) (unread : ℕ)
@@ -89,3 +92,32 @@ module _ (verb : Verb) (key line : Word) (hit : HitLine) (l : IsLine line) (says
   fault_with_line After Other text piece OutOfMemory p = tt
   fault_with_line After Other text piece Failed p = absurd p
   fault_with_line After Other text piece fault p = within_with_line text piece (Err fault) p
+
+-- ---- the first line and the block after it, in one piece
+
+-- a fault of a line
+pub fault_step : {S : Type 0} (E : List ℕ → Outcome → Type 0) (After : S → List ℕ → Type 0) (text piece : List ℕ) (fault : ReadFault)
+    → IsOfLine fault → EndsWithin E text piece (Err fault) → IsStep {S = S} E After text piece (Err fault)
+fault_step E After text piece OutOfMemory p w = tt
+fault_step E After text piece Failed p w = absurd p
+fault_step E After text piece fault p w = w
+
+module _ (verb : Verb) (key start after piece : List ℕ) (at : ℕ) (hit : HitLine) (g : IsGathered start after piece at)
+    (says : line_says verb key (start ++ take at piece) ≡ Ok (Hit hit)) where
+
+  pub hit_step : (kept : Vec ℕ Global) (step : Step Block) → kept.items ≡ start ++ take at piece
+      → IsStep (BlockEnds hit) (IsBlockOf hit) [] (drop (at + 1) piece) (Ok step)
+      → IsStep (Ends verb key) (IsStageAt verb key) start piece (Ok (after_block kept step))
+  hit_step kept step e p =
+      step_after (Ends verb key) (IsStageAt verb key) start (take at piece ++ LF ∷ []) (drop (at + 1) piece)
+      ((start ++ take at piece) ++ LF ∷ []) piece (Ok (after_block kept step))
+      (append_assoc start (take at piece) (LF ∷ [])) (sym (line_in piece at g.end_at))
+      (step_with_line verb key (start ++ take at piece) hit g.line says kept [] (drop (at + 1) piece) step e p)
+
+  pub hit_fault : (fault : ReadFault) → IsStep (BlockEnds hit) (IsBlockOf hit) [] (drop (at + 1) piece) (Err fault)
+      → IsStep (Ends verb key) (IsStageAt verb key) start piece (Err fault)
+  hit_fault fault p =
+      step_after (Ends verb key) (IsStageAt verb key) start (take at piece ++ LF ∷ []) (drop (at + 1) piece)
+      ((start ++ take at piece) ++ LF ∷ []) piece (Err fault)
+      (append_assoc start (take at piece) (LF ∷ [])) (sym (line_in piece at g.end_at))
+      (fault_with_line verb key (start ++ take at piece) hit g.line says (IsBlockOf hit) (IsStageAt verb key) [] (drop (at + 1) piece) fault p)
