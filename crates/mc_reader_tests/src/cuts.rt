@@ -50,6 +50,23 @@ fn is_read_at_cut(alloc: Global, shape: Shape<'_>, text: &[u8], cut: usize, want
         && is_over(&mut reader)
 }
 
+/// Feeds all but the last piece of `len` bytes, and answers that one, where the reader goes on at each of them.
+pub(crate) fn last_piece<'t>(
+    reader: &mut ReplyReader<'_>,
+    text: &'t [u8],
+    len: usize,
+) -> Option<&'t [u8]> {
+    let mut rest = text;
+    'pieces: while rest.len() > len && len > 0 {
+        let (piece, others) = rest.split_at(len);
+        if !goes_on(reader, piece) {
+            return None;
+        }
+        rest = others;
+    }
+    Some(rest)
+}
+
 /// Whether the text is answered so at its end, fed in pieces of `len` bytes, and not before.
 pub(crate) fn is_read_in_pieces(
     alloc: Global,
@@ -59,15 +76,10 @@ pub(crate) fn is_read_in_pieces(
     wanted: &Wanted,
 ) -> bool {
     let mut reader = ReplyReader::new(alloc, shape);
-    let mut rest = text;
-    while rest.len() > len && len > 0 {
-        let (piece, others) = rest.split_at(len);
-        if !goes_on(&mut reader, piece) {
-            return false;
-        }
-        rest = others;
+    match last_piece(&mut reader, text, len) {
+        Some(last) => answers(&mut reader, last, last.len(), wanted) && is_over(&mut reader),
+        None => false,
     }
-    answers(&mut reader, rest, rest.len(), wanted) && is_over(&mut reader)
 }
 
 /// Whether the text is answered so at its end: in one piece, byte by byte, at every cut, and where more bytes follow it in

@@ -1,5 +1,5 @@
 //! The longest lines and bodies.
-use crate::cuts::{goes_on, is_over, is_read_in_pieces, shape};
+use crate::cuts::{is_over, is_read_in_pieces, last_piece, shape};
 use crate::wanted::{Wanted, is_hit};
 use mc_protocol::{OutOfMemory, Verb};
 use mc_reader::{ErrorKind, Fed, ReadFault, ReplyReader};
@@ -60,17 +60,12 @@ fn refuses_longer_lines(rt: HostRuntime) -> Result<(), Fail> {
 // Whether a hit with this body is read in pieces of this length.
 fn is_hit_read(alloc: Global, text: &[u8], len: usize, body: &[u8]) -> bool {
     let mut reader = ReplyReader::new(alloc, shape(Verb::Get));
-    let mut rest = text;
-    while rest.len() > len && len > 0 {
-        let (piece, others) = rest.split_at(len);
-        if !goes_on(&mut reader, piece) {
-            return false;
-        }
-        rest = others;
-    }
-    match reader.feed(rest) {
+    let Some(last) = last_piece(&mut reader, text, len) else {
+        return false;
+    };
+    match reader.feed(last) {
         Ok(Fed::Done { reply, used }) => {
-            used == rest.len() && is_hit(&reply, 0, body, None) && is_over(&mut reader)
+            used == last.len() && is_hit(&reply, 0, body, None) && is_over(&mut reader)
         }
         _ => false,
     }
