@@ -1,0 +1,13 @@
+-- What these proofs alone cite.
+mod Blocks
+mod Feeding
+mod FirstLines
+mod Fits
+mod Gathers
+mod ItemLemmas
+mod LineEnds
+mod Searches
+mod StepLemmas
+mod TextLemmas
+mod Unfinished
+mod Unique
