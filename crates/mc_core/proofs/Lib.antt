@@ -1,0 +1,8 @@
+mod LogLemmas
+mod StepLemmas
+mod FoldLemmas
+mod NotedEvents
+mod Sending
+mod Admitting
+mod SmallNumbers
+mod Safe
