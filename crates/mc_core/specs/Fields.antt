@@ -1,0 +1,114 @@
+-- What the fields of a world say. No public contract cites these.
+use Rattle.std.specs.Prelude.{◌≡◌, ◌⊎◌, ◌↔◌, ℕ, ◌+◌, ◌*◌, ◌≤◌, Option, Some, None, List, [], ◌∷◌, ◌++◌, length, zip, flat_map, if◌then◌else◌}
+use Rattle.std.specs.Vec.{vec_items, vec_capacity, vec_len}
+use Rattle.mc_protocol.specs.Legal.{is_fit_for}
+use Rattle.mc_protocol.specs.Sections.{section_of}
+use Rattle.mc_protocol.specs.declared.actor.Actor.{Actor}
+use Rattle.mc_protocol.specs.declared.fault.Fault.{Fault}
+use Rattle.mc_protocol.specs.declared.limits.TheConstants.{REQUESTS_LIMIT}
+use Rattle.mc_protocol.specs.declared.reply.Reply.{Reply}
+use Rattle.mc_protocol.specs.declared.sections.Sections.{Sections}
+use Rattle.mc_code.specs.Calls.{template_of}
+use Rattle.mc_code.specs.Code.{Code}
+use Rattle.mc_code.specs.Runs.{Exchange}
+use Rattle.mc_code.specs.Standing.{ComesTo}
+use Rattle.mc_code.specs.States.{Tagged, State, ended}
+use Rattle.mc_code.specs.declared.instr.Call.{Call}
+use Rattle.mc_machine.specs.Machine as machines
+use Rattle.mc_machine.specs.declared.machine.Machine.{Machine}
+use Rattle.mc_model.specs.Notes.{is_same_section}
+use Rattle.mc_core.specs.declared.ending.Ending.{Ending}
+use Rattle.mc_core.specs.declared.ending.Ending.TheVariants as ending
+use Rattle.mc_core.specs.declared.event.Event.{Event}
+use Rattle.mc_core.specs.declared.event.Event.TheVariants as event
+use Rattle.mc_core.specs.declared.section.Section.{Section}
+use Rattle.mc_core.specs.Held.{Held}
+use Rattle.mc_core.specs.Logs.{Log}
+use Rattle.mc_core.specs.Safety.{AreSmall}
+use Rattle.mc_core.specs.Worlds.{World, Noted, events_of}
+
+-- ---- what is seen
+
+abbrev pub reply_in : Event → List Reply
+reply_in event.Begin = []
+reply_in (event.Reply reply) = reply ∷ []
+reply_in (event.Fail fault) = []
+
+-- the replies that were noted of a section
+abbrev pub replies_of : Actor → List Noted → List Reply
+replies_of who notes = flat_map reply_in (events_of who notes)
+
+abbrev pub waiting_in : Option Machine → Option Call
+waiting_in None = None
+waiting_in (Some m) = machines.outstanding_of m
+
+abbrev pub fault_in : Ending → Option Fault
+fault_in ending.NotBegun = None
+fault_in ending.Running = None
+fault_in ending.Done = None
+fault_in (ending.Failed fault) = Some fault
+
+-- a section's log: the first call that has a reply with the first reply, and so on
+abbrev pub log_in : List Noted → Actor → Section → Log
+log_in notes who s = record {
+  answered = zip s.answered.items (replies_of who notes);
+  waiting = waiting_in s.machine;
+  fault = fault_in s.ending;
+}
+
+abbrev pub world_in : Sections Section → List Noted → World
+world_in s notes = record {
+  logs = record { p = log_in notes actor.P s.p; a = log_in notes actor.A s.a; b = log_in notes actor.B s.b };
+  notes = notes;
+}
+
+abbrev pub held_in : Sections Section → List Noted → Held
+held_in s notes = record {
+  world = world_in s notes;
+  endings = record { p = s.p.ending; a = s.a.ending; b = s.b.ending };
+  machines = record { p = s.p.machine; a = s.a.machine; b = s.b.machine };
+}
+
+-- ---- what is kept
+
+-- each call that has a reply has one in the notes, and there is room for all calls
+pub record IsKept (notes : List Noted) (who : Actor) (s : Section) : Type 0 where
+  pub replies : length s.answered.items ≡ length (replies_of who notes)
+  pub room : REQUESTS_LIMIT ≤ vec_capacity s.answered
+
+-- the most notes that there may be
+abbrev pub MOST_NOTES : ℕ
+MOST_NOTES = 3 * (2 * REQUESTS_LIMIT + 1)
+
+-- ---- what an event does to a section
+
+-- the machine makes its next call
+pub record MakesNext (c : Code) (m n : Machine) : Type 0 where
+  pub made : Call
+  pub idle : machines.outstanding_of m ≡ None
+  pub outstanding : machines.outstanding_of n ≡ Some made
+  pub actor : machines.actor_of n ≡ machines.actor_of m
+  pub stands : (variables : List Tagged) (exchanges : List Exchange) (st : State)
+      → machines.IsAt c m variables exchanges st → machines.IsAt c n variables exchanges st
+
+-- the section is at its end, or goes on
+abbrev pub EndsAs : Code → Machine → Ending → Type 0
+EndsAs c m e = (variables : List Tagged) (exchanges : List Exchange) (st : State) → machines.IsAt c m variables exchanges st
+    → ((e ≡ ending.Done) × ComesTo c (machines.actor_of m) variables exchanges st ended)
+    ⊎ ((e ≡ ending.Running) × (ComesTo c (machines.actor_of m) variables exchanges st ended → ⊥))
+
+-- the machine takes the reply to its call
+pub record TakesReply (c : Code) (m : Machine) (made : Call) (reply : Reply) (n : Machine) : Type 0 where
+  pub waits : machines.outstanding_of m ≡ Some made
+  pub answered : machines.IsAnswered c m reply n
+  pub idle : machines.outstanding_of n ≡ None
+  pub actor : machines.actor_of n ≡ machines.actor_of m
+
+-- the section before and after an event that it takes
+abbrev pub Takes : Code → Section → Event → Section → Type 0
+Takes c s event.Begin t = (m : Machine) × (n : Machine) × (s.machine ≡ Some m) × (t.machine ≡ Some n) × MakesNext c m n
+    × (t.answered ≡ s.answered) × (t.ending ≡ s.ending)
+Takes c s (event.Reply reply) t = (m : Machine) × (n : Machine) × (made : Call) × (s.machine ≡ Some m) × (t.machine ≡ Some n)
+    × TakesReply c m made reply n
+    × (t.answered.items ≡ s.answered.items ++ made ∷ []) × (vec_capacity s.answered ≤ vec_capacity t.answered) × EndsAs c n t.ending
+Takes c s (event.Fail fault) t = (t.machine ≡ s.machine) × (t.answered ≡ s.answered) × (t.ending ≡ ending.Failed fault)

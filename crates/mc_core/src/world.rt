@@ -1,0 +1,1 @@
+//! What happens in three sections, event by event.
