@@ -66,8 +66,7 @@ impl Code {
 
     /// How many variables there are.
     pub fn vars(&self) -> usize
-        ensures vars { result ≡ self.now.vars }
-        ensures kept { spec.IsCode self.now }
+        ensures { result ≡ self.now.vars }
     {
         self.vars as usize
     }
@@ -91,15 +90,15 @@ impl Code {
     /// The template with this index.
     pub fn template(&self, index: u8) -> &Template
         requires { index < length self.now.templates }
-        ensures { slice_get self.now.templates index ≡ Some result.now }
+        ensures template { slice_get self.now.templates index ≡ Some result.now }
+        ensures kept { spec.IsCode self.now }
     {
         &self.templates[usize::from(index)]
     }
 
     /// The instructions of a section, which begins with the first.
     pub fn section(&self, actor: Actor) -> &[Instr]
-        ensures instructions { result.now ≡ (spec.section_of self.now actor).instructions }
-        ensures kept { spec.IsCode self.now }
+        ensures { result.now ≡ (spec.section_of self.now actor).instructions }
     {
         self.sections.get(actor).instructions.as_slice()
     }
@@ -107,9 +106,10 @@ impl Code {
     /// The instruction of a section at this place.
     pub fn instruction(&self, actor: Actor, place: usize) -> Instr
         requires { place < length (spec.instructions_in self.now actor) }
-        ensures { slice_get (spec.instructions_in self.now actor) place ≡ Some result }
+        ensures instruction { slice_get (spec.instructions_in self.now actor) place ≡ Some result }
+        ensures kept { spec.IsCode self.now }
     {
-        self.section(actor)[place]
+        self.sections.get(actor).instructions[place]
     }
 
     /// The request of a call: that of its template, with the call's number. Its key and its body are copies, for which

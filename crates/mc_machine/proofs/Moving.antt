@@ -1,5 +1,5 @@
 -- How a machine goes on: from one instruction to the next without a reply, and with one.
-use Rattle.std.proofs.Common.{◌≡◌, ◌≢◌, inl, inr, ℕ, ◌+◌, ◌<◌, ◌≤◌, ◌==◌, Bool, true, false, Option, Some, None, List, [], ◌∷◌, ◌++◌, length, slice_get, slice_set, slice_index, slice_index_or, refl, ap, sym, subst, ◌∙◌, arith, if◌then◌else◌}
+use Rattle.std.proofs.Common.{◌≡◌, ◌≢◌, ◌⊎◌, inl, inr, ℕ, ◌+◌, ◌<◌, ◌≤◌, ◌==◌, Bool, true, false, Some, None, List, [], ◌∷◌, ◌++◌, length, slice_get, slice_set, slice_index, slice_index_or, refl, ap, sym, subst, ◌∙◌, arith, if◌then◌else◌}
 use Rattle.std.proofs.Math.ListN.{length-set}
 use Rattle.std.proofs.lemmas.Bool.{eqb-true}
 use Rattle.std.proofs.lemmas.Bool.Decides.{eqb_tells}
@@ -7,16 +7,18 @@ use Rattle.std.proofs.lemmas.List.{append-nil, get_or-set_same, get_or-set_other
 use Rattle.std.proofs.lemmas.Option.{slice_get-get_or}
 use Rattle.mc_protocol.specs.Legal.{class_of, is_fit_for}
 use Rattle.mc_protocol.specs.declared.reply.Reply.{Reply}
-use Rattle.mc_script.specs.declared.step.Template.{Template}
+use Rattle.mc_script.specs.declared.limits.TheConstants.{VARIABLES_LIMIT}
+use Rattle.mc_code.specs.declared.limits.TheConstants.{INSTRUCTIONS_LIMIT}
 use Rattle.mc_code.specs.declared.instr.Call.{Call}
 use Rattle.mc_code.specs.declared.instr.Instr.{Instr}
 use Rattle.mc_code.specs.declared.instr.Instr.TheVariants as instr
-use Rattle.mc_code.specs.Calls.{IsCalling, exchange_of, no_template, template_of}
+use Rattle.mc_code.specs.Calls.{exchange_of, no_template, template_of}
 use Rattle.mc_code.specs.Code.{Code, IsCode, instructions_in}
 use Rattle.mc_code.specs.Paths.{Slides, entry_of}
 use Rattle.mc_code.specs.Runs.{Exchange, met_at}
 use Rattle.mc_code.specs.Standing.{StandsAt, is_right, met_in}
 use Rattle.mc_code.specs.States.{Tagged, nothing, State, initial_state, after_reply, after_bind, Outcome, is_number, nothing_to_bind, shown_of}
+use Rattle.mc_code.proofs.LookUps.{some_is}
 use Rattle.mc_code.proofs.RunLemmas.{run_sends, run_slides}
 use Rattle.mc_code.proofs.StepFacts.{fit_is_legal}
 use Rattle.mc_code.proofs.Stopping.{StopsAt, one_stop}
@@ -25,7 +27,7 @@ use Rattle.mc_verify.proofs.Right.{sound_right, sound_structured}
 use Rattle.mc_verify.proofs.RunKinds.{begins_length, run_keeps_length}
 use Rattle.mc_verify.proofs.Structured.{structured_slides, structured_stands, structured_template, structured_variable}
 use Rattle.mc_machine.specs.declared.machine.Machine.{Machine}
-use Rattle.mc_machine.specs.Machine.{AreNumbersOf, Follows, Goes, IsAt, IsOnWay, waits_at}
+use Rattle.mc_machine.specs.Machine.{AreNumbersOf, Follows, Goes, IsAnswered, IsAt, IsOnWay, IsTaken, MayBeAnswered, Stands, waits_at}
 
 -- ---- a machine on its way through sound code
 
@@ -66,12 +68,15 @@ bind_finds c m variables exchanges st v sound way at = by_number (is_number st.l
 
 pub follows_goto : (c : Code) (m : Machine) (target : ℕ) → slice_get (instructions_in c m.actor) m.place ≡ Some (instr.Goto target)
     → Follows c m (record m { place = target })
-follows_goto c m target at variables exchanges st way = (st, record {
-      begins = way.begins;
-      stands = run_slides way.stands (instr.Goto target) at refl;
-      numbers = way.numbers;
-      shown = way.shown;
-    })
+follows_goto c m target at variables exchanges st way = (
+  st,
+  record {
+    begins = way.begins;
+    stands = run_slides way.stands (instr.Goto target) at refl;
+    numbers = way.numbers;
+    shown = way.shown;
+  },
+)
 
 -- numbers and variables after the same change of both
 set_numbers : (numbers : List ℕ) (variables : List Tagged) (v : ℕ) (x : Tagged) (n : ℕ) → v < length numbers → v < length variables
@@ -97,7 +102,7 @@ set_numbers numbers variables v x n long inside same are w within = by_same (v =
         ]
 
 -- the state after a bind that was shown a number
-bound : ℕ → State → State
+abbrev bound : ℕ → State → State
 bound v st = record { variables = slice_set st.variables v st.last; last = st.last }
 
 pub follows_bind : (c : Code) (m : Machine) (v : ℕ) → IsSound c
@@ -107,13 +112,16 @@ follows_bind c m v sound at long variables exchanges st way =
     let declared : v < c.vars = structured_variable c m.actor (sound_structured c m.actor sound) m.place v at in
     let inside : v < length st.variables = subst (λ n. v < n) (sym (way_length c m variables exchanges st way)) declared in
     let is : after_bind v st ≡ bound v st =
-    ap (λ (b : Bool). if b then bound v st else st) (bind_finds c m variables exchanges st v sound way at) in (bound v st, record {
-      begins = way.begins;
-      stands =
-          subst (λ after. StandsAt c m.actor variables exchanges (m.place + 1) after) is (run_slides way.stands (instr.Bind v) at refl);
-      numbers = set_numbers m.numbers st.variables v st.last m.shown (omega (arith, declared, long)) inside way.shown way.numbers;
-      shown = way.shown;
-    })
+    ap (λ (b : Bool). if b then bound v st else st) (bind_finds c m variables exchanges st v sound way at) in (
+      bound v st,
+      record {
+        begins = way.begins;
+        stands =
+            subst (λ after. StandsAt c m.actor variables exchanges (m.place + 1) after) is (run_slides way.stands (instr.Bind v) at refl);
+        numbers = set_numbers m.numbers st.variables v st.last m.shown (omega (arith, declared, long)) inside way.shown way.numbers;
+        shown = way.shown;
+      },
+    )
 
 pub follows_self : (c : Code) (m : Machine) → Follows c m m
 follows_self c m variables exchanges st way = (st, way)
@@ -132,7 +140,30 @@ pub goes_ahead : (c : Code) (m : Machine) (i : Instr) (q : ℕ) → IsSound c
     → (m.place < q) × (q < length (instructions_in c m.actor))
 goes_ahead c m i q sound at leads = structured_slides c m.actor (sound_structured c m.actor sound) i m.place q at leads
 
+-- a bind's variable is one of a machine's numbers
+pub goes_declared : (c : Code) (m : Machine) (v : ℕ) → IsSound c → IsCode c
+    → slice_get (instructions_in c m.actor) m.place ≡ Some (instr.Bind v) → v < VARIABLES_LIMIT
+goes_declared c m v sound kept at =
+    let declared = structured_variable c m.actor (sound_structured c m.actor sound) m.place v at in
+    let few = kept.vars in omega (arith, declared, few)
+
+-- a section is short, so its places are bytes
+pub goes_short : (c : Code) (m : Machine) (i : Instr) (q : ℕ) → IsSound c → IsCode c
+    → slice_get (instructions_in c m.actor) m.place ≡ Some i → Slides i m.place q → (m.place < q) × (q < INSTRUCTIONS_LIMIT)
+goes_short c m i q sound kept at leads =
+    let ahead = goes_ahead c m i q sound at leads in
+    let few = (kept.sections m.actor).few in
+    let inside = ahead.1 in
+    (ahead.0, omega (arith, inside, few))
+
 -- ---- with a reply
+
+-- the machine at another place, with this number shown, and no call outstanding
+abbrev pub taken : Machine → ℕ → ℕ → Machine
+taken m place shown = record { actor = m.actor; place = place; numbers = m.numbers; shown = shown; outstanding = None }
+
+same_index : (m n : ℕ) (xs ys : List ℕ) → Some (instr.Send m xs) ≡ Some (instr.Send n ys) → m ≡ n
+same_index m n xs ys e = cc
 
 pub stops_waiting : (section : List Instr) (p : ℕ) → waits_at (slice_get section p) ≡ true → StopsAt section p
 stops_waiting section p waits i q at leads = by_instr i (sym (ap waits_at at) ∙ waits) leads
@@ -154,12 +185,19 @@ sends_there c m variables exchanges st made at outstanding =
     m.place st at.way.stands (stops_waiting section m.place at.waits) in
     (calling.next, sym (ap (slice_get section) same.0) ∙ calling.sends)
 
-pub takes : (c : Code) (m : Machine) (variables : List Tagged) (exchanges : List Exchange) (st : State) (made : Call) (reply : Reply)
+-- a send is no other instruction
+pub sends_alone : (i : Instr) (n : ℕ) (next : List ℕ) → i ≡ instr.Send n next
+    → ((v : ℕ) × (i ≡ instr.Bind v)) ⊎ (((target : ℕ) × (i ≡ instr.Goto target)) ⊎ (i ≡ instr.Halt)) → ⊥
+sends_alone i n next is (inl (v, e)) = absurd (cc)
+sends_alone i n next is (inr (inl (target, e))) = absurd (cc)
+sends_alone i n next is (inr (inr e)) = absurd (cc)
+
+takes : (c : Code) (m : Machine) (variables : List Tagged) (exchanges : List Exchange) (st : State) (made : Call) (reply : Reply)
     (next : List ℕ) (shown : ℕ) → IsSound c → IsAt c m variables exchanges st
     → slice_get (instructions_in c m.actor) m.place ≡ Some (instr.Send made.template next)
     → is_fit_for (template_of c made).verb reply ≡ true → ((key : ℕ) → shown ≡ (shown_of key reply).1)
-    → IsOnWay c (record { actor = m.actor; place = entry_of next (class_of reply); numbers = m.numbers; shown = shown; outstanding = None })
-    variables (exchanges ++ exchange_of c (made, reply) ∷ []) (after_reply (template_of c made) reply st)
+    → IsOnWay c (taken m (entry_of next (class_of reply)) shown) variables (exchanges ++ exchange_of c (made, reply) ∷ [])
+    (after_reply (template_of c made) reply st)
 takes c m variables exchanges st made reply next shown sound at there fit is_shown =
     let t = template_of c made in
     let inside = structured_template c m.actor (sound_structured c m.actor sound) m.place made.template next there in
@@ -170,3 +208,35 @@ takes c m variables exchanges st made reply next shown sound at there fit is_sho
       numbers = at.way.numbers;
       shown = is_shown t.key;
     }
+
+-- a machine that goes where the class of a fitting reply leads takes the reply
+pub takes_reply : (c : Code) (m : Machine) (reply : Reply) (n : ℕ) (next : List ℕ) (shown : ℕ) → IsSound c → MayBeAnswered c m reply
+    → slice_get (instructions_in c m.actor) m.place ≡ Some (instr.Send n next) → ((key : ℕ) → shown ≡ (shown_of key reply).1)
+    → IsTaken c m reply (taken m (entry_of next (class_of reply)) shown)
+takes_reply c m reply n next shown sound (asked, waits, fit) there is_shown made variables exchanges st outstanding at =
+    let one : asked ≡ made = some_is asked made (sym waits ∙ outstanding) in
+    let sends = sends_there c m variables exchanges st made at outstanding in
+    let named : n ≡ made.template = same_index n made.template next sends.0 (sym there ∙ sends.1) in
+    let there' = subst (λ n. slice_get (instructions_in c m.actor) m.place ≡ Some (instr.Send n next)) named there in
+    let fit' = subst (λ (made : Call). is_fit_for (template_of c made).verb reply ≡ true) one fit in
+    (after_reply (template_of c made) reply st, takes c m variables exchanges st made reply next shown sound at there' fit' is_shown)
+
+-- ---- the whole answer
+
+pub taken_goes : (c : Code) (m n : Machine) (reply : Reply) → Stands c m → MayBeAnswered c m reply → IsTaken c m reply n → Goes c n
+taken_goes c m n reply (variables, exchanges, st, at) (made, waits, fit) takes =
+    let after = takes made variables exchanges st waits at in (variables, exchanges ++ exchange_of c (made, reply) ∷ [], after.0, after.1)
+
+pub stands_after : (c : Code) (n : Machine) (variables : List Tagged) (exchanges : List Exchange) (st : State)
+    → IsOnWay c n variables exchanges st → waits_at (slice_get (instructions_in c n.actor) n.place) ≡ true → n.outstanding ≡ None
+    → IsAt c n variables exchanges st
+stands_after c n variables exchanges st way waits idle =
+    record { way = way; waits = waits; outstanding = λ made e. absurd (let clash : None ≡ Some made = sym idle ∙ e in cc) }
+
+pub taken_answers : (c : Code) (m n o : Machine) (reply : Reply) → IsTaken c m reply n → Follows c n o
+    → waits_at (slice_get (instructions_in c o.actor) o.place) ≡ true → o.outstanding ≡ None → IsAnswered c m reply o
+taken_answers c m n o reply takes follows waits idle made variables exchanges st outstanding at =
+    let taken = takes made variables exchanges st outstanding at in
+    let more = exchanges ++ exchange_of c (made, reply) ∷ [] in
+    let after = follows variables more taken.0 taken.1 in
+    (after.0, stands_after c o variables more after.0 after.1 waits idle)

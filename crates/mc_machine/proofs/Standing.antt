@@ -1,5 +1,5 @@
 -- Where a machine starts, the call that it makes, and its end.
-use Rattle.std.proofs.Common.{◌≡◌, ◌↔◌, ℕ, ◌<◌, ◌≤◌, Bool, true, false, Option, Some, None, List, [], length, replicate, slice_get, slice_index, slice_index_or, refl, ap, sym, subst, ◌∙◌, arith, if◌then◌else◌}
+use Rattle.std.proofs.Common.{◌≡◌, ◌↔◌, ◌⊎◌, inl, inr, ℕ, zero, suc, ◌<◌, Bool, true, false, Option, Some, None, List, [], length, replicate, slice_get, slice_index, slice_index_or, refl, ap, sym, subst, ◌∙◌, arith, if◌then◌else◌}
 use Rattle.std.proofs.lemmas.List.{get_or-replicate, length-replicate}
 use Rattle.mc_protocol.specs.declared.actor.Actor.{Actor}
 use Rattle.mc_protocol.specs.declared.actor.Actor.TheVariants as actor
@@ -13,7 +13,7 @@ use Rattle.mc_code.specs.declared.kind.Kind.TheVariants as kind
 use Rattle.mc_code.specs.Calls.{IsCalling}
 use Rattle.mc_code.specs.Code.{Code, IsCode, instructions_in}
 use Rattle.mc_code.specs.Runs.{Exchange, met_at, met_by_send, rests}
-use Rattle.mc_code.specs.Standing.{ComesTo, BeginsWith, is_right, met_in, no_variables}
+use Rattle.mc_code.specs.Standing.{ComesTo, BeginsAfter, BeginsWith, is_right, met_in, no_variables}
 use Rattle.mc_code.specs.States.{Tagged, nothing, State, initial_state, call, wrong_kind, nothing_to_bind, ended, call_with, with_argument, send_outcome, wanted_by, is_same, is_number}
 use Rattle.mc_code.proofs.LookUps.{some_is}
 use Rattle.mc_code.proofs.Stopping.{one_stop}
@@ -23,7 +23,8 @@ use Rattle.mc_verify.proofs.FaultsAt.{variable_declared}
 use Rattle.mc_verify.proofs.Right.{sound_structured}
 use Rattle.mc_verify.proofs.Structured.{structured_template}
 use Rattle.mc_machine.specs.declared.machine.Machine.{Machine}
-use Rattle.mc_machine.specs.Machine.{AreNumbersOf, IsAt, IsOnWay, StartsFrom, plain_number, waits_at}
+use Rattle.mc_machine.specs.Laws.{EndsStartBranches}
+use Rattle.mc_machine.specs.Machine.{AreNumbersOf, Goes, IsAt, IsOnWay, StartsFrom, numbers_of, plain_number, waits_at}
 use Rattle.mc_machine.proofs.Moving.{stops_waiting, way_length, way_right}
 
 -- ---- the start
@@ -39,12 +40,23 @@ pub starts_on_way : (c : Code) (a : Actor) (given numbers : List ℕ) (variables
 starts_on_way c a given numbers variables starts are =
     record { begins = starts_begun c a given variables starts; stands = rests; numbers = are; shown = refl }
 
+-- a machine that starts so is on its way
+pub starts_goes : (c : Code) (a : Actor) (given numbers : List ℕ) → ((variables : List Tagged) × StartsFrom c a given variables)
+    → ((c : Code) (variables : List Tagged) → StartsFrom c a given variables → AreNumbersOf numbers variables)
+    → Goes c (record { actor = a; place = 0; numbers = numbers; shown = 0; outstanding = None })
+starts_goes c a given numbers (variables, starts) are =
+    (variables, [], initial_state variables, starts_on_way c a given numbers variables starts (are c variables starts))
+
+zeros : (size v : ℕ) → slice_index (replicate size 0) v ≡ 0
+zeros zero v = refl
+zeros (suc size) zero = refl
+zeros (suc size) (suc v) = zeros size v
+
 -- numbers that are all 0 are those of variables that have none
-pub no_numbers : (c : Code) (size : ℕ) (variables : List Tagged) → variables ≡ no_variables c → c.vars ≤ size
-    → AreNumbersOf (replicate size 0) variables
-no_numbers c size variables is long v inside =
+pub no_numbers : (c : Code) (size : ℕ) (variables : List Tagged) → variables ≡ no_variables c → AreNumbersOf (replicate size 0) variables
+no_numbers c size variables is v inside =
     let declared : v < c.vars = subst (λ n. v < n) (ap length is ∙ length-replicate c.vars nothing) inside in
-    get_or-replicate size v 0 0 (omega (arith, declared, long))
+    zeros size v
     ∙ sym (ap (λ (variables : List Tagged). (slice_index_or variables v nothing).1) is
     ∙ ap (λ (x : Tagged). x.1) (get_or-replicate c.vars v nothing nothing declared))
 
@@ -150,3 +162,36 @@ template_there c m n next sound at = structured_template c m.actor (sound_struct
 pub declared_there : (c : Code) (n : ℕ) (t : Template) → IsCode c → slice_get c.templates n ≡ Some t → (v : ℕ) → t.argument ≡ argument.Variable v
     → v < VARIABLES_LIMIT
 declared_there c n t kept named v is = let declared = variable_declared c n t kept named v is in let few = kept.vars in omega (arith, declared, few)
+
+pub ends_at_no_send : (c : Code) (m : Machine) (variables : List Tagged) (exchanges : List Exchange) (st : State) (n : ℕ) (next : List ℕ)
+    → IsAt c m variables exchanges st → slice_get (instructions_in c m.actor) m.place ≡ Some (instr.Send n next)
+    → ComesTo c m.actor variables exchanges st ended → ⊥
+ends_at_no_send c m variables exchanges st n next at there comes =
+    let halt : Some (instr.Send n next) ≡ Some instr.Halt = sym there ∙ (halts_at_end c m variables exchanges st at).1 comes in
+    absurd (cc)
+
+-- where a machine stands at no send, its section is done
+pub ends_elsewhere : (c : Code) (m : Machine) (variables : List Tagged) (exchanges : List Exchange) (st : State) (i : Instr)
+    → IsAt c m variables exchanges st → slice_get (instructions_in c m.actor) m.place ≡ Some i
+    → ((v : ℕ) × (i ≡ instr.Bind v)) ⊎ (((target : ℕ) × (i ≡ instr.Goto target)) ⊎ (i ≡ instr.Halt))
+    → ComesTo c m.actor variables exchanges st ended
+ends_elsewhere c m variables exchanges st i at there other = by_instr other
+  where
+    waits : waits_at (Some i) ≡ true
+    waits = ap waits_at (sym there) ∙ at.waits
+
+    by_instr : ((v : ℕ) × (i ≡ instr.Bind v)) ⊎ (((target : ℕ) × (i ≡ instr.Goto target)) ⊎ (i ≡ instr.Halt))
+        → ComesTo c m.actor variables exchanges st ended
+    by_instr (inl (v, e)) = absurd (let clash : false ≡ true = ap (λ i. waits_at (Some i)) (sym e) ∙ waits in cc)
+    by_instr (inr (inl (target, e))) = absurd (let clash : false ≡ true = ap (λ i. waits_at (Some i)) (sym e) ∙ waits in cc)
+    by_instr (inr (inr e)) = (halts_at_end c m variables exchanges st at).0 (there ∙ ap Some e)
+
+-- ---- from P to the branches
+
+pub ends_start_branches : EndsStartBranches
+ends_start_branches c m branch exchanges st at is comes (inl e) =
+    subst (λ branch. StartsFrom c branch (numbers_of m) st.variables × BeginsAfter c exchanges branch st.variables) (sym e)
+    (((exchanges, (st, comes, refl)), at.way.numbers), (st, comes, refl))
+ends_start_branches c m branch exchanges st at is comes (inr e) =
+    subst (λ branch. StartsFrom c branch (numbers_of m) st.variables × BeginsAfter c exchanges branch st.variables) (sym e)
+    (((exchanges, (st, comes, refl)), at.way.numbers), (st, comes, refl))

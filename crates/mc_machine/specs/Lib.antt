@@ -1,2 +1,3 @@
 -- What the public contracts cite.
 pub mod Machine
+pub mod Laws

@@ -6,6 +6,8 @@
 //! that `mc_code` defines, with the call that it makes there.
 #![tactic(auto)]
 
+mod laws;
 mod machine;
 
+pub use laws::ends_start_branches;
 pub use machine::Machine;

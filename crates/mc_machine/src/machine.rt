@@ -108,15 +108,15 @@ impl Machine {
             → (result ≡ true) ↔ ComesTo checked.now.code (spec.actor_of self.now) variables exchanges st ended }
     {
         matches!(
-            checked.code().instruction(self.actor, usize::from(self.place)),
+            checked
+                .code()
+                .instruction(self.actor, usize::from(self.place)),
             Instr::Halt
         )
     }
 
     /// The call of the send at which it stands, which names the template with this index.
-    #[tactic(auto, using(crate::proofs::Standing::calls_there, crate::proofs::Standing::template_there, crate::proofs::Standing::declared_there))]
     fn call(&self, code: &Code, template: u8) -> Call
-        requires kept { codes.IsCode code.now }
         requires sound { IsSound code.now }
         requires goes { spec.Goes code.now self.now }
         requires sends { (next : List ℕ) × (slice_get (codes.instructions_in code.now self.now.actor) self.now.place ≡ Some (instr.Send template next)) }
@@ -194,9 +194,9 @@ impl Machine {
 }
 
 /// The numbers with which a section begins: those that are given to a branch, and none in P.
+#[tactic(auto, using(crate::proofs::Standing::no_numbers))]
 fn first_numbers(actor: Actor, given: [u64; VARIABLES_LIMIT]) -> [u64; VARIABLES_LIMIT]
-    ensures { (c : Code) (variables : List Tagged) → c.vars ≤ VARIABLES_LIMIT → spec.StartsFrom c actor given variables
-        → spec.AreNumbersOf result variables }
+    ensures { (c : Code) (variables : List Tagged) → spec.StartsFrom c actor given variables → spec.AreNumbersOf result variables }
 {
     match actor {
         Actor::P => [0; VARIABLES_LIMIT],
@@ -210,7 +210,8 @@ fn number_shown(reply: &Reply) -> u64
 {
     match reply {
         Reply::Hit {
-            cas: Some(number), ..
+            cas: Some(number),
+            ..
         } => *number,
         Reply::Number(number) => *number,
         _ => 0,

@@ -1,0 +1,8 @@
+//! What follows from where a machine stands, whatever the code is.
+ghost use Rattle.mc_machine.specs.Laws.{EndsStartBranches};
+
+/// A branch may start from the numbers that P has at its end.
+#[tactic(auto, using(crate::proofs::Standing::ends_start_branches))]
+pub fn ends_start_branches()
+    ensures { EndsStartBranches }
+{}
