@@ -13,7 +13,7 @@ use Rattle.mc_code.specs.Paths.{IsComplete}
 use Rattle.mc_code.specs.Paths as path
 use Rattle.mc_code.specs.RunLaws.{edges_of}
 use Rattle.mc_code.specs.declared.instr.Call.{Call}
-use Rattle.mc_code.proofs.RunLemmas.{ends_are_complete}
+use Rattle.mc_code.proofs.RunLemmas.{ends_complete}
 use Rattle.mc_verify.specs.Faults.{IsSound}
 use Rattle.mc_verify.specs.Flags.{IsAdmitted, all_clear}
 use Rattle.mc_verify.specs.Laws.{MaySend}
@@ -62,7 +62,7 @@ done_sent c w calls done (inr are) = are ∙ templates_exchanged c (log_of w act
 
 done_complete : (c : Code) (w : World) → IsDone c w actor.P
     → IsComplete c.templates (instructions_in c actor.P) (edges_of (exchanges_of c w actor.P))
-done_complete c w done = let over = done.2 in ends_are_complete c actor.P over.0 (exchanges_of c w actor.P) over.1 over.3
+done_complete c w done = let over = done.2 in ends_complete c actor.P over.0 (exchanges_of c w actor.P) over.1 over.3
 
 -- P is done, or nothing has happened in the branches
 abbrev Branches : Code → World → Type 0

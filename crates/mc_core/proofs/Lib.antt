@@ -6,3 +6,4 @@ mod Sending
 mod Admitting
 mod SmallNumbers
 mod Safe
+pub mod MachineLemmas

@@ -89,13 +89,13 @@ count_open (Some made) (Some fault) = omega arith
 
 few_events : (log : Log) → length (events_in log) ≤ 2 * length (calls_in log) + 1
 few_events log =
-    let open = count_open log.waiting log.fault in
+    let last = count_open log.waiting log.fault in
     let pairs = count_pairs log.answered in
     let events = length-append (flat_map events_of_pair log.answered)
     (map begin_of (option_to_list log.waiting) ++ map event.Fail (option_to_list log.fault)) in
     let calls = length-append (map call_of log.answered) (option_to_list log.waiting) in
     let mapped = length-map log.answered call_of in
-    omega (arith, open, pairs, events, calls, mapped)
+    omega (arith, last, pairs, events, calls, mapped)
 
 pub few_notes : (w : World) (most : ℕ) → AreNoted w → ((who : Actor) → length (calls_in (log_of w who)) ≤ most) → length w.notes ≤ 3 * (2 * most + 1)
 few_notes w most noted few =

@@ -181,7 +181,7 @@ ran_right c w who sound (inr right) =
 -- ---- all of it
 
 pub folds_safe : FoldsAreSafe
-folds_safe c events w skipped kept sound fold small =
+folds_safe c events w skipped sound fold small =
     let right = fold_right c fold in
     let noted = fold_noted c fold in record {
       noted = noted;

@@ -1,5 +1,5 @@
 -- What the sections of a right world have sent: calls of paths, within the budgets, which find the flags as they need them.
-use Rattle.std.proofs.Common.{◌≡◌, ◌⊎◌, inl, inr, ℕ, ◌≤◌, Option, Some, None, List, [], ◌∷◌, ◌++◌, length, map, slice_get, slice_index_or, refl, ap, sym, subst, ◌∙◌, arith}
+use Rattle.std.proofs.Common.{◌≡◌, ◌⊎◌, inl, inr, ℕ, ◌<◌, ◌≤◌, Option, Some, None, List, [], ◌∷◌, ◌++◌, length, map, slice_get, slice_index_or, refl, ap, sym, subst, ◌∙◌, arith}
 use Rattle.std.specs.Option.{option_to_list}
 use Rattle.std.proofs.lemmas.Bool.{cases_lt}
 use Rattle.std.proofs.lemmas.List.{append-nil, append_assoc, map-append}
@@ -69,9 +69,9 @@ pub calling_opens : (c : Code) (who : Actor) (variables : List Tagged) (exchange
     → IsCalling c who variables exchanges made
     → (place : ℕ) × Opens c who place (calls_of (edges_of exchanges) ++ template_of c made ∷ [])
 calling_opens c who variables exchanges made calling =
-    let open = calls_open c who variables exchanges made calling in
-    let same : template_of c made ≡ open.1 = get_or_from_slice_get c.templates made.template open.1 no_template open.2 in
-    (open.0, subst (λ t. Opens c who open.0 (calls_of (edges_of exchanges) ++ t ∷ [])) (sym same) open.3)
+    let opens = calls_open c who variables exchanges made calling in
+    let same : template_of c made ≡ opens.1 = get_or_from_slice_get c.templates made.template opens.1 no_template opens.2 in
+    (opens.0, subst (λ t. Opens c who opens.0 (calls_of (edges_of exchanges) ++ t ∷ [])) (sym same) opens.3)
 
 pub all_sent : (c : Code) (who : Actor) (variables : List Tagged) (log : Log) → IsRightLog c who variables log → MaySend c who (sent_in c log)
 all_sent c who variables log right = by_waiting log.waiting refl

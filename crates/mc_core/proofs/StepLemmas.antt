@@ -36,7 +36,7 @@ pub done_leaves : (c : Code) (w : World) → IsDone c w actor.P → (variables :
 done_leaves c w done =
     let over = done.2 in
     let st = over.1 in
-    (st.variables, st, subst (λ vs. ComesTo c actor.P vs (exchanges_of c w actor.P) st ended) over.2 over.3, refl)
+    (st.variables, (st, subst (λ vs. ComesTo c actor.P vs (exchanges_of c w actor.P) st ended) over.2 over.3, refl))
 
 -- each section that has begun has variables
 pub begun_begins : (c : Code) (w : World) (who : Actor) → IsBegun c w who → (variables : List Tagged) × BeginsIn c w who variables

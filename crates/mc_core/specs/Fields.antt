@@ -1,9 +1,10 @@
 -- What the fields of a world say. No public contract cites these.
-use Rattle.std.specs.Prelude.{◌≡◌, ◌⊎◌, ◌↔◌, ℕ, ◌+◌, ◌*◌, ◌≤◌, Option, Some, None, List, [], ◌∷◌, ◌++◌, length, zip, flat_map, if◌then◌else◌}
-use Rattle.std.specs.Vec.{vec_items, vec_capacity, vec_len}
+use Rattle.std.specs.Prelude.{◌≡◌, ◌≢◌, ◌⊎◌, ℕ, ◌+◌, ◌*◌, ◌<◌, ◌≤◌, Option, Some, None, List, [], ◌∷◌, ◌++◌, length, zip, flat_map, if◌then◌else◌}
+use Rattle.std.specs.Vec.{vec_capacity, vec_len}
 use Rattle.mc_protocol.specs.Legal.{is_fit_for}
 use Rattle.mc_protocol.specs.Sections.{section_of}
 use Rattle.mc_protocol.specs.declared.actor.Actor.{Actor}
+use Rattle.mc_protocol.specs.declared.actor.Actor.TheVariants as actor
 use Rattle.mc_protocol.specs.declared.fault.Fault.{Fault}
 use Rattle.mc_protocol.specs.declared.limits.TheConstants.{REQUESTS_LIMIT}
 use Rattle.mc_protocol.specs.declared.reply.Reply.{Reply}
@@ -22,6 +23,8 @@ use Rattle.mc_core.specs.declared.ending.Ending.TheVariants as ending
 use Rattle.mc_core.specs.declared.event.Event.{Event}
 use Rattle.mc_core.specs.declared.event.Event.TheVariants as event
 use Rattle.mc_core.specs.declared.section.Section.{Section}
+use Rattle.mc_core.specs.declared.step_refusal.StepRefusal.{StepRefusal}
+use Rattle.mc_core.specs.declared.step_refusal.StepRefusal.TheVariants as refusal
 use Rattle.mc_core.specs.Held.{Held}
 use Rattle.mc_core.specs.Logs.{Log}
 use Rattle.mc_core.specs.Safety.{AreSmall}
@@ -76,9 +79,32 @@ pub record IsKept (notes : List Noted) (who : Actor) (s : Section) : Type 0 wher
   pub replies : length s.answered.items ≡ length (replies_of who notes)
   pub room : REQUESTS_LIMIT ≤ vec_capacity s.answered
 
--- the most notes that there may be
-abbrev pub MOST_NOTES : ℕ
-MOST_NOTES = 3 * (2 * REQUESTS_LIMIT + 1)
+-- the same of all sections; there is room for all notes, and the numbers that were noted have at most 64 bits
+pub record AreKept (s : Sections Section) (notes : List Noted) (capacity : ℕ) : Type 0 where
+  pub sections : (who : Actor) → IsKept notes who (section_of s who)
+  pub room : 3 * (2 * REQUESTS_LIMIT + 1) ≤ capacity
+  pub small : AreSmall notes
+
+-- ---- what is against an event
+
+-- where the section goes on
+abbrev pub refusal_of : Code → Option Call → Event → Option StepRefusal
+refusal_of c None event.Begin = None
+refusal_of c (Some made) event.Begin = Some refusal.Waiting
+refusal_of c None (event.Reply reply) = Some refusal.NotWaiting
+refusal_of c (Some made) (event.Reply reply) = if is_fit_for (template_of c made).verb reply then None else Some refusal.WrongReply
+refusal_of c waiting (event.Fail fault) = None
+
+abbrev pub refusal_in : Code → Ending → Option Call → Event → Option StepRefusal
+refusal_in c ending.NotBegun waiting e = Some refusal.NotYet
+refusal_in c ending.Running waiting e = refusal_of c waiting e
+refusal_in c ending.Done waiting e = Some refusal.Over
+refusal_in c (ending.Failed fault) waiting e = Some refusal.Over
+
+-- a call that waits names a template that is there
+abbrev pub NamesATemplate : Code → Option Call → Type 0
+NamesATemplate c None = Unit {0}
+NamesATemplate c (Some made) = made.template < length c.templates
 
 -- ---- what an event does to a section
 
@@ -104,6 +130,13 @@ pub record TakesReply (c : Code) (m : Machine) (made : Call) (reply : Reply) (n 
   pub idle : machines.outstanding_of n ≡ None
   pub actor : machines.actor_of n ≡ machines.actor_of m
 
+-- the section may take the event
+abbrev pub MayTake : Code → Section → Event → Type 0
+MayTake c s event.Begin = (m : Machine) × (s.machine ≡ Some m) × machines.Stands c m × (machines.outstanding_of m ≡ None) × EndsAs c m ending.Running
+MayTake c s (event.Reply reply) = (m : Machine) × (s.machine ≡ Some m) × machines.Stands c m × machines.MayBeAnswered c m reply
+    × (vec_len s.answered < vec_capacity s.answered)
+MayTake c s (event.Fail fault) = Unit {0}
+
 -- the section before and after an event that it takes
 abbrev pub Takes : Code → Section → Event → Section → Type 0
 Takes c s event.Begin t = (m : Machine) × (n : Machine) × (s.machine ≡ Some m) × (t.machine ≡ Some n) × MakesNext c m n
@@ -112,3 +145,40 @@ Takes c s (event.Reply reply) t = (m : Machine) × (n : Machine) × (made : Call
     × TakesReply c m made reply n
     × (t.answered.items ≡ s.answered.items ++ made ∷ []) × (vec_capacity s.answered ≤ vec_capacity t.answered) × EndsAs c n t.ending
 Takes c s (event.Fail fault) t = (t.machine ≡ s.machine) × (t.answered ≡ s.answered) × (t.ending ≡ ending.Failed fault)
+
+-- ---- how sections begin
+
+-- the section begins with these numbers in its variables
+pub record Begins (c : Code) (who : Actor) (numbers : List ℕ) (s t : Section) : Type 0 where
+  pub m : Machine
+  pub machine : t.machine ≡ Some m
+  pub actor : machines.actor_of m ≡ who
+  pub idle : machines.outstanding_of m ≡ None
+  pub stands : (variables : List Tagged) → machines.StartsFrom c who numbers variables → (st : State) × machines.IsAt c m variables [] st
+  pub ending : EndsAs c m t.ending
+  pub answered : t.answered ≡ s.answered
+
+-- the branches may begin with the numbers of P's machine
+pub record LeavesNumbers (c : Code) (p : Section) : Type 0 where
+  pub m : Machine
+  pub machine : p.machine ≡ Some m
+  pub variables : List Tagged
+  pub to_a : machines.StartsFrom c actor.A (machines.numbers_of m) variables
+  pub to_b : machines.StartsFrom c actor.B (machines.numbers_of m) variables
+
+-- both branches begin with them
+pub record BranchesBegin (c : Code) (s t : Sections Section) : Type 0 where
+  pub m : Machine
+  pub machine : s.p.machine ≡ Some m
+  pub a : Begins c actor.A (machines.numbers_of m) s.a t.a
+  pub b : Begins c actor.B (machines.numbers_of m) s.b t.b
+
+-- they do so where P is done
+abbrev pub BranchesFollow : Code → Sections Section → Sections Section → Type 0
+BranchesFollow c s t = (t.p ≡ s.p) × ((s.p.ending ≡ ending.Done) → BranchesBegin c s t) × ((s.p.ending ≢ ending.Done) → t ≡ s)
+
+-- the sections before and after an event that one of them takes
+abbrev pub AllTake : Code → Sections Section → Actor → Event → Sections Section → Type 0
+AllTake c s actor.P e t = (p : Section) × Takes c s.p e p × BranchesFollow c (record s { p = p }) t
+AllTake c s actor.A e t = (a : Section) × Takes c s.a e a × (t ≡ record s { a = a })
+AllTake c s actor.B e t = (b : Section) × Takes c s.b e b × (t ≡ record s { b = b })

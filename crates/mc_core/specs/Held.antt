@@ -1,6 +1,5 @@
 -- What a world holds beside its logs and its notes: how each section stands, and the machines of the sections that have begun.
 use Rattle.std.specs.Prelude.{◌≡◌, ℕ, Option, Some, None, List, [], ◌∷◌, flat_map, zip, if◌then◌else◌}
-use Rattle.std.specs.Vec.{Vec}
 use Rattle.mc_protocol.specs.Sections.{section_of}
 use Rattle.mc_protocol.specs.declared.actor.Actor.{Actor}
 use Rattle.mc_protocol.specs.declared.fault.Fault.{Fault}

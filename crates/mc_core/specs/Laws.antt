@@ -28,7 +28,7 @@ EndsOnce = (c : Code) (w : World) (who : Actor) (ending other : Ending)
 
 -- a fold in sound code is safe
 abbrev pub FoldsAreSafe : Type 0
-FoldsAreSafe = (c : Code) (events : List Noted) (w : World) (skipped : ℕ) → IsCode c → IsSound c
+FoldsAreSafe = (c : Code) (events : List Noted) (w : World) (skipped : ℕ) → IsSound c
     → IsFold c new_world events w skipped → AreSmall w.notes → IsSafe c w
 
 -- it has no more calls and notes than this, whatever the events are

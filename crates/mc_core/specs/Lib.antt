@@ -16,3 +16,5 @@ pub mod Safety
 pub mod Histories
 pub mod Laws
 pub mod Held
+-- What private contracts cite.
+pub mod Fields

@@ -1,1 +1,0 @@
-//! What happens in three sections, event by event.
