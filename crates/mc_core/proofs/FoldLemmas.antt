@@ -25,7 +25,7 @@ kept_along c P keeps (steps {w = w} {next = next} {who = who} {e = e} step fold)
     kept_along c P keeps fold (keeps w who e next here step)
 kept_along c P keeps (skips r refused fold) here = kept_along c P keeps fold here
 
-new_is_right : (c : Code) → IsRight c new_world
+pub new_is_right : (c : Code) → IsRight c new_world
 new_is_right c actor.P = inl refl
 new_is_right c actor.A = inl refl
 new_is_right c actor.B = inl refl
@@ -84,7 +84,7 @@ fold_append {c} {w} {mid} {end} {xs} {ys} {skipped} {others} (skips {skipped = n
 step_noted : (c : Code) (w : World) (who : Actor) (e : Event) (next : World) → IsStep c w who e next → next.notes ≡ w.notes ++ (who, e) ∷ []
 step_noted c w who e next step = ap (λ (w : World). w.notes) (step_grows c w who e next step).new_is
 
-repeats : (c : Code) (w : World) (who : Actor) (e : Event) (next : World) → IsWorldOf c w → IsStep c w who e next → IsWorldOf c next
+pub repeats : (c : Code) (w : World) (who : Actor) (e : Event) (next : World) → IsWorldOf c w → IsStep c w who e next → IsWorldOf c next
 repeats c w who e next fold step =
     subst (λ notes. IsFold c new_world notes next 0) (sym (step_noted c w who e next step)) (fold_append fold (steps step ends))
 

@@ -7,3 +7,6 @@ mod Admitting
 mod SmallNumbers
 mod Safe
 pub mod MachineLemmas
+pub mod Refusals
+pub mod OwnSection
+pub mod HeldSteps

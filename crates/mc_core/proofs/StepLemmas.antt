@@ -125,7 +125,7 @@ step_grows c w who (event.Fail fault) new step = record {
 -- ---- the world after an event
 
 -- while P goes on nothing has happened in a branch
-still_new : (c : Code) (w : World) (who : Actor) → (IsBegun c w who → IsDone c w actor.P) → MayBeRight c w who → (IsDone c w actor.P → ⊥)
+pub still_new : (c : Code) (w : World) (who : Actor) → (IsBegun c w who → IsDone c w actor.P) → MayBeRight c w who → (IsDone c w actor.P → ⊥)
     → log_of w who ≡ new_log
 still_new c w who branch (inl new) goes_on = new
 still_new c w who branch (inr right) goes_on = absurd (goes_on (branch right.begun))

@@ -130,21 +130,30 @@ pub record TakesReply (c : Code) (m : Machine) (made : Call) (reply : Reply) (n 
   pub idle : machines.outstanding_of n ≡ None
   pub actor : machines.actor_of n ≡ machines.actor_of m
 
+-- the machine stands before its section's end
+abbrev pub GoesOn : Code → Machine → Type 0
+GoesOn c m = (variables : List Tagged) × (exchanges : List Exchange) × (st : State) × machines.IsAt c m variables exchanges st
+    × (ComesTo c (machines.actor_of m) variables exchanges st ended → ⊥)
+
 -- the section may take the event
 abbrev pub MayTake : Code → Section → Event → Type 0
-MayTake c s event.Begin = (m : Machine) × (s.machine ≡ Some m) × machines.Stands c m × (machines.outstanding_of m ≡ None) × EndsAs c m ending.Running
+MayTake c s event.Begin = (m : Machine) × (s.machine ≡ Some m) × (machines.outstanding_of m ≡ None) × GoesOn c m
 MayTake c s (event.Reply reply) = (m : Machine) × (s.machine ≡ Some m) × machines.Stands c m × machines.MayBeAnswered c m reply
     × (vec_len s.answered < vec_capacity s.answered)
 MayTake c s (event.Fail fault) = Unit {0}
 
+-- the calls that have replies stay as they are, and so does the room
+abbrev pub SameCalls : Section → Section → Type 0
+SameCalls s t = (t.answered.items ≡ s.answered.items) × (vec_capacity s.answered ≤ vec_capacity t.answered)
+
 -- the section before and after an event that it takes
 abbrev pub Takes : Code → Section → Event → Section → Type 0
 Takes c s event.Begin t = (m : Machine) × (n : Machine) × (s.machine ≡ Some m) × (t.machine ≡ Some n) × MakesNext c m n
-    × (t.answered ≡ s.answered) × (t.ending ≡ s.ending)
+    × SameCalls s t × (t.ending ≡ s.ending)
 Takes c s (event.Reply reply) t = (m : Machine) × (n : Machine) × (made : Call) × (s.machine ≡ Some m) × (t.machine ≡ Some n)
     × TakesReply c m made reply n
     × (t.answered.items ≡ s.answered.items ++ made ∷ []) × (vec_capacity s.answered ≤ vec_capacity t.answered) × EndsAs c n t.ending
-Takes c s (event.Fail fault) t = (t.machine ≡ s.machine) × (t.answered ≡ s.answered) × (t.ending ≡ ending.Failed fault)
+Takes c s (event.Fail fault) t = (t.machine ≡ s.machine) × SameCalls s t × (t.ending ≡ ending.Failed fault)
 
 -- ---- how sections begin
 
@@ -156,7 +165,7 @@ pub record Begins (c : Code) (who : Actor) (numbers : List ℕ) (s t : Section) 
   pub idle : machines.outstanding_of m ≡ None
   pub stands : (variables : List Tagged) → machines.StartsFrom c who numbers variables → (st : State) × machines.IsAt c m variables [] st
   pub ending : EndsAs c m t.ending
-  pub answered : t.answered ≡ s.answered
+  pub answered : SameCalls s t
 
 -- the branches may begin with the numbers of P's machine
 pub record LeavesNumbers (c : Code) (p : Section) : Type 0 where

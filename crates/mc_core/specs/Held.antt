@@ -1,13 +1,10 @@
 -- What a world holds beside its logs and its notes: how each section stands, and the machines of the sections that have begun.
-use Rattle.std.specs.Prelude.{◌≡◌, ℕ, Option, Some, None, List, [], ◌∷◌, flat_map, zip, if◌then◌else◌}
+use Rattle.std.specs.Prelude.{◌≡◌, ◌≢◌, ◌⊎◌, Option, Some, None, List}
 use Rattle.mc_protocol.specs.Sections.{section_of}
 use Rattle.mc_protocol.specs.declared.actor.Actor.{Actor}
-use Rattle.mc_protocol.specs.declared.fault.Fault.{Fault}
-use Rattle.mc_protocol.specs.declared.reply.Reply.{Reply}
 use Rattle.mc_protocol.specs.declared.sections.Sections.{Sections}
 use Rattle.mc_code.specs.Code.{Code}
 use Rattle.mc_code.specs.States.{Tagged, State}
-use Rattle.mc_code.specs.declared.instr.Call.{Call}
 use Rattle.mc_machine.specs.Machine.{IsAt, actor_of, outstanding_of}
 use Rattle.mc_machine.specs.declared.machine.Machine.{Machine}
 use Rattle.mc_core.specs.declared.ending.Ending.{Ending}
@@ -29,10 +26,11 @@ pub record Stands (c : Code) (w : World) (who : Actor) (m : Machine) : Type 0 wh
   pub begins : BeginsIn c w who variables
   pub at : IsAt c m variables (exchanges_of c w who) st
 
--- there is such a machine, unless the section hasn't begun
+-- there is such a machine once the section has begun, and none before
 abbrev pub HasMachine : Code → World → Actor → Ending → Option Machine → Type 0
-HasMachine c w who e None = e ≡ ending.NotBegun
-HasMachine c w who e (Some m) = Stands c w who m
+HasMachine c w who e machine =
+    ((e ≡ ending.NotBegun) × (machine ≡ None))
+    ⊎ ((m : Machine) × (e ≢ ending.NotBegun) × (machine ≡ Some m) × Stands c w who m)
 
 -- the world is a fold of its notes, and what it holds is that of this world
 pub record IsHeldBy (c : Code) (h : Held) : Type 0 where
