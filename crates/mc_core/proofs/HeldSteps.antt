@@ -59,12 +59,12 @@ machine_as_before c w v who x o same (inr (m, begun, is, stands)) = inr (m, begu
 
 -- ---- the section of the event
 
-machine_stands : (c : Code) (w : World) (who : Actor) (x : Ending) (o : Option Machine) (m : Machine) → HasMachine c w who x o
+pub machine_stands : (c : Code) (w : World) (who : Actor) (x : Ending) (o : Option Machine) (m : Machine) → HasMachine c w who x o
     → x ≡ ending.Running → o ≡ Some m → Stands c w who m
 machine_stands c w who x o m (inl (not, none)) running is = let clash = sym running ∙ not in absurd (cc)
 machine_stands c w who x o m (inr (n, begun, also, stands)) running is = subst (Stands c w who) (some_is n m (sym also ∙ is)) stands
 
-has_machine : (c : Code) (w : World) (who : Actor) (x : Ending) (o : Option Machine) → HasMachine c w who x o
+pub has_machine : (c : Code) (w : World) (who : Actor) (x : Ending) (o : Option Machine) → HasMachine c w who x o
     → x ≡ ending.Running → (m : Machine) × (o ≡ Some m)
 has_machine c w who x o (inl (not, none)) running = let clash = sym running ∙ not in absurd (cc)
 has_machine c w who x o (inr (n, begun, is, stands)) running = (n, is)
@@ -176,7 +176,7 @@ branch_begins c v who numbers variables s t begins starts begins_in begun new = 
 
 -- ---- worlds
 
-world_is : (p p' a a' b b' : Log) (notes : List Noted) → p ≡ p' → a ≡ a' → b ≡ b'
+pub world_is : (p p' a a' b b' : Log) (notes : List Noted) → p ≡ p' → a ≡ a' → b ≡ b'
     → (let w : World = record { logs = record { p = p; a = a; b = b }; notes = notes } in w)
     ≡ record { logs = record { p = p'; a = a'; b = b' }; notes = notes }
 world_is p p' a a' b b' notes e f g =
@@ -342,7 +342,7 @@ no_machine : (c : Code) (w : World) (who : Actor) (x : Ending) (o : Option Machi
 no_machine c w who x o not (inl (same, none)) = none
 no_machine c w who x o not (inr (m, begun, is, stands)) = absurd (begun not)
 
-is_done : (x : Ending) → (x ≡ ending.Done) ⊎ (x ≢ ending.Done)
+pub is_done : (x : Ending) → (x ≡ ending.Done) ⊎ (x ≢ ending.Done)
 is_done ending.NotBegun = inr (λ e. cc)
 is_done ending.Running = inr (λ e. cc)
 is_done ending.Done = inl refl
@@ -358,7 +358,7 @@ begun_faultless c who numbers variables s t begins starts =
     by_end (inr (is, comes)) = ap fault_in is
 
 -- the log of a branch that begins now
-branch_log : (c : Code) (who : Actor) (numbers : List ℕ) (variables : List Tagged) (notes more : List Noted) (s t : Section) → Begins c who numbers s t
+pub branch_log : (c : Code) (who : Actor) (numbers : List ℕ) (variables : List Tagged) (notes more : List Noted) (s t : Section) → Begins c who numbers s t
     → StartsFrom c who numbers variables → replies_of who more ≡ replies_of who notes → s.ending ≡ ending.NotBegun → s.machine ≡ None
     → log_in more who t ≡ log_in notes who s
 branch_log c who numbers variables notes more s t begins starts replies not none =

@@ -10,3 +10,5 @@ pub mod MachineLemmas
 pub mod Refusals
 pub mod OwnSection
 pub mod HeldSteps
+pub mod Taking
+pub mod Starting

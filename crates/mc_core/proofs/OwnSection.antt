@@ -60,7 +60,7 @@ other_replies who other notes e none =
 
 -- ---- logs
 
-log_is : (answered answered' : List (Call × Reply)) (waiting waiting' : Option Call) (fault fault' : Option Fault) → answered ≡ answered'
+pub log_is : (answered answered' : List (Call × Reply)) (waiting waiting' : Option Call) (fault fault' : Option Fault) → answered ≡ answered'
     → waiting ≡ waiting' → fault ≡ fault'
     → (let log : Log = record { answered = answered; waiting = waiting; fault = fault } in log)
     ≡ record { answered = answered'; waiting = waiting'; fault = fault' }
