@@ -81,6 +81,18 @@ fold_append {c} {w} {mid} {end} {xs} {ys} {skipped} {others} (skips {skipped = n
     let e : (n + others) + 1 ≡ (n + 1) + others = omega arith in
     subst (λ n. IsFold c w (xs ++ ys) end n) e (skips r refused (fold_append fold more))
 
+-- one more event, which is taken
+pub fold_step : (c : Code) (w mid next : World) (xs : List Noted) (who : Actor) (e : Event) (skipped : ℕ) → IsFold c w xs mid skipped
+    → IsStep c mid who e next → IsFold c w (xs ++ (who, e) ∷ []) next skipped
+fold_step c w mid next xs who e skipped fold step =
+    let none : skipped + 0 ≡ skipped = omega arith in
+    subst (IsFold c w (xs ++ (who, e) ∷ []) next) none (fold_append fold (steps step ends))
+
+-- or refused
+pub fold_skip : (c : Code) (w mid : World) (xs : List Noted) (who : Actor) (e : Event) (r : StepRefusal) (skipped : ℕ) → IsFold c w xs mid skipped
+    → IsRefused c mid who e r → IsFold c w (xs ++ (who, e) ∷ []) mid (skipped + 1)
+fold_skip c w mid xs who e r skipped fold refused = fold_append fold (skips r refused ends)
+
 step_noted : (c : Code) (w : World) (who : Actor) (e : Event) (next : World) → IsStep c w who e next → next.notes ≡ w.notes ++ (who, e) ∷ []
 step_noted c w who e next step = ap (λ (w : World). w.notes) (step_grows c w who e next step).new_is
 

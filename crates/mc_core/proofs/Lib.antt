@@ -12,3 +12,4 @@ pub mod OwnSection
 pub mod HeldSteps
 pub mod Taking
 pub mod Starting
+pub mod Recorded

@@ -1,13 +1,16 @@
 -- The history of a world: its calls and their replies, in the order in which they were noted. A fault leaves no note in it.
-use Rattle.std.specs.Prelude.{ℕ, ◌+◌, Option, List, [], ◌∷◌, ◌++◌, length, slice_index_or}
+use Rattle.std.specs.Prelude.{ℕ, ◌+◌, Option, Some, None, List, [], ◌∷◌, ◌++◌, map, option_to_list, slice_index_or}
 use Rattle.mc_protocol.specs.declared.actor.Actor.{Actor}
+use Rattle.mc_protocol.specs.declared.reply.Reply.{Reply}
 use Rattle.mc_code.specs.Code.{Code}
 use Rattle.mc_code.specs.declared.instr.Call.{Call}
 use Rattle.mc_model.specs.Notes as recorded
+use Rattle.mc_model.specs.Sections.{Sections}
 use Rattle.mc_model.specs.declared.note.Note.TheVariants as note
+use Rattle.mc_model.specs.declared.sent.Sent.{Sent}
 use Rattle.mc_core.specs.declared.event.Event.{Event}
 use Rattle.mc_core.specs.declared.event.Event.TheVariants as event
-use Rattle.mc_core.specs.Logs.{calls_in, request_of}
+use Rattle.mc_core.specs.Logs.{Log, calls_in, request_of}
 use Rattle.mc_core.specs.Worlds.{World, Noted, log_of, events_of}
 
 -- how many calls these events begin
@@ -42,3 +45,19 @@ record_of c w = recorded_from c w [] w.notes
 
 abbrev pub history_of : Code → World → recorded.History
 history_of c w = recorded.with_notes (record_of c w)
+
+-- ---- the sections of the history
+
+abbrev pub sent_of : Code → Call × Reply → Sent
+sent_of c (made, reply) = record { request = request_of c made; reply = Some reply }
+
+abbrev pub unanswered : Code → Call → Sent
+unanswered c made = record { request = request_of c made; reply = None }
+
+-- the requests of a log's calls, each with its reply
+abbrev pub sent_in : Code → Log → List Sent
+sent_in c log = map (sent_of c) log.answered ++ map (unanswered c) (option_to_list log.waiting)
+
+-- those of each section, in order
+abbrev pub sections_of : Code → World → Sections
+sections_of c w = record { p = sent_in c w.logs.p; a = sent_in c w.logs.a; b = sent_in c w.logs.b }

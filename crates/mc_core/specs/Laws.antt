@@ -3,10 +3,10 @@ use Rattle.std.specs.Prelude.{◌≡◌, ℕ, ◌+◌, ◌*◌, ◌≤◌, true,
 use Rattle.mc_protocol.specs.declared.actor.Actor.{Actor}
 use Rattle.mc_protocol.specs.declared.limits.TheConstants.{REQUESTS_LIMIT}
 use Rattle.mc_code.specs.Code.{Code, IsCode}
-use Rattle.mc_model.specs.Notes.{is_record}
+use Rattle.mc_model.specs.Notes.{is_record, sections_in}
 use Rattle.mc_verify.specs.Faults.{IsSound}
 use Rattle.mc_core.specs.declared.ending.Ending.{Ending}
-use Rattle.mc_core.specs.Histories.{record_of}
+use Rattle.mc_core.specs.Histories.{record_of, sections_of}
 use Rattle.mc_core.specs.Logs.{calls_in}
 use Rattle.mc_core.specs.Safety.{AreSmall, IsSafe}
 use Rattle.mc_core.specs.Steps.{IsFold, IsWorldOf}
@@ -40,7 +40,11 @@ abbrev pub FoldsAreWithinRoom : Type 0
 FoldsAreWithinRoom = (c : Code) (events : List Noted) (w : World) (skipped : ℕ) → IsCode c → IsSound c
     → IsFold c new_world events w skipped → IsWithinRoom w
 
--- what is recorded of it keeps the rules of a history
-abbrev pub FoldsAreRecords : Type 0
-FoldsAreRecords = (c : Code) (events : List Noted) (w : World) (skipped : ℕ) → IsCode c → IsSound c
-    → IsFold c new_world events w skipped → is_record (record_of c w) ≡ true
+-- what is recorded of it spells its sections, and keeps the rules of a history
+pub record IsRecorded (c : Code) (w : World) : Type 0 where
+  pub sections : sections_in (record_of c w) ≡ sections_of c w
+  pub rules : is_record (record_of c w) ≡ true
+
+abbrev pub FoldsAreRecorded : Type 0
+FoldsAreRecorded = (c : Code) (events : List Noted) (w : World) (skipped : ℕ) → IsCode c → IsSound c
+    → IsFold c new_world events w skipped → IsRecorded c w

@@ -27,7 +27,7 @@ pub fn folds_are_within_room()
     ensures { law.FoldsAreWithinRoom }
 {}
 
-/// What is recorded of a fold in sound code is a history.
-pub fn folds_are_records()
-    ensures { law.FoldsAreRecords }
+/// What is recorded of a fold in sound code spells its sections, and is a history.
+pub fn folds_are_recorded()
+    ensures { law.FoldsAreRecorded }
 {}

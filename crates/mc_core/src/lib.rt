@@ -19,7 +19,7 @@ pub use drive::drive;
 pub use ending::Ending;
 pub use event::Event;
 pub use laws::{
-    ends_once, folds_are_records, folds_are_safe, folds_are_within_room, folds_once, folds_repeat,
+    ends_once, folds_are_recorded, folds_are_safe, folds_are_within_room, folds_once, folds_repeat,
 };
 pub use step_refusal::StepRefusal;
 pub use world::World;
