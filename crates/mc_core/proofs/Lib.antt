@@ -13,3 +13,7 @@ pub mod HeldSteps
 pub mod Taking
 pub mod Starting
 pub mod Recorded
+pub mod Clearing
+pub mod NextRequest
+pub mod SeenNumbers
+pub mod HistorySteps

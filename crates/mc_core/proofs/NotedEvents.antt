@@ -54,12 +54,12 @@ noted_more w actor.B e log noted more actor.P = others actor.P actor.B w e refl 
 noted_more w actor.B e log noted more actor.A = others actor.A actor.B w e refl noted
 noted_more w actor.B e log noted more actor.B = grown actor.B w e log refl noted more
 
-noted_step : (c : Code) (w : World) (who : Actor) (e : Event) (next : World) → AreNoted w → IsStep c w who e next → AreNoted next
+pub noted_step : (c : Code) (w : World) (who : Actor) (e : Event) (next : World) → AreNoted w → IsStep c w who e next → AreNoted next
 noted_step c w who e next noted step =
     let grows = step_grows c w who e next step in
     subst AreNoted (sym grows.new_is) (noted_more w who e grows.log noted grows.events)
 
-new_is_noted : AreNoted new_world
+pub new_is_noted : AreNoted new_world
 new_is_noted actor.P = refl
 new_is_noted actor.A = refl
 new_is_noted actor.B = refl

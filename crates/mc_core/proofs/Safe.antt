@@ -141,7 +141,7 @@ bytes_counted c (made ∷ calls) fit =
     let rest = bytes_counted c calls fit.1 in
     omega (arith, here, rest)
 
-few_calls : (c : Code) (w : World) (who : Actor) → IsSound c → MayBeRight c w who → length (calls_in (log_of w who)) ≤ (section_of c who).budget.requests
+pub few_calls : (c : Code) (w : World) (who : Actor) → IsSound c → MayBeRight c w who → length (calls_in (log_of w who)) ≤ (section_of c who).budget.requests
 few_calls c w who sound (inl new) =
     let right = subst (IsRightLog c who []) (sym new) (new_is_right c who []) in
     let within = log_within c measure.Requests who [] (log_of w who) sound right in
