@@ -161,8 +161,9 @@ calls_in_front c variables before made sound stands inside calling = record {
     here = stands (omega (arith, inside))
 
     same : (place ≡ calling.p) × (here.0 ≡ calling.st)
-    same = one_stop c.templates section here.1 (stops_at_send section place there.n there.next there.at) calling.p calling.st calling.stands
-    (stops_at_send section calling.p made.template calling.next calling.sends)
+    same =
+        one_stop c.templates section here.1 (stops_at_send section place there.n there.next there.at) calling.p calling.st calling.stands
+        (stops_at_send section calling.p made.template calling.next calling.sends)
 
     sends : (there.n ≡ made.template) × (there.next ≡ calling.next)
     sends = send_is there.n made.template there.next calling.next (sym there.at ∙ ap (slice_get section) same.0 ∙ calling.sends)

@@ -1,6 +1,8 @@
 -- The next call of a section of a right world is a request that its history may have.
 use Rattle.std.proofs.Common.{◌≡◌, ◌≢◌, ◌⊎◌, inl, inr, ℕ, zero, suc, ◌+◌, ◌<◌, ◌≤◌, ◌==◌, nat_le, Bool, true, false, not, cond, ◌&&◌, ◌||◌, bytes_eq, Option, Some, None, is_some, List, [], ◌∷◌, ◌++◌, length, map, replicate, slice_get, slice_index_or, refl, ap, ap₂, sym, subst, ◌∙◌, arith, length-append, if◌then◌else◌}
 use Rattle.std.specs.FinSet as set
+use Rattle.std.specs.Ordering.{nat_cmp}
+use Rattle.std.specs.Cmp.Lexicographic.{slice_cmp}
 use Rattle.std.specs.List.{All, AllPass, list_all, list_any}
 use Rattle.std.specs.Option.{option_to_list}
 use Rattle.std.proofs.lemmas.Bool.{cases_lt, cases_eq, and_parts, and_from, eqb-true, leb-true, le-leb}
@@ -9,9 +11,10 @@ use Rattle.std.proofs.lemmas.List.{append-nil, length-map}
 use Rattle.std.proofs.lemmas.List.Sums.{AllPass-from_list_all}
 use Rattle.std.proofs.lemmas.Option.{get_or_from_slice_get, slice_get_within}
 use Rattle.std.proofs.lemmas.Slice.Eq.{bytes_eq-Decides}
+use Rattle.mc_protocol.specs.Decimals.{MAX_32}
 use Rattle.mc_protocol.specs.Fields.{fields_of}
 use Rattle.mc_protocol.specs.Names.{is_name, is_key}
-use Rattle.mc_protocol.specs.declared.limits.TheConstants.{KEYS_LIMIT, KEY_BYTES_LIMIT, REPLY_BODY_LIMIT, REQUESTS_LIMIT}
+use Rattle.mc_protocol.specs.declared.limits.TheConstants.{KEYS_LIMIT, KEY_BYTES_LIMIT, REPLY_BODY_LIMIT, SCRIPT_BODY_LIMIT}
 use Rattle.mc_protocol.specs.declared.actor.Actor.{Actor}
 use Rattle.mc_protocol.specs.declared.actor.Actor.TheVariants as actor
 use Rattle.mc_protocol.specs.declared.reply.Reply.{Reply}
@@ -20,7 +23,7 @@ use Rattle.mc_protocol.specs.declared.request.Fields.{Fields}
 use Rattle.mc_protocol.specs.declared.request.Fields.TheVariants as fields
 use Rattle.mc_protocol.specs.declared.request.Verb.{Verb}
 use Rattle.mc_protocol.specs.declared.request.Verb.TheVariants as verb
-use Rattle.mc_script.specs.ScriptWords.{is_body}
+use Rattle.mc_script.specs.ScriptWords.{is_body, are_body_bytes}
 use Rattle.mc_script.specs.Templates.{is_nothing, is_variable, is_amount, has_fields, IsTemplate}
 use Rattle.mc_script.specs.declared.step.Argument.{Argument}
 use Rattle.mc_script.specs.declared.step.Argument.TheVariants as argument
@@ -59,13 +62,13 @@ fields_kept fields.Expiry v key vars flags number a body e zero_is =
     let none = eqb-true (length body) 0 all.1 in
     (le-leb (length body) REPLY_BODY_LIMIT (omega (arith, none)), rw (two.0, all.1, zero_is two.1) refl)
 fields_kept fields.Item v key vars flags number a body e zero_is =
-    let all = and_parts (_ && is_nothing a) (is_body body) e in
-    let two = and_parts _ (is_nothing a) all.0 in
-    let few = leb-true _ _ (and_parts _ _ all.1).0 in
+    let all = and_parts (nat_le flags MAX_32 && is_nothing a) (is_body body) e in
+    let two = and_parts (nat_le flags MAX_32) (is_nothing a) all.0 in
+    let few = leb-true (length body) SCRIPT_BODY_LIMIT (and_parts (nat_le (length body) SCRIPT_BODY_LIMIT) (are_body_bytes body) all.1).0 in
     (le-leb (length body) REPLY_BODY_LIMIT (omega (arith, few)), rw (zero_is two.1) refl)
 fields_kept fields.Swap v key vars flags number a body e zero_is =
-    let all = and_parts (_ && is_variable vars a) (is_body body) e in
-    let few = leb-true _ _ (and_parts _ _ all.1).0 in
+    let all = and_parts (nat_le flags MAX_32 && is_variable vars a) (is_body body) e in
+    let few = leb-true (length body) SCRIPT_BODY_LIMIT (and_parts (nat_le (length body) SCRIPT_BODY_LIMIT) (are_body_bytes body) all.1).0 in
     (le-leb (length body) REPLY_BODY_LIMIT (omega (arith, few)), refl)
 fields_kept fields.Amount v key vars flags number a body e zero_is =
     let all = and_parts (flags == 0 && is_amount vars a) (length body == 0) e in
@@ -130,7 +133,8 @@ or_true false = refl
 pub key_there : (c : Code) (k j : ℕ) (pairs : List (Call × Reply)) (more : List Sent) → FrontClears c k pairs → k ≤ j → j < k + length pairs
     → j < length c.keys → has_key (slice_index_or c.keys j []) (map (sent_of c) pairs ++ more) ≡ true
 key_there c k j [] more front least inside declared = absurd (omega (arith, least, inside))
-key_there c k j ((made, reply) ∷ pairs) more front least inside declared = by_place (cases_lt k j)
+key_there c k j ((made, reply) ∷ pairs) more front least inside declared =
+    by_place (cases_lt k j) (λ later. key_there c (k + 1) j pairs more front.1 (omega (arith, later)) (omega (arith, inside)) declared)
   where
     key : List ℕ
     key = slice_index_or c.keys j []
@@ -138,19 +142,19 @@ key_there c k j ((made, reply) ∷ pairs) more front least inside declared = by_
     rest : Bool
     rest = has_key key (map (sent_of c) pairs ++ more)
 
-    by_place : (k < j) ⊎ (j ≤ k) → (bytes_eq (slice_index_or c.keys (template_of c made).key []) key || rest) ≡ true
-    by_place (inl later) =
-        let there = key_there c (k + 1) j pairs more front.1 (omega (arith, later)) (omega (arith, inside)) declared in
+    by_place : (k < j) ⊎ (j ≤ k) → (k < j → rest ≡ true) → (bytes_eq (slice_index_or c.keys (template_of c made).key []) key || rest) ≡ true
+    by_place (inl later) in_rest =
+        let there = in_rest later in
         ap (λ b. bytes_eq (slice_index_or c.keys (template_of c made).key []) key || b) there
         ∙ or_true (bytes_eq (slice_index_or c.keys (template_of c made).key []) key)
-    by_place (inr here) =
+    by_place (inr here) in_rest =
         let same : k ≡ j = omega (arith, least, here) in
         let clearing = front.0 (omega (arith, same, declared)) in
         let equal = same_bytes (slice_index_or c.keys (template_of c made).key []) key (ap (λ i. slice_index_or c.keys i []) (clearing.key_is ∙ same)) in
         ap (λ b. b || rest) equal
 
 pub few_keys : (xs : List Sent) → set.len (key_set xs) ≤ length xs
-few_keys [] = omega arith
+few_keys [] = let none = set.len-empty (slice_cmp nat_cmp) in omega (arith, none)
 few_keys (x ∷ xs) =
     let rest = few_keys xs in
     let grown = set.len-insert nat_list_cmp_total (key_set xs) x.request.key in

@@ -41,12 +41,12 @@ replies_push who notes noted =
     ap (flat_map reply_in) (flat_map-append (event_of who) notes (noted ∷ []) ∙ ap (λ l. events_of who notes ++ l) (append-nil (event_of who noted)))
     ∙ flat_map-append reply_in (events_of who notes) (event_of who noted)
 
-own_event : (who : Actor) (e : Event) → event_of who (who, e) ≡ e ∷ []
+pub own_event : (who : Actor) (e : Event) → event_of who (who, e) ≡ e ∷ []
 own_event actor.P e = refl
 own_event actor.A e = refl
 own_event actor.B e = refl
 
-own_replies : (who : Actor) (notes : List Noted) (e : Event) → replies_of who (notes ++ (who, e) ∷ []) ≡ replies_of who notes ++ reply_in e
+pub own_replies : (who : Actor) (notes : List Noted) (e : Event) → replies_of who (notes ++ (who, e) ∷ []) ≡ replies_of who notes ++ reply_in e
 own_replies who notes e =
     replies_push who notes (who, e)
     ∙ ap (λ l. replies_of who notes ++ flat_map reply_in l) (own_event who e)
@@ -69,7 +69,7 @@ log_is answered answered' waiting waiting' fault fault' e f g =
     ∙ ap (λ o. let log : Log = record { answered = answered'; waiting = o; fault = fault } in log) f
     ∙ ap (λ o. let log : Log = record { answered = answered'; waiting = waiting'; fault = o } in log) g
 
-zip_push : (calls : List Call) (replies : List Reply) (made : Call) (reply : Reply) → length calls ≡ length replies
+pub zip_push : (calls : List Call) (replies : List Reply) (made : Call) (reply : Reply) → length calls ≡ length replies
     → zip (calls ++ made ∷ []) (replies ++ reply ∷ []) ≡ zip calls replies ++ (made, reply) ∷ []
 zip_push [] [] made reply same = refl
 zip_push [] (x ∷ replies) made reply same = absurd (omega (arith, same))
@@ -95,7 +95,7 @@ stops_waiting section p waits i q at leads = by_instr i (ap waits_at (sym at) �
     by_instr instr.Halt waits leads = leads
 
 -- a section whose machine stands somewhere comes to its end there, if anywhere
-end_there : (c : Code) (m : Machine) (variables : List Tagged) (exchanges : List Exchange) (st other : State) → IsAt c m variables exchanges st
+pub end_there : (c : Code) (m : Machine) (variables : List Tagged) (exchanges : List Exchange) (st other : State) → IsAt c m variables exchanges st
     → ComesTo c (actor_of m) variables exchanges other ended → ComesTo c (actor_of m) variables exchanges st ended
 end_there c m variables exchanges st other at (p, stands, met) =
     let section = instructions_in c (actor_of m) in

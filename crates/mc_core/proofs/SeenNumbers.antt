@@ -1,7 +1,8 @@
 -- The cas unique of a call was shown before it, in its own section or in P.
-use Rattle.std.proofs.Common.{◌≡◌, ◌⊎◌, inl, inr, ℕ, zero, suc, ◌==◌, Bool, true, false, not, ◌||◌, Some, None, List, [], ◌∷◌, ◌++◌, map, replicate, slice_get, slice_index_or, refl, ap, sym, subst, ◌∙◌, if◌then◌else◌}
+use Rattle.std.proofs.Common.{◌≡◌, ◌⊎◌, inl, inr, ℕ, zero, suc, ◌==◌, nat_le, Bool, true, false, not, ◌&&◌, ◌||◌, Some, None, List, [], ◌∷◌, ◌++◌, map, replicate, slice_get, slice_index_or, refl, ap, sym, subst, ◌∙◌, if◌then◌else◌}
 use Rattle.std.specs.List.{list_any}
 use Rattle.std.proofs.lemmas.Bool.{and_parts, eqb-true}
+use Rattle.mc_protocol.specs.Decimals.{MAX_32}
 use Rattle.mc_protocol.specs.Fields.{fields_of}
 use Rattle.mc_protocol.specs.declared.actor.Actor.{Actor}
 use Rattle.mc_protocol.specs.declared.actor.Actor.TheVariants as actor
@@ -58,7 +59,7 @@ held_by t (kind.Num, m) n cas e =
     absurd (cc)
 
 cas_fields : (vars flags : ℕ) (a : Argument) (body : List ℕ) → has_fields vars (fields_of verb.Cas) flags a body ≡ true → is_variable vars a ≡ true
-cas_fields vars flags a body e = (and_parts _ (is_variable vars a) (and_parts (_ && is_variable vars a) (is_body body) e).0).1
+cas_fields vars flags a body e = (and_parts (nat_le flags MAX_32) (is_variable vars a) (and_parts (nat_le flags MAX_32 && is_variable vars a) (is_body body) e).0).1
 
 -- the variable that a cas takes holds its cas unique
 variable_holds : (vars : ℕ) (t : Template) (a : Argument) (st : State) (n : ℕ) → is_variable vars a ≡ true → t.verb ≡ verb.Cas
@@ -147,12 +148,12 @@ next_seen c who of_p log variables made kept begins calling = by_verb (is_cas t.
         let variable = cas_fields c.vars t.flags t.argument t.body
         (ap (λ v. has_fields c.vars (fields_of v) t.flags t.argument t.body) (sym verb_is) ∙ is.0.fields) in
         let holds = variable_holds c.vars t t.argument calling.st made.number variable verb_is is.1 in
-        by_place (shown_on c who variables (exchanges_in c log) calling.p holds.0 t.key made.number calling.st calling.stands holds.1)
+        by_place holds.0 (shown_on c who variables (exchanges_in c log) calling.p holds.0 t.key made.number calling.st calling.stands holds.1)
       where
-        by_place : {v : ℕ} → Holds (initial_state variables) v t.key made.number ⊎ IsShownIn t.key made.number (exchanges_in c log)
+        by_place : (v : ℕ) → Holds (initial_state variables) v t.key made.number ⊎ IsShownIn t.key made.number (exchanges_in c log)
             → (shown_by of_p || shown_by log) ≡ true
-        by_place {v} (inl first) =
+        by_place v (inl first) =
             let shown = begins_shown c (exchanges_in c of_p) who variables v t.key made.number begins first in
             ap (λ b. b || shown_by log) (shown_any c t.key made.number of_p.answered _ shown)
-        by_place (inr shown) =
+        by_place v (inr shown) =
             ap (λ b. shown_by of_p || b) (shown_any c t.key made.number log.answered _ shown) ∙ or_true (shown_by of_p)

@@ -91,12 +91,14 @@ all_sent c who variables log right = by_waiting log.waiting refl
 
 -- ---- budgets
 
-open_within : (c : Code) (measure : Measure) (who : Actor) (place : ℕ) (calls : List Template) → IsSound c → Opens c who place calls
-    → cost_along c measure calls ≤ bound_of measure (section_of c who).budget
-open_within c measure who place calls sound (edges, t, leads, sends, are) = by_order measure (cases_lt (bound_of measure (section_of c who).budget) (cost_along c measure calls))
+open_within : (c : Code) (m : Measure) (who : Actor) (place : ℕ) (calls : List Template) → IsSound c → Opens c who place calls
+    → cost_along c m calls ≤ bound_of m (section_of c who).budget
+open_within c m who place calls sound (edges, t, leads, sends, are) =
+    by_order m (cases_lt (bound_of m (section_of c who).budget) (cost_along c m calls))
   where
-    by_order : (measure : Measure) → (bound_of measure (section_of c who).budget < cost_along c measure calls) ⊎ (cost_along c measure calls ≤ bound_of measure (section_of c who).budget)
-        → cost_along c measure calls ≤ bound_of measure (section_of c who).budget
+    by_order : (m : Measure)
+        → (bound_of m (section_of c who).budget < cost_along c m calls) ⊎ (cost_along c m calls ≤ bound_of m (section_of c who).budget)
+        → cost_along c m calls ≤ bound_of m (section_of c who).budget
     by_order m (inr within) = within
     by_order measure.Requests (inl exceeds) = absurd (sound kind.TooManyRequests who place (record {
       edges = edges;

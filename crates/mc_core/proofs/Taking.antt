@@ -90,13 +90,13 @@ room_for_call c s notes who made fields kept sound waits =
     let w = world_in s notes in
     let few = (folds_within_room c notes w 0 kept sound fields.held.fold).calls who in
     let is_kept = fields.kept who in
-    let pairs : length (log_of w who).answered ≡ length own.answered.items =
-    ap (λ (log : Log). length log.answered) (logged s notes who) ∙ length-zip own.answered.items (replies_of who notes) in
+    let as_many = is_kept.replies in
+    let pairs = ap (λ (log : Log). length log.answered) (logged s notes who) ∙ length-zip own.answered.items (replies_of who notes) in
     let one : length (option_to_list (log_of w who).waiting) ≡ 1 = ap (λ o. length (option_to_list o)) waits in
     let calls = length-append (map call_of (log_of w who).answered) (option_to_list (log_of w who).waiting) in
     let mapped = length-map (log_of w who).answered call_of in
     let len : vec_len own.answered ≡ length own.answered.items = own.answered.ok.0 in
-    omega (arith, few, is_kept.room, pairs, one, calls, mapped, len)
+    omega (arith, few, is_kept.room, as_many, pairs, one, calls, mapped, len)
 
 fit_is : (b : Bool) → (b ≡ false → ⊥) → b ≡ true
 fit_is true not = refl
@@ -163,9 +163,9 @@ same_kept notes more who s t kept replies calls = record {
 
 own_kept : (c : Code) (notes : List Noted) (who : Actor) (e : Event) (s t : Section) → IsKept notes who s → Takes c s e t
     → IsKept (notes ++ (who, e) ∷ []) who t
-own_kept c notes who event.Begin s t kept (m, n, is_m, is_n, makes, calls, ends) =
+own_kept c notes who event.Begin s t kept (m, n, is_m, is_n, makes, calls, stays) =
     same_kept notes (notes ++ (who, event.Begin) ∷ []) who s t kept (own_replies who notes event.Begin ∙ append-nil (replies_of who notes)) calls
-own_kept c notes who (event.Reply reply) s t kept (m, n, made, is_m, is_n, takes, calls, room, ends) = record {
+own_kept c notes who (event.Reply reply) s t kept (m, n, made, is_m, is_n, takes, calls, room, stays) = record {
   replies =
       let grown = ap length calls in
       let call = length-append s.answered.items (made ∷ []) in
@@ -175,7 +175,7 @@ own_kept c notes who (event.Reply reply) s t kept (m, n, made, is_m, is_n, takes
       omega (arith, grown, call, replied, one, before);
   room = let before = kept.room in omega (arith, before, room);
 }
-own_kept c notes who (event.Fail fault) s t kept (machine, calls, ends) =
+own_kept c notes who (event.Fail fault) s t kept (machine, calls, stays) =
     same_kept notes (notes ++ (who, event.Fail fault) ∷ []) who s t kept
     (own_replies who notes (event.Fail fault) ∙ append-nil (replies_of who notes)) calls
 

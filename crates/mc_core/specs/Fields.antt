@@ -1,5 +1,5 @@
 -- What the fields of a world say. No public contract cites these.
-use Rattle.std.specs.Prelude.{◌≡◌, ◌≢◌, ◌⊎◌, ℕ, ◌+◌, ◌*◌, ◌<◌, ◌≤◌, Option, Some, None, List, [], ◌∷◌, ◌++◌, length, zip, flat_map, if◌then◌else◌}
+use Rattle.std.specs.Prelude.{◌≡◌, ◌≢◌, ◌⊎◌, ℕ, ◌+◌, ◌*◌, ◌^◌, ◌<◌, ◌≤◌, Option, Some, None, List, [], ◌∷◌, ◌++◌, length, zip, flat_map, option_to_list, slice_index_or, if◌then◌else◌}
 use Rattle.std.specs.Vec.{vec_capacity, vec_len}
 use Rattle.mc_protocol.specs.Legal.{is_fit_for}
 use Rattle.mc_protocol.specs.Sections.{section_of}
@@ -17,7 +17,9 @@ use Rattle.mc_code.specs.States.{Tagged, State, ended}
 use Rattle.mc_code.specs.declared.instr.Call.{Call}
 use Rattle.mc_machine.specs.Machine as machines
 use Rattle.mc_machine.specs.declared.machine.Machine.{Machine}
-use Rattle.mc_model.specs.Notes.{is_same_section}
+use Rattle.mc_model.specs.Notes as recorded
+use Rattle.mc_model.specs.declared.note.Note.{Note}
+use Rattle.mc_model.specs.declared.note.Note.TheVariants as note
 use Rattle.mc_core.specs.declared.ending.Ending.{Ending}
 use Rattle.mc_core.specs.declared.ending.Ending.TheVariants as ending
 use Rattle.mc_core.specs.declared.event.Event.{Event}
@@ -26,9 +28,10 @@ use Rattle.mc_core.specs.declared.section.Section.{Section}
 use Rattle.mc_core.specs.declared.step_refusal.StepRefusal.{StepRefusal}
 use Rattle.mc_core.specs.declared.step_refusal.StepRefusal.TheVariants as refusal
 use Rattle.mc_core.specs.Held.{Held}
-use Rattle.mc_core.specs.Logs.{Log}
+use Rattle.mc_core.specs.Histories.{begin_count, no_call}
+use Rattle.mc_core.specs.Logs.{Log, request_of}
 use Rattle.mc_core.specs.Safety.{AreSmall}
-use Rattle.mc_core.specs.Worlds.{World, Noted, events_of}
+use Rattle.mc_core.specs.Worlds.{World, Noted, event_of, events_of}
 
 -- ---- what is seen
 
@@ -191,3 +194,37 @@ abbrev pub AllTake : Code → Sections Section → Actor → Event → Sections 
 AllTake c s actor.P e t = (p : Section) × Takes c s.p e p × BranchesFollow c (record s { p = p }) t
 AllTake c s actor.A e t = (a : Section) × Takes c s.a e a × (t ≡ record s { a = a })
 AllTake c s actor.B e t = (b : Section) × Takes c s.b e b × (t ≡ record s { b = b })
+
+-- ---- what is recorded
+
+-- the section's calls, the one that waits too
+abbrev pub calls_of : Section → List Call
+calls_of s = s.answered.items ++ option_to_list (waiting_in s.machine)
+
+-- the note of an event, where the section began so many calls before
+abbrev pub note_in : Code → Section → ℕ → Event → Option Note
+note_in c s begun event.Begin = Some (note.Begin (request_of c (slice_index_or (calls_of s) begun no_call)))
+note_in c s begun (event.Reply reply) = Some (note.Reply reply)
+note_in c s begun (event.Fail fault) = None
+
+-- a call that an event begins names a template that is there
+abbrev pub BeginsNamed : Code → Section → ℕ → Event → Type 0
+BeginsNamed c s begun event.Begin = (slice_index_or (calls_of s) begun no_call).template < length c.templates
+BeginsNamed c s begun (event.Reply reply) = Unit {0}
+BeginsNamed c s begun (event.Fail fault) = Unit {0}
+
+abbrev pub noted_by : Actor → Option Note → List recorded.Noted
+noted_by who None = []
+noted_by who (Some note) = (who, note) ∷ []
+
+-- how many calls each section began
+abbrev pub AreBegun : Sections ℕ → List Noted → Type 0
+AreBegun begun notes = (who : Actor) → section_of begun who ≡ begin_count (events_of who notes)
+
+-- one more call, where the event is one of the section
+abbrev pub CountsBegin : Sections ℕ → Actor → Event → Sections ℕ → Type 0
+CountsBegin begun who e more = (other : Actor) → section_of more other ≡ section_of begun other + begin_count (event_of other (who, e))
+
+-- none of the counts is the greatest number
+abbrev pub HaveRoom : Sections ℕ → Type 0
+HaveRoom begun = (begun.p < 2 ^ 32) × (begun.a < 2 ^ 32) × (begun.b < 2 ^ 32)

@@ -7,7 +7,7 @@
 //! `specs/Histories.antt`. The crate above uses `World::step` and `drive`, whose worlds are such folds.
 #![tactic(auto)]
 
-mod drive;
+mod driving;
 mod ending;
 mod event;
 mod laws;
@@ -15,7 +15,7 @@ mod section;
 mod step_refusal;
 mod world;
 
-pub use drive::drive;
+pub use driving::drive;
 pub use ending::Ending;
 pub use event::Event;
 pub use laws::{

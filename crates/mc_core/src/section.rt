@@ -1,6 +1,7 @@
 //! One section of a world.
-ghost use Rattle.std.specs.Prelude.{◌≡◌, ◌≢◌, ℕ, ◌<◌, ◌≤◌, Some, None, List, [], ◌∷◌, ◌++◌, IfOk, vec_len, vec_capacity};
+ghost use Rattle.std.specs.Prelude.{◌≡◌, ◌≢◌, ℕ, ◌<◌, ◌≤◌, Some, None, List, [], ◌∷◌, ◌++◌, slice_index_or, IfOk, vec_len, vec_capacity};
 ghost use Rattle.mc_core.specs.Fields as fields;
+ghost use Rattle.mc_core.specs.Histories.{no_call};
 ghost use Rattle.mc_machine.specs.Machine as machines;
 ghost use Rattle.mc_code.specs.States.{Tagged};
 
@@ -59,6 +60,22 @@ impl Section {
         match &self.machine {
             Some(machine) => machine.waiting(),
             None => None,
+        }
+    }
+
+    /// The call with this index, counted from 0, of all that the section made.
+    pub(crate) fn call(&self, index: usize) -> Call
+        ensures { result ≡ slice_index_or (fields.calls_of self.now) index no_call }
+    {
+        match self.answered.get(index) {
+            Some(made) => *made,
+            None => match self.waiting() {
+                Some(made) if index == self.answered.len() => made,
+                _ => Call {
+                    template: 0,
+                    number: 0,
+                },
+            },
         }
     }
 

@@ -26,8 +26,8 @@ const NOTES_LIMIT: usize = 3 * (2 * REQUESTS_LIMIT + 1);
 /// Each call that takes a [`Checked`] asks for the one with which the world was started.
 #[derive(Debug, Drop)]
 pub struct World {
-    sections: Sections<Section>,
-    notes: Vec<(Actor, Event)>,
+    pub(crate) sections: Sections<Section>,
+    pub(crate) notes: Vec<(Actor, Event)>,
 }
 
 impl Model for World {
