@@ -17,3 +17,5 @@ pub mod Clearing
 pub mod NextRequest
 pub mod SeenNumbers
 pub mod HistorySteps
+pub mod LongerFolds
+pub mod Stepping

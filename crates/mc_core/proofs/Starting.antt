@@ -148,3 +148,25 @@ started c numbers s t p new begins (same_p, begin, stay) = by_end (is_done p.end
     by_end : (p.ending ≡ ending.Done) ⊎ (p.ending ≢ ending.Done) → IsStart c t
     by_end (inl done) = when_done done
     by_end (inr goes_on) = subst (IsStart c) (sym (stay goes_on)) (when_still goes_on)
+
+-- what is known of a new section
+abbrev pub News : Section → Type 0
+News s = record {
+  machine : s.machine ≡ None;
+  answered : s.answered.items ≡ [];
+  room : REQUESTS_LIMIT ≤ vec_capacity s.answered;
+  ending : s.ending ≡ ending.NotBegun;
+}
+
+pub are_new : (p a b : Section) → News p → News a → News b → AreNew (record { p = p; a = a; b = b })
+are_new p a b in_p in_a in_b = record { news = news; room = room }
+  where
+    news : (who : Actor) → IsNew (section_of (let s : Sections Section = record { p = p; a = a; b = b } in s) who)
+    news actor.P = record { machine = in_p.machine; answered = in_p.answered; ending = in_p.ending }
+    news actor.A = record { machine = in_a.machine; answered = in_a.answered; ending = in_a.ending }
+    news actor.B = record { machine = in_b.machine; answered = in_b.answered; ending = in_b.ending }
+
+    room : (who : Actor) → REQUESTS_LIMIT ≤ vec_capacity (section_of (let s : Sections Section = record { p = p; a = a; b = b } in s) who).answered
+    room actor.P = in_p.room
+    room actor.A = in_a.room
+    room actor.B = in_b.room

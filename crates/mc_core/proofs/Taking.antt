@@ -65,18 +65,18 @@ names_a_template c w who x o (inr (m, begun, is, stands)) =
 
 -- ---- what an event asks for
 
-logged : (s : Sections Section) (notes : List Noted) (who : Actor) → log_of (world_in s notes) who ≡ log_in notes who (section_of s who)
+pub logged : (s : Sections Section) (notes : List Noted) (who : Actor) → log_of (world_in s notes) who ≡ log_in notes who (section_of s who)
 logged s notes actor.P = refl
 logged s notes actor.A = refl
 logged s notes actor.B = refl
 
-ending_at : (c : Code) (s : Sections Section) (notes : List Noted) (who : Actor) → Fields c s notes
+pub ending_at : (c : Code) (s : Sections Section) (notes : List Noted) (who : Actor) → Fields c s notes
     → IsEnding c (world_in s notes) who (section_of s who).ending
 ending_at c s notes actor.P fields = fields.held.endings actor.P
 ending_at c s notes actor.A fields = fields.held.endings actor.A
 ending_at c s notes actor.B fields = fields.held.endings actor.B
 
-machine_at : (c : Code) (s : Sections Section) (notes : List Noted) (who : Actor) → Fields c s notes
+pub machine_at : (c : Code) (s : Sections Section) (notes : List Noted) (who : Actor) → Fields c s notes
     → HasMachine c (world_in s notes) who (section_of s who).ending (section_of s who).machine
 machine_at c s notes actor.P fields = fields.held.machines actor.P
 machine_at c s notes actor.A fields = fields.held.machines actor.A

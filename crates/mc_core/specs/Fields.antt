@@ -228,3 +228,7 @@ CountsBegin begun who e more = (other : Actor) → section_of more other ≡ sec
 -- none of the counts is the greatest number
 abbrev pub HaveRoom : Sections ℕ → Type 0
 HaveRoom begun = (begun.p < 2 ^ 32) × (begun.a < 2 ^ 32) × (begun.b < 2 ^ 32)
+
+-- P may be done after the event alone with numbers that it leaves
+abbrev pub LeavesAfter : Code → Sections Section → Event → Type 0
+LeavesAfter c s e = (p : Section) → Takes c s.p e p → p.ending ≡ ending.Done → LeavesNumbers c p

@@ -3,6 +3,7 @@ ghost use Rattle.std.specs.Prelude.{◌≡◌, ◌≢◌, ℕ, ◌<◌, ◌≤�
 ghost use Rattle.mc_core.specs.Fields as fields;
 ghost use Rattle.mc_core.specs.Histories.{no_call};
 ghost use Rattle.mc_machine.specs.Machine as machines;
+ghost use Rattle.mc_protocol.specs.Sections as of_sections;
 ghost use Rattle.mc_code.specs.States.{Tagged};
 
 use crate::{Ending, Event, StepRefusal};
@@ -130,6 +131,27 @@ impl Section {
             }
             None => unreachable!(),
         }
+    }
+}
+
+/// One section takes an event that nothing is against; where P is done after it, the branches begin.
+pub(crate) fn take_event(
+    sections: &mut Sections<Section>,
+    checked: &Checked,
+    actor: Actor,
+    event: &Event,
+)
+    requires may { fields.MayTake checked.now.code (of_sections.section_of sections.old actor) event.now }
+    requires leaves { actor ≡ Actor.P → fields.LeavesAfter checked.now.code sections.old event.now }
+    ensures { fields.AllTake checked.now.code sections.old actor event.now sections.new }
+{
+    match actor {
+        Actor::P => {
+            sections.p.take(checked, event);
+            begin_branches(sections, checked);
+        }
+        Actor::A => sections.a.take(checked, event),
+        Actor::B => sections.b.take(checked, event),
     }
 }
 

@@ -8,7 +8,7 @@ ghost use Rattle.mc_core.specs.Worlds as worlds;
 ghost use Rattle.mc_protocol.specs.Sections as sections;
 ghost use Rattle.mc_verify.specs.Faults.{IsSound};
 
-use crate::section::{Section, begin_branches};
+use crate::section::{Section, begin_branches, take_event};
 use crate::{Ending, Event, StepRefusal};
 use mc_code::Call;
 use mc_protocol::{Actor, OutOfMemory, REQUESTS_LIMIT, Reply, Sections};
@@ -48,6 +48,7 @@ impl World {
     pub fn start(alloc: Global, checked: &Checked) -> Result<World, OutOfMemory>
         ensures new { IfOk result (λ w. w.world ≡ worlds.new_world) }
         ensures held { IfOk result (IsHeldBy checked.now.code) }
+        ensures small { IfOk result (λ w. AreSmall w.world.notes) }
     {
         let notes = Vec::with_capacity(alloc, NOTES_LIMIT)?;
         let mut sections = Sections {
@@ -74,20 +75,15 @@ impl World {
         ensures event { IfErr result (λ refused. refused.1 ≡ event) }
         ensures err { OnErr result (self.new ≡ self.old) }
         ensures held { IsHeldBy checked.now.code self.new }
+        ensures small { AreSmall self.new.world.notes }
     {
         know_code(checked);
-        if let Some(refusal) = self.sections.get(actor).refusal(checked.code(), &event) {
-            return Err((refusal, event));
+        match self.sections.get(actor).refusal(checked.code(), &event) {
+            Some(refusal) => return Err((refusal, event)),
+            None => {}
         }
         know_event(&event);
-        match actor {
-            Actor::P => {
-                self.sections.p.take(checked, &event);
-                begin_branches(&mut self.sections, checked);
-            }
-            Actor::A => self.sections.a.take(checked, &event),
-            Actor::B => self.sections.b.take(checked, &event),
-        }
+        take_event(&mut self.sections, checked, actor, &event);
         add_note(&mut self.notes, actor, event);
         Ok(())
     }
