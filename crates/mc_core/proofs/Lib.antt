@@ -19,3 +19,4 @@ pub mod SeenNumbers
 pub mod HistorySteps
 pub mod LongerFolds
 pub mod Stepping
+pub mod Recording

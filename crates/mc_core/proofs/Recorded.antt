@@ -30,18 +30,18 @@ use Rattle.mc_core.proofs.NotedEvents.{AreNoted}
 abbrev pub begun_in : Actor → List Noted → ℕ
 begun_in who notes = begin_count (events_of who notes)
 
-count_append : (xs ys : List Event) → begin_count (xs ++ ys) ≡ begin_count xs + begin_count ys
+pub count_append : (xs ys : List Event) → begin_count (xs ++ ys) ≡ begin_count xs + begin_count ys
 count_append [] ys = omega arith
 count_append (event.Begin ∷ xs) ys = let e = count_append xs ys in omega (arith, e)
 count_append (event.Reply reply ∷ xs) ys = count_append xs ys
 count_append (event.Fail fault ∷ xs) ys = count_append xs ys
 
-begun_more : (who : Actor) (front : List Noted) (noted : Noted) → begun_in who (front ++ noted ∷ []) ≡ begun_in who front + begin_count (event_of who noted)
+pub begun_more : (who : Actor) (front : List Noted) (noted : Noted) → begun_in who (front ++ noted ∷ []) ≡ begun_in who front + begin_count (event_of who noted)
 begun_more who front noted =
     ap begin_count (flat_map-append (event_of who) front (noted ∷ []) ∙ ap (λ l. events_of who front ++ l) (append-nil (event_of who noted)))
     ∙ count_append (events_of who front) (event_of who noted)
 
-begun_first : (who : Actor) (noted : Noted) (notes : List Noted) → begun_in who (noted ∷ notes) ≡ begin_count (event_of who noted) + begun_in who notes
+pub begun_first : (who : Actor) (noted : Noted) (notes : List Noted) → begun_in who (noted ∷ notes) ≡ begin_count (event_of who noted) + begun_in who notes
 begun_first who noted notes = count_append (event_of who noted) (events_of who notes)
 
 count_pairs : (pairs : List (Call × Reply)) (rest : List Event) → begin_count (flat_map events_of_pair pairs ++ rest) ≡ length pairs + begin_count rest
@@ -249,7 +249,7 @@ from_grown c w v front (noted ∷ notes) grows few =
     (from_grown c w v (front ++ noted ∷ []) notes grows
     (λ who. let most = few who in let first = begun_first who noted notes in let more = begun_more who front noted in omega (arith, most, first, more)))
 
-from_append : (c : Code) (w : World) (front xs ys : List Noted)
+pub from_append : (c : Code) (w : World) (front xs ys : List Noted)
     → recorded_from c w front (xs ++ ys) ≡ recorded_from c w front xs ++ recorded_from c w (front ++ xs) ys
 from_append c w front [] ys = ap (λ l. recorded_from c w l ys) (sym (append-nil front))
 from_append c w front (x ∷ xs) ys =

@@ -10,6 +10,7 @@
 mod driving;
 mod ending;
 mod event;
+mod history;
 mod laws;
 mod section;
 mod step_refusal;
