@@ -1,5 +1,9 @@
 //! Instructions, and the calls that they make.
+ghost use Rattle.std.specs.Prelude.{◌≡◌};
+ghost use Rattle.mc_code.specs.Paths as paths;
+
 use crate::CLASS_COUNT;
+use mc_protocol::Class;
 
 /// An instruction of a section. A place in a section is the index of an instruction.
 #[derive(Clone, Copy, Debug, PartialEq, Eq)]
@@ -27,4 +31,11 @@ pub struct Call {
     pub template: u8,
     /// The number of a `cas`, an `incr` or a `decr`: the template's own, or that of its variable. Otherwise 0.
     pub number: u64,
+}
+
+/// The place to which a reply of the class leads after a send with these places.
+pub fn entry(next: &[u8; CLASS_COUNT], class: Class) -> u8
+    ensures { result ≡ paths.entry_of next.now class }
+{
+    next[usize::from(class.index())]
 }

@@ -42,7 +42,7 @@ pub use fault::{AsmFault, ImageFault, ImageKind};
 pub use image_laws::{codes_have_images, images_are_of_one_code, images_are_written_again};
 pub use image_reader::decode;
 pub use image_writer::encode;
-pub use instr::{Call, Instr};
+pub use instr::{Call, Instr, entry};
 pub use kind::Kind;
 pub use layout_laws::{entries_are_legal, layouts_lead_forwards};
 pub use limits::{CLASS_COUNT, INSTRUCTIONS_LIMIT, NO_ENTRY, TEMPLATES_LIMIT};

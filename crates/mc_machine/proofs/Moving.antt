@@ -156,6 +156,10 @@ goes_short c m i q sound kept at leads =
     let inside = ahead.1 in
     (ahead.0, omega (arith, inside, few))
 
+pub bind_ahead : (c : Code) (m : Machine) (v : ℕ) → IsSound c → IsCode c
+    → slice_get (instructions_in c m.actor) m.place ≡ Some (instr.Bind v) → (m.place < m.place + 1) × (m.place + 1 < INSTRUCTIONS_LIMIT)
+bind_ahead c m v sound kept at = goes_short c m (instr.Bind v) (m.place + 1) sound kept at refl
+
 -- ---- with a reply
 
 -- the machine at another place, with this number shown, and no call outstanding
@@ -240,3 +244,7 @@ taken_answers c m n o reply takes follows waits idle made variables exchanges st
     let more = exchanges ++ exchange_of c (made, reply) ∷ [] in
     let after = follows variables more taken.0 taken.1 in
     (after.0, stands_after c o variables more after.0 after.1 waits idle)
+
+pub answered_stands : (c : Code) (m n : Machine) (reply : Reply) → Stands c m → MayBeAnswered c m reply → IsAnswered c m reply n → Stands c n
+answered_stands c m n reply (variables, exchanges, st, at) (made, waits, fit) answers =
+    let after = answers made variables exchanges st waits at in (variables, exchanges ++ exchange_of c (made, reply) ∷ [], after.0, after.1)

@@ -1,6 +1,7 @@
 -- Where a machine starts, the call that it makes, and its end.
-use Rattle.std.proofs.Common.{◌≡◌, ◌↔◌, ◌⊎◌, inl, inr, ℕ, zero, suc, ◌<◌, Bool, true, false, Option, Some, None, List, [], length, replicate, slice_get, slice_index, slice_index_or, refl, ap, sym, subst, ◌∙◌, arith, if◌then◌else◌}
+use Rattle.std.proofs.Common.{◌≡◌, ◌≢◌, ◌↔◌, ◌⊎◌, inl, inr, ℕ, zero, suc, ◌<◌, Bool, true, false, Option, Some, None, List, [], length, replicate, slice_get, slice_index, slice_index_or, refl, ap, sym, subst, ◌∙◌, arith, if◌then◌else◌}
 use Rattle.std.proofs.lemmas.List.{get_or-replicate, length-replicate}
+use Rattle.std.proofs.lemmas.Option.{get_or_from_slice_get, slice_get-get_or}
 use Rattle.mc_protocol.specs.declared.actor.Actor.{Actor}
 use Rattle.mc_protocol.specs.declared.actor.Actor.TheVariants as actor
 use Rattle.mc_script.specs.declared.step.Argument.{Argument}
@@ -10,12 +11,13 @@ use Rattle.mc_code.specs.declared.instr.Call.{Call}
 use Rattle.mc_code.specs.declared.instr.Instr.{Instr}
 use Rattle.mc_code.specs.declared.instr.Instr.TheVariants as instr
 use Rattle.mc_code.specs.declared.kind.Kind.TheVariants as kind
-use Rattle.mc_code.specs.Calls.{IsCalling}
+use Rattle.mc_code.specs.Calls.{IsCalling, no_template}
 use Rattle.mc_code.specs.Code.{Code, IsCode, instructions_in}
 use Rattle.mc_code.specs.Runs.{Exchange, met_at, met_by_send, rests}
 use Rattle.mc_code.specs.Standing.{ComesTo, BeginsAfter, BeginsWith, is_right, met_in, no_variables}
 use Rattle.mc_code.specs.States.{Tagged, nothing, State, initial_state, call, wrong_kind, nothing_to_bind, ended, call_with, with_argument, send_outcome, wanted_by, is_same, is_number}
 use Rattle.mc_code.proofs.LookUps.{some_is}
+use Rattle.mc_code.proofs.StandingLemmas.{calls_open}
 use Rattle.mc_code.proofs.Stopping.{one_stop}
 use Rattle.mc_verify.specs.Faults.{IsSound}
 use Rattle.mc_script.specs.declared.limits.TheConstants.{VARIABLES_LIMIT}
@@ -23,8 +25,8 @@ use Rattle.mc_verify.proofs.FaultsAt.{variable_declared}
 use Rattle.mc_verify.proofs.Right.{sound_structured}
 use Rattle.mc_verify.proofs.Structured.{structured_template}
 use Rattle.mc_machine.specs.declared.machine.Machine.{Machine}
-use Rattle.mc_machine.specs.Laws.{EndsStartBranches}
-use Rattle.mc_machine.specs.Machine.{AreNumbersOf, Goes, IsAt, IsOnWay, StartsFrom, numbers_of, plain_number, waits_at}
+use Rattle.mc_machine.specs.Laws.{EndsStartBranches, OutstandingIsNamed}
+use Rattle.mc_machine.specs.Machine.{AreNumbersOf, Goes, IsAt, IsOnWay, StartsFrom, plain_number, waits_at}
 use Rattle.mc_machine.proofs.Moving.{stops_waiting, way_length, way_right}
 
 -- ---- the start
@@ -61,6 +63,10 @@ no_numbers c size variables is v inside =
     ∙ ap (λ (x : Tagged). x.1) (get_or-replicate c.vars v nothing nothing declared))
 
 -- ---- the call
+
+pub template_there : (c : Code) (m : Machine) (n : ℕ) (next : List ℕ) → IsSound c
+    → slice_get (instructions_in c m.actor) m.place ≡ Some (instr.Send n next) → n < length c.templates
+template_there c m n next sound at = structured_template c m.actor (sound_structured c m.actor sound) m.place n next at
 
 sent_plainly : (t : Template) (a : Argument) (variables : List Tagged) (numbers : List ℕ)
     → is_right (with_argument t a variables) ≡ true → AreNumbersOf numbers variables
@@ -100,6 +106,35 @@ calls_there c m variables exchanges st made next t sound kept way at named is =
       stands = way.stands;
       sends = at;
       meets = met ∙ ap Some (sent ∙ ap (call t) (sym is));
+    }
+
+-- the same machine, with this outstanding
+abbrev pub with_outstanding : Machine → Option Call → Machine
+with_outstanding m out = record m { outstanding = out }
+
+pub rests_on : (c : Code) (m : Machine) (variables : List Tagged) (exchanges : List Exchange) (st : State) → IsAt c m variables exchanges st
+    → IsAt c (with_outstanding m None) variables exchanges st
+rests_on c m variables exchanges st at = record {
+  way = record { begins = at.way.begins; stands = at.way.stands; numbers = at.way.numbers; shown = at.way.shown };
+  waits = at.waits;
+  outstanding = λ made e. absurd (let clash : None ≡ Some made = e in cc);
+}
+
+-- it stands on with the call of its send outstanding
+pub calls_on : (c : Code) (m : Machine) (variables : List Tagged) (exchanges : List Exchange) (st : State) (n : ℕ) (next : List ℕ) (made : Call)
+    → IsSound c → IsCode c → IsAt c m variables exchanges st → slice_get (instructions_in c m.actor) m.place ≡ Some (instr.Send n next)
+    → made.template ≡ n → ((t : Template) → slice_get c.templates n ≡ Some t → made.number ≡ plain_number t.argument m.numbers)
+    → IsAt c (with_outstanding m (Some made)) variables exchanges st
+calls_on c m variables exchanges st n next made sound kept at sends is number =
+    let t = slice_index_or c.templates n no_template in
+    let named : slice_get c.templates n ≡ Some t = slice_get-get_or c.templates n no_template (template_there c m n next sound sends) in
+    let here = subst (λ n. slice_get (instructions_in c m.actor) m.place ≡ Some (instr.Send n next)) (sym is) sends in
+    let there = subst (λ n. slice_get c.templates n ≡ Some t) (sym is) named in
+    let calling = calls_there c m variables exchanges st made next t sound kept at.way here there (number t named) in
+    record {
+      way = record { begins = at.way.begins; stands = at.way.stands; numbers = at.way.numbers; shown = at.way.shown };
+      waits = at.waits;
+      outstanding = λ other e. subst (λ made. IsCalling c m.actor variables exchanges made) (some_is made other e) calling;
     }
 
 -- ---- the end
@@ -154,10 +189,6 @@ halts_at_end c m variables exchanges st at = (there, back)
 
 -- ---- what a machine finds where it stands
 
-pub template_there : (c : Code) (m : Machine) (n : ℕ) (next : List ℕ) → IsSound c
-    → slice_get (instructions_in c m.actor) m.place ≡ Some (instr.Send n next) → n < length c.templates
-template_there c m n next sound at = structured_template c m.actor (sound_structured c m.actor sound) m.place n next at
-
 -- a request's variable is one of a machine's numbers
 pub declared_there : (c : Code) (n : ℕ) (t : Template) → IsCode c → slice_get c.templates n ≡ Some t → (v : ℕ) → t.argument ≡ argument.Variable v
     → v < VARIABLES_LIMIT
@@ -189,9 +220,29 @@ ends_elsewhere c m variables exchanges st i at there other = by_instr other
 -- ---- from P to the branches
 
 pub ends_start_branches : EndsStartBranches
-ends_start_branches c m branch exchanges st at is comes (inl e) =
-    subst (λ branch. StartsFrom c branch (numbers_of m) st.variables × BeginsAfter c exchanges branch st.variables) (sym e)
-    (((exchanges, (st, comes, refl)), at.way.numbers), (st, comes, refl))
-ends_start_branches c m branch exchanges st at is comes (inr e) =
-    subst (λ branch. StartsFrom c branch (numbers_of m) st.variables × BeginsAfter c exchanges branch st.variables) (sym e)
-    (((exchanges, (st, comes, refl)), at.way.numbers), (st, comes, refl))
+ends_start_branches c m branch variables exchanges st at is comes other = by_branch branch other
+  where
+    begun_empty : (a : Actor) → a ≡ actor.P → BeginsWith c a variables → variables ≡ no_variables c
+    begun_empty a is begins = (subst (λ a. BeginsWith c a variables) is begins).1
+
+    comes_empty : ComesTo c actor.P (no_variables c) exchanges st ended
+    comes_empty =
+        subst (λ variables. ComesTo c actor.P variables exchanges st ended) (begun_empty m.actor is at.way.begins)
+        (subst (λ a. ComesTo c a variables exchanges st ended) is comes)
+
+    by_branch : (branch : Actor) → branch ≢ actor.P
+        → StartsFrom c branch m.numbers st.variables × BeginsAfter c exchanges branch st.variables
+    by_branch actor.P other = absurd (other refl)
+    by_branch actor.A other = (((exchanges, (st, comes_empty, refl)), at.way.numbers), (st, comes_empty, refl))
+    by_branch actor.B other = (((exchanges, (st, comes_empty, refl)), at.way.numbers), (st, comes_empty, refl))
+
+-- ---- the outstanding call
+
+-- what is there is found, whatever stands for what isn't
+found : {X : Type 0} (xs : List X) (n : ℕ) (x other : X) → slice_get xs n ≡ Some x → slice_get xs n ≡ Some (slice_index_or xs n other)
+found xs n x other e = e ∙ sym (ap Some (get_or_from_slice_get xs n x other e))
+
+pub outstanding_is_named : OutstandingIsNamed
+outstanding_is_named c m variables exchanges st made at outstanding =
+    let named = calls_open c m.actor variables exchanges made (at.outstanding made outstanding) in
+    found c.templates made.template named.1 no_template named.2

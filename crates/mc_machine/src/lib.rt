@@ -9,5 +9,5 @@
 mod laws;
 mod machine;
 
-pub use laws::ends_start_branches;
+pub use laws::{ends_start_branches, outstanding_is_named};
 pub use machine::Machine;

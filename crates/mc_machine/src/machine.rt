@@ -1,17 +1,18 @@
 //! A machine that goes along one section of sound code.
-ghost use Rattle.std.specs.Prelude.{◌≡◌, ◌↔◌, ℕ, ◌<◌, ◌≤◌, true, false, Some, None, List, [], slice_get};
+ghost use Rattle.std.specs.Prelude.{◌≡◌, ◌↔◌, ℕ, ◌<◌, true, false, Some, None, List, [], length, slice_get, slice_set};
+ghost use Rattle.mc_protocol.specs.Legal.{class_of};
+ghost use Rattle.mc_script.specs.declared.step.Template.{Template};
 ghost use Rattle.mc_script.specs.declared.step.Argument.TheVariants as argument_of;
-ghost use Rattle.mc_code.specs.declared.instr.Instr.TheVariants as instr;
-ghost use Rattle.mc_code.specs.Calls.{IsCalling};
 ghost use Rattle.mc_code.specs.Code as codes;
 ghost use Rattle.mc_code.specs.Code.{Code};
+ghost use Rattle.mc_code.specs.Paths.{entry_of};
 ghost use Rattle.mc_code.specs.Runs.{Exchange};
 ghost use Rattle.mc_code.specs.Standing.{ComesTo};
 ghost use Rattle.mc_code.specs.States.{Tagged, State, ended, shown_of};
 ghost use Rattle.mc_machine.specs.Machine as spec;
 ghost use Rattle.mc_verify.specs.Faults.{IsSound};
 
-use mc_code::{Call, Code, INSTRUCTIONS_LIMIT, Instr};
+use mc_code::{CLASS_COUNT, Call, Code, INSTRUCTIONS_LIMIT, Instr, entry};
 use mc_protocol::{Actor, Reply};
 use mc_script::{Argument, VARIABLES_LIMIT};
 use mc_verify::Checked;
@@ -57,8 +58,9 @@ impl Machine {
     pub fn next(&mut self, checked: &Checked) -> Option<Call>
         requires stands { spec.Stands checked.now.code self.old }
         requires idle { spec.outstanding_of self.old ≡ None }
-        ensures stands { (variables : List Tagged) (exchanges : List Exchange) (st : State)
+        ensures calls { (variables : List Tagged) (exchanges : List Exchange) (st : State)
             → spec.IsAt checked.now.code self.old variables exchanges st → spec.IsAt checked.now.code self.new variables exchanges st }
+        ensures stands { spec.Stands checked.now.code self.new }
         ensures end { (variables : List Tagged) (exchanges : List Exchange) (st : State)
             → spec.IsAt checked.now.code self.old variables exchanges st
             → (result ≡ None) ↔ ComesTo checked.now.code (spec.actor_of self.old) variables exchanges st ended }
@@ -70,7 +72,7 @@ impl Machine {
             Instr::Send { template, .. } => Some(self.call(code, template)),
             Instr::Bind(_) | Instr::Goto(_) | Instr::Halt => None,
         };
-        self.outstanding
+        self.waiting()
     }
 
     /// Takes the reply to the outstanding call, and goes on to the next one or to the end.
@@ -78,6 +80,7 @@ impl Machine {
         requires stands { spec.Stands checked.now.code self.old }
         requires fits { spec.MayBeAnswered checked.now.code self.old reply.now }
         ensures answered { spec.IsAnswered checked.now.code self.old reply.now self.new }
+        ensures stands { spec.Stands checked.now.code self.new }
         ensures idle { spec.outstanding_of self.new ≡ None }
         ensures actor { spec.actor_of self.new ≡ spec.actor_of self.old }
     {
@@ -115,13 +118,12 @@ impl Machine {
         )
     }
 
-    /// The call of the send at which it stands, which names the template with this index.
+    /// The call of a send that names the template with this index.
     fn call(&self, code: &Code, template: u8) -> Call
-        requires sound { IsSound code.now }
-        requires goes { spec.Goes code.now self.now }
-        requires sends { (next : List ℕ) × (slice_get (codes.instructions_in code.now self.now.actor) self.now.place ≡ Some (instr.Send template next)) }
-        ensures calls { (variables : List Tagged) (exchanges : List Exchange) (st : State)
-            → spec.IsOnWay code.now self.now variables exchanges st → IsCalling code.now self.now.actor variables exchanges result }
+        requires { template < length code.now.templates }
+        ensures template { result.template ≡ template }
+        ensures number { (t : Template) → slice_get code.now.templates template ≡ Some t
+            → result.number ≡ spec.plain_number t.argument self.now.numbers }
     {
         let number = self.number(code.template(template).argument);
         Call { template, number }
@@ -149,7 +151,7 @@ impl Machine {
         ensures actor { self.new.actor ≡ self.old.actor }
     {
         match code.instruction(self.actor, usize::from(self.place)) {
-            Instr::Send { next, .. } => self.place = next[usize::from(reply.class().index())],
+            Instr::Send { next, .. } => self.place = place_after(&next, reply),
             Instr::Bind(_) | Instr::Goto(_) | Instr::Halt => unreachable!(),
         }
         self.shown = number_shown(reply);
@@ -180,7 +182,7 @@ impl Machine {
     {
         match code.instruction(self.actor, usize::from(self.place)) {
             Instr::Bind(variable) => {
-                self.numbers[usize::from(variable)] = self.shown;
+                self.bind(variable);
                 self.place += 1;
                 true
             }
@@ -191,6 +193,21 @@ impl Machine {
             Instr::Send { .. } | Instr::Halt => false,
         }
     }
+
+    /// Gives the variable the number that was shown.
+    fn bind(&mut self, variable: u8)
+        requires { variable < VARIABLES_LIMIT }
+        ensures { self.new ≡ record self.old { numbers = slice_set self.old.numbers variable self.old.shown } }
+    {
+        self.numbers[usize::from(variable)] = self.shown;
+    }
+}
+
+/// The place to which the reply leads.
+fn place_after(next: &[u8; CLASS_COUNT], reply: &Reply) -> u8
+    ensures { result ≡ entry_of next.now (class_of reply.now) }
+{
+    entry(next, reply.class())
 }
 
 /// The numbers with which a section begins: those that are given to a branch, and none in P.

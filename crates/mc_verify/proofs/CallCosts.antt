@@ -1,5 +1,5 @@
 -- What a call costs is little, and where it is looked up.
-use Rattle.std.proofs.Common.{◌≡◌, ⊎_elim, ℕ, ◌<◌, ◌≤◌, ◌==◌, nat_le, true, Some, List, [], ◌++◌, length, codes, decimal, slice_get, slice_index_or, lit≤, refl, ap, sym, subst, ◌∙◌, arith, length-append}
+use Rattle.std.proofs.Common.{◌≡◌, ⊎_elim, ℕ, ◌<◌, ◌≤◌, ◌==◌, nat_le, true, Some, List, [], ◌++◌, length, codes, decimal, slice_get, slice_index_or, lit≤, ap, sym, subst, ◌∙◌, arith, length-append}
 use Rattle.std.specs.List.{All, concat}
 use Rattle.std.specs.Option.{option_map}
 use Rattle.std.proofs.lemmas.Bool.{cases_lt, leb-true, eqb-true, and_parts}
@@ -173,18 +173,10 @@ pub weight_at : (c : Code) (measure : Measure) (n : ℕ) (t : Template) → slic
     → slice_get (weights_of c measure) n ≡ Some (cost_of c measure t)
 weight_at c measure n t at = slice_get-map (cost_of c measure) c.templates n ∙ ap (option_map (cost_of c measure)) at
 
-pub template_named : (c : Code) (templates : List Template) (n : ℕ) (t : Template) → templates ≡ c.templates
-    → slice_get templates n ≡ Some t
-    → slice_get c.templates n ≡ Some t
-template_named c templates n t same found = ap (λ l. slice_get l n) (sym same) ∙ found
-
-pub weight_is : (c : Code) (weights : Weights) (templates : List Template) (n weight : ℕ) (t : Template) → AreWeights c weights
-    → templates ≡ c.templates
-    → slice_get templates n ≡ Some t → slice_get weights.costs.items n ≡ Some weight
-    → (slice_get c.templates n ≡ Some t) × (weight ≡ cost_of c weights.measure t)
-weight_is c weights templates n weight t are same found at =
-    let named = template_named c templates n t same found in
-    (named, same_Some _ _ (sym at ∙ ap (λ l. slice_get l n) are ∙ weight_at c weights.measure n t named))
+pub weight_is : (c : Code) (weights : Weights) (n weight : ℕ) (t : Template) → AreWeights c weights → slice_get c.templates n ≡ Some t
+    → slice_get weights.costs.items n ≡ Some weight → weight ≡ cost_of c weights.measure t
+weight_is c weights n weight t are named at =
+    same_Some _ _ (sym at ∙ ap (λ l. slice_get l n) are ∙ weight_at c weights.measure n t named)
 
 -- a weight is what the call of a template costs
 pub weight_named : (c : Code) (weights : Weights) (n weight : ℕ) → AreWeights c weights → slice_get weights.costs.items n ≡ Some weight
@@ -194,7 +186,7 @@ weight_named c weights n weight are at =
     let inside = slice_get_within weights.costs.items n weight at in
     let t = slice_index_or c.templates n no_template in
     let named : slice_get c.templates n ≡ Some t = slice_get-get_or c.templates n no_template (omega (arith, inside, size)) in
-    (t, named, (weight_is c weights c.templates n weight t are refl named at).1)
+    (t, named, weight_is c weights n weight t are named at)
 
 -- each template has a weight
 pub weight_inside : (c : Code) (weights : Weights) (n : ℕ) → AreWeights c weights → n < length c.templates → n < length weights.costs.items
@@ -208,10 +200,9 @@ pub record IsSized (c : Code) (n : ℕ) (r : Request) : Type 0 where
   pub small : length (request_text r) ≤ 1000
   pub weight : slice_get (weights_of c measure.Bytes) n ≡ Some (length (request_text r))
 
-pub request_sized : (c : Code) (call : Call) (templates : List Template) (t : Template) (r : Request) → IsCode c → templates ≡ c.templates
-    → slice_get templates call.template ≡ Some t → call.number ≡ longest_number t.argument → IsRequest c call r → IsSized c call.template r
-request_sized c call templates t r is same_templates found number request =
-    let at : slice_get c.templates call.template ≡ Some t = ap (λ l. slice_get l call.template) (sym same_templates) ∙ found in
+pub request_sized : (c : Code) (call : Call) (t : Template) (r : Request) → IsCode c → slice_get c.templates call.template ≡ Some t
+    → call.number ≡ longest_number t.argument → IsRequest c call r → IsSized c call.template r
+request_sized c call t r is at number request =
     let template : request.template ≡ t = same_Some _ _ (sym request.named ∙ at) in
     let key : request.key ≡ slice_index_or c.keys t.key [] =
     sym (get_or_from_slice_get c.keys request.template.key request.key [] request.declared)

@@ -5,8 +5,8 @@ ghost use Rattle.mc_verify.specs.Refusals as refusals;
 ghost use Rattle.mc_verify.specs.Structure as structure;
 
 use crate::RefusalKind;
-use crate::section::{entry, key_count};
-use mc_code::{Code, Instr};
+use crate::section::key_count;
+use mc_code::{Code, Instr, entry};
 use mc_protocol::{Actor, Class, KEYS_LIMIT, Verb};
 use mc_script::Template;
 

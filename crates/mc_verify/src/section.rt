@@ -1,10 +1,9 @@
-//! What code has, within its limits: the instructions of a section, the keys, and where a send leads.
+//! What code has, within its limits: the instructions of a section, and the keys.
 ghost use Rattle.std.specs.Prelude.{◌≡◌, ◌≤◌, length};
 ghost use Rattle.mc_code.specs.Code as spec;
-ghost use Rattle.mc_code.specs.Paths as paths;
 
-use mc_code::{CLASS_COUNT, Code, INSTRUCTIONS_LIMIT, Instr, TEMPLATES_LIMIT};
-use mc_protocol::{Actor, Class, KEYS_LIMIT};
+use mc_code::{Code, INSTRUCTIONS_LIMIT, Instr, TEMPLATES_LIMIT};
+use mc_protocol::{Actor, KEYS_LIMIT};
 
 /// The instructions of a section.
 pub(crate) fn instructions(code: &Code, actor: Actor) -> &[Instr]
@@ -23,11 +22,4 @@ pub(crate) fn key_count(code: &Code) -> u8
     ensures few { result ≤ KEYS_LIMIT }
 {
     code.keys().len() as u8
-}
-
-/// The place to which a class leads.
-pub(crate) fn entry(next: &[u8; CLASS_COUNT], class: Class) -> u8
-    ensures { result ≡ paths.entry_of next.now class }
-{
-    next[usize::from(class.index())]
 }

@@ -10,7 +10,7 @@ ghost use Rattle.mc_verify.specs.Lowest as lowest_faults;
 ghost use Rattle.mc_verify.specs.Refusals as refusals;
 
 use crate::Measure;
-use crate::cost_table::{cost_table, instr_at};
+use crate::cost_table::cost_table;
 use crate::weights::Weights;
 use mc_code::{Code, Instr};
 use mc_protocol::{Actor, OutOfMemory, Sections};
@@ -105,7 +105,7 @@ impl CostTables {
         requires place { place < length (codes.instructions_in code.now actor) }
         ensures { (cost : ℕ) → (cost ≤ result) ↔ ((cost ≡ 0) ⊎ tables.IsOpened code.now actor self.now.weights.measure place cost) }
     {
-        match instr_at(code, actor, place) {
+        match code.instruction(actor, place) {
             Instr::Send { template, .. } => match self.entry_at(actor, place) {
                 Some(cost) => cost + self.weights.of(template),
                 None => 0,

@@ -7,8 +7,8 @@ ghost use Rattle.mc_verify.specs.Refusals as refusals;
 ghost use Rattle.mc_verify.specs.Structure as structure;
 
 use crate::RefusalKind;
-use crate::section::{entry, instructions};
-use mc_code::{CLASS_COUNT, Code, Instr, NO_ENTRY};
+use crate::section::instructions;
+use mc_code::{CLASS_COUNT, Code, Instr, NO_ENTRY, entry};
 use mc_protocol::{Actor, Class, is_legal};
 use mc_script::Template;
 

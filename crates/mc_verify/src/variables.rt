@@ -9,7 +9,7 @@ ghost use Rattle.mc_verify.specs.Refusals as refusals;
 ghost use Rattle.mc_verify.specs.RunKinds as runs;
 ghost use Rattle.mc_verify.specs.VariableFaults as variables;
 
-use crate::kind_table::template_at;
+use crate::kind_table::declared_template;
 use crate::kind_tables::{KindTables, all_kind_tables};
 use crate::lowest::check_kind;
 use crate::section::instructions;
@@ -94,7 +94,7 @@ fn is_fault_at(
 {
     match *instruction {
         Instr::Send { template, .. } => {
-            sends_wrong_number(kind, template_at(code, template), tables, place)
+            sends_wrong_number(kind, declared_template(code, template), tables, place)
         }
         Instr::Bind(variable) => binds_nothing(kind, &tables.at(usize::from(variable), place)),
         Instr::Goto(_) => false,

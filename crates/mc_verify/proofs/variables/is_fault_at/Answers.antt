@@ -8,8 +8,8 @@ use Rattle.mc_verify.proofs.variables.is_fault_at.Goals as goal
 pub returns-in-Send : goal.returns-in-Send
 returns-in-Send c =
     let at = c.requires.at ∙ ap Some c.in-Send.is in
-    let tell = fault_of_send c.args.code.now c.args.kind c.args.actor c.args.place c.in-Send.template c.in-Send.next c.template_at.result.now
-    c.args.tables.now c.requires.kind c.requires.tables c.template_at.ensures.declared at c.template_at.ensures.at in
+    let tell = fault_of_send c.args.code.now c.args.kind c.args.actor c.args.place c.in-Send.template c.in-Send.next c.declared_template.result.now
+    c.args.tables.now c.requires.kind c.requires.tables c.declared_template.ensures.declared at c.declared_template.ensures.at in
     (λ found. tell.0 (c.sends_wrong_number.ensures.0 found), λ fault. c.sends_wrong_number.ensures.1 (tell.1 fault))
 
 pub returns-in-Bind : goal.returns-in-Bind

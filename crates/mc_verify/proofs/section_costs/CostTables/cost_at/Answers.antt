@@ -9,7 +9,7 @@ pub of-requires : goal.of-requires
 of-requires c =
     let code = c.args.code.now in
     let named = structured_template code c.args.actor (c.requires.structured c.args.actor) c.args.place c.in-Send.template c.in-Send.next
-    c.in-Send.ensures in
+    c.in-Send.ensures.instruction in
     weight_inside code c.args.self.now.weights c.in-Send.template c.requires.tables.weights named
 
 pub overflow_add-result : goal.overflow_add-result
@@ -29,7 +29,7 @@ returns-in-Some c =
     let weights = c.args.self.now.weights in
     let weighs = weight_named code weights c.in-Send.template c.of.result c.requires.tables.weights c.of.ensures in
     send_reached code c.args.actor weights.measure _ c.args.place c.in-Send.template c.in-Some.cost c.of.result c.in-Send.next weighs.0
-    (c.requires.tables.exact c.args.actor) c.in-Send.ensures weighs.1 weighs.2 (sym c.in-Some.ensures)
+    (c.requires.tables.exact c.args.actor) c.in-Send.ensures.instruction weighs.1 weighs.2 (sym c.in-Some.ensures)
 
 pub returns-in-None : goal.returns-in-None
 returns-in-None c =

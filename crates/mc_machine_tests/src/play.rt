@@ -1,0 +1,133 @@
+//! Sections of a script, played with given replies.
+ghost use Rattle.std.specs.Prelude.{◌≡◌, true, None, IfOk};
+ghost use Rattle.mc_machine.specs.Machine as machines;
+
+use crate::given::Given;
+use mc_code::assemble;
+use mc_machine::Machine;
+use mc_protocol::{Actor, OutOfMemory, may_answer};
+use mc_script::{VARIABLES_LIMIT, parse};
+use mc_verify::{Checked, verify};
+use std::alloc::Global;
+use std::test::Fail;
+
+/// What came of a section: its calls, each with the index of its template and its number; whether it is done; and the numbers of
+/// its first two variables.
+#[derive(Debug, Drop)]
+pub(crate) struct Played {
+    pub(crate) calls: Vec<(u8, u64)>,
+    pub(crate) is_done: bool,
+    pub(crate) numbers: [u64; 2],
+}
+
+/// Plays P of the script with its replies, and then a branch with its own, if P is done; else what came of P.
+pub(crate) fn play(
+    alloc: Global,
+    script: &[u8],
+    prefix: &[Given],
+    branch: Actor,
+    replies: &[Given],
+) -> Result<Played, Fail> {
+    let code = assemble(alloc, &parse(alloc, script)?)?;
+    let checked = verify(alloc, code).map_err(|(refusal, _)| refusal)?;
+    let mut p = Machine::start(&checked, Actor::P, [0; VARIABLES_LIMIT]);
+    let calls = follow(alloc, &checked, &mut p, prefix)?;
+    match branch {
+        Actor::P => return Ok(seen(calls, &p, &checked)),
+        Actor::A | Actor::B => {}
+    }
+    if !p.at_halt(&checked) {
+        return Ok(seen(calls, &p, &checked));
+    }
+    let mut machine = Machine::start(&checked, branch, p.numbers());
+    let calls = follow(alloc, &checked, &mut machine, replies)?;
+    Ok(seen(calls, &machine, &checked))
+}
+
+/// Gives the section's calls these replies in turn, until there is no call or the reply doesn't fit it. The call after the last
+/// reply is made, too.
+fn follow(
+    alloc: Global,
+    checked: &Checked,
+    machine: &mut Machine,
+    replies: &[Given],
+) -> Result<Vec<(u8, u64)>, OutOfMemory>
+    requires stands { machines.Stands checked.now.code machine.old }
+    requires idle { machines.outstanding_of machine.old ≡ None }
+    ensures stands { machines.Stands checked.now.code machine.new }
+    ensures actor { machines.actor_of machine.new ≡ machines.actor_of machine.old }
+{
+    let mut calls = Vec::new(alloc);
+    'replies: for given in replies {
+        if !exchange(alloc, checked, machine, *given, &mut calls)? {
+            return Ok(calls);
+        }
+    }
+    if let Some(call) = machine.next(checked) {
+        calls.push((call.template, call.number))?;
+    }
+    Ok(calls)
+}
+
+/// Makes the next call and answers it. False where there is no call, or where the reply doesn't fit it.
+fn exchange(
+    alloc: Global,
+    checked: &Checked,
+    machine: &mut Machine,
+    given: Given,
+    calls: &mut Vec<(u8, u64)>,
+) -> Result<bool, OutOfMemory>
+    requires stands { machines.Stands checked.now.code machine.old }
+    requires idle { machines.outstanding_of machine.old ≡ None }
+    ensures stands { machines.Stands checked.now.code machine.new }
+    ensures actor { machines.actor_of machine.new ≡ machines.actor_of machine.old }
+    ensures idle { IfOk result (λ is_answered. is_answered ≡ true → machines.outstanding_of machine.new ≡ None) }
+{
+    let Some(call) = machine.next(checked) else {
+        return Ok(false);
+    };
+    calls.push((call.template, call.number))?;
+    let reply = given.reply(alloc);
+    if !may_answer(checked.code().template(call.template).verb, &reply) {
+        return Ok(false);
+    }
+    machine.answer(checked, &reply);
+    Ok(true)
+}
+
+fn seen(calls: Vec<(u8, u64)>, machine: &Machine, checked: &Checked) -> Played
+    requires { machines.Stands checked.now.code machine.now }
+{
+    let numbers = machine.numbers();
+    Played {
+        calls,
+        is_done: machine.at_halt(checked),
+        numbers: [numbers[0], numbers[1]],
+    }
+}
+
+/// The replies of P, the section that is looked at, its replies, and what comes of it: its calls, whether it is done, and the
+/// numbers of the first two variables.
+pub(crate) type Row = (
+    &'static [Given],
+    Actor,
+    &'static [Given],
+    &'static [(u8, u64)],
+    bool,
+    [u64; 2],
+);
+
+/// The index of the first row that the script's sections don't meet.
+pub(crate) fn first_odd(alloc: Global, script: &[u8], rows: &[Row]) -> Result<Option<usize>, Fail> {
+    for index in 0..rows.len() {
+        let (prefix, section, replies, calls, is_done, numbers) = rows[index];
+        let played = play(alloc, script, prefix, section, replies)?;
+        if played.calls.as_slice() != calls
+            || played.is_done != is_done
+            || played.numbers != numbers
+        {
+            return Ok(Some(index));
+        }
+    }
+    Ok(None)
+}
