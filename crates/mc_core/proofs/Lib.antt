@@ -1,2 +1,24 @@
 pub mod StepLines
 pub mod StepLists
+mod LogLemmas
+mod StepLemmas
+mod FoldLemmas
+mod NotedEvents
+mod Sending
+mod Admitting
+mod SmallNumbers
+mod Safe
+pub mod MachineLemmas
+pub mod Refusals
+pub mod OwnSection
+pub mod HeldSteps
+pub mod Taking
+pub mod Starting
+pub mod Recorded
+pub mod Clearing
+pub mod NextRequest
+pub mod SeenNumbers
+pub mod HistorySteps
+pub mod LongerFolds
+pub mod Stepping
+pub mod Recording

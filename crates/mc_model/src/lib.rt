@@ -40,7 +40,7 @@ pub use laws::{
     other_keys_stay, replies_fit, versions_are_reported,
 };
 pub use mc_protocol::is_key;
-pub use note::Note;
+pub use note::{Note, copy_reply};
 pub use noted_builder::NotedBuilder;
 pub use number::read_number;
 pub use numeral::{Numeral, numeral_of};

@@ -37,7 +37,8 @@ fn copy_request(request: &Request, alloc: Global) -> Result<Request, OutOfMemory
     })
 }
 
-fn copy_reply(reply: &Reply, alloc: Global) -> Result<Reply, OutOfMemory>
+/// A copy of a reply, in memory of its own.
+pub fn copy_reply(reply: &Reply, alloc: Global) -> Result<Reply, OutOfMemory>
     ensures { IfOk result (λ copy. copy ≡ reply.now) }
 {
     Ok(match reply {

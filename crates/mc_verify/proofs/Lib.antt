@@ -20,7 +20,7 @@ mod NumberExamples
 mod SwapCosts
 mod OrderExample
 mod ClearingExamples
-mod Sent
+pub mod Sent
 pub mod CallCosts
 pub mod CostPaths
 pub mod SectionCosts

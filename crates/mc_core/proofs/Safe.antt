@@ -1,0 +1,199 @@
+-- A fold in sound code is safe, and within its room.
+use Rattle.std.proofs.Common.{◌≡◌, ◌⊎◌, inl, inr, ℕ, ◌<◌, ◌≤◌, ◌^◌, Bool, true, false, if◌then◌else◌, Option, Some, None, List, [], ◌∷◌, ◌++◌, length, map, slice_get, slice_index_or, refl, ap, sym, subst, ◌∙◌, arith}
+use Rattle.std.specs.List.{All, flat_map}
+use Rattle.std.specs.Option.{option_to_list}
+use Rattle.std.proofs.lemmas.List.{append-nil, append_assoc, length-map}
+use Rattle.std.proofs.lemmas.List.Elements.{All-head, All-tail}
+use Rattle.std.proofs.lemmas.Option.{get_or_from_slice_get}
+use Rattle.mc_protocol.specs.declared.actor.Actor.{Actor}
+use Rattle.mc_protocol.specs.declared.actor.Actor.TheVariants as actor
+use Rattle.mc_protocol.specs.declared.fault.Fault.{Fault}
+use Rattle.mc_protocol.specs.declared.limits.TheConstants.{REQUESTS_LIMIT}
+use Rattle.mc_protocol.specs.declared.reply.Reply.{Reply}
+use Rattle.mc_script.specs.declared.step.Argument.{Argument}
+use Rattle.mc_script.specs.declared.step.Template.{Template}
+use Rattle.mc_code.specs.Calls.{IsCalling, MakesAll, exchange_of, template_of, no_template}
+use Rattle.mc_code.specs.Code.{Code, IsCode, section_of}
+use Rattle.mc_code.specs.Runs.{Exchange, met_at, met_by_send}
+use Rattle.mc_code.specs.Standing.{BeginsAfter, BeginsWith, Leaves}
+use Rattle.mc_code.specs.States.{Tagged, nothing, State, initial_state, call, send_outcome}
+use Rattle.mc_code.specs.declared.instr.Call.{Call}
+use Rattle.mc_code.proofs.LookUps.{some_is}
+use Rattle.mc_code.proofs.MadeCalls.{calls_stand}
+use Rattle.mc_code.proofs.StandingLemmas.{template_is}
+use Rattle.mc_model.specs.Notes.{is_same_section}
+use Rattle.mc_verify.specs.Costs.{cost_along}
+use Rattle.mc_verify.specs.Faults.{IsSound}
+use Rattle.mc_verify.specs.declared.measure.Measure.TheVariants as measure
+use Rattle.mc_verify.proofs.Right.{sound_right}
+use Rattle.mc_core.specs.declared.event.Event.{Event}
+use Rattle.mc_core.specs.declared.event.Event.TheVariants as event
+use Rattle.mc_core.specs.Laws.{FoldsAreSafe, FoldsAreWithinRoom}
+use Rattle.mc_core.specs.Logs.{Log, new_log, call_of, calls_in, events_of_pair, begin_of, events_in, exchanges_in, request_of, IsNextCall, IsRightLog}
+use Rattle.mc_core.specs.Safety.{IsSmallEvent, IsSmallNote, AreSmall, RanRight, IsRightRun, bytes_of_all, IsWithinBudget}
+use Rattle.mc_core.specs.Worlds.{World, Noted, log_of, event_of, events_of, exchanges_of, BeginsIn}
+use Rattle.mc_core.proofs.Admitting.{admitted}
+use Rattle.mc_core.proofs.FoldLemmas.{fold_right}
+use Rattle.mc_core.proofs.LogLemmas.{new_is_right}
+use Rattle.mc_core.proofs.NotedEvents.{AreNoted, fold_noted, few_notes, silent}
+use Rattle.mc_core.proofs.Sending.{log_within}
+use Rattle.mc_core.proofs.SmallNumbers.{IsSmallState, AreSmallExchanges, run_small, initial_small, MayHave, text_within, sent_number}
+use Rattle.mc_core.proofs.StepLemmas.{IsRightIn, MayBeRight, IsRight}
+
+-- ---- small replies
+
+abbrev AreSmallEvents : List Event → Type 0
+AreSmallEvents [] = Unit {0}
+AreSmallEvents (e ∷ events) = IsSmallEvent e × AreSmallEvents events
+
+-- those of a section among all
+small_events : (who : Actor) (notes : List Noted) → AreSmall notes → AreSmallEvents (events_of who notes)
+small_events who [] small = tt
+small_events who ((other, e) ∷ notes) small =
+    by_section (is_same_section who other) (All-head IsSmallNote (other, e) notes small)
+    (small_events who notes (All-tail IsSmallNote (other, e) notes small))
+  where
+    by_section : (b : Bool) → IsSmallEvent e → AreSmallEvents (events_of who notes)
+        → AreSmallEvents ((if b then e ∷ [] else []) ++ events_of who notes)
+    by_section true here rest = (here, rest)
+    by_section false here rest = rest
+
+small_pairs : (c : Code) (pairs : List (Call × Reply)) (rest : List Event) → AreSmallEvents (flat_map events_of_pair pairs ++ rest)
+    → AreSmallExchanges (map (exchange_of c) pairs)
+small_pairs c [] rest small = tt
+small_pairs c ((made, reply) ∷ pairs) rest small = (small.1.0, small_pairs c pairs rest small.1.1)
+
+pub small_exchanges : (c : Code) (w : World) (who : Actor) → AreNoted w → AreSmall w.notes → AreSmallExchanges (exchanges_of c w who)
+small_exchanges c w who noted small =
+    let log = log_of w who in
+    small_pairs c log.answered (map begin_of (option_to_list log.waiting) ++ map event.Fail (option_to_list log.fault))
+    (subst AreSmallEvents (noted who) (small_events who w.notes small))
+
+-- ---- small variables
+
+small_leaves : (c : Code) (before : List Exchange) (variables : List Tagged) → AreSmallExchanges before → Leaves c before variables
+    → IsSmallState (initial_state variables)
+small_leaves c before variables small (st, (p, stands, met), is) =
+    let end = run_small stands (initial_small c) small in
+    record { variables = λ v. subst (λ vs. (slice_index_or vs v nothing).1 < 2 ^ 64) (sym is) (end.variables v); last = omega arith }
+
+pub small_start : (c : Code) (before : List Exchange) (who : Actor) (variables : List Tagged) → AreSmallExchanges before
+    → BeginsAfter c before who variables → IsSmallState (initial_state variables)
+small_start c before actor.P variables small begins = subst (λ vs. IsSmallState (initial_state vs)) (sym begins) (initial_small c)
+small_start c before actor.A variables small begins = small_leaves c before variables small begins
+small_start c before actor.B variables small begins = small_leaves c before variables small begins
+
+-- ---- numbers of calls
+
+-- each call has a number that its template allows
+abbrev pub AreFit : Code → List Call → Type 0
+AreFit c [] = Unit {0}
+AreFit c (made ∷ calls) = MayHave (template_of c made).argument made.number × AreFit c calls
+
+calling_fit : (c : Code) (who : Actor) (variables : List Tagged) (exchanges : List Exchange) (made : Call)
+    → IsSmallState (initial_state variables) → AreSmallExchanges exchanges → IsCalling c who variables exchanges made
+    → MayHave (template_of c made).argument made.number
+calling_fit c who variables exchanges made start small calling =
+    let st = run_small calling.stands start small in
+    let meets = ap (λ o. met_at c.templates o calling.st) (sym calling.sends) ∙ calling.meets in
+    let named = template_is (slice_get c.templates made.template) calling.st calling.t made.number meets in
+    let same : template_of c made ≡ calling.t = get_or_from_slice_get c.templates made.template calling.t no_template named in
+    let sent : send_outcome calling.t calling.st ≡ call calling.t made.number =
+    some_is _ _ (ap (λ o. Some (met_by_send o calling.st)) (sym named) ∙ meets) in
+    subst (λ (t : Template). MayHave t.argument made.number) (sym same)
+    (sent_number calling.t calling.t calling.t.argument calling.st.variables made.number st.variables sent)
+
+small_more : (xs ys : List Exchange) → AreSmallExchanges xs → AreSmallExchanges ys → AreSmallExchanges (xs ++ ys)
+small_more [] ys small more = more
+small_more (x ∷ xs) ys small more = (small.0, small_more xs ys small.1 more)
+
+pairs_fit : (c : Code) (who : Actor) (variables : List Tagged) (before : List Exchange) (pairs : List (Call × Reply)) (rest : List Call)
+    → IsSmallState (initial_state variables) → AreSmallExchanges before → AreSmallExchanges (map (exchange_of c) pairs)
+    → MakesAll c who variables before pairs → AreFit c rest → AreFit c (map call_of pairs ++ rest)
+pairs_fit c who variables before [] rest start small more makes fit = fit
+pairs_fit c who variables before ((made, reply) ∷ pairs) rest start small more makes fit = (
+  calling_fit c who variables before made start small makes.0,
+  pairs_fit c who variables (before ++ exchange_of c (made, reply) ∷ []) pairs rest start (small_more before _ small (more.0, tt)) more.1 makes.2 fit,
+)
+
+waiting_fit : (c : Code) (who : Actor) (variables : List Tagged) (exchanges : List Exchange) (waiting : Option Call)
+    → IsSmallState (initial_state variables) → AreSmallExchanges exchanges → IsNextCall c who variables exchanges waiting
+    → AreFit c (option_to_list waiting)
+waiting_fit c who variables exchanges None start small next = tt
+waiting_fit c who variables exchanges (Some made) start small next = (calling_fit c who variables exchanges made start small next, tt)
+
+pub calls_fit : (c : Code) (who : Actor) (variables : List Tagged) (log : Log) → IsSmallState (initial_state variables)
+    → AreSmallExchanges (exchanges_in c log) → IsRightLog c who variables log → AreFit c (calls_in log)
+calls_fit c who variables log start small right =
+    pairs_fit c who variables [] log.answered (option_to_list log.waiting) start tt small right.makes
+    (waiting_fit c who variables (exchanges_in c log) log.waiting start small right.next)
+
+-- ---- budgets
+
+requests_counted : (c : Code) (calls : List Call) → cost_along c measure.Requests (map (template_of c) calls) ≡ length calls
+requests_counted c [] = refl
+requests_counted c (made ∷ calls) = let e = requests_counted c calls in omega (arith, e)
+
+bytes_counted : (c : Code) (calls : List Call) → AreFit c calls → bytes_of_all c calls ≤ cost_along c measure.Bytes (map (template_of c) calls)
+bytes_counted c [] fit = omega arith
+bytes_counted c (made ∷ calls) fit =
+    let here = text_within (template_of c made) (slice_index_or c.keys (template_of c made).key []) made.number fit.0 in
+    let rest = bytes_counted c calls fit.1 in
+    omega (arith, here, rest)
+
+pub few_calls : (c : Code) (w : World) (who : Actor) → IsSound c → MayBeRight c w who → length (calls_in (log_of w who)) ≤ (section_of c who).budget.requests
+few_calls c w who sound (inl new) =
+    let right = subst (IsRightLog c who []) (sym new) (new_is_right c who []) in
+    let within = log_within c measure.Requests who [] (log_of w who) sound right in
+    let counted = requests_counted c (calls_in (log_of w who)) in
+    omega (arith, within, counted)
+few_calls c w who sound (inr right) =
+    let within = log_within c measure.Requests who right.variables (log_of w who) sound right.right in
+    let counted = requests_counted c (calls_in (log_of w who)) in
+    omega (arith, within, counted)
+
+few_bytes : (c : Code) (w : World) (who : Actor) → IsSound c → AreNoted w → AreSmall w.notes → MayBeRight c w who
+    → bytes_of_all c (calls_in (log_of w who)) ≤ (section_of c who).budget.bytes
+few_bytes c w who sound noted small (inl new) =
+    let none = ap (λ log. bytes_of_all c (calls_in log)) new in omega (arith, none)
+few_bytes c w who sound noted small (inr right) =
+    let start = small_start c (exchanges_of c w actor.P) who right.variables (small_exchanges c w actor.P noted small) right.begins in
+    let fit = calls_fit c who right.variables (log_of w who) start (small_exchanges c w who noted small) right.right in
+    let within = log_within c measure.Bytes who right.variables (log_of w who) sound right.right in
+    let counted = bytes_counted c (calls_in (log_of w who)) fit in
+    omega (arith, within, counted)
+
+-- ---- runs
+
+pub ran_right : (c : Code) (w : World) (who : Actor) → IsSound c → MayBeRight c w who → RanRight c w who
+ran_right c w who sound (inl new) = inl new
+ran_right c w who sound (inr right) =
+    let stands = calls_stand c who right.variables (log_of w who).answered right.right.makes in
+    inr (right.variables, record {
+      begins = right.begins;
+      makes = right.right;
+      place = stands.0;
+      st = stands.1;
+      stands = stands.2;
+      right = sound_right c who right.variables (exchanges_of c w who) sound (exchanges_of c w actor.P, right.begins);
+    })
+
+-- ---- all of it
+
+pub folds_safe : FoldsAreSafe
+folds_safe c events w skipped sound fold small =
+    let right = fold_right c fold in
+    let noted = fold_noted c fold in record {
+      noted = noted;
+      runs = λ who. ran_right c w who sound (right who);
+      admitted = admitted c w sound right;
+      budgets = λ who. record { requests = few_calls c w who sound (right who); bytes = few_bytes c w who sound noted small (right who) };
+      silent = λ who. silent w who noted;
+    }
+
+pub folds_within_room : FoldsAreWithinRoom
+folds_within_room c events w skipped kept sound fold =
+    let right = fold_right c fold in
+    let few : (who : Actor) → length (calls_in (log_of w who)) ≤ REQUESTS_LIMIT =
+    λ who. let calls = few_calls c w who sound (right who) in let most = (kept.sections who).requests in omega (arith, calls, most) in
+    record { calls = few; notes = few_notes w REQUESTS_LIMIT (fold_noted c fold) few }

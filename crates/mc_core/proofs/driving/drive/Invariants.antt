@@ -1,0 +1,14 @@
+use Rattle.std.proofs.Common.{◌≡◌, ℕ, ◌+◌, ◌≤◌, List, length}
+use Rattle.mc_core.specs.Held.{IsHeldBy}
+use Rattle.mc_core.specs.Safety.{AreSmall}
+use Rattle.mc_core.specs.Steps.{IsFold}
+use Rattle.mc_core.specs.Worlds.{World, Noted, new_world}
+use Rattle.mc_core.proofs.driving.drive.Given as goal
+
+abbrev pub invariant-driving : goal.invariant-driving
+invariant-driving l = record {
+  held : IsHeldBy l.checked.code l.world;
+  fold : IsFold l.checked.code new_world l.yielded l.world.world l.skipped;
+  small : AreSmall l.world.world.notes;
+  few : l.skipped ≤ length l.yielded;
+}
