@@ -1,2 +1,3 @@
+pub mod MemoryStreams
 pub mod Sending
 pub mod Streams
