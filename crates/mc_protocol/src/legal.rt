@@ -58,8 +58,8 @@ fn suits(verb: Verb, reply: &Reply) -> bool
     }
 }
 
-// Whether a hit for the verb shows the cas number.
-fn shows_number(verb: Verb) -> bool
+/// Whether a hit for the verb shows the cas number.
+pub fn shows_number(verb: Verb) -> bool
     ensures { result ≡ legal.shows_number verb }
 {
     matches!(verb, Verb::Gets)

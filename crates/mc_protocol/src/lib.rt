@@ -26,7 +26,7 @@ pub use actor::Actor;
 pub use bytes::Bytes;
 pub use decimal::{DecimalFault, is_digit, read_decimal, value_of_digits};
 pub use fault::Fault;
-pub use legal::{fits, is_legal, may_answer};
+pub use legal::{fits, is_legal, may_answer, shows_number};
 pub use limits::{
     DIGITS_LIMIT, KEY_BYTES_LIMIT, KEYS_LIMIT, REPLY_BODY_LIMIT, REQUEST_BYTES_LIMIT,
     REQUESTS_LIMIT, SCRIPT_BODY_LIMIT,

@@ -1,0 +1,11 @@
+pub mod Block
+pub mod Gathered
+pub mod Items
+pub mod Laws
+pub mod Lines
+pub mod ReadFaults
+pub mod Reading
+pub mod Replies
+pub mod Stages
+pub mod Steps
+pub mod Words

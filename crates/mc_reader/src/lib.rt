@@ -1,0 +1,28 @@
+//! A reader of memcached's replies, which come in pieces of any length (`protocol.txt`, the classic text protocol).
+//!
+//! Below it stands `mc_protocol`. What a reply is stands in `specs/Replies.antt`, by cases on whole texts: the texts that spell
+//! a reply, and the shortest texts at which it fails; what a line says stands in `specs/Lines.antt` and `specs/Words.antt`.
+//! The crates above use the one contract of [`ReplyReader::feed`]: its answer rests on the joined bytes that were fed since
+//! the reader was made, and not on how they were cut.
+#![tactic(auto)]
+
+mod block;
+mod fault;
+mod gather;
+mod item;
+mod laws;
+mod limits;
+mod line;
+mod number;
+mod reader;
+mod said;
+mod shape;
+mod stage;
+mod step;
+mod words;
+
+pub use fault::{ErrorKind, ReadFault};
+pub use laws::{one_reply, spelled_replies_fit};
+pub use limits::{LINE_LIMIT, NUMBER_SPACES_LIMIT};
+pub use reader::{Fed, ReplyReader};
+pub use shape::Shape;
