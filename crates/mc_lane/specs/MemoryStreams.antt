@@ -1,5 +1,5 @@
 -- What contracts see of a stream in memory, and what its calls do.
-use Rattle.std.specs.Prelude.{◌≡◌, ℕ, ◌+◌, ◌-◌, ◌==◌, Bool, true, false, ◌&&◌, ◌||◌, nat_lt, min, Option, Some, None, unwrap_or, Vec, Result, Ok, Err, List, [], ◌∷◌, ◌++◌, length, take, drop, find, if◌then◌else◌}
+use Rattle.std.specs.Prelude.{◌≡◌, ℕ, ◌+◌, ◌-◌, ◌==◌, Bool, true, false, ◌&&◌, ◌||◌, nat_lt, min, Option, Some, None, unwrap_or, Result, Ok, Err, List, [], ◌∷◌, ◌++◌, length, take, drop, find, if◌then◌else◌}
 use Rattle.std.specs.Bool.{MatchBool}
 use Rattle.std.specs.List.{concat}
 use Rattle.mc_lane.specs.Streams.{StreamState}
@@ -28,8 +28,8 @@ ends_from start [] = []
 ends_from start (piece ∷ pieces) = (start + length piece) ∷ ends_from (start + length piece) pieces
 
 -- the bytes of the pieces, and where each of them ends
-abbrev pub IsJoined : List (List ℕ) → Vec ℕ × Vec ℕ → Type 0
-IsJoined pieces (bytes, ends) = (bytes.items ≡ concat pieces) × (ends.items ≡ ends_from 0 pieces)
+abbrev pub IsJoined : List (List ℕ) → List ℕ → List ℕ → Type 0
+IsJoined pieces bytes ends = (bytes ≡ concat pieces) × (ends ≡ ends_from 0 pieces)
 
 -- it gives these pieces, and has room for so many bytes
 abbrev pub fresh : List (List ℕ) → ℕ → Memory

@@ -24,6 +24,7 @@ pub struct MemoryStream {
     ends: Vec<usize>,
     given: usize,
     written: Vec<u8>,
+    room: usize,
     longest_write: usize,
     until_failure: Option<u64>,
     failures: u64,
@@ -41,13 +42,13 @@ impl Model for MemoryStream {
         ends = s.ends.items;
         given = s.given;
         written = s.written.items;
-        room = vec_capacity s.written;
+        room = s.room;
         longest_write = s.longest_write;
         until_failure = s.until_failure;
         failures = s.failures
     } };
 
-    ghost invariant = { λ s. s.given ≤ length s.replies.items };
+    ghost invariant = { λ s. (s.given ≤ length s.replies.items) × (vec_len s.written ≤ s.room) × (s.room ≤ vec_capacity s.written) };
 }
 
 impl MemoryStream {
@@ -61,6 +62,7 @@ impl MemoryStream {
             ends,
             given: 0,
             written: Vec::with_capacity(alloc, room)?,
+            room,
             longest_write: room,
             until_failure: None,
             failures: 0,
@@ -119,7 +121,7 @@ impl Stream for MemoryStream {
         ensures writes { Writes (memory.state_of self.old) (memory.state_of self.new) bytes.now result }
         ensures exact { memory.WritesMemory self.old self.new bytes.now result }
     {
-        let room = self.written.capacity() - self.written.len();
+        let room = self.room - self.written.len();
         let count = bytes.len().min(self.longest_write).min(room);
         if is_due(&mut self.until_failure) || (count == 0 && !bytes.is_empty()) {
             self.failures += 1;
@@ -135,7 +137,7 @@ impl Stream for MemoryStream {
 
 /// The pieces' bytes, and where each piece ends among them.
 fn join(alloc: Global, pieces: &[&[u8]]) -> Result<(Vec<u8>, Vec<usize>), OutOfMemory>
-    ensures { IfOk result (memory.IsJoined (map (λ piece. piece.now) pieces.now)) }
+    ensures { IfOk result (λ joined. memory.IsJoined (map (λ piece. piece.now) pieces.now) joined.0.items joined.1.items) }
 {
     let mut bytes = Vec::new(alloc);
     let mut ends = Vec::new(alloc);
