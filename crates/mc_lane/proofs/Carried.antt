@@ -1,6 +1,6 @@
 -- What streams carry, one call after the other.
 use Rattle.std.specs.Prelude.{◌≡◌, ℕ, ◌+◌, ◌-◌, ◌≤◌, Option, Some, None, List, [], ◌++◌, length, take, drop}
-use Rattle.std.proofs.Common.{arith, append_assoc, refl, sym, ap, ◌∙◌}
+use Rattle.std.proofs.Common.{arith, append_assoc, append-nil, subst, refl, sym, ap, ◌∙◌}
 use Rattle.std.proofs.Math.Seq.{take-add}
 use Rattle.std.proofs.lemmas.Grind.{common_steps}
 use Rattle.mc_lane.specs.Streams.{StreamState, Grows, Carries}
@@ -24,6 +24,15 @@ pub Carries-twice : (a b c : StreamState) (read read' written written' : List �
 Carries-twice a b c read read' written written' m n h k = record {
   reads = Grows-twice a.read b.read c.read read read' h.reads k.reads;
   writes = Grows-twice a.written b.written c.written written written' h.writes k.writes;
+  fails = omega (arith, h.fails, k.fails);
+}
+
+-- a request that was written, and then what was read
+pub Carries-both : (a b c : StreamState) (read written : List ℕ) (failures : ℕ)
+    → Carries a b [] written 0 → Carries b c read [] failures → Carries a c read written failures
+Carries-both a b c read written failures h k = record {
+  reads = Grows-twice a.read b.read c.read [] read h.reads k.reads;
+  writes = subst (λ bytes. Grows a.written c.written bytes) (append-nil written) (Grows-twice a.written b.written c.written written [] h.writes k.writes);
   fails = omega (arith, h.fails, k.fails);
 }
 

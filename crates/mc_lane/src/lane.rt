@@ -72,17 +72,22 @@ impl<S: Stream> Lane<S> {
     pub fn call(&mut self, request: &[u8], shape: Shape<'_>) -> Result<Reply, Fault>
         ensures { spec.Calls shape.entry.verb shape.entry.key.now request.now self.old self.new result }
     {
-        if self.fault.is_some() {
+        let Lane {
+            stream,
+            traffic,
+            fault,
+        } = self;
+        if fault.is_some() {
             return Err(Fault::Closed);
         }
-        let Some(stream) = &mut self.stream else {
+        let Some(stream) = stream else {
             return Err(Fault::Closed);
         };
-        match self.traffic.exchange(stream, request, shape) {
+        match traffic.exchange(stream, request, shape) {
             Ok(reply) => Ok(reply),
-            Err(fault) => {
-                self.fault = Some(fault);
-                Err(fault)
+            Err(reason) => {
+                *fault = Some(reason);
+                Err(reason)
             }
         }
     }
@@ -121,7 +126,7 @@ impl<S: Stream> Lane<S> {
     pub fn is_closed(&self) -> bool
         ensures { result ≡ spec.is_closed self.now }
     {
-        self.fault.is_some() || self.stream.is_none()
+        self.stream.is_none() || self.fault.is_some()
     }
 
     /// Drops the stream and keeps the record. This is no fault.
