@@ -24,7 +24,7 @@ pub fn read_decimal(greatest: u64, word: &[u8]) -> Result<u64, DecimalFault>
     ensures not_digits { (result ≡ Err DecimalFault.NotDigits) ↔ (spec.has_digits_alone word.now ≡ false) }
     ensures exact { result ≡ spec.decimal_in greatest word.now }
 {
-    if word.is_empty() || !are_digits(word) {
+    if !has_digits_alone(word) {
         return Err(DecimalFault::NotDigits);
     }
     if word.len() > DIGITS_LIMIT {
@@ -34,6 +34,13 @@ pub fn read_decimal(greatest: u64, word: &[u8]) -> Result<u64, DecimalFault>
         Some(value) if value <= greatest => Ok(value),
         _ => Err(DecimalFault::TooLarge),
     }
+}
+
+/// Whether the word has digits and nothing else, and at least one.
+pub fn has_digits_alone(word: &[u8]) -> bool
+    ensures { result ≡ spec.has_digits_alone word.now }
+{
+    !word.is_empty() && are_digits(word)
 }
 
 fn are_digits(word: &[u8]) -> bool

@@ -24,7 +24,7 @@ mod word_lines;
 
 pub use actor::Actor;
 pub use bytes::Bytes;
-pub use decimal::{DecimalFault, is_digit, read_decimal, value_of_digits};
+pub use decimal::{DecimalFault, has_digits_alone, is_digit, read_decimal, value_of_digits};
 pub use fault::Fault;
 pub use legal::{fits, is_legal, may_answer, shows_number};
 pub use limits::{

@@ -1,8 +1,8 @@
 -- The words of a line that may announce a hit.
-use Rattle.std.specs.Prelude.{◌≡◌, true, Option, Some, None, Err, List, [], ◌∷◌, Bor, if◌then◌else◌, ℕ}
+use Rattle.std.specs.Prelude.{◌≡◌, Option, Some, None, Err, List, [], ◌∷◌, if◌then◌else◌, ℕ}
+use Rattle.std.specs.Borrow.{Bor}
 use Rattle.std.specs.Option.{option_map}
 use Rattle.std.specs.Str.Parse.{digits_value}
-use Rattle.mc_protocol.specs.Decimals.{has_digits_alone}
 use Rattle.mc_protocol.specs.Lines.{Word, Words}
 use Rattle.mc_protocol.specs.declared.request.Verb.{Verb}
 use Rattle.mc_reader.specs.Words.{hit_says, is_too_large}
@@ -25,10 +25,6 @@ words_in item = item.value.now ∷ item.name.now ∷ item.flags.now ∷ item.bod
 -- the words announce no hit to any request
 abbrev pub IsNoItem : Words → Type 0
 IsNoItem words = (verb : Verb) (key : Word) → hit_says verb key words ≡ Err NotAReply
-
-abbrev pub AreDigits : Option (Bor Word) → Type 0
-AreDigits None = Unit {0}
-AreDigits (Some word) = has_digits_alone word.now ≡ true
 
 -- the cas unique, where one is shown, or none where it is above 64 bits
 abbrev pub cas_of : Option (Bor Word) → Option (Option ℕ)

@@ -25,20 +25,28 @@ said_whole (Err fault) = Err fault
 abbrev pub hit_of : HitLine → List ℕ → Reply
 hit_of hit body = reply.Hit hit.flags body hit.cas
 
--- What comes after the first line of a hit ends here with this outcome: the body has as many bytes as the line says, any
--- bytes; then come CR, LF, and the line END.
-pub data BlockEnds (hit : HitLine) (text : List ℕ) (outcome : Outcome) : Type 0 where
-  not_cr : (body : List ℕ) (byte : ℕ) → length body ≡ hit.body_len → (byte == CR) ≡ false → text ≡ body ++ byte ∷ []
-      → outcome ≡ Err DataNotEnded → BlockEnds hit text outcome
-  not_lf : (body : List ℕ) (byte : ℕ) → length body ≡ hit.body_len → (byte == LF) ≡ false → text ≡ body ++ CR ∷ byte ∷ []
-      → outcome ≡ Err DataNotEnded → BlockEnds hit text outcome
-  long_end : (body line : List ℕ) → length body ≡ hit.body_len → IsTooLong line → text ≡ body ++ CR ∷ LF ∷ line
-      → outcome ≡ Err LineTooLong → BlockEnds hit text outcome
-  last_line : (body line : List ℕ) → length body ≡ hit.body_len → IsLine line → text ≡ body ++ CR ∷ LF ∷ (line ++ LF ∷ [])
-      → outcome ≡ end_says (hit_of hit body) line → BlockEnds hit text outcome
+-- The last line of a hit ends here with this outcome: it is END, and the reply is whole, or it fails.
+pub data LastLineEnds (hit : Reply) (text : List ℕ) (outcome : Outcome) : Type 0 where
+  long_last : IsTooLong text → outcome ≡ Err LineTooLong → LastLineEnds hit text outcome
+  last_line : (line : List ℕ) → IsLine line → outcome ≡ end_says hit line → text ≡ line ++ LF ∷ [] → LastLineEnds hit text outcome
 
--- The reply to a request of this verb and key ends here with this outcome: at the LF of its one line, at the end of a hit,
--- or where its first line is too long.
+-- What comes after the body of a hit ends here with this outcome: CR, LF, and the last line.
+pub data BodyEnds (hit : Reply) (text : List ℕ) (outcome : Outcome) : Type 0 where
+  not_cr : (byte : ℕ) → (byte == CR) ≡ false → text ≡ byte ∷ [] → outcome ≡ Err DataNotEnded → BodyEnds hit text outcome
+  not_lf : (byte : ℕ) → (byte == LF) ≡ false → text ≡ CR ∷ byte ∷ [] → outcome ≡ Err DataNotEnded → BodyEnds hit text outcome
+  after_crlf : (last : List ℕ) → LastLineEnds hit last outcome → text ≡ CR ∷ LF ∷ last → BodyEnds hit text outcome
+
+-- What comes after the first line of a hit ends here with this outcome: the body has as many bytes as the line says, any
+-- bytes, and what comes after it ends.
+pub record BlockEnds (line : HitLine) (text : List ℕ) (outcome : Outcome) : Type 0 where
+  pub body : List ℕ
+  pub rest : List ℕ
+  pub whole : length body ≡ line.body_len
+  pub cut : text ≡ body ++ rest
+  pub ends : BodyEnds (hit_of line body) rest outcome
+
+-- The reply to a request of this verb and key ends here with this outcome: where its first line is too long, at the LF of its
+-- one line, or in the block after its first line.
 pub data Ends (verb : Verb) (key : Word) (text : List ℕ) (outcome : Outcome) : Type 0 where
   too_long : IsTooLong text → outcome ≡ Err LineTooLong → Ends verb key text outcome
   one_line : (line : List ℕ) → IsLine line → line_says verb key line ≡ said_whole outcome → text ≡ line ++ LF ∷ []

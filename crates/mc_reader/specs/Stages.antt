@@ -1,5 +1,6 @@
 -- How far a reader of replies has come.
-use Rattle.std.specs.Prelude.{◌≡◌, ℕ, Option, Some, None, Result, Ok, Err, List, ◌∷◌, ◌++◌}
+use Rattle.std.specs.Prelude.{◌≡◌, ℕ, Option, Some, None, Result, Ok, Err, List, ◌∷◌, ◌++◌, Vec}
+use Rattle.std.specs.declared.alloc.Global.{Global}
 use Rattle.mc_protocol.specs.Lines.{Word}
 use Rattle.mc_protocol.specs.declared.request.Verb.{Verb}
 use Rattle.mc_reader.specs.Block.{block_read, IsBlock}
@@ -39,6 +40,6 @@ IsStepFrom verb key None piece result = result ≡ Err Failed
 IsStepFrom verb key (Some text) piece result = IsStep (Ends verb key) (IsStageAt verb key) text piece result
 
 -- what comes of a piece, by what comes of it after the first line of a hit
-abbrev pub after_block : Vec ℕ → Step Block → Step Stage
+abbrev pub after_block : Vec ℕ Global → Step Block → Step Stage
 after_block line (More block) = More (stage.Block line block)
 after_block line (Done reply unread) = Done reply unread

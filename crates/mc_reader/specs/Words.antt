@@ -84,10 +84,14 @@ number_says text =
 
 -- ---- hits
 
+-- a number where one stands
+abbrev pub is_cas_word : Option Word → Bool
+is_cas_word None = true
+is_cas_word (Some cas) = has_digits_alone cas
+
 -- these are what stands after the word VALUE: a key, and numbers
-abbrev pub are_value_words : Word → Word → Word → Option Word → Bool
-are_value_words name flags body_len None = not (length name == 0) && has_digits_alone flags && has_digits_alone body_len
-are_value_words name flags body_len (Some cas) = are_value_words name flags body_len None && has_digits_alone cas
+abbrev pub are_item_words : Word → Word → Word → Option Word → Bool
+are_item_words name flags body_len cas = not (length name == 0) && has_digits_alone flags && has_digits_alone body_len && is_cas_word cas
 
 -- the number is above 64 bits
 abbrev pub is_too_large : Option Word → Bool
@@ -97,7 +101,7 @@ is_too_large (Some cas) = not (nat_le (digits_value 10 cas) MAX_64)
 -- what the words after VALUE say of the item with this key, faults in their order
 unfoldable pub item_says : Word → Word → Word → Word → Option Word → Result Said ReadFault
 item_says key name flags body_len cas =
-    if not (are_value_words name flags body_len cas) then Err fault.NotAReply
+    if not (are_item_words name flags body_len cas) then Err fault.NotAReply
     else if not (bytes_eq name key) then Err fault.WrongKey
     else if not (nat_le (digits_value 10 flags) MAX_32) || is_too_large cas then Err fault.NumberTooLarge
     else if not (nat_le (digits_value 10 body_len) REPLY_BODY_LIMIT) then Err fault.DataTooLong

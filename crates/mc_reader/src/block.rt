@@ -99,8 +99,12 @@ fn read_cr(
             body,
             ending: Ending::Unread,
         })),
-        [b'\r', after @ ..] => read_lf(alloc, hit, body, after),
-        _ => Err(ReadFault::DataNotEnded),
+        [byte, after @ ..] => {
+            if *byte != b'\r' {
+                return Err(ReadFault::DataNotEnded);
+            }
+            read_lf(alloc, hit, body, after)
+        }
     }
 }
 
@@ -120,8 +124,12 @@ fn read_lf(
             body,
             ending: Ending::Cr,
         })),
-        [b'\n', after @ ..] => read_last_line(hit, body, Vec::new(alloc), after),
-        _ => Err(ReadFault::DataNotEnded),
+        [byte, after @ ..] => {
+            if *byte != b'\n' {
+                return Err(ReadFault::DataNotEnded);
+            }
+            read_last_line(hit, body, Vec::new(alloc), after)
+        }
     }
 }
 
@@ -143,14 +151,13 @@ fn read_last_line(
             ending: Ending::Line(start),
         }));
     };
-    let (front, after) = piece.split_at(at);
-    read_end(joined(&start, front))?;
+    read_end(joined(&start, &piece[..at]))?;
     Ok(Step::Done {
         reply: Reply::Hit {
             flags: hit.flags,
             body: Bytes::new(body),
             cas: hit.cas,
         },
-        unread: after.len() - 1,
+        unread: piece.len() - at - 1,
     })
 }

@@ -1,14 +1,13 @@
 //! The line that announces a hit: `VALUE <key> <flags> <bytes>[ <cas unique>]`.
-ghost use Rattle.std.specs.Prelude.{◌≡◌, ◌<◌, ◌∷◌, [], true, length, MatchOption};
-ghost use Rattle.mc_protocol.specs.Decimals.{are_digits};
+ghost use Rattle.std.specs.Prelude.{◌≡◌, ◌∷◌, [], true, MatchOption};
 ghost use Rattle.mc_reader.specs.Items as spec;
 ghost use Rattle.mc_reader.specs.Words as words;
 
-use crate::number::{has_digits_alone, number_up_to};
+use crate::number::number_up_to;
 use crate::said::{HitLine, Said};
 use crate::words::{cut_word, next_word};
 use crate::{ReadFault, Shape};
-use mc_protocol::{REPLY_BODY_LIMIT, shows_number};
+use mc_protocol::{REPLY_BODY_LIMIT, has_digits_alone, shows_number};
 
 /// The words of a line that may announce a hit.
 #[derive(Clone, Copy, Drop)]
@@ -86,18 +85,27 @@ fn read_item(key: &[u8], item: ItemWords<'_>) -> Result<Said, ReadFault>
 
 /// Whether these may stand after `VALUE`: a key, and numbers.
 fn are_item_words(item: ItemWords<'_>) -> bool
-    ensures { result ≡ words.are_value_words item.entry.name.now item.entry.flags.now item.entry.body_len.now (spec.cas_in item.entry) }
+    ensures { result ≡ words.are_item_words item.entry.name.now item.entry.flags.now item.entry.body_len.now (spec.cas_in item.entry) }
 {
-    let are_numbers = has_digits_alone(item.flags) && has_digits_alone(item.body_len);
-    match item.cas {
-        None => !item.name.is_empty() && are_numbers,
-        Some(cas) => !item.name.is_empty() && are_numbers && has_digits_alone(cas),
+    !item.name.is_empty()
+        && has_digits_alone(item.flags)
+        && has_digits_alone(item.body_len)
+        && is_cas_word(item.cas)
+}
+
+/// Whether it is a number, where it stands on the line.
+fn is_cas_word(cas: Option<&[u8]>) -> bool
+    ensures { result ≡ words.is_cas_word (spec.shown cas.entry) }
+{
+    match cas {
+        None => true,
+        Some(digits) => has_digits_alone(digits),
     }
 }
 
 /// The cas unique where it stands on the line, and it is within 64 bits.
 fn read_cas(cas: Option<&[u8]>) -> Option<Option<u64>>
-    requires { spec.AreDigits cas.entry }
+    requires { words.is_cas_word (spec.shown cas) ≡ true }
     ensures { result ≡ spec.cas_of cas.entry }
 {
     match cas {

@@ -6,7 +6,7 @@ ghost use Rattle.mc_reader.specs.Words as spec;
 use crate::said::Said;
 use crate::words::cut_word;
 use crate::{NUMBER_SPACES_LIMIT, ReadFault};
-use mc_protocol::{Reply, is_digit, value_of_digits};
+use mc_protocol::{Reply, has_digits_alone, value_of_digits};
 
 /// The number that the text is: digits, and at most [`NUMBER_SPACES_LIMIT`] spaces after them.
 #[tactic(auto, unfolding(crate::specs::Words::number_says))]
@@ -32,13 +32,6 @@ pub(crate) fn number_up_to(greatest: u64, digits: &[u8]) -> Option<u64>
         Some(number) if number <= greatest => Some(number),
         _ => None,
     }
-}
-
-/// Whether the word has digits and nothing else, and at least one.
-pub(crate) fn has_digits_alone(word: &[u8]) -> bool
-    ensures { result ≡ has_digits_alone word.now }
-{
-    !word.is_empty() && word.iter().all(|byte| is_digit(*byte))
 }
 
 fn are_spaces(bytes: &[u8]) -> bool

@@ -31,7 +31,7 @@ pub(crate) fn read_on(
     stage: Stage,
     piece: &[u8],
 ) -> Result<Step<Stage>, ReadFault>
-    requires { spec.IsStage shape.entry.verb shape.entry.key.now stage }
+    requires { spec.IsStage shape.verb shape.key.now stage }
     ensures { spec.IsStepFrom shape.entry.verb shape.entry.key.now (spec.stage_fed stage) piece.now result }
 {
     match stage {
@@ -57,17 +57,15 @@ fn read_first_line(
     let Some(at) = gather(&mut start, piece)? else {
         return Ok(Step::More(Stage::Line(start)));
     };
-    let (front, after) = piece.split_at(at);
-    let after = &after[1..];
-    match read_line(shape, joined(&start, front))? {
+    match read_line(shape, joined(&start, &piece[..at]))? {
         Said::Whole(reply) => Ok(Step::Done {
             reply,
-            unread: after.len(),
+            unread: piece.len() - at - 1,
         }),
         Said::Hit(hit) => {
-            let step = Block::new(alloc, hit)?.read(alloc, after)?;
+            let step = Block::new(alloc, hit)?.read(alloc, &piece[at + 1..])?;
             if start.is_empty() {
-                start.extend_from_slice(front)?;
+                start.extend_from_slice(&piece[..at])?;
             }
             Ok(after_block(start, step))
         }

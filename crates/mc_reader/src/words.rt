@@ -1,5 +1,6 @@
 //! The words of a line.
-ghost use Rattle.std.specs.Prelude.{◌≡◌, ◌∷◌, [], length, drop, MatchOption};
+ghost use Rattle.std.specs.Prelude.{◌≡◌, ◌≤◌, ◌∷◌, [], length, drop, MatchOption};
+ghost use Rattle.std.specs.List.{position_or_len};
 ghost use Rattle.mc_reader.specs.Words as spec;
 
 use crate::ErrorKind;
@@ -53,7 +54,14 @@ pub(crate) fn cut_word(text: &[u8]) -> (&[u8], &[u8])
     ensures rest { result.1.now ≡ drop (length (spec.first_word text.now)) text.now }
     ensures words { spec.words_of text.now ≡ result.0.now ∷ spec.words_after result.1.now }
 {
-    text.split_at(text.find_byte(b' ').unwrap_or(text.len()))
+    text.split_at(first_word_len(text))
+}
+
+fn first_word_len(text: &[u8]) -> usize
+    ensures len { result ≡ position_or_len spec.is_space text.now }
+    ensures short { result ≤ length text.now }
+{
+    text.find_byte(b' ').unwrap_or(text.len())
 }
 
 /// The next word after a word that was cut off, and what comes after it. What is left begins with a space.

@@ -1,0 +1,46 @@
+-- Lines that are gathered.
+use Rattle.std.proofs.Common.{◌≡◌, ℕ, ◌+◌, ◌-◌, ◌<◌, ◌≤◌, ◌||◌, Bool, true, false, List, [], ◌∷◌, ◌++◌, length, take, drop, refl, sym, ap, ◌∙◌, arith, length-append, length-take}
+use Rattle.std.proofs.lemmas.List.{take-append-drop}
+use Rattle.mc_reader.specs.Gathered.{IsFirstEnd, IsLineEnd, IsGathered, GrowsTooLong, joined, gathered}
+use Rattle.mc_reader.specs.Lines.{LF, has_end, IsLine, IsTooLong}
+use Rattle.mc_reader.specs.declared.limits.TheConstants.{LINE_LIMIT}
+use Rattle.mc_reader.proofs.LineEnds.{has_end-append}
+
+neither_has : (a b : Bool) → a ≡ false → b ≡ false → (a || b) ≡ false
+neither_has true b p q = absurd (cc)
+neither_has false b p q = q
+
+none_joined : (a b : List ℕ) → has_end a ≡ false → has_end b ≡ false → has_end (a ++ b) ≡ false
+none_joined a b p q = has_end-append a b ∙ neither_has (has_end a) (has_end b) p q
+
+-- a line that isn't ended grows by a piece with no LF that has room
+pub line_grows : (start piece : List ℕ) → IsLine start → length piece < LINE_LIMIT - length start → has_end piece ≡ false → IsLine (start ++ piece)
+line_grows start piece l room none =
+    let short = l.short in
+    let n = length-append start piece in
+    record { one = none_joined start piece l.one none; short = omega arith }
+
+pub line_ends : (start piece : List ℕ) (at : ℕ) → IsLine start → at < LINE_LIMIT - length start → IsFirstEnd piece at → IsLine (start ++ take at piece)
+line_ends start piece at l room e =
+    let within = e.within in
+    let n = length-take at piece in
+    line_grows start (take at piece) l (omega arith) e.none_before
+
+pub grows_too_long : (start piece : List ℕ) → IsLine start → LINE_LIMIT - length start ≤ length piece
+    → has_end (take (LINE_LIMIT - length start) piece) ≡ false → GrowsTooLong start piece
+grows_too_long start piece l room none =
+    let short = l.short in
+    let front = take (LINE_LIMIT - length start) piece in
+    let n = length-append start front in
+    let m = length-take (LINE_LIMIT - length start) piece in
+    record {
+      front = front;
+      back = drop (LINE_LIMIT - length start) piece;
+      cut = take-append-drop (LINE_LIMIT - length start) piece;
+      long = record { one = none_joined start front l.one none; full = omega arith };
+    }
+
+-- the line is what was gathered and what came before its LF
+pub joined_is : (start front : List ℕ) → joined (gathered start front) front ≡ start ++ front
+joined_is [] front = refl
+joined_is (byte ∷ start) front = refl

@@ -1,0 +1,123 @@
+-- A step of a part of a piece is one of the whole.
+use Rattle.std.proofs.Common.{◌≡◌, ℕ, ◌+◌, Option, Some, Result, Ok, Err, List, [], ◌∷◌, ◌++◌, length, take, drop, refl, sym, ap, ◌∙◌, subst, arith, append_assoc, Vec}
+use Rattle.std.specs.declared.alloc.Global.{Global}
+use Rattle.mc_protocol.specs.Lines.{Word}
+use Rattle.mc_protocol.specs.declared.request.Verb.{Verb}
+use Rattle.mc_reader.specs.Block.{IsBlockOf, block_read}
+use Rattle.mc_reader.specs.Gathered.{IsGathered}
+use Rattle.mc_reader.specs.Lines.{LF, IsLine, line_says}
+use Rattle.mc_reader.specs.Replies.{Outcome, BlockEnds, Ends, too_long, one_line, with_block}
+use Rattle.mc_reader.specs.Stages.{IsStageAt, IsStage, stage_fed, after_block}
+use Rattle.mc_reader.specs.Steps.{EndsAt, EndsWithin, IsStep}
+use Rattle.mc_reader.specs.declared.block.Block.{Block}
+use Rattle.mc_reader.specs.declared.fault.ReadFault.{ReadFault}
+use Rattle.mc_reader.specs.declared.fault.ReadFault.TheVariants.{OutOfMemory, Failed}
+use Rattle.mc_reader.specs.declared.said.HitLine.{HitLine}
+use Rattle.mc_reader.specs.declared.said.Said.TheVariants.{Hit}
+use Rattle.mc_reader.specs.declared.stage.Stage.{Stage}
+use Rattle.mc_reader.specs.declared.stage.Stage.TheVariants as stage
+use Rattle.mc_reader.specs.declared.step.Step.{Step}
+use Rattle.mc_reader.specs.declared.step.Step.TheVariants.{More, Done}
+use Rattle.mc_reader.proofs.Blocks.{line_in}
+use Rattle.mc_reader.proofs.Fits.{IsOfLine}
+
+-- a piece of which a front was read before
+ends_after : (E : List ℕ → Outcome → Type 0) (text front piece : List ℕ) (outcome : Outcome) (unread : ℕ)
+    → EndsAt E (text ++ front) piece outcome unread → EndsAt E text (front ++ piece) outcome unread
+ends_after E text front piece outcome unread p = record {
+  front = front ++ p.front;
+  back = p.back;
+  cut = append_assoc front p.front p.back ∙ ap (λ u. front ++ u) p.cut;
+  rest = p.rest;
+  ends = subst (λ u. E u outcome) (append_assoc text front p.front) p.ends;
+}
+
+within_after : (E : List ℕ → Outcome → Type 0) (text front piece : List ℕ) (outcome : Outcome)
+    → EndsWithin E (text ++ front) piece outcome → EndsWithin E text (front ++ piece) outcome
+within_after E text front piece outcome p = record { unread = p.unread; at = ends_after E text front piece outcome p.unread p.at }
+
+step_parts : {S : Type 0} (E : List ℕ → Outcome → Type 0) (After : S → List ℕ → Type 0) (text front piece : List ℕ) (result : Result (Step S) ReadFault)
+    → IsStep E After (text ++ front) piece result → IsStep E After text (front ++ piece) result
+step_parts E After text front piece (Ok (More s)) p = subst (After s) (append_assoc text front piece) p
+step_parts E After text front piece (Ok (Done reply unread)) p = ends_after E text front piece (Ok reply) unread p
+step_parts E After text front piece (Err OutOfMemory) p = tt
+step_parts E After text front piece (Err Failed) p = absurd p
+step_parts E After text front piece (Err fault) p = within_after E text front piece (Err fault) p
+
+-- the same, where the texts are given by equations
+pub step_after : {S : Type 0} (E : List ℕ → Outcome → Type 0) (After : S → List ℕ → Type 0) (text front piece longer whole : List ℕ) (result : Result (Step S) ReadFault)
+    → longer ≡ text ++ front → whole ≡ front ++ piece → IsStep E After longer piece result → IsStep E After text whole result
+step_after E After text front piece longer whole result e d p =
+    subst (λ u. IsStep E After text u result) (sym d)
+    (step_parts E After text front piece result (subst (λ u. IsStep E After u piece result) e p))
+
+-- ---- the block after a first line
+
+module _ (verb : Verb) (key line : Word) (hit : HitLine) (l : IsLine line) (says : line_says verb key line ≡ Ok (Hit hit)) where
+
+  regroup : (text front : List ℕ) → (line ++ LF ∷ text) ++ front ≡ line ++ LF ∷ (text ++ front)
+  regroup text front = append_assoc line (LF ∷ text) front
+
+  pub ends_with_line : (text piece : List ℕ) (outcome : Outcome) (unread : ℕ)
+      → EndsAt (BlockEnds hit) text piece outcome unread → EndsAt (Ends verb key) (line ++ LF ∷ text) piece outcome unread
+  ends_with_line text piece outcome unread p = record {
+    front = p.front;
+    back = p.back;
+    cut = p.cut;
+    rest = p.rest;
+    ends = with_block line (text ++ p.front) hit l says p.ends (regroup text p.front);
+  }
+
+  pub within_with_line : (text piece : List ℕ) (outcome : Outcome)
+      → EndsWithin (BlockEnds hit) text piece outcome → EndsWithin (Ends verb key) (line ++ LF ∷ text) piece outcome
+  within_with_line text piece outcome p = record { unread = p.unread; at = ends_with_line text piece outcome p.unread p.at }
+
+  at_block : (kept : Vec ℕ Global) (block : Block) (text piece : List ℕ) → kept.items ≡ line → IsBlockOf hit block (text ++ piece)
+      → IsStageAt verb key (stage.Block kept block) ((line ++ LF ∷ text) ++ piece)
+  at_block kept block text piece e b = record {
+    valid = (subst IsLine (sym e) l, ap (line_says verb key) e ∙ says ∙ ap (λ h. Ok (Hit h)) (sym b.same), b.valid);
+    read = ap (λ u. Some (kept.items ++ LF ∷ u)) b.read ∙ ap (λ u. Some (u ++ LF ∷ (text ++ piece))) e ∙ ap Some (sym (regroup text piece));
+  }
+
+  -- a step in the block is one of the reply, where the line was kept
+  pub step_with_line : (kept : Vec ℕ Global) (text piece : List ℕ) (step : Step Block) → kept.items ≡ line
+      → IsStep (BlockEnds hit) (IsBlockOf hit) text piece (Ok step)
+      → IsStep (Ends verb key) (IsStageAt verb key) (line ++ LF ∷ text) piece (Ok (after_block kept step))
+  step_with_line kept text piece (More block) e p = at_block kept block text piece e p
+  step_with_line kept text piece (Done reply unread) e p = ends_with_line text piece (Ok reply) unread p
+
+  -- and a fault in it is one of the reply
+  pub fault_with_line : {S T : Type 0} (After : S → List ℕ → Type 0) (Other : T → List ℕ → Type 0) (text piece : List ℕ) (fault : ReadFault)
+      → IsStep {S = S} (BlockEnds hit) After text piece (Err fault) → IsStep {S = T} (Ends verb key) Other (line ++ LF ∷ text) piece (Err fault)
+  fault_with_line After Other text piece OutOfMemory p = tt
+  fault_with_line After Other text piece Failed p = absurd p
+  fault_with_line After Other text piece fault p = within_with_line text piece (Err fault) p
+
+-- ---- the first line and the block after it, in one piece
+
+-- a fault of a line
+pub fault_step : {S : Type 0} (E : List ℕ → Outcome → Type 0) (After : S → List ℕ → Type 0) (text piece : List ℕ) (fault : ReadFault)
+    → IsOfLine fault → EndsWithin E text piece (Err fault) → IsStep {S = S} E After text piece (Err fault)
+fault_step E After text piece OutOfMemory p w = tt
+fault_step E After text piece Failed p w = absurd p
+fault_step E After text piece fault p w = w
+
+module _ (verb : Verb) (key start after piece : List ℕ) (at : ℕ) (hit : HitLine) (g : IsGathered start after piece at)
+    (says : line_says verb key (start ++ take at piece) ≡ Ok (Hit hit)) where
+
+  pub hit_step : (kept : Vec ℕ Global) (step : Step Block) → kept.items ≡ start ++ take at piece
+      → IsStep (BlockEnds hit) (IsBlockOf hit) [] (drop (at + 1) piece) (Ok step)
+      → IsStep (Ends verb key) (IsStageAt verb key) start piece (Ok (after_block kept step))
+  hit_step kept step e p =
+      step_after (Ends verb key) (IsStageAt verb key) start (take at piece ++ LF ∷ []) (drop (at + 1) piece)
+      ((start ++ take at piece) ++ LF ∷ []) piece (Ok (after_block kept step))
+      (append_assoc start (take at piece) (LF ∷ [])) (sym (line_in piece at g.end_at))
+      (step_with_line verb key (start ++ take at piece) hit g.line says kept [] (drop (at + 1) piece) step e p)
+
+  pub hit_fault : (fault : ReadFault) → IsStep (BlockEnds hit) (IsBlockOf hit) [] (drop (at + 1) piece) (Err fault)
+      → IsStep (Ends verb key) (IsStageAt verb key) start piece (Err fault)
+  hit_fault fault p =
+      step_after (Ends verb key) (IsStageAt verb key) start (take at piece ++ LF ∷ []) (drop (at + 1) piece)
+      ((start ++ take at piece) ++ LF ∷ []) piece (Err fault)
+      (append_assoc start (take at piece) (LF ∷ [])) (sym (line_in piece at g.end_at))
+      (fault_with_line verb key (start ++ take at piece) hit g.line says (IsBlockOf hit) (IsStageAt verb key) [] (drop (at + 1) piece) fault p)

@@ -1,0 +1,99 @@
+//! Feeds a text in pieces, and looks whether the answer is the same however it is cut.
+use crate::wanted::{Row, Wanted};
+use mc_protocol::Verb;
+use mc_reader::{Fed, ReadFault, ReplyReader, Shape};
+use std::alloc::Global;
+
+pub(crate) fn shape(verb: Verb) -> Shape<'static> {
+    Shape { verb, key: b"a" }
+}
+
+/// Whether the reader answers `More`.
+pub(crate) fn goes_on(reader: &mut ReplyReader<'_>, piece: &[u8]) -> bool {
+    match reader.feed(piece) {
+        Ok(Fed::More) => true,
+        _ => false,
+    }
+}
+
+/// Whether the reader answers what is wanted, at the end of the first `used` bytes of the piece.
+pub(crate) fn answers(
+    reader: &mut ReplyReader<'_>,
+    piece: &[u8],
+    used: usize,
+    wanted: &Wanted,
+) -> bool {
+    match reader.feed(piece) {
+        Ok(Fed::Done { reply, used: count }) => wanted.is_reply(&reply) && count == used,
+        Ok(Fed::More) => false,
+        Err(fault) => wanted.is_fault(fault),
+    }
+}
+
+/// Whether the reader has answered before.
+pub(crate) fn is_over(reader: &mut ReplyReader<'_>) -> bool {
+    match reader.feed(b"END\r\n") {
+        Err(ReadFault::Failed) => true,
+        _ => false,
+    }
+}
+
+/// Whether the text, cut after its first `cut` bytes, is answered so at its end and not before.
+fn is_read_at_cut(alloc: Global, shape: Shape<'_>, text: &[u8], cut: usize, wanted: &Wanted) -> bool {
+    if cut > text.len() {
+        return false;
+    }
+    let (front, back) = text.split_at(cut);
+    let mut reader = ReplyReader::new(alloc, shape);
+    goes_on(&mut reader, front)
+        && answers(&mut reader, back, back.len(), wanted)
+        && is_over(&mut reader)
+}
+
+/// Whether the text is answered so at its end, fed in pieces of `len` bytes, and not before.
+pub(crate) fn is_read_in_pieces(
+    alloc: Global,
+    shape: Shape<'_>,
+    text: &[u8],
+    len: usize,
+    wanted: &Wanted,
+) -> bool {
+    let mut reader = ReplyReader::new(alloc, shape);
+    let mut rest = text;
+    while rest.len() > len && len > 0 {
+        let (piece, others) = rest.split_at(len);
+        if !goes_on(&mut reader, piece) {
+            return false;
+        }
+        rest = others;
+    }
+    answers(&mut reader, rest, rest.len(), wanted) && is_over(&mut reader)
+}
+
+/// Whether the text is answered so at its end: in one piece, byte by byte, at every cut, and where more bytes follow it in
+/// its last piece.
+pub(crate) fn is_read(alloc: Global, shape: Shape<'_>, text: &[u8], wanted: &Wanted) -> bool {
+    for cut in 0..text.len() {
+        if !is_read_at_cut(alloc, shape, text, cut, wanted) {
+            return false;
+        }
+    }
+    is_read_in_pieces(alloc, shape, text, text.len(), wanted)
+        && is_read_in_pieces(alloc, shape, text, 1, wanted)
+        && is_read_before_another(alloc, shape, text, wanted)
+}
+
+/// Whether the text is answered so where other bytes follow it in the piece, and these are left.
+fn is_read_before_another(alloc: Global, shape: Shape<'_>, text: &[u8], wanted: &Wanted) -> bool {
+    let Ok(longer) = [text, b"STORED\r\n".as_slice()].concat(alloc) else {
+        return false;
+    };
+    let mut reader = ReplyReader::new(alloc, shape);
+    answers(&mut reader, longer.as_slice(), text.len(), wanted)
+}
+
+/// The first row that isn't answered as it should be.
+pub(crate) fn first_other(alloc: Global, rows: &[Row]) -> Option<usize> {
+    rows.iter()
+        .position(|(verb, text, wanted)| !is_read(alloc, shape(*verb), text, wanted))
+}
