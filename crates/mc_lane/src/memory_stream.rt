@@ -38,14 +38,14 @@ impl Model for MemoryStream {
     ghost Value = { Memory };
 
     ghost view = { λ s. record {
-        replies = s.replies.items;
-        ends = s.ends.items;
-        given = s.given;
-        written = s.written.items;
-        room = s.room;
-        longest_write = s.longest_write;
-        until_failure = s.until_failure;
-        failures = s.failures
+      replies = s.replies.items;
+      ends = s.ends.items;
+      given = s.given;
+      written = s.written.items;
+      room = s.room;
+      longest_write = s.longest_write;
+      until_failure = s.until_failure;
+      failures = s.failures;
     } };
 
     ghost invariant = { λ s. (s.given ≤ length s.replies.items) × (vec_len s.written ≤ s.room) × (s.room ≤ vec_capacity s.written) };

@@ -9,7 +9,11 @@ use mc_protocol::Fault;
 
 /// Writes a request, piece by piece as the stream takes it, and adds to `sent` what was written of it. Want of memory writes
 /// nothing.
-pub(crate) fn send<S: Stream>(stream: &mut S, sent: &mut Vec<u8>, request: &[u8]) -> Result<(), Fault>
+pub(crate) fn send<S: Stream>(
+    stream: &mut S,
+    sent: &mut Vec<u8>,
+    request: &[u8],
+) -> Result<(), Fault>
     requires { CanFail (S.state stream.old) }
     ensures { Sends request.now sent.old.items sent.new.items (S.state stream.old) (S.state stream.new) result }
 {

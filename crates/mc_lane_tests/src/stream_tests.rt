@@ -24,7 +24,7 @@ fn takes_what_it_has_room_for(rt: HostRuntime) -> Result<(), Fail> {
     assert_eq!(rt; stream.write(b""), Ok(0));
     assert_eq!(rt; stream.write(b"defg"), Ok(2));
     assert_eq!(rt; stream.write(b"f"), Err(Broken));
-    assert_eq!(rt; stream.written_bytes(), b"abcde");
+    assert_eq!(rt; stream.written_bytes(), b"abcde".as_slice());
     Ok(())
 }
 
@@ -36,7 +36,7 @@ fn fails_at_one_call(rt: HostRuntime) -> Result<(), Fail> {
     assert_eq!(rt; stream.read(&mut buffer), Err(Broken));
     assert_eq!(rt; stream.write(b"y"), Ok(1));
     assert_eq!(rt; stream.read(&mut buffer), Ok(1));
-    assert_eq!(rt; stream.written_bytes(), b"xy");
+    assert_eq!(rt; stream.written_bytes(), b"xy".as_slice());
     Ok(())
 }
 

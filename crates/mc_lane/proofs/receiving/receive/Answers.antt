@@ -17,8 +17,8 @@ returns-in-Ok-Done g c =
     let place = c.pieces.fed in
     let to : place ≤ length got = omega (arith, c.pieces.got.ok.0, before.to) in
     let answer = replies c.args.shape.verb c.pieces.reader.verb c.args.shape.key.now c.pieces.reader.key c.pieces.reader.fed c.feed.new.self.fed
-        (slice_range got c.args.taken place) (from place got) (from place c.deref.result.now) c.in-Ok-Done.field-0 c.in-Ok-Done.reply c.in-Ok-Done.used
-        before.verb before.key before.read (ap (from place) c.deref.ensures.value) c.in-Ok-Done.field-0-is c.in-Ok-Done.ensures.answer in
+    (slice_range got c.args.taken place) (from place got) (from place c.deref.result.now) c.in-Ok-Done.field-0 c.in-Ok-Done.reply c.in-Ok-Done.used
+    before.verb before.key before.read (ap (from place) c.deref.ensures.value) c.in-Ok-Done.field-0-is c.in-Ok-Done.ensures.answer in
     record {
       received = drop (length c.args.got.now.items) got;
       recorded = before.grown;
@@ -45,8 +45,8 @@ returns-in-Err g c =
       within = omega (arith, c.pieces.got.ok.0, before.within);
       carries = rw (c.fault_for.ensures, fault_for-no_failure (Reply × ℕ) c.in-Err.fault) before.carries;
       outcome = rw c.fault_for.ensures (fails c.args.shape.verb c.pieces.reader.verb c.args.shape.key.now c.pieces.reader.key c.pieces.reader.fed c.feed.new.self.fed
-        (slice_range got c.args.taken place) (from place got) (from place c.deref.result.now) got c.args.taken c.args.limit c.in-Err.fault
-        before.verb before.key before.read (ap (from place) c.deref.ensures.value) (part_and_rest got c.args.taken place before.forward to) c.in-Err.ensures.answer);
+          (slice_range got c.args.taken place) (from place got) (from place c.deref.result.now) got c.args.taken c.args.limit c.in-Err.fault
+          before.verb before.key before.read (ap (from place) c.deref.ensures.value) (part_and_rest got c.args.taken place before.forward to) c.in-Err.ensures.answer);
     }
 
 -- the read brought nothing
@@ -59,8 +59,8 @@ returns-in-Err-read_some g c =
     let first = c.args.got.now.items in
     let read = c.in-Err-read_some.ensures in
     let answer = needs_more c.args.shape.verb c.pieces.reader.verb c.args.shape.key.now c.pieces.reader.key c.pieces.reader.fed c.feed.new.self.fed
-        (slice_range got c.args.taken place) (from place got) (from place c.deref.result.now) c.in-Ok-More.field-0
-        before.verb before.key before.read (ap (from place) c.deref.ensures.value) c.in-Ok-More.field-0-is c.in-Ok-More.ensures.answer in
+    (slice_range got c.args.taken place) (from place got) (from place c.deref.result.now) c.in-Ok-More.field-0
+    before.verb before.key before.read (ap (from place) c.deref.ensures.value) c.in-Ok-More.field-0-is c.in-Ok-More.ensures.answer in
     let unfinished = rw (part_and_rest got c.args.taken place before.forward to) at answer.1 in
     record {
       received = drop (length first) c.read_some.new.got.items;
@@ -68,7 +68,7 @@ returns-in-Err-read_some g c =
       within = read.within;
       carries = rw (received_more first got c.read_some.new.got.items read.brought before.grown read.recorded)
           (Carries-after (g.S.Stream.state c.args.stream.now) (g.S.Stream.state c.pieces.stream) (g.S.Stream.state c.read_some.new.stream)
-              (drop (length first) got) read.brought _ before.carries read.carries);
+          (drop (length first) got) read.brought _ before.carries read.carries);
       outcome = Stops-from_Brings c.args.shape.verb c.args.shape.key.now got read.brought c.read_some.new.got.items c.args.taken c.args.limit
           c.in-Err-read_some.fault unfinished read.recorded read.outcome;
     }
@@ -84,8 +84,8 @@ pieces-preserved g c =
     let read = c.in_default.ensures in
     let taken : c.args.taken ≤ length got = omega (arith, before.forward, to) in
     let answer = needs_more c.args.shape.verb c.pieces.reader.verb c.args.shape.key.now c.pieces.reader.key c.pieces.reader.fed c.feed.new.self.fed
-        (slice_range got c.args.taken place) (from place got) (from place c.deref.result.now) c.in-Ok-More.field-0
-        before.verb before.key before.read (ap (from place) c.deref.ensures.value) c.in-Ok-More.field-0-is c.in-Ok-More.ensures.answer in
+    (slice_range got c.args.taken place) (from place got) (from place c.deref.result.now) c.in-Ok-More.field-0
+    before.verb before.key before.read (ap (from place) c.deref.ensures.value) c.in-Ok-More.field-0-is c.in-Ok-More.ensures.answer in
     record {
       forward = omega arith;
       to = omega (arith, ap length read.recorded, length-append got read.brought, c.pieces.got.ok.0, c.read_some.new.got.ok.0, c.len-fed.ensures);
@@ -98,5 +98,5 @@ pieces-preserved g c =
       within = omega (arith, read.within, c.read_some.new.got.ok.0);
       carries = rw (received_more first got c.read_some.new.got.items read.brought before.grown read.recorded)
           (Carries-after (g.S.Stream.state c.args.stream.now) (g.S.Stream.state c.pieces.stream) (g.S.Stream.state c.read_some.new.stream)
-              (drop (length first) got) read.brought 0 before.carries read.carries);
+          (drop (length first) got) read.brought 0 before.carries read.carries);
     }
