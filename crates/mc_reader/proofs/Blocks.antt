@@ -1,5 +1,6 @@
 -- Steps in what comes after the first line of a hit.
 use Rattle.std.proofs.Common.{◌≡◌, ℕ, ◌+◌, ◌-◌, ◌<◌, ◌≤◌, ◌==◌, Bool, true, false, Option, Some, None, Result, Ok, Err, List, [], ◌∷◌, ◌++◌, length, take, drop, refl, sym, ap, ◌∙◌, subst, arith, append_assoc, length-drop}
+use Rattle.std.proofs.lemmas.Bool.{eqb-true}
 use Rattle.mc_protocol.specs.declared.reply.Reply.{Reply}
 use Rattle.mc_reader.specs.Gathered.{IsFirstEnd, IsGathered, GrowsTooLong}
 use Rattle.mc_reader.specs.Lines.{CR, LF, IsLine, IsTooLong, text_of, end_says, end_fault_of_text, outcome_after}
@@ -80,7 +81,7 @@ last_ends hit body start after piece at outcome whole g says = record {
   cut = line_in piece at g.end_at;
   rest = refl;
   ends = after_body hit body start (take at piece ++ LF ∷ []) outcome whole
-    (last_line (start ++ take at piece) g.line says (sym (append_assoc start (take at piece) (LF ∷ []))));
+      (last_line (start ++ take at piece) g.line says (sym (append_assoc start (take at piece) (LF ∷ []))));
 }
 
 -- what it says, by what is wrong with it
@@ -89,3 +90,11 @@ end_is hit line e = sym (ap (outcome_after hit) e)
 
 pub end_fails : (hit : Reply) (line : List ℕ) (fault : ReadFault) → end_fault_of_text (text_of line) ≡ Some fault → Err fault ≡ end_says hit line
 end_fails hit line fault e = sym (ap (outcome_after hit) e)
+
+not_true : (b : Bool) → (b ≡ true → ⊥) → b ≡ false
+not_true true h = absurd (h refl)
+not_true false h = refl
+
+-- a byte that isn't this one
+pub not_byte : (byte other : ℕ) → (byte ≡ other → ⊥) → (byte == other) ≡ false
+not_byte byte other h = not_true (byte == other) (λ e. h (eqb-true byte other e))

@@ -67,7 +67,7 @@ word_plain text =
     chain_plain (bytes_eq text (codes "STORED")) (bytes_eq text (codes "NOT_STORED")) (bytes_eq text (codes "EXISTS"))
     (bytes_eq text (codes "NOT_FOUND")) (bytes_eq text (codes "END")) (bytes_eq text (codes "DELETED")) (bytes_eq text (codes "TOUCHED"))
 
-both : (a b : Bool) → a ≡ true → b ≡ true → (a && b) ≡ true
+pub both : (a b : Bool) → a ≡ true → b ≡ true → (a && b) ≡ true
 both true b p q = q
 both false b p q = absurd (cc)
 

@@ -1,8 +1,10 @@
 -- Lines that are gathered.
-use Rattle.std.proofs.Common.{◌≡◌, ℕ, ◌+◌, ◌-◌, ◌<◌, ◌≤◌, ◌||◌, Bool, true, false, List, [], ◌∷◌, ◌++◌, length, take, drop, refl, sym, ap, ◌∙◌, arith, length-append, length-take}
+use Rattle.std.proofs.Common.{◌≡◌, ℕ, ◌+◌, ◌-◌, ◌<◌, ◌≤◌, ◌||◌, Bool, true, false, Result, Err, List, [], ◌∷◌, ◌++◌, length, take, drop, refl, sym, ap, subst, ◌∙◌, arith, length-append, length-take}
 use Rattle.std.proofs.lemmas.List.{take-append-drop}
-use Rattle.mc_reader.specs.Gathered.{IsFirstEnd, IsLineEnd, IsGathered, GrowsTooLong, joined, gathered}
+use Rattle.mc_reader.specs.Gathered.{IsFirstEnd, IsLineEnd, IsGathered, GrowsTooLong, Gathers, joined, gathered}
 use Rattle.mc_reader.specs.Lines.{LF, has_end, IsLine, IsTooLong}
+use Rattle.mc_reader.specs.declared.fault.ReadFault.{ReadFault}
+use Rattle.mc_reader.specs.declared.fault.ReadFault.TheVariants.{LineTooLong}
 use Rattle.mc_reader.specs.declared.limits.TheConstants.{LINE_LIMIT}
 use Rattle.mc_reader.proofs.LineEnds.{has_end-append}
 
@@ -44,3 +46,15 @@ grows_too_long start piece l room none =
 pub joined_is : (start front : List ℕ) → joined (gathered start front) front ≡ start ++ front
 joined_is [] front = refl
 joined_is (byte ∷ start) front = refl
+
+-- the line that is read, by what was gathered of it
+pub line_is : (start after front line : List ℕ) → after ≡ gathered start front → line ≡ joined after front → line ≡ start ++ front
+line_is start after front line e d = d ∙ ap (λ u. joined u front) e ∙ joined_is start front
+
+-- why no line is gathered
+pub gathers_fault : (start piece : List ℕ) (room : ℕ) (fault : ReadFault) → IsLine start → room ≡ LINE_LIMIT - length start
+    → IsLineEnd room piece (Err fault) → Gathers start start piece (Err fault)
+gathers_fault start piece room LineTooLong l e p =
+    let q : IsLineEnd (LINE_LIMIT - length start) piece (Err LineTooLong) = subst (λ n. IsLineEnd n piece (Err LineTooLong)) e p in
+    grows_too_long start piece l q.0 q.1
+gathers_fault start piece room fault l e p = absurd p

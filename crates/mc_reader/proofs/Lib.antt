@@ -4,8 +4,10 @@ mod Feeding
 mod FirstLines
 mod Fits
 mod Gathers
+mod ItemLemmas
 mod LineEnds
 mod Searches
 mod StepLemmas
+mod TextLemmas
 mod Unfinished
 mod Unique

@@ -1,5 +1,5 @@
 -- What a search for a byte finds.
-use Rattle.std.proofs.Common.{◌≡◌, ℕ, ◌+◌, ◌-◌, ◌<◌, ◌≤◌, ◌==◌, min, Bool, true, false, not, cond, Option, Some, None, List, [], ◌∷◌, ◌++◌, length, take, drop, get_or, refl, sym, ap, ◌∙◌, subst, arith, length-take, get_or-take}
+use Rattle.std.proofs.Common.{◌≡◌, ℕ, ◌+◌, ◌-◌, ◌<◌, ◌≤◌, ◌==◌, min, Bool, true, false, not, cond, Option, Some, None, List, [], ◌∷◌, ◌++◌, length, take, drop, get_or, suc, refl, sym, ap, ◌∙◌, subst, arith, length-take, get_or-take}
 use Rattle.std.specs.List.{position_or_len, slice_split, onto_first}
 use Rattle.std.specs.Option.{unwrap_or}
 use Rattle.std.proofs.lemmas.Bool.{eqb-true}
@@ -33,7 +33,7 @@ one_more n = omega arith
 
 cut_more : (b : Bool) (x : ℕ) (xs : List ℕ) (n : ℕ) → words_of xs ≡ take n xs ∷ words_after (drop n xs)
     → cond b ([] ∷ words_of xs) (onto_first x (words_of xs))
-      ≡ take (cond (not b) (1 + n) 0) (x ∷ xs) ∷ words_after (drop (cond (not b) (1 + n) 0) (x ∷ xs))
+    ≡ take (cond (not b) (1 + n) 0) (x ∷ xs) ∷ words_after (drop (cond (not b) (1 + n) 0) (x ∷ xs))
 cut_more true x xs n h = refl
 cut_more false x xs n h =
     ap (onto_first x) h ∙ sym (ap (λ m. take m (x ∷ xs) ∷ words_after (drop m (x ∷ xs))) (one_more n))
@@ -59,13 +59,15 @@ end_found room piece at h =
     let within : at < length piece = omega arith in
     let lf : get_or piece at 0 ≡ LF = sym (get_or-take room piece at 0 below) ∙ eqb-true (get_or (take room piece) at 0) LF h.1 in
     let none : has_end (take at (take room piece)) ≡ false =
-      no_end (take at (take room piece)) (λ k l.
-      let n = length-take at (take room piece) in
-      let early : k < at = omega arith in
-      rw (get_or-take at (take room piece) k 0 early) (not_true (get_or (take room piece) k 0 == LF) (h.0.before k (omega arith) early))) in
-    (below, record {
-      within = within;
-      cut = ap (λ byte. take at piece ++ byte ∷ drop (at + 1) piece) (sym lf)
-        ∙ ap (λ rest. take at piece ++ rest) (sym (drop_more piece at 0 within)) ∙ take-append-drop at piece;
-      none_before = subst (λ u. has_end u ≡ false) (take-take at room piece (omega arith)) none;
-    })
+    no_end (take at (take room piece)) (λ k l.
+    let n = length-take at (take room piece) in
+    let early : k < at = omega arith in
+    rw (get_or-take at (take room piece) k 0 early) (not_true (get_or (take room piece) k 0 == LF) (h.0.before k (omega arith) early))) in (
+      below,
+      record {
+        within = within;
+        cut = ap (λ byte. take at piece ++ byte ∷ drop (at + 1) piece) (sym lf)
+            ∙ ap (λ rest. take at piece ++ rest) (sym (drop_more piece at 0 within)) ∙ take-append-drop at piece;
+        none_before = subst (λ u. has_end u ≡ false) (take-take at room piece (omega arith)) none;
+      },
+    )

@@ -4,22 +4,24 @@ use Rattle.std.specs.declared.alloc.Global.{Global}
 use Rattle.mc_protocol.specs.Lines.{Word}
 use Rattle.mc_protocol.specs.declared.request.Verb.{Verb}
 use Rattle.mc_reader.specs.Block.{IsBlockOf, block_read}
-use Rattle.mc_reader.specs.Gathered.{IsGathered}
-use Rattle.mc_reader.specs.Lines.{LF, IsLine, line_says}
-use Rattle.mc_reader.specs.Replies.{Outcome, BlockEnds, Ends, too_long, one_line, with_block}
-use Rattle.mc_reader.specs.Stages.{IsStageAt, IsStage, stage_fed, after_block}
+use Rattle.mc_reader.specs.Gathered.{IsGathered, Gathers}
+use Rattle.mc_reader.specs.Lines.{CR, LF, IsLine, line_says, end_says, end_fault_of_text, text_of}
+use Rattle.mc_reader.specs.Replies.{Outcome, hit_of, BlockEnds, Ends, too_long, one_line, with_block}
+use Rattle.mc_reader.specs.Stages.{IsStageAt, IsStage, IsStepFrom, stage_fed, after_block}
 use Rattle.mc_reader.specs.Steps.{EndsAt, EndsWithin, IsStep}
 use Rattle.mc_reader.specs.declared.block.Block.{Block}
 use Rattle.mc_reader.specs.declared.fault.ReadFault.{ReadFault}
-use Rattle.mc_reader.specs.declared.fault.ReadFault.TheVariants.{OutOfMemory, Failed}
+use Rattle.mc_reader.specs.declared.fault.ReadFault.TheVariants.{LineTooLong, OutOfMemory, Failed}
 use Rattle.mc_reader.specs.declared.said.HitLine.{HitLine}
+use Rattle.mc_reader.specs.declared.said.Said.{Said}
 use Rattle.mc_reader.specs.declared.said.Said.TheVariants.{Hit}
 use Rattle.mc_reader.specs.declared.stage.Stage.{Stage}
 use Rattle.mc_reader.specs.declared.stage.Stage.TheVariants as stage
 use Rattle.mc_reader.specs.declared.step.Step.{Step}
 use Rattle.mc_reader.specs.declared.step.Step.TheVariants.{More, Done}
-use Rattle.mc_reader.proofs.Blocks.{line_in}
-use Rattle.mc_reader.proofs.Fits.{IsOfLine}
+use Rattle.mc_reader.proofs.Blocks.{line_in, end_fails, last_ends, last_too_long}
+use Rattle.mc_reader.proofs.FirstLines.{first_ends, first_too_long}
+use Rattle.mc_reader.proofs.Fits.{IsOfLine, line_fault, end_line_fault}
 
 -- a piece of which a front was read before
 ends_after : (E : List ℕ → Outcome → Type 0) (text front piece : List ℕ) (outcome : Outcome) (unread : ℕ)
@@ -54,7 +56,6 @@ step_after E After text front piece longer whole result e d p =
 -- ---- the block after a first line
 
 module _ (verb : Verb) (key line : Word) (hit : HitLine) (l : IsLine line) (says : line_says verb key line ≡ Ok (Hit hit)) where
-
   regroup : (text front : List ℕ) → (line ++ LF ∷ text) ++ front ≡ line ++ LF ∷ (text ++ front)
   regroup text front = append_assoc line (LF ∷ text) front
 
@@ -104,7 +105,6 @@ fault_step E After text piece fault p w = w
 
 module _ (verb : Verb) (key start after piece : List ℕ) (at : ℕ) (hit : HitLine) (g : IsGathered start after piece at)
     (says : line_says verb key (start ++ take at piece) ≡ Ok (Hit hit)) where
-
   pub hit_step : (kept : Vec ℕ Global) (step : Step Block) → kept.items ≡ start ++ take at piece
       → IsStep (BlockEnds hit) (IsBlockOf hit) [] (drop (at + 1) piece) (Ok step)
       → IsStep (Ends verb key) (IsStageAt verb key) start piece (Ok (after_block kept step))
@@ -121,3 +121,66 @@ module _ (verb : Verb) (key start after piece : List ℕ) (at : ℕ) (hit : HitL
       ((start ++ take at piece) ++ LF ∷ []) piece (Err fault)
       (append_assoc start (take at piece) (LF ∷ [])) (sym (line_in piece at g.end_at))
       (fault_with_line verb key (start ++ take at piece) hit g.line says (IsBlockOf hit) (IsStageAt verb key) [] (drop (at + 1) piece) fault p)
+
+-- ---- faults of lines
+
+-- the first line fails
+pub first_line_fault : (verb : Verb) (key start after piece line : List ℕ) (at : ℕ) (fault : ReadFault) → IsGathered start after piece at
+    → line ≡ start ++ take at piece → line_says verb key line ≡ Err fault
+    → IsStep (Ends verb key) (IsStageAt verb key) start piece (Err fault)
+first_line_fault verb key start after piece line at fault g e says =
+    let here : line_says verb key (start ++ take at piece) ≡ Err fault = ap (line_says verb key) (sym e) ∙ says in
+    fault_step (Ends verb key) (IsStageAt verb key) start piece fault (line_fault verb key line fault says)
+    (record { unread = length (drop (at + 1) piece); at = first_ends verb key start after piece at (Err fault) g here })
+
+-- it can't be gathered
+pub first_gather_fault : (verb : Verb) (key start after piece : List ℕ) (fault : ReadFault) → Gathers start after piece (Err fault)
+    → IsStep (Ends verb key) (IsStageAt verb key) start piece (Err fault)
+first_gather_fault verb key start after piece LineTooLong g = first_too_long verb key start piece g
+first_gather_fault verb key start after piece OutOfMemory g = tt
+first_gather_fault verb key start after piece fault g = absurd g
+
+-- the last line fails
+pub last_line_fault : (hit : HitLine) (body start after piece line : List ℕ) (at : ℕ) (fault : ReadFault) → length body ≡ hit.body_len
+    → IsGathered start after piece at → line ≡ start ++ take at piece → end_fault_of_text (text_of line) ≡ Some fault
+    → IsStep (BlockEnds hit) (IsBlockOf hit) (body ++ CR ∷ LF ∷ start) piece (Err fault)
+last_line_fault hit body start after piece line at fault whole g e says =
+    let here : Err fault ≡ end_says (hit_of hit body) (start ++ take at piece) =
+    end_fails (hit_of hit body) line fault says ∙ ap (end_says (hit_of hit body)) e in
+    fault_step (BlockEnds hit) (IsBlockOf hit) (body ++ CR ∷ LF ∷ start) piece fault (end_line_fault line fault says)
+    (record { unread = length (drop (at + 1) piece); at = last_ends hit body start after piece at (Err fault) whole g here })
+
+-- it can't be gathered
+pub last_gather_fault : (hit : HitLine) (body start after piece : List ℕ) (fault : ReadFault) → length body ≡ hit.body_len
+    → Gathers start after piece (Err fault) → IsStep (BlockEnds hit) (IsBlockOf hit) (body ++ CR ∷ LF ∷ start) piece (Err fault)
+last_gather_fault hit body start after piece LineTooLong whole g = last_too_long hit body start piece whole g
+last_gather_fault hit body start after piece OutOfMemory whole g = tt
+last_gather_fault hit body start after piece fault whole g = absurd g
+
+-- ---- as the functions have it
+
+-- a step in the block that a line announced
+pub block_step : (hit : HitLine) (block : Block) (text piece : List ℕ) (result : Result (Step Block) ReadFault) → IsBlockOf hit block text
+    → IsStep (BlockEnds block.hit) (IsBlockOf block.hit) (block_read block) piece result → IsStep (BlockEnds hit) (IsBlockOf hit) text piece result
+block_step hit block text piece result b p =
+    subst (λ u. IsStep (BlockEnds hit) (IsBlockOf hit) u piece result) b.read
+    (subst (λ h. IsStep (BlockEnds h) (IsBlockOf h) (block_read block) piece result) b.same p)
+
+-- what a line says, where it is the one that was gathered
+pub says_at : (verb : Verb) (key line whole : Word) (said other : Said) → line ≡ whole → Ok said ≡ line_says verb key line → said ≡ other
+    → line_says verb key whole ≡ Ok other
+says_at verb key line whole said other e h d = ap (line_says verb key) (sym e) ∙ sym h ∙ ap Ok d
+
+-- from a stage in a block
+pub on_block : (verb : Verb) (key : Word) (line : Vec ℕ Global) (block : Block) (piece : List ℕ) (step : Step Block)
+    → IsStage verb key (stage.Block line block)
+    → IsStep (BlockEnds block.hit) (IsBlockOf block.hit) (block_read block) piece (Ok step)
+    → IsStepFrom verb key (stage_fed (stage.Block line block)) piece (Ok (after_block line step))
+on_block verb key line block piece step v p = step_with_line verb key line.items block.hit v.0 v.1 line (block_read block) piece step refl p
+
+pub on_block_fault : (verb : Verb) (key : Word) (line : Vec ℕ Global) (block : Block) (piece : List ℕ) (fault : ReadFault)
+    → IsStage verb key (stage.Block line block)
+    → IsStep (BlockEnds block.hit) (IsBlockOf block.hit) (block_read block) piece (Err fault)
+    → IsStepFrom verb key (stage_fed (stage.Block line block)) piece (Err fault)
+on_block_fault verb key line block piece fault v p =
+    fault_with_line verb key line.items block.hit v.0 v.1 (IsBlockOf block.hit) (IsStageAt verb key) (block_read block) piece fault p

@@ -94,7 +94,7 @@ one_after_body hit s t x y a b (after_crlf last l d) (after_crlf other m f) h =
 pub one_block : (line : HitLine) → EndsOnce (BlockEnds line)
 one_block line s t x y a b p q h =
     let all : p.body ++ (p.rest ++ x) ≡ q.body ++ (q.rest ++ y) =
-      sym (ap (λ u. u ++ x) p.cut ∙ append_assoc p.body p.rest x) ∙ h ∙ ap (λ u. u ++ y) q.cut ∙ append_assoc q.body q.rest y in
+    sym (ap (λ u. u ++ x) p.cut ∙ append_assoc p.body p.rest x) ∙ h ∙ ap (λ u. u ++ y) q.cut ∙ append_assoc q.body q.rest y in
     let front = same_front p.body q.body (p.rest ++ x) (q.rest ++ y) (p.whole ∙ sym q.whole) all in
     let ends : BodyEnds (hit_of line p.body) q.rest b = subst (λ u. BodyEnds (hit_of line u) q.rest b) (sym front.0) q.ends in
     let both = one_after_body (hit_of line p.body) p.rest q.rest x y a b p.ends ends front.1 in

@@ -97,8 +97,10 @@ impl Display for ReadFault {
             ReadFault::NumberTooLarge => "a number of the reply is too large",
             ReadFault::DataTooLong => "the item's body is too long",
             ReadFault::DataNotEnded => "the item's body isn't followed by CR LF",
-            ReadFault::ErrorLine(ErrorKind::Error) => "the server answered that the command doesn't exist",
-            ReadFault::ErrorLine(ErrorKind::Client) => "the server answered that the request was wrong",
+            ReadFault::ErrorLine(ErrorKind::Error) =>
+                "the server answered that the command doesn't exist",
+            ReadFault::ErrorLine(ErrorKind::Client) =>
+                "the server answered that the request was wrong",
             ReadFault::ErrorLine(ErrorKind::Server) => "the server answered that it failed",
             ReadFault::OutOfMemory => "out of memory",
             ReadFault::Failed => "the reader has answered before",

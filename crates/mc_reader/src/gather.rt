@@ -1,10 +1,10 @@
 //! Lines that come in pieces.
-ghost use Rattle.std.specs.Prelude.{◌≡◌, ◌++◌, ◌≤◌, length};
+ghost use Rattle.std.specs.Prelude.{◌≡◌, MatchResult};
 ghost use Rattle.mc_reader.specs.Gathered as spec;
 ghost use Rattle.mc_reader.specs.Lines.{IsLine};
 
 use crate::{LINE_LIMIT, ReadFault};
-use bstr::ByteSlice;
+use memchr::memchr;
 
 /// Looks in the piece for the LF of the line that begins with `start`, and answers its place. What comes before the LF is
 /// added to `start`, but where `start` is empty: then the line stands whole in the piece, and isn't copied. Where the piece
@@ -32,7 +32,7 @@ fn line_end(room: usize, piece: &[u8]) -> Result<Option<usize>, ReadFault>
     ensures { spec.IsLineEnd room piece.now result }
 {
     let searched = &piece[..room.min(piece.len())];
-    match searched.find_byte(b'\n') {
+    match memchr(b'\n', searched) {
         Some(at) => Ok(Some(at)),
         None if piece.len() < room => Ok(None),
         None => Err(ReadFault::LineTooLong),
@@ -48,4 +48,14 @@ pub(crate) fn joined<'a>(start: &'a Vec<u8>, front: &'a [u8]) -> &'a [u8]
     } else {
         start.as_slice()
     }
+}
+
+/// The same line, in memory of its own.
+pub(crate) fn owned(mut start: Vec<u8>, front: &[u8]) -> Result<Vec<u8>, ReadFault>
+    ensures { MatchResult result (λ line. line.items ≡ spec.joined start.items front.now) (λ fault. fault ≡ ReadFault.OutOfMemory) }
+{
+    if start.is_empty() {
+        start.extend_from_slice(front)?;
+    }
+    Ok(start)
 }

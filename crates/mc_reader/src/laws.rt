@@ -5,12 +5,10 @@ ghost use Rattle.mc_reader.specs.Laws as law;
 /// another: where two of them begin the same bytes, they are one text with one outcome.
 pub fn one_reply()
     ensures { law.OneReply }
-{
-}
+{}
 
 /// A reply that is spelled fits a request of the verb: its class is legal, a hit shows the cas unique exactly to `gets`, and
 /// its body is within the limit.
 pub fn spelled_replies_fit()
     ensures { law.SpelledRepliesFit }
-{
-}
+{}

@@ -35,8 +35,11 @@ fn text_of(line: &[u8]) -> Option<&[u8]>
     ensures { spec.IsTextOf line.now result }
 {
     match line {
-        [text @ .., b'\r'] => Some(text),
-        _ => None,
+        [text @ .., last] => match *last == b'\r' {
+            true => Some(text),
+            false => None,
+        },
+        [] => None,
     }
 }
 

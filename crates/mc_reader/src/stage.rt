@@ -6,7 +6,7 @@ ghost use Rattle.mc_reader.specs.Stages as spec;
 ghost use Rattle.mc_reader.specs.Steps.{IsStep};
 
 use crate::block::Block;
-use crate::gather::{gather, joined};
+use crate::gather::{gather, joined, owned};
 use crate::line::read_line;
 use crate::said::Said;
 use crate::step::Step;
@@ -64,10 +64,8 @@ fn read_first_line(
         }),
         Said::Hit(hit) => {
             let step = Block::new(alloc, hit)?.read(alloc, &piece[at + 1..])?;
-            if start.is_empty() {
-                start.extend_from_slice(&piece[..at])?;
-            }
-            Ok(after_block(start, step))
+            let line = owned(start, &piece[..at])?;
+            Ok(after_block(line, step))
         }
     }
 }

@@ -4,8 +4,8 @@ ghost use Rattle.std.specs.List.{position_or_len};
 ghost use Rattle.mc_reader.specs.Words as spec;
 
 use crate::ErrorKind;
-use bstr::ByteSlice;
 use mc_protocol::Reply;
+use memchr::memchr;
 
 /// The reply that the text is, where one word is the whole reply.
 #[tactic(auto, unfolding(crate::specs::Words::reply_of_word))]
@@ -61,7 +61,7 @@ fn first_word_len(text: &[u8]) -> usize
     ensures len { result ≡ position_or_len spec.is_space text.now }
     ensures short { result ≤ length text.now }
 {
-    text.find_byte(b' ').unwrap_or(text.len())
+    memchr(b' ', text).unwrap_or(text.len())
 }
 
 /// The next word after a word that was cut off, and what comes after it. What is left begins with a space.
