@@ -1,6 +1,6 @@
 -- What streams carry, one call after the other.
 use Rattle.std.specs.Prelude.{◌≡◌, ℕ, ◌+◌, ◌-◌, ◌≤◌, Option, Some, None, List, [], ◌++◌, length, take, drop}
-use Rattle.std.proofs.Common.{arith, append_assoc, append-nil, subst, refl, sym, ap, ◌∙◌}
+use Rattle.std.proofs.Common.{arith, append_assoc, append-nil, subst, sym, ap, ◌∙◌}
 use Rattle.std.proofs.Math.Seq.{take-add}
 use Rattle.std.proofs.lemmas.Grind.{common_steps}
 use Rattle.mc_lane.specs.Streams.{StreamState, Grows, Carries}

@@ -1,7 +1,7 @@
 -- Pieces that are joined, and what is read of them.
 use Rattle.std.specs.Prelude.{◌≡◌, ℕ, ◌+◌, ◌-◌, ◌<◌, ◌≤◌, List, [], ◌∷◌, ◌++◌, length, map, take, drop}
 use Rattle.std.specs.List.{concat}
-use Rattle.std.proofs.Common.{arith, append_assoc, ap, sym, ◌∙◌, refl, get_or}
+use Rattle.std.proofs.Common.{arith, append_assoc, ap, sym, ◌∙◌, get_or}
 use Rattle.std.proofs.Math.Seq.{take-add}
 use Rattle.std.proofs.lemmas.Grind.{common_steps}
 use Rattle.std.proofs.lemmas.List.{drop-map, drop_more}

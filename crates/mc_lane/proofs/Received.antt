@@ -2,7 +2,6 @@
 use Rattle.std.specs.Prelude.{◌≡◌, ℕ, ◌+◌, ◌-◌, ◌≤◌, true, Option, Some, None, Result, Ok, Err, List, [], ◌++◌, length, take, drop, slice_range}
 use Rattle.std.proofs.Common.{arith, rules, refl, sym, ap, subst, ◌∙◌}
 use Rattle.std.proofs.Math.Seq.{take-add}
-use Rattle.std.proofs.lemmas.Grind.{common_steps}
 use Rattle.std.proofs.lemmas.List.{drop-drop, drop-append-le, drop_at, take-append-drop, take_at, length-drop}
 use Rattle.mc_protocol.specs.Legal.{is_fit_for}
 use Rattle.mc_protocol.specs.Lines.{Word}
@@ -16,9 +15,9 @@ use Rattle.mc_reader.specs.declared.fault.ReadFault.{ReadFault}
 use Rattle.mc_reader.specs.declared.fault.ReadFault.TheVariants as read_fault
 use Rattle.mc_reader.specs.declared.reader.Fed.{Fed}
 use Rattle.mc_reader.specs.declared.reader.Fed.TheVariants.{More, Done}
-use Rattle.mc_lane.specs.Receiving.{Adds, Brings, IsReplyAt, Stops, Finds, Receives, fault_for}
+use Rattle.mc_lane.specs.Receiving.{Brings, Stops, fault_for}
 use Rattle.mc_lane.specs.Sending.{failures_of}
-use Rattle.mc_lane.specs.Streams.{StreamState, Grows, Carries}
+use Rattle.mc_lane.specs.Streams.{StreamState, Carries}
 use Rattle.mc_lane.proofs.Carried.{Grows-twice, appended_twice, range_from}
 
 -- ---- parts of what was received

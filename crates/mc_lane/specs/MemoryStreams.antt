@@ -1,6 +1,5 @@
 -- What contracts see of a stream in memory, and what its calls do.
 use Rattle.std.specs.Prelude.{◌≡◌, ℕ, ◌+◌, ◌-◌, ◌==◌, Bool, true, false, ◌&&◌, ◌||◌, nat_lt, min, Option, Some, None, unwrap_or, Result, Ok, Err, List, [], ◌∷◌, ◌++◌, length, take, drop, find, if◌then◌else◌}
-use Rattle.std.specs.Bool.{MatchBool}
 use Rattle.std.specs.List.{concat}
 use Rattle.mc_lane.specs.Streams.{StreamState}
 

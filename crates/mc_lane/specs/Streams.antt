@@ -1,5 +1,5 @@
 -- What contracts see of a stream, and what a read and a write do to it.
-use Rattle.std.specs.Prelude.{◌≡◌, ◌≢◌, ℕ, ◌+◌, ◌^◌, ◌<◌, ◌≤◌, Option, Some, None, Result, Ok, Err, List, [], ◌++◌, length, take}
+use Rattle.std.specs.Prelude.{◌≡◌, ℕ, ◌+◌, ◌^◌, ◌<◌, ◌≤◌, Option, Some, None, Result, Ok, Err, List, [], ◌++◌, length, take}
 
 -- the bytes that were read from the stream and written to it so far, each where the stream tells them, and how many calls failed
 pub record StreamState : Type 0 where

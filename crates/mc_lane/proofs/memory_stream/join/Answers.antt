@@ -1,4 +1,3 @@
-use Rattle.std.proofs.Common.{arith, ◌∙◌, ◌≡◌, ◌+◌}
 use Rattle.mc_lane.proofs.Pieces.{bytes_more, ends_more}
 use Rattle.mc_lane.proofs.memory_stream.join.Goals as goal
 

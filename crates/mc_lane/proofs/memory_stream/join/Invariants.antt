@@ -1,4 +1,4 @@
-use Rattle.std.specs.Prelude.{◌≡◌, ◌++◌, map, take, drop, vec_len}
+use Rattle.std.specs.Prelude.{◌≡◌, ◌++◌, map, drop, vec_len}
 use Rattle.std.specs.List.{concat}
 use Rattle.mc_lane.specs.MemoryStreams.{ends_from}
 use Rattle.mc_lane.proofs.memory_stream.join.Given as goal

@@ -1,6 +1,5 @@
-use Rattle.std.proofs.Common.{rules, arith, ◌≡◌, ◌+◌, ◌≤◌, ◌++◌, take, drop, length, append-nil}
+use Rattle.std.proofs.Common.{rules, arith, ◌+◌, ◌≤◌, drop, length}
 use Rattle.std.proofs.lemmas.Grind.{common_steps}
-use Rattle.mc_lane.specs.MemoryStreams as memory
 use Rattle.mc_lane.proofs.Pieces.{read_on}
 use Rattle.mc_lane.proofs.memory_stream.MemoryStreamStream.read.Goals as goal
 
