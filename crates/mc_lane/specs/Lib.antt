@@ -1,0 +1,6 @@
+pub mod Lanes
+pub mod MemoryStreams
+pub mod Receiving
+pub mod Sending
+pub mod Streams
+pub mod Traffic
