@@ -1,14 +1,14 @@
-//! What happens in a section.
+//! What may happen in a section.
 
 use mc_protocol::{Fault, Reply};
 
-/// What happens next in a section.
+/// An event of a section.
 #[derive(Debug, Drop, PartialEq)]
 pub enum Event {
-    /// It sends its next request.
+    /// The section's next call begins.
     Begin,
-    /// It receives the reply to the request that it sent last.
+    /// The reply to the call that waits comes.
     Reply(Reply),
-    /// It can't go on.
+    /// The section ends before its code does. A call that waits may have been executed or not.
     Fail(Fault),
 }
