@@ -252,9 +252,9 @@ def reply_at_random(rng, word, verb):
 def event_at_random(rng, world, cache, name):
     section = world.sections.get(name)
     sort = rng.random()
-    if sort < 0.04:
+    if sort < 0.015:
         return ("fail", rng.randint(1, 8))
-    if sort < 0.14 or section is None or section.waiting is None:
+    if sort < 0.1 or section is None or section.waiting is None:
         words = legal(rng.choice(["set", "gets", "incr", "delete", "touch"]))
         return ("begin",) if rng.random() < 0.85 else ("reply", reply_at_random(rng, rng.choice(words), "gets"))
     if sort < 0.85:
@@ -267,8 +267,8 @@ def list_at_random(rng, world):
     cache, lines = Cache(), []
     if rng.random() < 0.1:
         cache.items = {key: (0, "", 9) for key in ("a", "item")}
-    for _ in range(rng.choice([0, rng.randint(1, 8), rng.randint(10, 60)])):
-        name = rng.choice("PPPAB" if len(world.sections) == 1 else "PAAAABBBB")
+    for _ in range(rng.choice([0, rng.randint(1, 12), rng.randint(12, 30), rng.randint(30, 60)])):
+        name = rng.choice("PPPPPPPPAB" if len(world.sections) == 1 else "PAAAABBBB")
         event = event_at_random(rng, world, cache, name)
         world.take(name, event)
         what = words_of_reply(event[1]) if event[0] == "reply" else str(event[1]) if event[0] == "fail" else ""
