@@ -32,7 +32,8 @@ pub Carries-both : (a b c : StreamState) (read written : List ℕ) (failures : �
     → Carries a b [] written 0 → Carries b c read [] failures → Carries a c read written failures
 Carries-both a b c read written failures h k = record {
   reads = Grows-twice a.read b.read c.read [] read h.reads k.reads;
-  writes = subst (λ bytes. Grows a.written c.written bytes) (append-nil written) (Grows-twice a.written b.written c.written written [] h.writes k.writes);
+  writes = subst (λ bytes. Grows a.written c.written bytes) (append-nil written)
+      (Grows-twice a.written b.written c.written written [] h.writes k.writes);
   fails = omega (arith, h.fails, k.fails);
 }
 

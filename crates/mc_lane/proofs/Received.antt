@@ -1,5 +1,6 @@
 -- What is received for a reply, piece by piece.
-use Rattle.std.specs.Prelude.{◌≡◌, ℕ, ◌+◌, ◌-◌, ◌≤◌, true, Option, Some, None, Result, Ok, Err, List, [], ◌++◌, length, take, drop, slice_range}
+use Rattle.std.specs.Prelude.{◌≡◌, ℕ, ◌+◌, ◌-◌, ◌≤◌, true, Option, Some, None, Result, Ok, Err}
+use Rattle.std.specs.Prelude.{List, [], ◌++◌, length, take, drop, slice_range}
 use Rattle.std.proofs.Common.{arith, rules, refl, sym, ap, subst, ◌∙◌}
 use Rattle.std.proofs.Math.Seq.{take-add}
 use Rattle.std.proofs.lemmas.List.{drop-drop, drop-append-le, drop_at, take-append-drop, take_at, length-drop}
@@ -22,26 +23,30 @@ use Rattle.mc_lane.proofs.Carried.{Grows-twice, appended_twice, range_from}
 
 -- ---- parts of what was received
 
+-- what comes after a part
+after_part : (xs : List ℕ) (start end : ℕ) → start ≤ end → drop end xs ≡ drop (end - start) (drop start xs)
+after_part xs start end h =
+    let sum : end ≡ start + (end - start) = omega arith in
+    ap (λ (n : ℕ). drop n xs) sum ∙ sym (drop-drop (end - start) start xs)
+
 -- a part and all that follows it
 pub part_and_rest : (xs : List ℕ) (start end : ℕ) → start ≤ end → end ≤ length xs
     → slice_range xs start end ++ take (length xs - end) (drop end xs) ≡ drop start xs
 part_and_rest xs start end h k =
-    let sum : end ≡ start + (end - start) = omega arith in
-    let rest : drop end xs ≡ drop (end - start) (drop start xs) = ap (λ (n : ℕ). drop n xs) sum ∙ sym (drop-drop (end - start) start xs) in
-    ap (λ ys. slice_range xs start end ++ ys) (range_from end xs k ∙ rest) ∙ take-append-drop (end - start) (drop start xs)
+    ap (λ ys. slice_range xs start end ++ ys) (range_from end xs k ∙ after_part xs start end h)
+    ∙ take-append-drop (end - start) (drop start xs)
 
 -- a part and the next bytes
 pub part_and_next : (xs : List ℕ) (start end count : ℕ) → start ≤ end → end ≤ length xs
     → slice_range xs start end ++ take count (take (length xs - end) (drop end xs)) ≡ slice_range xs start (end + count)
 part_and_next xs start end count h k =
-    let at : end ≡ start + (end - start) = omega arith in
-    let rest : drop end xs ≡ drop (end - start) (drop start xs) = ap (λ (n : ℕ). drop n xs) at ∙ sym (drop-drop (end - start) start xs) in
     let sum : end + count - start ≡ (end - start) + count = omega arith in
-    ap (λ ys. slice_range xs start end ++ take count ys) (range_from end xs k ∙ rest)
+    ap (λ ys. slice_range xs start end ++ take count ys) (range_from end xs k ∙ after_part xs start end h)
     ∙ sym (take-add (end - start) count (drop start xs)) ∙ ap (λ (n : ℕ). take n (drop start xs)) (sym sum)
 
 -- what was there stays where more is added
-pub part_of_longer : (xs new more : List ℕ) (start : ℕ) → start ≤ length xs → new ≡ xs ++ more → slice_range new start (length xs) ≡ drop start xs
+pub part_of_longer : (xs new more : List ℕ) (start : ℕ) → start ≤ length xs → new ≡ xs ++ more
+    → slice_range new start (length xs) ≡ drop start xs
 part_of_longer xs new more start h is =
     ap (λ ys. slice_range ys start (length xs)) is
     ∙ ap (take (length xs - start)) (drop-append-le start xs more h)
@@ -54,13 +59,15 @@ part_of_longer xs new more start h is =
 pub received_more : (first old new brought : List ℕ) → old ≡ first ++ drop (length first) old → new ≡ old ++ brought
     → drop (length first) new ≡ drop (length first) old ++ brought
 received_more first old new brought h k =
-    ap (drop (length first)) (appended_twice first old new (drop (length first) old) brought h k) ∙ drop_at first (drop (length first) old ++ brought) (length first) refl
+    ap (drop (length first)) (appended_twice first old new (drop (length first) old) brought h k)
+    ∙ drop_at first (drop (length first) old ++ brought) (length first) refl
 
 -- and all of it
 pub grown_more : (first old new brought : List ℕ) → old ≡ first ++ drop (length first) old → new ≡ old ++ brought
     → new ≡ first ++ drop (length first) new
 grown_more first old new brought h k =
-    appended_twice first old new (drop (length first) old) brought h k ∙ ap (λ ys. first ++ ys) (sym (received_more first old new brought h k))
+    appended_twice first old new (drop (length first) old) brought h k
+    ∙ ap (λ ys. first ++ ys) (sym (received_more first old new brought h k))
 
 -- what was read comes after what was read before
 pub Carries-after : (a b c : StreamState) (read more : List ℕ) (failures : ℕ)
@@ -73,8 +80,9 @@ Carries-after a b c read more failures h k = record {
 
 -- ---- what the reader answers, where it was fed this text before
 
-answer_at : (verb v : Verb) (key k : Word) (fed new : Option (List ℕ)) (text piece p : List ℕ) (result : Result Fed ReadFault) → v ≡ verb → k ≡ key
-    → fed ≡ Some text → p ≡ piece → IsAnswerAfter v k fed p result new → IsAnswer verb key text piece result new
+-- its answer, by what it was fed
+answer_at : (verb v : Verb) (key k : Word) (fed new : Option (List ℕ)) (text piece p : List ℕ) (result : Result Fed ReadFault)
+    → v ≡ verb → k ≡ key → fed ≡ Some text → p ≡ piece → IsAnswerAfter v k fed p result new → IsAnswer verb key text piece result new
 answer_at verb v key k fed new text piece p result v_is k_is fed_is p_is answer =
     subst (λ x. IsAnswerAfter verb key x piece result new) fed_is
     (subst (λ x. IsAnswerAfter verb key fed x result new) p_is
@@ -85,14 +93,16 @@ pub needs_more : (verb v : Verb) (key k : Word) (fed new : Option (List ℕ)) (t
     → fed ≡ Some text → p ≡ piece → f ≡ More → IsAnswerAfter v k fed p (Ok f) new
     → (new ≡ Some (text ++ piece)) × IsUnfinished verb key (text ++ piece)
 needs_more verb v key k fed new text piece p f v_is k_is fed_is p_is f_is answer =
-    subst (λ x. IsAnswer verb key text piece (Ok x) new) f_is (answer_at verb v key k fed new text piece p (Ok f) v_is k_is fed_is p_is answer)
+    subst (λ x. IsAnswer verb key text piece (Ok x) new) f_is
+    (answer_at verb v key k fed new text piece p (Ok f) v_is k_is fed_is p_is answer)
 
 -- it answers a reply
-pub replies : (verb v : Verb) (key k : Word) (fed new : Option (List ℕ)) (text piece p : List ℕ) (f : Fed) (reply : Reply) (used : ℕ) → v ≡ verb
-    → k ≡ key → fed ≡ Some text → p ≡ piece → f ≡ Done reply used → IsAnswerAfter v k fed p (Ok f) new
+pub replies : (verb v : Verb) (key k : Word) (fed new : Option (List ℕ)) (text piece p : List ℕ) (f : Fed) (reply : Reply) (used : ℕ)
+    → v ≡ verb → k ≡ key → fed ≡ Some text → p ≡ piece → f ≡ Done reply used → IsAnswerAfter v k fed p (Ok f) new
     → (new ≡ None) × (used ≤ length piece) × Spells verb key (text ++ take used piece) reply × (is_fit_for verb reply ≡ true)
 replies verb v key k fed new text piece p f reply used v_is k_is fed_is p_is f_is answer =
-    subst (λ x. IsAnswer verb key text piece (Ok x) new) f_is (answer_at verb v key k fed new text piece p (Ok f) v_is k_is fed_is p_is answer)
+    subst (λ x. IsAnswer verb key text piece (Ok x) new) f_is
+    (answer_at verb v key k fed new text piece p (Ok f) v_is k_is fed_is p_is answer)
 
 -- the fault that was answered closes the lane
 fails_as : (verb : Verb) (key : Word) (new : Option (List ℕ)) (text piece got : List ℕ) (taken limit : ℕ) (f : ReadFault)
@@ -108,11 +118,12 @@ fails_as verb key new text piece got taken limit read_fault.OutOfMemory all answ
 fails_as verb key new text piece got taken limit read_fault.Failed all answer = absurd answer
 
 -- it answers a fault
-pub fails : (verb v : Verb) (key k : Word) (fed new : Option (List ℕ)) (text piece p got : List ℕ) (taken limit : ℕ) (f : ReadFault) → v ≡ verb
-    → k ≡ key → fed ≡ Some text → p ≡ piece → text ++ piece ≡ drop taken got → IsAnswerAfter v k fed p (Err f) new
+pub fails : (verb v : Verb) (key k : Word) (fed new : Option (List ℕ)) (text piece p got : List ℕ) (taken limit : ℕ) (f : ReadFault)
+    → v ≡ verb → k ≡ key → fed ≡ Some text → p ≡ piece → text ++ piece ≡ drop taken got → IsAnswerAfter v k fed p (Err f) new
     → Stops verb key got taken limit (fault_for f)
 fails verb v key k fed new text piece p got taken limit f v_is k_is fed_is p_is all answer =
-    fails_as verb key new text piece got taken limit f all (answer_at verb v key k fed new text piece p (Err f) v_is k_is fed_is p_is answer)
+    fails_as verb key new text piece got taken limit f all
+    (answer_at verb v key k fed new text piece p (Err f) v_is k_is fed_is p_is answer)
 
 -- no call of the stream failed then
 pub fault_for-no_failure : (T : Type 0) (f : ReadFault) → failures_of {T = T} (Err (fault_for f)) ≡ 0
@@ -133,8 +144,8 @@ same : (old brought new : List ℕ) → new ≡ old ++ brought → brought ≡ [
 same old brought new is none = is ∙ ap (λ ys. old ++ ys) none ∙ (search rules)
 
 -- the reply isn't whole then
-pub Stops-from_Brings : (verb : Verb) (key : Word) (old brought new : List ℕ) (taken limit : ℕ) (f : Fault) → IsUnfinished verb key (drop taken old)
-    → new ≡ old ++ brought → Brings limit old brought (Err f) → Stops verb key new taken limit f
+pub Stops-from_Brings : (verb : Verb) (key : Word) (old brought new : List ℕ) (taken limit : ℕ) (f : Fault)
+    → IsUnfinished verb key (drop taken old) → new ≡ old ++ brought → Brings limit old brought (Err f) → Stops verb key new taken limit f
 Stops-from_Brings verb key old brought new taken limit fault.ReadFailed unfinished is none = rw (same old brought new is none) unfinished
 Stops-from_Brings verb key old brought new taken limit fault.Ended unfinished is none = rw (same old brought new is none) unfinished
 Stops-from_Brings verb key old brought new taken limit fault.TooMuch unfinished is none =

@@ -55,7 +55,8 @@ ComesTo verb key request written old new (Err f) = (new.taken ≡ old.taken) × 
 
 -- A call on an open lane, with this request of this verb and key: what was written and what was received in it is recorded, and
 -- is what the stream tells.
-pub record Exchanges (verb : Verb) (key : Word) (request : List ℕ) (old new : LaneRecord) (before : StreamState) (result : Result Reply Fault) : Type 0 where
+pub record Exchanges (verb : Verb) (key : Word) (request : List ℕ) (old new : LaneRecord) (before : StreamState)
+    (result : Result Reply Fault) : Type 0 where
   pub after : StreamState
   pub written : List ℕ
   pub received : List ℕ

@@ -4,3 +4,4 @@ pub mod Receiving
 pub mod Sending
 pub mod Streams
 pub mod Traffic
+pub mod Wires

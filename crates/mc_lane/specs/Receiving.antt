@@ -65,7 +65,8 @@ Finds verb key got taken limit (Ok (reply, end)) = IsReplyAt verb key got taken 
 Finds verb key got taken limit (Err f) = Stops verb key got taken limit f
 
 -- what was read for a reply was added
-pub record Receives (verb : Verb) (key : Word) (taken limit : ℕ) (old new : List ℕ) (before after : StreamState) (result : Result (Reply × ℕ) Fault) : Type 0 where
+pub record Receives (verb : Verb) (key : Word) (taken limit : ℕ) (old new : List ℕ) (before after : StreamState)
+    (result : Result (Reply × ℕ) Fault) : Type 0 where
   pub received : List ℕ
   pub recorded : new ≡ old ++ received
   pub within : length new ≤ limit

@@ -24,7 +24,8 @@ pub(crate) fn receive<S: Stream>(
     requires taken { taken ≤ vec_len got.old }
     requires within { vec_len got.old ≤ limit }
     requires can_fail { CanFail (S.state stream.old) }
-    ensures { Receives shape.entry.verb shape.entry.key.now taken limit got.old.items got.new.items (S.state stream.old) (S.state stream.new) result }
+    ensures { Receives shape.entry.verb shape.entry.key.now taken limit got.old.items got.new.items
+        (S.state stream.old) (S.state stream.new) result }
 {
     let mut reader = ReplyReader::new(*got.allocator(), shape);
     let mut fed = taken;

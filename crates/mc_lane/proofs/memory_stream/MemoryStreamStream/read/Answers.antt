@@ -3,9 +3,13 @@ use Rattle.std.proofs.lemmas.Grind.{common_steps}
 use Rattle.mc_lane.proofs.Pieces.{read_on}
 use Rattle.mc_lane.proofs.memory_stream.MemoryStreamStream.read.Goals as goal
 
+-- what was copied comes after what was given before
 pub returns-clause-reads : goal.returns-clause-reads
 returns-clause-reads c =
-    let within : c.self.inside.given + c.min-count.result ≤ length c.self.inside.replies.items = omega arith in
-    let at = read_on c.self.inside.replies.items c.copy_from_slice.new.self (drop c.min-count.result c.args.buffer.now) c.self.inside.given c.min-count.result within
+    let replies = c.self.inside.replies.items in
+    let given = c.self.inside.given in
+    let count = c.min-count.result in
+    let within : given + count ≤ length replies = omega arith in
+    let at = read_on replies c.copy_from_slice.new.self (drop count c.args.buffer.now) given count within
     (rw (← c.deref.ensures.value) c.copy_from_slice.ensures.after) in
     rw (← c.self.view_is) (grind (arith, common_steps), record { reads = at; writes = search rules; fails = omega arith })

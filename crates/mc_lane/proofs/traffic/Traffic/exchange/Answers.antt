@@ -12,8 +12,8 @@ returns-in-Ok g c =
       written = sent.written;
       received = received.received;
       stream = refl;
-      carries = Carries-both (g.S.Stream.state c.args.stream.now) (g.S.Stream.state c.send.new.stream) (g.S.Stream.state c.receive.new.stream)
-          received.received sent.written 0 sent.carries received.carries;
+      carries = Carries-both (g.S.Stream.state c.args.stream.now) (g.S.Stream.state c.send.new.stream)
+          (g.S.Stream.state c.receive.new.stream) received.received sent.written 0 sent.carries received.carries;
       sent = sent.recorded;
       got = received.recorded;
       limit = refl;
