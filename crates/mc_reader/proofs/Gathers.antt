@@ -1,8 +1,8 @@
 -- Lines that are gathered.
-use Rattle.std.proofs.Common.{◌≡◌, ℕ, ◌+◌, ◌-◌, ◌<◌, ◌≤◌, ◌||◌, Bool, true, false, Result, Err, List, [], ◌∷◌, ◌++◌, length, take, drop, refl, sym, ap, subst, ◌∙◌, arith, length-append, length-take}
+use Rattle.std.proofs.Common.{◌≡◌, ℕ, ◌-◌, ◌<◌, ◌≤◌, ◌||◌, Bool, true, false, Err, List, [], ◌∷◌, ◌++◌, length, take, drop, refl, ap, subst, ◌∙◌, arith, length-append, length-take}
 use Rattle.std.proofs.lemmas.List.{take-append-drop}
-use Rattle.mc_reader.specs.Gathered.{IsFirstEnd, IsLineEnd, IsGathered, GrowsTooLong, Gathers, joined, gathered}
-use Rattle.mc_reader.specs.Lines.{LF, has_end, IsLine, IsTooLong}
+use Rattle.mc_reader.specs.Gathered.{IsFirstEnd, IsLineEnd, GrowsTooLong, Gathers, joined, gathered}
+use Rattle.mc_reader.specs.Lines.{has_end, IsLine}
 use Rattle.mc_reader.specs.declared.fault.ReadFault.{ReadFault}
 use Rattle.mc_reader.specs.declared.fault.ReadFault.TheVariants.{LineTooLong}
 use Rattle.mc_reader.specs.declared.limits.TheConstants.{LINE_LIMIT}

@@ -1,5 +1,5 @@
 -- Lines that announce a hit, and those that don't.
-use Rattle.std.proofs.Common.{◌≡◌, ℕ, Bool, true, false, ◌&&◌, not, cond, is_some, Option, Some, None, Result, Ok, Err, List, [], ◌∷◌, codes, refl, sym, ap, ◌∙◌}
+use Rattle.std.proofs.Common.{◌≡◌, Bool, true, false, ◌&&◌, not, cond, is_some, Option, Some, None, Err, [], ◌∷◌, codes, refl, sym, ap, ◌∙◌}
 use mathlib.Core.Bool.{beq}
 use Rattle.std.specs.Borrow.{Bor}
 use Rattle.std.specs.Str.{bytes_eq}
@@ -8,9 +8,7 @@ use Rattle.mc_protocol.specs.Lines.{Word, Words}
 use Rattle.mc_protocol.specs.declared.request.Verb.{Verb}
 use Rattle.mc_reader.specs.Items.{IsNoItem, word_list, shown}
 use Rattle.mc_reader.specs.Words.{hit_says, item_says}
-use Rattle.mc_reader.specs.declared.fault.ReadFault.{ReadFault}
 use Rattle.mc_reader.specs.declared.fault.ReadFault.TheVariants.{NotAReply}
-use Rattle.mc_reader.specs.declared.said.Said.{Said}
 use Rattle.mc_reader.proofs.Fits.{both}
 
 -- ---- fewer words than four, or more than five

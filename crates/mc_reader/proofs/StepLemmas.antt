@@ -1,12 +1,12 @@
 -- A step of a part of a piece is one of the whole.
-use Rattle.std.proofs.Common.{◌≡◌, ℕ, ◌+◌, Option, Some, Result, Ok, Err, List, [], ◌∷◌, ◌++◌, length, take, drop, refl, sym, ap, ◌∙◌, subst, arith, append_assoc, Vec}
+use Rattle.std.proofs.Common.{◌≡◌, ℕ, ◌+◌, Some, Result, Ok, Err, List, [], ◌∷◌, ◌++◌, length, take, drop, refl, sym, ap, ◌∙◌, subst, append_assoc, Vec}
 use Rattle.std.specs.declared.alloc.Global.{Global}
 use Rattle.mc_protocol.specs.Lines.{Word}
 use Rattle.mc_protocol.specs.declared.request.Verb.{Verb}
 use Rattle.mc_reader.specs.Block.{IsBlockOf, block_read}
 use Rattle.mc_reader.specs.Gathered.{IsGathered, Gathers}
 use Rattle.mc_reader.specs.Lines.{CR, LF, IsLine, line_says, end_says, end_fault_of_text, text_of}
-use Rattle.mc_reader.specs.Replies.{Outcome, hit_of, BlockEnds, Ends, too_long, one_line, with_block}
+use Rattle.mc_reader.specs.Replies.{Outcome, hit_of, BlockEnds, Ends, with_block}
 use Rattle.mc_reader.specs.Stages.{IsStageAt, IsStage, IsStepFrom, stage_fed, after_block}
 use Rattle.mc_reader.specs.Steps.{EndsAt, EndsWithin, IsStep}
 use Rattle.mc_reader.specs.declared.block.Block.{Block}
@@ -15,7 +15,6 @@ use Rattle.mc_reader.specs.declared.fault.ReadFault.TheVariants.{LineTooLong, Ou
 use Rattle.mc_reader.specs.declared.said.HitLine.{HitLine}
 use Rattle.mc_reader.specs.declared.said.Said.{Said}
 use Rattle.mc_reader.specs.declared.said.Said.TheVariants.{Hit}
-use Rattle.mc_reader.specs.declared.stage.Stage.{Stage}
 use Rattle.mc_reader.specs.declared.stage.Stage.TheVariants as stage
 use Rattle.mc_reader.specs.declared.step.Step.{Step}
 use Rattle.mc_reader.specs.declared.step.Step.TheVariants.{More, Done}

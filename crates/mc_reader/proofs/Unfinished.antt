@@ -1,12 +1,12 @@
 -- Texts of which no prefix ends.
-use Rattle.std.proofs.Common.{◌≡◌, ℕ, ◌+◌, ◌<◌, ◌≤◌, ◌==◌, Bool, true, false, ◌||◌, Option, Some, Result, Ok, Err, List, [], ◌∷◌, ◌++◌, length, refl, sym, ap, ◌∙◌, subst, arith, length-append, append_assoc, append-nil}
+use Rattle.std.proofs.Common.{◌≡◌, ℕ, ◌≤◌, ◌==◌, Bool, true, false, ◌||◌, Some, Ok, List, [], ◌∷◌, ◌++◌, length, refl, sym, ap, ◌∙◌, subst, arith, length-append, append_assoc, append-nil}
 use Rattle.mc_protocol.specs.Lines.{Word}
 use Rattle.mc_protocol.specs.declared.reply.Reply.{Reply}
 use Rattle.mc_protocol.specs.declared.request.Verb.{Verb}
 use Rattle.mc_reader.specs.Block.{IsBlock, IsEnding, block_read, ending_read}
 use Rattle.mc_reader.specs.Lines.{CR, LF, has_end, IsLine, IsTooLong, line_says}
-use Rattle.mc_reader.specs.Replies.{Outcome, said_whole, hit_of, LastLineEnds, long_last, last_line, BodyEnds, not_cr, not_lf, after_crlf, BlockEnds, Ends, too_long, one_line, with_block, IsUnfinished}
-use Rattle.mc_reader.specs.Stages.{IsStageAt, IsStage, stage_fed}
+use Rattle.mc_reader.specs.Replies.{Outcome, hit_of, LastLineEnds, long_last, last_line, BodyEnds, not_cr, not_lf, after_crlf, BlockEnds, Ends, too_long, one_line, with_block, IsUnfinished}
+use Rattle.mc_reader.specs.Stages.{IsStage, stage_fed}
 use Rattle.mc_reader.specs.declared.block.Block.{Block}
 use Rattle.mc_reader.specs.declared.block.Ending.{Ending}
 use Rattle.mc_reader.specs.declared.block.Ending.TheVariants as ending
@@ -14,7 +14,7 @@ use Rattle.mc_reader.specs.declared.said.HitLine.{HitLine}
 use Rattle.mc_reader.specs.declared.said.Said.TheVariants.{Hit}
 use Rattle.mc_reader.specs.declared.stage.Stage.{Stage}
 use Rattle.mc_reader.specs.declared.stage.Stage.TheVariants as stage
-use Rattle.mc_reader.proofs.LineEnds.{has_end-append, one_first_end}
+use Rattle.mc_reader.proofs.LineEnds.{one_first_end}
 use Rattle.mc_reader.proofs.Unique.{same_front, lined, blocked, not_too_long, not_that_cr, not_that_lf, not_announced, one_hit}
 
 either_way : (b : Bool) → (b || true) ≡ true

@@ -39,7 +39,13 @@ pub(crate) fn is_over(reader: &mut ReplyReader<'_>) -> bool {
 }
 
 /// Whether the text, cut after its first `cut` bytes, is answered so at its end and not before.
-fn is_read_at_cut(alloc: Global, shape: Shape<'_>, text: &[u8], cut: usize, wanted: &Wanted) -> bool {
+fn is_read_at_cut(
+    alloc: Global,
+    shape: Shape<'_>,
+    text: &[u8],
+    cut: usize,
+    wanted: &Wanted,
+) -> bool {
     if cut > text.len() {
         return false;
     }
@@ -106,6 +112,5 @@ fn is_read_before_another(alloc: Global, shape: Shape<'_>, text: &[u8], wanted: 
 
 /// The first row that isn't answered as it should be.
 pub(crate) fn first_other(alloc: Global, rows: &[Row]) -> Option<usize> {
-    rows.iter()
-        .position(|(verb, text, wanted)| !is_read(alloc, shape(*verb), text, wanted))
+    rows.iter().position(|(verb, text, wanted)| !is_read(alloc, shape(*verb), text, wanted))
 }

@@ -1,4 +1,3 @@
-use Rattle.std.proofs.Common.{◌≡◌, ◌++◌, take, drop, sym, ap, ◌∙◌}
 use Rattle.mc_reader.specs.Block.{IsBlockOf}
 use Rattle.mc_reader.specs.Replies.{BlockEnds}
 use Rattle.mc_reader.proofs.StepLemmas.{step_after}

@@ -1,4 +1,4 @@
-use Rattle.std.proofs.Common.{◌≡◌, ◌+◌, ◌-◌, length, take, [], ◌∷◌, ◌++◌, drop, get_or, refl, sym, ap, ◌∙◌, append_assoc}
+use Rattle.std.proofs.Common.{◌-◌, length, take, [], ◌∷◌, ◌++◌, drop, get_or, refl, sym, ap, ◌∙◌}
 use Rattle.std.proofs.lemmas.List.{drop_more, take_rest}
 use Rattle.mc_reader.specs.Block.{IsBlockOf}
 use Rattle.mc_reader.specs.Lines.{CR}
