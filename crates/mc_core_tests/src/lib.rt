@@ -1,0 +1,15 @@
+//! Tests of `mc_core`: events that worlds take and refuse, and the histories of what they took.
+//!
+//! A table of events is a text: a section, and `begin`, a reply, or a fault's number, each after a space.
+#![tactic(auto)]
+
+#[cfg(test)]
+mod given;
+#[cfg(test)]
+mod history_tests;
+#[cfg(test)]
+mod long_tests;
+#[cfg(test)]
+mod refusal_tests;
+#[cfg(test)]
+mod scripts;
