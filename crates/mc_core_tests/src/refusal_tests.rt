@@ -1,0 +1,73 @@
+//! Which events are refused, and for what.
+
+use crate::given::Given::*;
+use crate::given::{Step, checked, events};
+use crate::scripts::COUNTER;
+use mc_core::StepRefusal::*;
+use mc_core::{Event, StepRefusal, World, drive};
+use mc_protocol::Actor::*;
+use mc_protocol::{Fault, Reply};
+use std::test::Fail;
+
+/// The steps that lead to a world, an event, and what is against it: `None` where it is taken.
+type Row = (&'static [Step], Step, Option<StepRefusal>);
+
+/// P of the counter is done.
+const DONE: &[Step] = &[(P, Begin), (P, NotFound), (P, Begin), (P, Stored)];
+
+static ROWS: &[Row] = &[
+    // before P's first call
+    (&[], (P, Begin), None),
+    (&[], (P, NotFound), Some(NotWaiting)),
+    (&[], (P, Fail(Fault::Ended)), None),
+    (&[], (A, Begin), Some(NotYet)),
+    (&[], (B, Number(6)), Some(NotYet)),
+    (&[], (A, Fail(Fault::Ended)), Some(NotYet)),
+    // while P's first call waits, which is the delete of its key
+    (&[(P, Begin)], (P, Begin), Some(Waiting)),
+    (&[(P, Begin)], (P, NotFound), None),
+    (&[(P, Begin)], (P, Stored), Some(WrongReply)),
+    (&[(P, Begin)], (P, Fail(Fault::ReadFailed)), None),
+    (&[(P, Begin)], (A, Begin), Some(NotYet)),
+    // between P's calls
+    (&[(P, Begin), (P, NotFound)], (P, Begin), None),
+    (&[(P, Begin), (P, NotFound)], (P, NotFound), Some(NotWaiting)),
+    (&[(P, Begin), (P, NotFound)], (B, Begin), Some(NotYet)),
+    // P is done
+    (DONE, (P, Begin), Some(Over)),
+    (DONE, (P, Stored), Some(Over)),
+    (DONE, (P, Fail(Fault::Ended)), Some(Over)),
+    (DONE, (A, Begin), None),
+    (DONE, (A, Number(6)), Some(NotWaiting)),
+    (DONE, (B, Fail(Fault::Closed)), None),
+    // P failed, with a call that waits, and without one
+    (&[(P, Fail(Fault::Ended))], (P, Begin), Some(Over)),
+    (&[(P, Begin), (P, Fail(Fault::Ended))], (P, Begin), Some(Over)),
+    (&[(P, Begin), (P, Fail(Fault::Ended))], (P, Stored), Some(Over)),
+    (&[(P, Begin), (P, Fail(Fault::Ended))], (P, Fail(Fault::Ended)), Some(Over)),
+    (&[(P, Begin), (P, Fail(Fault::Ended))], (A, Begin), Some(NotYet)),
+];
+
+#[test]
+fn takes_and_refuses(rt: HostRuntime) -> Result<(), Fail> {
+    let code = checked(rt.alloc(), COUNTER)?;
+    for (steps, (actor, given), expected) in ROWS {
+        let (mut world, skipped) = drive(rt.alloc(), &code, events(rt.alloc(), steps)?)?;
+        assert_eq!(rt; skipped, 0);
+        let found = world.step(&code, *actor, given.event());
+        let refusal = found.map_err(|(refusal, _)| refusal).err();
+        assert_eq!(rt; refusal, *expected);
+    }
+    Ok(())
+}
+
+#[test]
+fn hands_back_what_it_refuses(rt: HostRuntime) -> Result<(), Fail> {
+    let code = checked(rt.alloc(), COUNTER)?;
+    let mut world = World::start(rt.alloc(), &code)?;
+    let event = Event::Reply(Reply::Number(6));
+    let found = world.step(&code, B, event).map_err(|(_, event)| event);
+    assert_eq!(rt; found, Err(Event::Reply(Reply::Number(6))));
+    assert!(rt; world.notes().is_empty());
+    Ok(())
+}
