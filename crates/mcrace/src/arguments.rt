@@ -18,7 +18,7 @@ const STATUSES: &str = "Exit status:
   1  unexplained, or not confirmed
   2  the command line is wrong
   3  refused: the input is no history, no script or no image, a script that is
-     too large, or code that may not run; or has more than 1,048,576 bytes
+     too large, or code with a fault; or has more than 1,048,576 bytes
   4  undecided; or out of memory; or input or output failed";
 
 /// What a line asks for.
