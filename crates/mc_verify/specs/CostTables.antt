@@ -1,14 +1,12 @@
 -- Tables of what the paths of a section cost. Private contracts cite it.
 use Rattle.std.specs.Prelude.{◌≡◌, ◌⊎◌, ◌↔◌, ℕ, ◌+◌, ◌≤◌, nat_le, Bool, true, false, Option, Some, None, List, length, map, slice_get, slice_index_or}
-use Rattle.mc_protocol.specs.Legal.{is_legal}
 use Rattle.mc_protocol.specs.Sections as sections
 use Rattle.mc_protocol.specs.declared.actor.Actor.{Actor}
 use Rattle.mc_protocol.specs.declared.reply.Class.{Class}
-use Rattle.mc_protocol.specs.declared.request.Verb.{Verb}
 use Rattle.mc_script.specs.declared.step.Template.{Template}
 use Rattle.mc_code.specs.Calls.{LeadsIn, Opens, calls_of}
 use Rattle.mc_code.specs.Code.{Code, instructions_in}
-use Rattle.mc_code.specs.Paths.{Edge, Slides, Sends, entry_of}
+use Rattle.mc_code.specs.Paths.{Edge, Slides, Sends}
 use Rattle.mc_code.specs.declared.instr.Instr.{Instr}
 use Rattle.mc_verify.specs.Costs.{cost_of, cost_along}
 use Rattle.mc_verify.specs.declared.measure.Measure.{Measure}
@@ -17,6 +15,7 @@ use Rattle.mc_verify.specs.declared.refusal.RefusalKind.{RefusalKind}
 use Rattle.mc_verify.specs.declared.refusal.RefusalKind.TheVariants as kind
 use Rattle.mc_verify.specs.declared.section_costs.CostTables.{CostTables}
 use Rattle.mc_verify.specs.declared.weights.Weights.{Weights}
+pub use Rattle.mc_verify.specs.Entries.{IsEntry}
 
 -- what a call of each template costs, in the order of the templates
 abbrev pub weights_of : Code → Measure → List ℕ
@@ -52,10 +51,6 @@ pub record IsCostTable (c : Code) (actor : Actor) (measure : Measure) (table : L
   pub exact : (place cost : ℕ) → HasCost table place cost ↔ IsReached c actor measure place cost
 
 -- ---- changes of a table
-
--- a reply that a request of this verb may have leads to the place
-abbrev pub IsEntry : Verb → List ℕ → ℕ → Type 0
-IsEntry verb next place = (class : Class) × (is_legal verb class ≡ true) × (place ≡ entry_of next class)
 
 -- a path to `place` that costs `cost` goes on by the instruction to `other`, and costs `less` or more there
 abbrev pub Carries : Code → Measure → Instr → ℕ → ℕ → ℕ → ℕ → Type 0

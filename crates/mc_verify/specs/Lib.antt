@@ -10,6 +10,7 @@ pub mod Laws
 pub mod Examples
 pub mod ExampleLaws
 -- What private contracts cite.
+pub mod Entries
 pub mod CostTables
 pub mod Kinds
 pub mod RunKinds
