@@ -1,8 +1,8 @@
 //! What every text shares: names, decimals, the words of sections, verbs and classes, and the faults of sections.
 use mc_protocol::{
     Actor, Bytes, Class, DecimalFault, Fault, Lines, NameSet, Reply, Separator, Verb, WordLines,
-    index_of, is_digit, is_key, is_name, is_new, is_word, may_answer, read_decimal,
-    value_of_digits,
+    has_digits_alone, index_of, is_digit, is_key, is_name, is_new, is_word, may_answer,
+    read_decimal, shows_number, value_of_digits,
 };
 use std::alloc::Global;
 use std::test::Fail;
@@ -76,6 +76,7 @@ fn reads_decimals(rt: HostRuntime) -> Result<(), Fail> {
         );
     }
     assert!(rt; is_digit(b'9') && !is_digit(b'a') && value_of_digits(b"07") == Some(7));
+    assert!(rt; has_digits_alone(b"07") && !has_digits_alone(b"7 ") && !has_digits_alone(b""));
     Ok(())
 }
 
@@ -161,6 +162,7 @@ fn takes_lines_as_words(rt: HostRuntime) -> Result<(), Fail> {
 #[test]
 fn knows_what_a_verb_may_be_answered(rt: HostRuntime) -> Result<(), Fail> {
     assert!(rt; may_answer(Verb::Incr, &Reply::Number(6)) && !may_answer(Verb::Set, &Reply::Miss));
+    assert!(rt; shows_number(Verb::Gets) && !shows_number(Verb::Get));
     assert!(rt; is_word(b"a", b"a") && !is_word(b"a", b"b"));
     assert!(rt; Lines::new(b"", Separator::SpaceOrTab).separator() == Separator::SpaceOrTab);
     Ok(())

@@ -1,11 +1,11 @@
 -- Steps in what comes after the first line of a hit.
-use Rattle.std.proofs.Common.{◌≡◌, ℕ, ◌+◌, ◌-◌, ◌<◌, ◌≤◌, ◌==◌, Bool, true, false, Option, Some, None, Result, Ok, Err, List, [], ◌∷◌, ◌++◌, length, take, drop, refl, sym, ap, ◌∙◌, subst, arith, append_assoc, length-drop}
+use Rattle.std.proofs.Common.{◌≡◌, ℕ, ◌+◌, ◌==◌, Bool, true, false, Some, None, Ok, Err, List, [], ◌∷◌, ◌++◌, length, take, drop, refl, sym, ap, ◌∙◌, append_assoc}
 use Rattle.std.proofs.lemmas.Bool.{eqb-true}
 use Rattle.mc_protocol.specs.declared.reply.Reply.{Reply}
 use Rattle.mc_reader.specs.Gathered.{IsFirstEnd, IsGathered, GrowsTooLong}
-use Rattle.mc_reader.specs.Lines.{CR, LF, IsLine, IsTooLong, text_of, end_says, end_fault_of_text, outcome_after}
-use Rattle.mc_reader.specs.Replies.{Outcome, hit_of, LastLineEnds, long_last, last_line, BodyEnds, not_cr, not_lf, after_crlf, BlockEnds}
-use Rattle.mc_reader.specs.Steps.{EndsAt, EndsWithin, IsStep}
+use Rattle.mc_reader.specs.Lines.{CR, LF, text_of, end_says, end_fault_of_text, outcome_after}
+use Rattle.mc_reader.specs.Replies.{Outcome, hit_of, LastLineEnds, long_last, last_line, not_cr, not_lf, after_crlf, BlockEnds}
+use Rattle.mc_reader.specs.Steps.{EndsAt, EndsWithin}
 use Rattle.mc_reader.specs.declared.fault.ReadFault.{ReadFault}
 use Rattle.mc_reader.specs.declared.fault.ReadFault.TheVariants.{LineTooLong, DataNotEnded}
 use Rattle.mc_reader.specs.declared.said.HitLine.{HitLine}
@@ -88,7 +88,8 @@ last_ends hit body start after piece at outcome whole g says = record {
 pub end_is : (hit : Reply) (line : List ℕ) → end_fault_of_text (text_of line) ≡ None → Ok hit ≡ end_says hit line
 end_is hit line e = sym (ap (outcome_after hit) e)
 
-pub end_fails : (hit : Reply) (line : List ℕ) (fault : ReadFault) → end_fault_of_text (text_of line) ≡ Some fault → Err fault ≡ end_says hit line
+pub end_fails : (hit : Reply) (line : List ℕ) (fault : ReadFault) → end_fault_of_text (text_of line) ≡ Some fault
+    → Err fault ≡ end_says hit line
 end_fails hit line fault e = sym (ap (outcome_after hit) e)
 
 not_true : (b : Bool) → (b ≡ true → ⊥) → b ≡ false

@@ -1,16 +1,15 @@
 -- What a reader answers to a piece.
-use Rattle.std.proofs.Common.{◌≡◌, ℕ, ◌+◌, ◌-◌, ◌≤◌, true, Option, Some, None, Result, Ok, Err, List, ◌++◌, length, take, refl, sym, ap, ◌∙◌, subst, arith, append_assoc, length-append}
+use Rattle.std.proofs.Common.{◌≡◌, ℕ, ◌-◌, Option, Some, None, Result, Ok, Err, List, ◌++◌, length, take, refl, sym, ap, ◌∙◌, subst, arith, append_assoc, length-append}
 use Rattle.std.proofs.lemmas.List.{take_at}
 use Rattle.mc_protocol.specs.Lines.{Word}
 use Rattle.mc_protocol.specs.declared.reply.Reply.{Reply}
 use Rattle.mc_protocol.specs.declared.request.Verb.{Verb}
 use Rattle.mc_reader.specs.Reading.{IsAnswer, IsAnswerAfter}
-use Rattle.mc_reader.specs.Replies.{Outcome, Ends, HasFailed}
+use Rattle.mc_reader.specs.Replies.{Ends, HasFailed}
 use Rattle.mc_reader.specs.Stages.{IsStageAt, IsStepFrom, stage_fed}
 use Rattle.mc_reader.specs.Steps.{EndsAt, EndsWithin, IsStep}
 use Rattle.mc_reader.specs.declared.fault.ReadFault.{ReadFault}
 use Rattle.mc_reader.specs.declared.fault.ReadFault.TheVariants.{OutOfMemory, Failed}
-use Rattle.mc_reader.specs.declared.reader.Fed.{Fed}
 use Rattle.mc_reader.specs.declared.reader.Fed.TheVariants as fed
 use Rattle.mc_reader.specs.declared.stage.Stage.{Stage}
 use Rattle.mc_reader.specs.declared.step.Step.{Step}
@@ -24,7 +23,8 @@ answers_more verb key None piece s p = absurd (cc)
 answers_more verb key (Some text) piece s p = (p.read, unfinished_fed verb key s (text ++ piece) p.valid p.read)
 
 -- the front of the piece is what comes before the bytes that are left
-used_is : (front back piece : List ℕ) (unread : ℕ) → front ++ back ≡ piece → length back ≡ unread → take (length piece - unread) piece ≡ front
+used_is : (front back piece : List ℕ) (unread : ℕ) → front ++ back ≡ piece → length back ≡ unread
+    → take (length piece - unread) piece ≡ front
 used_is front back piece unread e n =
     let m = length-append front back in
     let k = ap length e in

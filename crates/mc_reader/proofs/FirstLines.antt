@@ -1,12 +1,11 @@
 -- Steps in the first line of a reply.
-use Rattle.std.proofs.Common.{◌≡◌, ℕ, ◌+◌, ◌<◌, Result, Ok, Err, List, [], ◌∷◌, ◌++◌, length, take, drop, refl, sym, ap, ◌∙◌, subst, append_assoc}
+use Rattle.std.proofs.Common.{◌≡◌, ℕ, ◌+◌, Err, List, [], ◌∷◌, ◌++◌, length, take, drop, refl, sym, append_assoc}
 use Rattle.mc_protocol.specs.Lines.{Word}
 use Rattle.mc_protocol.specs.declared.request.Verb.{Verb}
-use Rattle.mc_reader.specs.Gathered.{IsFirstEnd, IsGathered, GrowsTooLong}
-use Rattle.mc_reader.specs.Lines.{LF, IsLine, IsTooLong, line_says}
-use Rattle.mc_reader.specs.Replies.{Outcome, said_whole, Ends, too_long, one_line, with_block}
-use Rattle.mc_reader.specs.Steps.{EndsAt, EndsWithin, IsStep}
-use Rattle.mc_reader.specs.declared.fault.ReadFault.{ReadFault}
+use Rattle.mc_reader.specs.Gathered.{IsGathered, GrowsTooLong}
+use Rattle.mc_reader.specs.Lines.{LF, line_says}
+use Rattle.mc_reader.specs.Replies.{Outcome, said_whole, Ends, too_long, one_line}
+use Rattle.mc_reader.specs.Steps.{EndsAt, EndsWithin}
 use Rattle.mc_reader.specs.declared.fault.ReadFault.TheVariants.{LineTooLong}
 use Rattle.mc_reader.proofs.Blocks.{line_in}
 

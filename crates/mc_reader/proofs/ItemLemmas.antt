@@ -1,5 +1,5 @@
 -- Lines that announce a hit, and those that don't.
-use Rattle.std.proofs.Common.{◌≡◌, ℕ, Bool, true, false, ◌&&◌, not, cond, is_some, Option, Some, None, Result, Ok, Err, List, [], ◌∷◌, codes, refl, sym, ap, ◌∙◌}
+use Rattle.std.proofs.Common.{◌≡◌, Bool, true, false, ◌&&◌, not, cond, is_some, Option, Some, None, Err, [], ◌∷◌, codes, refl, sym, ap, ◌∙◌}
 use mathlib.Core.Bool.{beq}
 use Rattle.std.specs.Borrow.{Bor}
 use Rattle.std.specs.Str.{bytes_eq}
@@ -8,9 +8,7 @@ use Rattle.mc_protocol.specs.Lines.{Word, Words}
 use Rattle.mc_protocol.specs.declared.request.Verb.{Verb}
 use Rattle.mc_reader.specs.Items.{IsNoItem, word_list, shown}
 use Rattle.mc_reader.specs.Words.{hit_says, item_says}
-use Rattle.mc_reader.specs.declared.fault.ReadFault.{ReadFault}
 use Rattle.mc_reader.specs.declared.fault.ReadFault.TheVariants.{NotAReply}
-use Rattle.mc_reader.specs.declared.said.Said.{Said}
 use Rattle.mc_reader.proofs.Fits.{both}
 
 -- ---- fewer words than four, or more than five
@@ -98,7 +96,8 @@ set_true : (b : Bool) → false ≡ not b → b ≡ true
 set_true true h = refl
 set_true false h = absurd (cc)
 
-pub value_differs : (value slice : Word) → slice ≡ codes "VALUE" → true ≡ not (bytes_eq value slice) → bytes_eq value (codes "VALUE") ≡ false
+pub value_differs : (value slice : Word) → slice ≡ codes "VALUE" → true ≡ not (bytes_eq value slice)
+    → bytes_eq value (codes "VALUE") ≡ false
 value_differs value slice e h = ap (bytes_eq value) (sym e) ∙ set_false (bytes_eq value slice) h
 
 pub value_same : (value slice : Word) → slice ≡ codes "VALUE" → false ≡ not (bytes_eq value slice) → bytes_eq value (codes "VALUE") ≡ true

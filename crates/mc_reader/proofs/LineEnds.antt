@@ -1,6 +1,6 @@
 -- Where lines end.
-use Rattle.std.proofs.Common.{◌≡◌, ℕ, ◌+◌, ◌<◌, ◌≤◌, ◌==◌, Bool, true, false, ◌||◌, List, [], ◌∷◌, ◌++◌, length, refl, sym, ap, ◌∙◌, subst, arith, length-append, append_assoc}
-use Rattle.mc_reader.specs.Lines.{LF, has_end, IsLine, IsTooLong}
+use Rattle.std.proofs.Common.{◌≡◌, ℕ, ◌≤◌, ◌==◌, Bool, true, false, ◌||◌, List, [], ◌∷◌, ◌++◌, length, refl, sym, ap, ◌∙◌, subst, arith}
+use Rattle.mc_reader.specs.Lines.{LF, has_end}
 
 -- neither of two tests passes where one or the other would
 pub neither : (a b : Bool) → (a || b) ≡ false → (a ≡ false) × (b ≡ false)
@@ -44,4 +44,5 @@ one_first_end (c ∷ a) (d ∷ b) x y p q h =
 pub ends_before : (a b x y : List ℕ) → has_end a ≡ false → a ++ x ≡ b ++ LF ∷ y → length a ≤ length b
 ends_before [] b x y p h = omega arith
 ends_before (c ∷ a) [] x y p h = absurd (lf_first c a p (let e : LF ≡ c = cc in e))
-ends_before (c ∷ a) (d ∷ b) x y p h = let less = ends_before a b x y (none_ahead c a p) (let e : a ++ x ≡ b ++ LF ∷ y = cc in e) in omega arith
+ends_before (c ∷ a) (d ∷ b) x y p h = let less = ends_before a b x y (none_ahead c a p) (let e : a ++ x ≡ b ++ LF ∷ y = cc in e) in omega
+    arith

@@ -1,12 +1,12 @@
 -- What a search for a byte finds.
-use Rattle.std.proofs.Common.{◌≡◌, ℕ, ◌+◌, ◌-◌, ◌<◌, ◌≤◌, ◌==◌, min, Bool, true, false, not, cond, Option, Some, None, List, [], ◌∷◌, ◌++◌, length, take, drop, get_or, suc, refl, sym, ap, ◌∙◌, subst, arith, length-take, get_or-take}
-use Rattle.std.specs.List.{position_or_len, slice_split, onto_first}
+use Rattle.std.proofs.Common.{◌≡◌, ℕ, ◌+◌, ◌<◌, ◌==◌, Bool, true, false, not, cond, Option, Some, None, List, [], ◌∷◌, ◌++◌, length, take, drop, get_or, suc, refl, sym, ap, ◌∙◌, subst, arith, length-take, get_or-take}
+use Rattle.std.specs.List.{position_or_len, onto_first}
 use Rattle.std.specs.Option.{unwrap_or}
 use Rattle.std.proofs.lemmas.Bool.{eqb-true}
 use Rattle.std.proofs.lemmas.List.{take-append-drop, take-take, drop_more, get_or_default}
 use Rattle.std.proofs.lemmas.List.Folds.{list_any_none}
 use Rattle.std.proofs.lemmas.List.Sums.{position_or_len_is}
-use Rattle.memchr.specs.Find.{IsFirstByte, Nowhere, NoneBefore, Passes, is_byte}
+use Rattle.memchr.specs.Find.{IsFirstByte, is_byte}
 use Rattle.mc_reader.specs.Gathered.{IsFirstEnd}
 use Rattle.mc_reader.specs.Lines.{LF, has_end}
 use Rattle.mc_reader.specs.Words.{is_space, words_of, first_word, words_after}
@@ -51,7 +51,8 @@ no_end bytes h = list_any_none (λ byte. byte == LF) bytes (λ k d l. rw (get_or
 pub none_found : (bytes : List ℕ) → IsFirstByte (is_byte LF) bytes None → has_end bytes ≡ false
 none_found bytes h = no_end bytes (λ k l. not_true (get_or bytes k 0 == LF) (h k (omega arith) l))
 
-pub end_found : (room : ℕ) (piece : List ℕ) (at : ℕ) → IsFirstByte (is_byte LF) (take room piece) (Some at) → (at < room) × IsFirstEnd piece at
+pub end_found : (room : ℕ) (piece : List ℕ) (at : ℕ) → IsFirstByte (is_byte LF) (take room piece) (Some at)
+    → (at < room) × IsFirstEnd piece at
 end_found room piece at h =
     let high = h.0.high in
     let long = length-take room piece in

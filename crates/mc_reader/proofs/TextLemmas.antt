@@ -1,5 +1,5 @@
 -- The text of a line.
-use Rattle.std.proofs.Common.{◌≡◌, ℕ, ◌+◌, ◌-◌, ◌≤◌, ◌==◌, Bool, true, false, cond, Option, Some, None, List, [], ◌∷◌, ◌++◌, length, take, drop, get_or, refl, sym, ap, ◌∙◌, arith, length-drop}
+use Rattle.std.proofs.Common.{◌≡◌, ℕ, ◌+◌, ◌-◌, ◌≤◌, ◌==◌, Bool, true, false, cond, Some, None, List, [], ◌∷◌, ◌++◌, length, take, drop, get_or, refl, sym, ap, ◌∙◌, arith, length-drop}
 use Rattle.std.specs.Option.{option_map}
 use Rattle.std.proofs.lemmas.Bool.{eqb-true}
 use Rattle.std.proofs.lemmas.List.{take-append-drop, drop_more}
@@ -37,7 +37,8 @@ not_true : (b : Bool) → (b ≡ true → ⊥) → b ≡ false
 not_true true h = absurd (h refl)
 not_true false h = refl
 
-pub text_ended : (line : List ℕ) → 1 ≤ length line → get_or line (length line - 1) 0 ≡ CR → text_of line ≡ Some (take (length line - 1) line)
+pub text_ended : (line : List ℕ) → 1 ≤ length line → get_or line (length line - 1) 0 ≡ CR
+    → text_of line ≡ Some (take (length line - 1) line)
 text_ended line some is =
     text_last line some ∙ ap (λ b. cond b (Some (take (length line - 1) line)) None) (ap (λ x. x == CR) is)
 

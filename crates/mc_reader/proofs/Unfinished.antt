@@ -1,12 +1,12 @@
 -- Texts of which no prefix ends.
-use Rattle.std.proofs.Common.{◌≡◌, ℕ, ◌+◌, ◌<◌, ◌≤◌, ◌==◌, Bool, true, false, ◌||◌, Option, Some, Result, Ok, Err, List, [], ◌∷◌, ◌++◌, length, refl, sym, ap, ◌∙◌, subst, arith, length-append, append_assoc, append-nil}
+use Rattle.std.proofs.Common.{◌≡◌, ℕ, ◌≤◌, ◌==◌, Bool, true, false, ◌||◌, Some, Ok, List, [], ◌∷◌, ◌++◌, length, refl, sym, ap, ◌∙◌, subst, arith, length-append, append_assoc, append-nil}
 use Rattle.mc_protocol.specs.Lines.{Word}
 use Rattle.mc_protocol.specs.declared.reply.Reply.{Reply}
 use Rattle.mc_protocol.specs.declared.request.Verb.{Verb}
 use Rattle.mc_reader.specs.Block.{IsBlock, IsEnding, block_read, ending_read}
 use Rattle.mc_reader.specs.Lines.{CR, LF, has_end, IsLine, IsTooLong, line_says}
-use Rattle.mc_reader.specs.Replies.{Outcome, said_whole, hit_of, LastLineEnds, long_last, last_line, BodyEnds, not_cr, not_lf, after_crlf, BlockEnds, Ends, too_long, one_line, with_block, IsUnfinished}
-use Rattle.mc_reader.specs.Stages.{IsStageAt, IsStage, stage_fed}
+use Rattle.mc_reader.specs.Replies.{Outcome, hit_of, LastLineEnds, long_last, last_line, BodyEnds, not_cr, not_lf, after_crlf, BlockEnds, Ends, too_long, one_line, with_block, IsUnfinished}
+use Rattle.mc_reader.specs.Stages.{IsStage, stage_fed}
 use Rattle.mc_reader.specs.declared.block.Block.{Block}
 use Rattle.mc_reader.specs.declared.block.Ending.{Ending}
 use Rattle.mc_reader.specs.declared.block.Ending.TheVariants as ending
@@ -14,7 +14,7 @@ use Rattle.mc_reader.specs.declared.said.HitLine.{HitLine}
 use Rattle.mc_reader.specs.declared.said.Said.TheVariants.{Hit}
 use Rattle.mc_reader.specs.declared.stage.Stage.{Stage}
 use Rattle.mc_reader.specs.declared.stage.Stage.TheVariants as stage
-use Rattle.mc_reader.proofs.LineEnds.{has_end-append, one_first_end}
+use Rattle.mc_reader.proofs.LineEnds.{one_first_end}
 use Rattle.mc_reader.proofs.Unique.{same_front, lined, blocked, not_too_long, not_that_cr, not_that_lf, not_announced, one_hit}
 
 either_way : (b : Bool) → (b || true) ≡ true
@@ -77,7 +77,8 @@ unfinished_crlf hit start l front back outcome e (not_lf c p d g) =
     not_that_lf c p (let all : CR ∷ c ∷ back ≡ CR ∷ LF ∷ start = sym (ap (λ u. u ++ back) d) ∙ e in let same : c ≡ LF = cc in same)
 unfinished_crlf hit start l front back outcome e (after_crlf last m d) =
     unfinished_last hit start l last back outcome
-    (let all : CR ∷ LF ∷ (last ++ back) ≡ CR ∷ LF ∷ start = sym (ap (λ u. u ++ back) d) ∙ e in let same : last ++ back ≡ start = cc in same) m
+    (let all : CR ∷ LF ∷ (last ++ back) ≡ CR ∷ LF ∷ start = sym (ap (λ u. u ++ back) d)
+    ∙ e in let same : last ++ back ≡ start = cc in same) m
 
 -- a body that isn't longer than its line says, and nothing after it
 unfinished_body : (line : HitLine) (body : List ℕ) → length body ≤ line.body_len → Unfinished (BlockEnds line) body
@@ -124,13 +125,15 @@ unfinished_hit verb key line block hit l says h front back outcome e (one_line o
     not_announced outcome hit (sym d ∙ ap (line_says verb key) same ∙ says)
 unfinished_hit verb key line block hit l says h front back outcome e (with_block other next found m d n g) =
     let both = one_first_end other line (next ++ back) block m.one l.one (sym (blocked front other next back g) ∙ e) in
-    let same : found ≡ hit = one_hit found hit (line_says verb key other) (line_says verb key line) d says (ap (line_says verb key) both.0) in
+    let same : found ≡ hit = one_hit found hit (line_says verb key other) (line_says verb key line) d says
+    (ap (line_says verb key) both.0) in
     h next back outcome both.1 (subst (λ u. BlockEnds u next outcome) same n)
 
 -- nothing that was read at a stage ends
 pub unfinished_fed : (verb : Verb) (key : Word) (s : Stage) (text : List ℕ) → IsStage verb key s → stage_fed s ≡ Some text
     → IsUnfinished verb key text
-unfinished_fed verb key (stage.Line start) text h e = subst (IsUnfinished verb key) (some_same _ _ e) (unfinished_line verb key start.items h)
+unfinished_fed verb key (stage.Line start) text h e = subst (IsUnfinished verb key) (some_same _ _ e)
+    (unfinished_line verb key start.items h)
 unfinished_fed verb key (stage.Block line block) text h e =
     subst (IsUnfinished verb key) (some_same _ _ e)
     (unfinished_hit verb key line.items (block_read block) block.hit h.0 h.1 (unfinished_block block h.2))

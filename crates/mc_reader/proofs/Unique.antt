@@ -1,17 +1,15 @@
 -- A text ends in one way, and where it ends no longer one ends.
-use Rattle.std.proofs.Common.{◌≡◌, ℕ, ◌+◌, ◌<◌, ◌≤◌, ◌==◌, Bool, true, false, Result, Ok, Err, List, [], ◌∷◌, ◌++◌, length, refl, sym, ap, ap₂, ◌∙◌, subst, arith, length-append, append_assoc}
+use Rattle.std.proofs.Common.{◌≡◌, ℕ, ◌==◌, false, Result, Ok, Err, List, [], ◌∷◌, ◌++◌, length, refl, sym, ap, ap₂, ◌∙◌, subst, arith, append_assoc}
 use Rattle.mc_protocol.specs.Lines.{Word}
 use Rattle.mc_protocol.specs.declared.reply.Reply.{Reply}
 use Rattle.mc_protocol.specs.declared.request.Verb.{Verb}
 use Rattle.mc_reader.specs.Laws.{OneReply}
-use Rattle.mc_reader.specs.Lines.{CR, LF, has_end, IsLine, IsTooLong, line_says, end_says}
+use Rattle.mc_reader.specs.Lines.{CR, LF, IsLine, IsTooLong, line_says, end_says}
 use Rattle.mc_reader.specs.Replies.{Outcome, said_whole, hit_of, LastLineEnds, long_last, last_line, BodyEnds, not_cr, not_lf, after_crlf, BlockEnds, Ends, too_long, one_line, with_block}
 use Rattle.mc_reader.specs.declared.fault.ReadFault.{ReadFault}
-use Rattle.mc_reader.specs.declared.fault.ReadFault.TheVariants.{LineTooLong, DataNotEnded}
-use Rattle.mc_reader.specs.declared.limits.TheConstants.{LINE_LIMIT}
 use Rattle.mc_reader.specs.declared.said.HitLine.{HitLine}
 use Rattle.mc_reader.specs.declared.said.Said.{Said}
-use Rattle.mc_reader.specs.declared.said.Said.TheVariants.{Whole, Hit}
+use Rattle.mc_reader.specs.declared.said.Said.TheVariants.{Hit}
 use Rattle.mc_reader.proofs.LineEnds.{one_first_end, ends_before}
 
 -- fronts of one length of the same bytes are equal, and so is what follows them
@@ -133,7 +131,8 @@ one_ending verb key s t x y a b (with_block line block hit l e n d) (one_line ot
     let same = (one_first_end line other (block ++ x) y l.one m.one (sym (blocked s line block x d) ∙ h ∙ lined t other y g)).0 in
     absurd (not_announced b hit (sym f ∙ ap (line_says verb key) (sym same) ∙ e))
 one_ending verb key s t x y a b (with_block line block hit l e n d) (with_block other next hit' m f o g) h =
-    let both = one_first_end line other (block ++ x) (next ++ y) l.one m.one (sym (blocked s line block x d) ∙ h ∙ blocked t other next y g) in
+    let both = one_first_end line other (block ++ x) (next ++ y) l.one m.one
+    (sym (blocked s line block x d) ∙ h ∙ blocked t other next y g) in
     let same : hit ≡ hit' = one_hit hit hit' (line_says verb key line) (line_says verb key other) e f (ap (line_says verb key) both.0) in
     let ends : BlockEnds hit next b = subst (λ u. BlockEnds u next b) (sym same) o in
     let blocks = one_block hit block next x y a b n ends both.1 in

@@ -1,5 +1,5 @@
 -- The words of a line that may announce a hit.
-use Rattle.std.specs.Prelude.{◌≡◌, Option, Some, None, Err, List, [], ◌∷◌, if◌then◌else◌, ℕ}
+use Rattle.std.specs.Prelude.{◌≡◌, Option, Some, None, Err, [], ◌∷◌, if◌then◌else◌, ℕ}
 use Rattle.std.specs.Borrow.{Bor}
 use Rattle.std.specs.Option.{option_map}
 use Rattle.std.specs.Str.Parse.{digits_value}

@@ -1,6 +1,6 @@
 -- The reply to a request, as it comes over the wire (protocol.txt): the texts that spell a reply, and the shortest texts at
 -- which it fails. A line is judged at its LF, and a byte of data where it stands.
-use Rattle.std.specs.Prelude.{◌≡◌, ℕ, ◌==◌, Bool, false, Result, Ok, Err, List, [], ◌∷◌, ◌++◌, length}
+use Rattle.std.specs.Prelude.{◌≡◌, ℕ, ◌==◌, false, Result, Ok, Err, List, [], ◌∷◌, ◌++◌, length}
 use Rattle.mc_protocol.specs.Lines.{Word}
 use Rattle.mc_protocol.specs.declared.reply.Reply.{Reply}
 use Rattle.mc_protocol.specs.declared.reply.Reply.TheVariants as reply

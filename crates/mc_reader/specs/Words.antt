@@ -19,7 +19,6 @@ use Rattle.mc_reader.specs.declared.fault.ErrorKind.TheVariants.{Error, Client, 
 use Rattle.mc_reader.specs.declared.fault.ReadFault.{ReadFault}
 use Rattle.mc_reader.specs.declared.fault.ReadFault.TheVariants as fault
 use Rattle.mc_reader.specs.declared.limits.TheConstants.{NUMBER_SPACES_LIMIT}
-use Rattle.mc_reader.specs.declared.said.HitLine.{HitLine}
 use Rattle.mc_reader.specs.declared.said.Said.{Said}
 use Rattle.mc_reader.specs.declared.said.Said.TheVariants.{Whole, Hit}
 

@@ -39,7 +39,13 @@ pub(crate) fn is_over(reader: &mut ReplyReader<'_>) -> bool {
 }
 
 /// Whether the text, cut after its first `cut` bytes, is answered so at its end and not before.
-fn is_read_at_cut(alloc: Global, shape: Shape<'_>, text: &[u8], cut: usize, wanted: &Wanted) -> bool {
+fn is_read_at_cut(
+    alloc: Global,
+    shape: Shape<'_>,
+    text: &[u8],
+    cut: usize,
+    wanted: &Wanted,
+) -> bool {
     if cut > text.len() {
         return false;
     }
@@ -48,6 +54,23 @@ fn is_read_at_cut(alloc: Global, shape: Shape<'_>, text: &[u8], cut: usize, want
     goes_on(&mut reader, front)
         && answers(&mut reader, back, back.len(), wanted)
         && is_over(&mut reader)
+}
+
+/// Feeds all but the last piece of `len` bytes, and answers that one, where the reader goes on at each of them.
+pub(crate) fn last_piece<'t>(
+    reader: &mut ReplyReader<'_>,
+    text: &'t [u8],
+    len: usize,
+) -> Option<&'t [u8]> {
+    let mut rest = text;
+    'pieces: while rest.len() > len && len > 0 {
+        let (piece, others) = rest.split_at(len);
+        if !goes_on(reader, piece) {
+            return None;
+        }
+        rest = others;
+    }
+    Some(rest)
 }
 
 /// Whether the text is answered so at its end, fed in pieces of `len` bytes, and not before.
@@ -59,15 +82,10 @@ pub(crate) fn is_read_in_pieces(
     wanted: &Wanted,
 ) -> bool {
     let mut reader = ReplyReader::new(alloc, shape);
-    let mut rest = text;
-    while rest.len() > len && len > 0 {
-        let (piece, others) = rest.split_at(len);
-        if !goes_on(&mut reader, piece) {
-            return false;
-        }
-        rest = others;
+    match last_piece(&mut reader, text, len) {
+        Some(last) => answers(&mut reader, last, last.len(), wanted) && is_over(&mut reader),
+        None => false,
     }
-    answers(&mut reader, rest, rest.len(), wanted) && is_over(&mut reader)
 }
 
 /// Whether the text is answered so at its end: in one piece, byte by byte, at every cut, and where more bytes follow it in
@@ -94,6 +112,5 @@ fn is_read_before_another(alloc: Global, shape: Shape<'_>, text: &[u8], wanted: 
 
 /// The first row that isn't answered as it should be.
 pub(crate) fn first_other(alloc: Global, rows: &[Row]) -> Option<usize> {
-    rows.iter()
-        .position(|(verb, text, wanted)| !is_read(alloc, shape(*verb), text, wanted))
+    rows.iter().position(|(verb, text, wanted)| !is_read(alloc, shape(*verb), text, wanted))
 }

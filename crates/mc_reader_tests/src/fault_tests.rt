@@ -5,12 +5,19 @@ use mc_protocol::Verb;
 use mc_reader::{ErrorKind, ReadFault};
 
 const NOT_A_REPLY: Wanted = Wanted::Fault(ReadFault::NotAReply);
+
 const WRONG_KEY: Wanted = Wanted::Fault(ReadFault::WrongKey);
+
 const NUMBER_TOO_LARGE: Wanted = Wanted::Fault(ReadFault::NumberTooLarge);
+
 const DATA_TOO_LONG: Wanted = Wanted::Fault(ReadFault::DataTooLong);
+
 const DATA_NOT_ENDED: Wanted = Wanted::Fault(ReadFault::DataNotEnded);
+
 const ERROR: Wanted = Wanted::Fault(ReadFault::ErrorLine(ErrorKind::Error));
+
 const CLIENT_ERROR: Wanted = Wanted::Fault(ReadFault::ErrorLine(ErrorKind::Client));
+
 const SERVER_ERROR: Wanted = Wanted::Fault(ReadFault::ErrorLine(ErrorKind::Server));
 
 static LINES: &[Row] = &[
@@ -155,7 +162,10 @@ static FAULTS: &[(ReadFault, u8, &str)] = &[
 #[test]
 fn numbers_and_names_faults(rt: HostRuntime) {
     for (fault, number, name) in FAULTS {
-        assert!(rt; fault.number() == *number && fault.name() == *name, "{fault}");
+        assert!(rt;
+            fault.number() == *number && fault.name() == *name,
+            "{fault}"
+        );
     }
     assert!(rt; ErrorKind::Client.word() == "CLIENT_ERROR");
 }

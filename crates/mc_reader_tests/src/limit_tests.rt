@@ -1,5 +1,5 @@
 //! The longest lines and bodies.
-use crate::cuts::{goes_on, is_over, is_read_in_pieces, shape};
+use crate::cuts::{is_over, is_read_in_pieces, last_piece, shape};
 use crate::wanted::{Wanted, is_hit};
 use mc_protocol::{OutOfMemory, Verb};
 use mc_reader::{ErrorKind, Fed, ReadFault, ReplyReader};
@@ -22,9 +22,7 @@ fn text_of(
 }
 
 fn is_read_in_all(alloc: Global, verb: Verb, text: &[u8], wanted: &Wanted) -> bool {
-    LENGTHS
-        .iter()
-        .all(|len| is_read_in_pieces(alloc, shape(verb), text, *len, wanted))
+    LENGTHS.iter().all(|len| is_read_in_pieces(alloc, shape(verb), text, *len, wanted))
 }
 
 // A line has at most 2,048 bytes with its CR LF.
@@ -38,7 +36,14 @@ fn reads_the_longest_line(rt: HostRuntime) -> Result<(), Fail> {
     let last = text_of(rt.alloc(), hit, b'x', 2_033, b"\r\n")?;
     assert!(rt; is_read_in_all(rt.alloc(), Verb::Get, last.as_slice(), &error));
     let number = text_of(rt.alloc(), b"", b'0', 2_045, b"7\r\n")?;
-    assert!(rt; is_read_in_all(rt.alloc(), Verb::Incr, number.as_slice(), &Wanted::Number(7)));
+    assert!(rt;
+        is_read_in_all(
+            rt.alloc(),
+            Verb::Incr,
+            number.as_slice(),
+            &Wanted::Number(7)
+        )
+    );
     Ok(())
 }
 
@@ -60,17 +65,12 @@ fn refuses_longer_lines(rt: HostRuntime) -> Result<(), Fail> {
 // Whether a hit with this body is read in pieces of this length.
 fn is_hit_read(alloc: Global, text: &[u8], len: usize, body: &[u8]) -> bool {
     let mut reader = ReplyReader::new(alloc, shape(Verb::Get));
-    let mut rest = text;
-    while rest.len() > len && len > 0 {
-        let (piece, others) = rest.split_at(len);
-        if !goes_on(&mut reader, piece) {
-            return false;
-        }
-        rest = others;
-    }
-    match reader.feed(rest) {
+    let Some(last) = last_piece(&mut reader, text, len) else {
+        return false;
+    };
+    match reader.feed(last) {
         Ok(Fed::Done { reply, used }) => {
-            used == rest.len() && is_hit(&reply, 0, body, None) && is_over(&mut reader)
+            used == last.len() && is_hit(&reply, 0, body, None) && is_over(&mut reader)
         }
         _ => false,
     }
@@ -88,7 +88,10 @@ fn reads_the_longest_body(rt: HostRuntime) -> Result<(), Fail> {
         b"\r\nEND\r\n",
     )?;
     for len in LENGTHS.iter() {
-        assert!(rt; is_hit_read(rt.alloc(), text.as_slice(), *len, body.as_slice()), "{len}");
+        assert!(rt;
+            is_hit_read(rt.alloc(), text.as_slice(), *len, body.as_slice()),
+            "{len}"
+        );
     }
     let long = Wanted::Fault(ReadFault::DataTooLong);
     assert!(rt; is_read_in_all(rt.alloc(), Verb::Get, b"VALUE a 0 65537\r\n", &long));

@@ -37,7 +37,11 @@ static LINES: &[Row] = &[
         b"CLIENT_ERROR cannot increment or decrement non-numeric value\r\n",
         Wanted::NotNumber,
     ),
-    (Verb::Incr, b"CLIENT_ERROR \x00\xff\r\r\n", Wanted::NotNumber),
+    (
+        Verb::Incr,
+        b"CLIENT_ERROR \x00\xff\r\r\n",
+        Wanted::NotNumber,
+    ),
 ];
 
 // Hits, with bodies of any bytes.

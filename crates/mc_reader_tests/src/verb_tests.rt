@@ -12,7 +12,10 @@ static REPLIES: [(&[u8], Wanted); 13] = [
     (b"EXISTS\r\n", Wanted::Exists),
     (b"NOT_FOUND\r\n", Wanted::NotFound),
     (b"VALUE a 1 1\r\n1\r\nEND\r\n", Wanted::Hit(1, b"1", None)),
-    (b"VALUE a 1 1 2\r\n1\r\nEND\r\n", Wanted::Hit(1, b"1", Some(2))),
+    (
+        b"VALUE a 1 1 2\r\n1\r\nEND\r\n",
+        Wanted::Hit(1, b"1", Some(2)),
+    ),
     (b"END\r\n", Wanted::Miss),
     (b"DELETED\r\n", Wanted::Deleted),
     (b"TOUCHED\r\n", Wanted::Touched),
