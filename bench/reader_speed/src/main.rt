@@ -12,7 +12,9 @@ use std::{env, io};
 
 // The longest body, a body of 1 KiB, and the pieces of a lane.
 const LONG: usize = 65_536;
+
 const MIDDLE: usize = 1_024;
+
 const PIECE: usize = 4_096;
 
 fn main(rt: HostRuntime) -> ExitCode {

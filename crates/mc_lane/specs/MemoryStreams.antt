@@ -31,7 +31,7 @@ ends_from start (piece ∷ pieces) = (start + length piece) ∷ ends_from (start
 abbrev pub IsJoined : List (List ℕ) → List ℕ → List ℕ → Type 0
 IsJoined pieces bytes ends = (bytes ≡ concat pieces) × (ends ≡ ends_from 0 pieces)
 
--- it gives these pieces, and has room for so many bytes
+-- it gives these pieces, and has this much room for what is written
 abbrev pub fresh : List (List ℕ) → ℕ → Memory
 fresh pieces room = record {
   replies = concat pieces;
@@ -65,7 +65,7 @@ after_failure m = record m { until_failure = count_down m.until_failure; failure
 abbrev pub end_after : ℕ → List ℕ → ℕ → ℕ
 end_after given ends len = min (unwrap_or (find (λ end. nat_lt given end) ends) len) len
 
--- how many bytes are read into so much room: those of one piece
+-- how many bytes a read gives that has this much room: those of one piece alone
 abbrev pub count_read : Memory → ℕ → ℕ
 count_read m room = min room (end_after m.given m.ends (length m.replies) - m.given)
 
@@ -81,7 +81,7 @@ ReadsMemory old new buffer (Err e) = (is_due old.until_failure ≡ true) × (new
 
 -- ---- writes
 
--- how many of so many bytes are taken
+-- how many of `count` bytes a write takes
 abbrev pub count_written : Memory → ℕ → ℕ
 count_written m count = min (min count m.longest_write) (m.room - length m.written)
 

@@ -15,7 +15,7 @@ use Rattle.mc_lane.specs.Streams.{StreamState, Carries}
 
 -- ---- one read
 
--- what a read brought, or why it brought nothing, where a lane may receive so many bytes and had received these
+-- what a read brought to a lane that had received `old` and may receive `limit` bytes, or why it brought nothing
 abbrev pub Brings : ℕ → List ℕ → List ℕ → Result (Unit {0}) Fault → Type 0
 Brings limit old brought (Ok done) = 0 < length brought
 Brings limit old brought (Err fault.ReadFailed) = brought ≡ []
@@ -48,8 +48,8 @@ IsMalformed read_fault.OutOfMemory = ⊥
 IsMalformed read_fault.Failed = ⊥
 IsMalformed f = Unit {0}
 
--- why no reply is answered where these bytes were received, so many of them were taken by earlier replies, and so many may be
--- received: the next reply isn't whole, or it is malformed or reports an error, or there is no memory
+-- Why no reply is answered where `got` was received, its first `taken` bytes were earlier replies, and `limit` bytes may be
+-- received: the next reply isn't whole, or it is malformed or reports an error, or there is no memory.
 abbrev pub Stops : Verb → Word → List ℕ → ℕ → ℕ → Fault → Type 0
 Stops verb key got taken limit fault.ReadFailed = IsUnfinished verb key (drop taken got)
 Stops verb key got taken limit fault.Ended = IsUnfinished verb key (drop taken got)
@@ -59,7 +59,7 @@ Stops verb key got taken limit fault.ErrorLine = (kind : ErrorKind) × HasFailed
 Stops verb key got taken limit fault.Memory = Unit {0}
 Stops verb key got taken limit f = ⊥
 
--- a reply, with the place where it ends, or why there is none
+-- a reply after the first `taken` bytes, with the place where it ends, or why there is none
 abbrev pub Finds : Verb → Word → List ℕ → ℕ → ℕ → Result (Reply × ℕ) Fault → Type 0
 Finds verb key got taken limit (Ok (reply, end)) = IsReplyAt verb key got taken end reply
 Finds verb key got taken limit (Err f) = Stops verb key got taken limit f

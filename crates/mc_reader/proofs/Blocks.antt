@@ -88,7 +88,8 @@ last_ends hit body start after piece at outcome whole g says = record {
 pub end_is : (hit : Reply) (line : List ℕ) → end_fault_of_text (text_of line) ≡ None → Ok hit ≡ end_says hit line
 end_is hit line e = sym (ap (outcome_after hit) e)
 
-pub end_fails : (hit : Reply) (line : List ℕ) (fault : ReadFault) → end_fault_of_text (text_of line) ≡ Some fault → Err fault ≡ end_says hit line
+pub end_fails : (hit : Reply) (line : List ℕ) (fault : ReadFault) → end_fault_of_text (text_of line) ≡ Some fault
+    → Err fault ≡ end_says hit line
 end_fails hit line fault e = sym (ap (outcome_after hit) e)
 
 not_true : (b : Bool) → (b ≡ true → ⊥) → b ≡ false

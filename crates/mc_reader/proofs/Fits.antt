@@ -28,7 +28,8 @@ use Rattle.mc_reader.specs.declared.said.Said.TheVariants.{Whole, Hit}
 -- what a line may say to the verb: a reply that fits, or a hit that does with any body of its length
 abbrev SaidFits : Verb → Said → Type 0
 SaidFits verb (Whole r) = is_fit_for verb r ≡ true
-SaidFits verb (Hit h) = (is_legal verb class.Hit ≡ true) × (same (is_some h.cas) (shows_number verb) ≡ true) × (h.body_len ≤ REPLY_BODY_LIMIT)
+SaidFits verb (Hit h) =
+    (is_legal verb class.Hit ≡ true) × (same (is_some h.cas) (shows_number verb) ≡ true) × (h.body_len ≤ REPLY_BODY_LIMIT)
 
 -- a fault for which a line may fail: neither want of memory nor an answer before
 abbrev pub IsOfLine : ReadFault → Type 0
@@ -40,7 +41,8 @@ abbrev Fits : Verb → Result Said ReadFault → Type 0
 Fits verb (Ok said) = SaidFits verb said
 Fits verb (Err fault) = IsOfLine fault
 
-either_fits : (verb : Verb) (b : Bool) (x y : Result Said ReadFault) → (b ≡ true → Fits verb x) → (b ≡ false → Fits verb y) → Fits verb (cond b x y)
+either_fits : (verb : Verb) (b : Bool) (x y : Result Said ReadFault) → (b ≡ true → Fits verb x) → (b ≡ false → Fits verb y)
+    → Fits verb (cond b x y)
 either_fits verb true x y p q = p refl
 either_fits verb false x y p q = q refl
 
@@ -123,10 +125,12 @@ hit_fits verb key (value ∷ name ∷ []) legal = tt
 hit_fits verb key (value ∷ name ∷ flags ∷ []) legal = tt
 hit_fits verb key (value ∷ name ∷ flags ∷ body_len ∷ []) legal =
     either_fits verb (bytes_eq value (codes "VALUE") && not (shows_number verb)) (item_says key name flags body_len None) (Err NotAReply)
-    (λ p. item_fits verb key name flags body_len None legal (and_parts (bytes_eq value (codes "VALUE")) (not (shows_number verb)) p).1) (λ p. tt)
+    (λ p. item_fits verb key name flags body_len None legal (and_parts (bytes_eq value (codes "VALUE")) (not (shows_number verb)) p).1)
+    (λ p. tt)
 hit_fits verb key (value ∷ name ∷ flags ∷ body_len ∷ cas ∷ []) legal =
     either_fits verb (bytes_eq value (codes "VALUE") && shows_number verb) (item_says key name flags body_len (Some cas)) (Err NotAReply)
-    (λ p. item_fits verb key name flags body_len (Some cas) legal (and_parts (bytes_eq value (codes "VALUE")) (shows_number verb) p).1) (λ p. tt)
+    (λ p. item_fits verb key name flags body_len (Some cas) legal (and_parts (bytes_eq value (codes "VALUE")) (shows_number verb) p).1)
+    (λ p. tt)
 hit_fits verb key (value ∷ name ∷ flags ∷ body_len ∷ cas ∷ other ∷ words) legal = tt
 
 others_fit : (verb : Verb) (key : Word) (text : List ℕ) → Fits verb (others_say verb key text)
@@ -134,7 +138,8 @@ unfolding others_say
 others_fit verb key text =
     let hit = cond (is_legal verb class.Hit) (hit_says verb key (words_of text)) (Err NotAReply) in
     either_fits verb (is_legal verb class.Number) (number_says text) hit (λ p. number_fits verb text p)
-    (λ p. either_fits verb (is_legal verb class.Hit) (hit_says verb key (words_of text)) (Err NotAReply) (λ q. hit_fits verb key (words_of text) q) (λ q. tt))
+    (λ p. either_fits verb (is_legal verb class.Hit) (hit_says verb key (words_of text)) (Err NotAReply)
+    (λ q. hit_fits verb key (words_of text) q) (λ q. tt))
 
 error_fits : (verb : Verb) (kind : ErrorKind) → Fits verb (error_says verb kind)
 unfolding error_says
@@ -176,11 +181,13 @@ whole_fits verb key line r e = subst (Fits verb) e (line_fits verb key line)
 hit_line_fits : (verb : Verb) (key line : Word) (hit : HitLine) → line_says verb key line ≡ Ok (Hit hit) → SaidFits verb (Hit hit)
 hit_line_fits verb key line hit e = subst (Fits verb) e (line_fits verb key line)
 
-hit_body_fits : (verb : Verb) (hit : HitLine) (body : List ℕ) → SaidFits verb (Hit hit) → length body ≡ hit.body_len → is_fit_for verb (hit_of hit body) ≡ true
+hit_body_fits : (verb : Verb) (hit : HitLine) (body : List ℕ) → SaidFits verb (Hit hit) → length body ≡ hit.body_len
+    → is_fit_for verb (hit_of hit body) ≡ true
 hit_body_fits verb hit body p e =
     let small : length body ≤ REPLY_BODY_LIMIT = rw e p.2 in
     both (is_legal verb class.Hit) (suits verb (hit_of hit body)) p.0
-    (both (same (is_some hit.cas) (shows_number verb)) (nat_le (length body) REPLY_BODY_LIMIT) p.1 (le-leb (length body) REPLY_BODY_LIMIT small))
+    (both (same (is_some hit.cas) (shows_number verb)) (nat_le (length body) REPLY_BODY_LIMIT) p.1
+    (le-leb (length body) REPLY_BODY_LIMIT small))
 
 ended_reply : (hit r : Reply) (fault : Option ReadFault) → Ok r ≡ outcome_after hit fault → r ≡ hit
 ended_reply hit r None e = cc

@@ -96,7 +96,8 @@ set_true : (b : Bool) → false ≡ not b → b ≡ true
 set_true true h = refl
 set_true false h = absurd (cc)
 
-pub value_differs : (value slice : Word) → slice ≡ codes "VALUE" → true ≡ not (bytes_eq value slice) → bytes_eq value (codes "VALUE") ≡ false
+pub value_differs : (value slice : Word) → slice ≡ codes "VALUE" → true ≡ not (bytes_eq value slice)
+    → bytes_eq value (codes "VALUE") ≡ false
 value_differs value slice e h = ap (bytes_eq value) (sym e) ∙ set_false (bytes_eq value slice) h
 
 pub value_same : (value slice : Word) → slice ≡ codes "VALUE" → false ≡ not (bytes_eq value slice) → bytes_eq value (codes "VALUE") ≡ true

@@ -44,4 +44,5 @@ one_first_end (c ∷ a) (d ∷ b) x y p q h =
 pub ends_before : (a b x y : List ℕ) → has_end a ≡ false → a ++ x ≡ b ++ LF ∷ y → length a ≤ length b
 ends_before [] b x y p h = omega arith
 ends_before (c ∷ a) [] x y p h = absurd (lf_first c a p (let e : LF ≡ c = cc in e))
-ends_before (c ∷ a) (d ∷ b) x y p h = let less = ends_before a b x y (none_ahead c a p) (let e : a ++ x ≡ b ++ LF ∷ y = cc in e) in omega arith
+ends_before (c ∷ a) (d ∷ b) x y p h = let less = ends_before a b x y (none_ahead c a p) (let e : a ++ x ≡ b ++ LF ∷ y = cc in e) in omega
+    arith

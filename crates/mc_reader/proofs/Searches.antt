@@ -51,7 +51,8 @@ no_end bytes h = list_any_none (λ byte. byte == LF) bytes (λ k d l. rw (get_or
 pub none_found : (bytes : List ℕ) → IsFirstByte (is_byte LF) bytes None → has_end bytes ≡ false
 none_found bytes h = no_end bytes (λ k l. not_true (get_or bytes k 0 == LF) (h k (omega arith) l))
 
-pub end_found : (room : ℕ) (piece : List ℕ) (at : ℕ) → IsFirstByte (is_byte LF) (take room piece) (Some at) → (at < room) × IsFirstEnd piece at
+pub end_found : (room : ℕ) (piece : List ℕ) (at : ℕ) → IsFirstByte (is_byte LF) (take room piece) (Some at)
+    → (at < room) × IsFirstEnd piece at
 end_found room piece at h =
     let high = h.0.high in
     let long = length-take room piece in

@@ -37,7 +37,8 @@ within_after : (E : List ℕ → Outcome → Type 0) (text front piece : List �
     → EndsWithin E (text ++ front) piece outcome → EndsWithin E text (front ++ piece) outcome
 within_after E text front piece outcome p = record { unread = p.unread; at = ends_after E text front piece outcome p.unread p.at }
 
-step_parts : {S : Type 0} (E : List ℕ → Outcome → Type 0) (After : S → List ℕ → Type 0) (text front piece : List ℕ) (result : Result (Step S) ReadFault)
+step_parts : {S : Type 0} (E : List ℕ → Outcome → Type 0) (After : S → List ℕ → Type 0) (text front piece : List ℕ)
+    (result : Result (Step S) ReadFault)
     → IsStep E After (text ++ front) piece result → IsStep E After text (front ++ piece) result
 step_parts E After text front piece (Ok (More s)) p = subst (After s) (append_assoc text front piece) p
 step_parts E After text front piece (Ok (Done reply unread)) p = ends_after E text front piece (Ok reply) unread p
@@ -46,7 +47,8 @@ step_parts E After text front piece (Err Failed) p = absurd p
 step_parts E After text front piece (Err fault) p = within_after E text front piece (Err fault) p
 
 -- the same, where the texts are given by equations
-pub step_after : {S : Type 0} (E : List ℕ → Outcome → Type 0) (After : S → List ℕ → Type 0) (text front piece longer whole : List ℕ) (result : Result (Step S) ReadFault)
+pub step_after : {S : Type 0} (E : List ℕ → Outcome → Type 0) (After : S → List ℕ → Type 0) (text front piece longer whole : List ℕ)
+    (result : Result (Step S) ReadFault)
     → longer ≡ text ++ front → whole ≡ front ++ piece → IsStep E After longer piece result → IsStep E After text whole result
 step_after E After text front piece longer whole result e d p =
     subst (λ u. IsStep E After text u result) (sym d)
@@ -88,7 +90,8 @@ module _ (verb : Verb) (key line : Word) (hit : HitLine) (l : IsLine line) (says
 
   -- and a fault in it is one of the reply
   pub fault_with_line : {S T : Type 0} (After : S → List ℕ → Type 0) (Other : T → List ℕ → Type 0) (text piece : List ℕ) (fault : ReadFault)
-      → IsStep {S = S} (BlockEnds hit) After text piece (Err fault) → IsStep {S = T} (Ends verb key) Other (line ++ LF ∷ text) piece (Err fault)
+      → IsStep {S = S} (BlockEnds hit) After text piece (Err fault)
+      → IsStep {S = T} (Ends verb key) Other (line ++ LF ∷ text) piece (Err fault)
   fault_with_line After Other text piece OutOfMemory p = tt
   fault_with_line After Other text piece Failed p = absurd p
   fault_with_line After Other text piece fault p = within_with_line text piece (Err fault) p
@@ -119,7 +122,8 @@ module _ (verb : Verb) (key start after piece : List ℕ) (at : ℕ) (hit : HitL
       step_after (Ends verb key) (IsStageAt verb key) start (take at piece ++ LF ∷ []) (drop (at + 1) piece)
       ((start ++ take at piece) ++ LF ∷ []) piece (Err fault)
       (append_assoc start (take at piece) (LF ∷ [])) (sym (line_in piece at g.end_at))
-      (fault_with_line verb key (start ++ take at piece) hit g.line says (IsBlockOf hit) (IsStageAt verb key) [] (drop (at + 1) piece) fault p)
+      (fault_with_line verb key (start ++ take at piece) hit g.line says (IsBlockOf hit) (IsStageAt verb key) [] (drop (at + 1) piece)
+      fault p)
 
 -- ---- faults of lines
 
@@ -160,7 +164,8 @@ last_gather_fault hit body start after piece fault whole g = absurd g
 
 -- a step in the block that a line announced
 pub block_step : (hit : HitLine) (block : Block) (text piece : List ℕ) (result : Result (Step Block) ReadFault) → IsBlockOf hit block text
-    → IsStep (BlockEnds block.hit) (IsBlockOf block.hit) (block_read block) piece result → IsStep (BlockEnds hit) (IsBlockOf hit) text piece result
+    → IsStep (BlockEnds block.hit) (IsBlockOf block.hit) (block_read block) piece result
+    → IsStep (BlockEnds hit) (IsBlockOf hit) text piece result
 block_step hit block text piece result b p =
     subst (λ u. IsStep (BlockEnds hit) (IsBlockOf hit) u piece result) b.read
     (subst (λ h. IsStep (BlockEnds h) (IsBlockOf h) (block_read block) piece result) b.same p)

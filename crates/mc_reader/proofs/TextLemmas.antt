@@ -37,7 +37,8 @@ not_true : (b : Bool) → (b ≡ true → ⊥) → b ≡ false
 not_true true h = absurd (h refl)
 not_true false h = refl
 
-pub text_ended : (line : List ℕ) → 1 ≤ length line → get_or line (length line - 1) 0 ≡ CR → text_of line ≡ Some (take (length line - 1) line)
+pub text_ended : (line : List ℕ) → 1 ≤ length line → get_or line (length line - 1) 0 ≡ CR
+    → text_of line ≡ Some (take (length line - 1) line)
 text_ended line some is =
     text_last line some ∙ ap (λ b. cond b (Some (take (length line - 1) line)) None) (ap (λ x. x == CR) is)
 

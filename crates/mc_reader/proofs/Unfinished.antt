@@ -77,7 +77,8 @@ unfinished_crlf hit start l front back outcome e (not_lf c p d g) =
     not_that_lf c p (let all : CR ∷ c ∷ back ≡ CR ∷ LF ∷ start = sym (ap (λ u. u ++ back) d) ∙ e in let same : c ≡ LF = cc in same)
 unfinished_crlf hit start l front back outcome e (after_crlf last m d) =
     unfinished_last hit start l last back outcome
-    (let all : CR ∷ LF ∷ (last ++ back) ≡ CR ∷ LF ∷ start = sym (ap (λ u. u ++ back) d) ∙ e in let same : last ++ back ≡ start = cc in same) m
+    (let all : CR ∷ LF ∷ (last ++ back) ≡ CR ∷ LF ∷ start = sym (ap (λ u. u ++ back) d)
+    ∙ e in let same : last ++ back ≡ start = cc in same) m
 
 -- a body that isn't longer than its line says, and nothing after it
 unfinished_body : (line : HitLine) (body : List ℕ) → length body ≤ line.body_len → Unfinished (BlockEnds line) body
@@ -124,13 +125,15 @@ unfinished_hit verb key line block hit l says h front back outcome e (one_line o
     not_announced outcome hit (sym d ∙ ap (line_says verb key) same ∙ says)
 unfinished_hit verb key line block hit l says h front back outcome e (with_block other next found m d n g) =
     let both = one_first_end other line (next ++ back) block m.one l.one (sym (blocked front other next back g) ∙ e) in
-    let same : found ≡ hit = one_hit found hit (line_says verb key other) (line_says verb key line) d says (ap (line_says verb key) both.0) in
+    let same : found ≡ hit = one_hit found hit (line_says verb key other) (line_says verb key line) d says
+    (ap (line_says verb key) both.0) in
     h next back outcome both.1 (subst (λ u. BlockEnds u next outcome) same n)
 
 -- nothing that was read at a stage ends
 pub unfinished_fed : (verb : Verb) (key : Word) (s : Stage) (text : List ℕ) → IsStage verb key s → stage_fed s ≡ Some text
     → IsUnfinished verb key text
-unfinished_fed verb key (stage.Line start) text h e = subst (IsUnfinished verb key) (some_same _ _ e) (unfinished_line verb key start.items h)
+unfinished_fed verb key (stage.Line start) text h e = subst (IsUnfinished verb key) (some_same _ _ e)
+    (unfinished_line verb key start.items h)
 unfinished_fed verb key (stage.Block line block) text h e =
     subst (IsUnfinished verb key) (some_same _ _ e)
     (unfinished_hit verb key line.items (block_read block) block.hit h.0 h.1 (unfinished_block block h.2))

@@ -131,7 +131,8 @@ one_ending verb key s t x y a b (with_block line block hit l e n d) (one_line ot
     let same = (one_first_end line other (block ++ x) y l.one m.one (sym (blocked s line block x d) ∙ h ∙ lined t other y g)).0 in
     absurd (not_announced b hit (sym f ∙ ap (line_says verb key) (sym same) ∙ e))
 one_ending verb key s t x y a b (with_block line block hit l e n d) (with_block other next hit' m f o g) h =
-    let both = one_first_end line other (block ++ x) (next ++ y) l.one m.one (sym (blocked s line block x d) ∙ h ∙ blocked t other next y g) in
+    let both = one_first_end line other (block ++ x) (next ++ y) l.one m.one
+    (sym (blocked s line block x d) ∙ h ∙ blocked t other next y g) in
     let same : hit ≡ hit' = one_hit hit hit' (line_says verb key line) (line_says verb key other) e f (ap (line_says verb key) both.0) in
     let ends : BlockEnds hit next b = subst (λ u. BlockEnds u next b) (sym same) o in
     let blocks = one_block hit block next x y a b n ends both.1 in

@@ -20,7 +20,8 @@ pub record EndsWithin (E : List ℕ → Outcome → Type 0) (text piece : List �
 
 -- what comes of the piece where the text was read before: more is to come and what was read stands in `After`, or the text
 -- ends
-abbrev pub IsStep : {S : Type 0} → (List ℕ → Outcome → Type 0) → (S → List ℕ → Type 0) → List ℕ → List ℕ → Result (Step S) ReadFault → Type 0
+abbrev pub IsStep : {S : Type 0} → (List ℕ → Outcome → Type 0) → (S → List ℕ → Type 0) → List ℕ → List ℕ → Result (Step S) ReadFault
+    → Type 0
 IsStep E After text piece (Ok (More s)) = After s (text ++ piece)
 IsStep E After text piece (Ok (Done reply unread)) = EndsAt E text piece (Ok reply) unread
 IsStep E After text piece (Err OutOfMemory) = Unit {0}

@@ -1,4 +1,4 @@
-use Rattle.std.proofs.Common.{arith, ◌≡◌, ℕ, ◌+◌, ◌-◌, ◌≤◌, ◌∙◌, List, sym, ap, length, drop, take, length-append}
+use Rattle.std.proofs.Common.{arith, ℕ, ◌-◌, ◌≤◌, ◌∙◌, List, sym, ap, length, drop, take, length-append}
 use Rattle.std.specs.Prelude.{Some, slice_range}
 use Rattle.mc_protocol.specs.declared.reply.Reply.{Reply}
 use Rattle.mc_lane.proofs.Carried.{count_in_range}

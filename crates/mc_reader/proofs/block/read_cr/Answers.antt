@@ -14,7 +14,9 @@ returns-then-byte-ne13 c =
 
 pub returns-else-byte-ne13 : goal.returns-else-byte-ne13
 returns-else-byte-ne13 c =
-    step_after (BlockEnds c.args.hit) (IsBlockOf c.args.hit) c.args.body.items (CR ∷ []) (take (length c.args.piece.now - 1) (drop 1 c.args.piece.now))
+    step_after (BlockEnds c.args.hit) (IsBlockOf c.args.hit) c.args.body.items (CR ∷ [])
+    (take (length c.args.piece.now - 1) (drop 1 c.args.piece.now))
     (c.args.body.items ++ CR ∷ []) c.args.piece.now c.read_lf.result refl
-    (drop_more c.args.piece.now 0 0 c.in-len1-up.len_at_least ∙ ap (λ b. b ∷ drop 1 c.args.piece.now) c.if-byte-ne13.false ∙ ap (λ u. CR ∷ u) (sym (take_rest c.args.piece.now 1)))
+    (drop_more c.args.piece.now 0 0 c.in-len1-up.len_at_least ∙ ap (λ b. b ∷ drop 1 c.args.piece.now) c.if-byte-ne13.false
+    ∙ ap (λ u. CR ∷ u) (sym (take_rest c.args.piece.now 1)))
     c.read_lf.ensures

@@ -14,8 +14,10 @@ returns-then-byte-ne10 c =
 
 pub returns-else-byte-ne10 : goal.returns-else-byte-ne10
 returns-else-byte-ne10 c =
-    step_after (BlockEnds c.args.hit) (IsBlockOf c.args.hit) (c.args.body.items ++ CR ∷ []) (LF ∷ []) (take (length c.args.piece.now - 1) (drop 1 c.args.piece.now))
+    step_after (BlockEnds c.args.hit) (IsBlockOf c.args.hit) (c.args.body.items ++ CR ∷ []) (LF ∷ [])
+    (take (length c.args.piece.now - 1) (drop 1 c.args.piece.now))
     (c.args.body.items ++ CR ∷ LF ∷ c.new.result.items) c.args.piece.now c.read_last_line.result
     (ap (λ u. c.args.body.items ++ CR ∷ LF ∷ u) c.new.ensures.items ∙ sym (append_assoc c.args.body.items (CR ∷ []) (LF ∷ [])))
-    (drop_more c.args.piece.now 0 0 c.in-len1-up.len_at_least ∙ ap (λ b. b ∷ drop 1 c.args.piece.now) c.if-byte-ne10.false ∙ ap (λ u. LF ∷ u) (sym (take_rest c.args.piece.now 1)))
+    (drop_more c.args.piece.now 0 0 c.in-len1-up.len_at_least ∙ ap (λ b. b ∷ drop 1 c.args.piece.now) c.if-byte-ne10.false
+    ∙ ap (λ u. LF ∷ u) (sym (take_rest c.args.piece.now 1)))
     c.read_last_line.ensures

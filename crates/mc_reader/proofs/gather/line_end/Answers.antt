@@ -13,10 +13,14 @@ returns-in-Some c =
 pub returns-in-None : goal.returns-in-None
 returns-in-None c = (
   c.if-piece-room.true,
-  subst (λ u. has_end u ≡ false) (take_all c.min.result c.args.piece.now (omega arith)) (none_found (take c.min.result c.args.piece.now) c.in-None.ensures),
+  subst (λ u. has_end u ≡ false) (take_all c.min.result c.args.piece.now (omega arith))
+      (none_found (take c.min.result c.args.piece.now) c.in-None.ensures),
 )
 
 pub returns-in-None-2 : goal.returns-in-None-2
 returns-in-None-2 c =
-    let full : c.min.result ≡ c.args.room = omega arith in
-    (c.if-piece-room.false, subst (λ n. has_end (take n c.args.piece.now) ≡ false) full (none_found (take c.min.result c.args.piece.now) c.in-None-2.ensures))
+    let full : c.min.result ≡ c.args.room = omega arith in (
+      c.if-piece-room.false,
+      subst (λ n. has_end (take n c.args.piece.now) ≡ false) full
+          (none_found (take c.min.result c.args.piece.now) c.in-None-2.ensures),
+    )

@@ -21,7 +21,8 @@ pub returns-in_err-reply : goal.returns-in_err-reply
 returns-in_err-reply c =
     let p = err_from_is_err_and c.from_residual-in_err-reply.result c.from_residual-in_err-reply.ensures.1 in
     let g : IsGathered c.args.start.items c.gather.new.start.items c.args.piece.now c.in-Some.at = rw c.in-Some.is at c.in_ok-at.ensures in
-    let line = line_is c.args.start.items c.gather.new.start.items (take c.in-Some.at c.args.piece.now) c.joined.result.now g.kept c.joined.ensures in
+    let line = line_is c.args.start.items c.gather.new.start.items (take c.in-Some.at c.args.piece.now) c.joined.result.now g.kept
+    c.joined.ensures in
     rw (p.1, p.2) (first_line_fault c.args.shape.verb c.args.shape.key.now c.args.start.items c.gather.new.start.items c.args.piece.now
     c.joined.result.now c.in-Some.at c.in_err-reply.field-0.0 g line (sym c.in_err-reply.ensures))
 
@@ -36,7 +37,8 @@ returns-in_err-step-in-Hit c =
     let fault = c.in_err-step-in-Hit.field-0.0 in
     let g : IsGathered start c.gather.new.start.items piece at = rw c.in-Some.is at c.in_ok-at.ensures in
     let line = line_is start c.gather.new.start.items (take at piece) c.joined.result.now g.kept c.joined.ensures in
-    let says = says_at verb key c.joined.result.now (start ++ take at piece) c.in_ok-reply.field-0 (Hit c.in-Hit.hit) line c.in_ok-reply.ensures c.in-Hit.is in
+    let says = says_at verb key c.joined.result.now (start ++ take at piece) c.in_ok-reply.field-0 (Hit c.in-Hit.hit) line
+    c.in_ok-reply.ensures c.in-Hit.is in
     let step = block_step c.in-Hit.hit c.in_ok-new-in-Hit.field-0 [] (take (length piece - (at + 1)) (drop (at + 1) piece)) (Err fault)
     c.in_ok-new-in-Hit.ensures c.in_err-step-in-Hit.ensures in
     let after = subst (λ u. IsStep (BlockEnds c.in-Hit.hit) (IsBlockOf c.in-Hit.hit) [] u (Err fault)) (take_rest piece (at + 1)) step in
@@ -51,7 +53,8 @@ returns-in-Whole c =
     let at = c.in-Some.at in
     let g : IsGathered start c.gather.new.start.items piece at = rw c.in-Some.is at c.in_ok-at.ensures in
     let line = line_is start c.gather.new.start.items (take at piece) c.joined.result.now g.kept c.joined.ensures in
-    let says = says_at verb key c.joined.result.now (start ++ take at piece) c.in_ok-reply.field-0 (Whole c.in-Whole.reply) line c.in_ok-reply.ensures c.in-Whole.is in
+    let says = says_at verb key c.joined.result.now (start ++ take at piece) c.in_ok-reply.field-0 (Whole c.in-Whole.reply) line
+    c.in_ok-reply.ensures c.in-Whole.is in
     let ends = first_ends verb key start c.gather.new.start.items piece at (Ok c.in-Whole.reply) g says in
     let left = length-drop (at + 1) piece in
     let count : length (drop (at + 1) piece) ≡ length piece - at - 1 = omega arith in
@@ -66,10 +69,14 @@ returns-in_ok-line-in-Hit c =
     let at = c.in-Some.at in
     let g : IsGathered start c.gather.new.start.items piece at = rw c.in-Some.is at c.in_ok-at.ensures in
     let line = line_is start c.gather.new.start.items (take at piece) c.joined.result.now g.kept c.joined.ensures in
-    let says = says_at verb key c.joined.result.now (start ++ take at piece) c.in_ok-reply.field-0 (Hit c.in-Hit.hit) line c.in_ok-reply.ensures c.in-Hit.is in
+    let says = says_at verb key c.joined.result.now (start ++ take at piece) c.in_ok-reply.field-0 (Hit c.in-Hit.hit) line
+    c.in_ok-reply.ensures c.in-Hit.is in
     let kept = line_is start c.gather.new.start.items (take at piece) c.in_ok-line-in-Hit.line.items g.kept c.in_ok-line-in-Hit.ensures in
-    let step = block_step c.in-Hit.hit c.in_ok-new-in-Hit.field-0 [] (take (length piece - (at + 1)) (drop (at + 1) piece)) (Ok c.in_ok-step-in-Hit.step)
+    let step = block_step c.in-Hit.hit c.in_ok-new-in-Hit.field-0 [] (take (length piece - (at + 1)) (drop (at + 1) piece))
+    (Ok c.in_ok-step-in-Hit.step)
     c.in_ok-new-in-Hit.ensures c.in_ok-step-in-Hit.ensures in
-    let after = subst (λ u. IsStep (BlockEnds c.in-Hit.hit) (IsBlockOf c.in-Hit.hit) [] u (Ok c.in_ok-step-in-Hit.step)) (take_rest piece (at + 1)) step in
+    let after = subst (λ u. IsStep (BlockEnds c.in-Hit.hit) (IsBlockOf c.in-Hit.hit) [] u (Ok c.in_ok-step-in-Hit.step))
+    (take_rest piece (at + 1)) step in
     rw c.after_block.ensures
-    (hit_step verb key start c.gather.new.start.items piece at c.in-Hit.hit g says c.in_ok-line-in-Hit.line c.in_ok-step-in-Hit.step kept after)
+    (hit_step verb key start c.gather.new.start.items piece at c.in-Hit.hit g says c.in_ok-line-in-Hit.line c.in_ok-step-in-Hit.step kept
+    after)

@@ -10,5 +10,6 @@ returns-in_err-step-in-Block c =
 
 pub returns-in_ok-step-in-Block : goal.returns-in_ok-step-in-Block
 returns-in_ok-step-in-Block c =
-    rw (c.in-Block.is, c.after_block.ensures) (on_block c.args.shape.verb c.args.shape.key.now c.in-Block.line c.in-Block.block c.args.piece.now
+    rw (c.in-Block.is, c.after_block.ensures)
+    (on_block c.args.shape.verb c.args.shape.key.now c.in-Block.line c.in-Block.block c.args.piece.now
     c.in_ok-step-in-Block.step (rw c.in-Block.is at c.requires) c.in_ok-step-in-Block.ensures)
