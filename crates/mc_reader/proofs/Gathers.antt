@@ -8,7 +8,7 @@ use Rattle.mc_reader.specs.declared.fault.ReadFault.TheVariants.{LineTooLong}
 use Rattle.mc_reader.specs.declared.limits.TheConstants.{LINE_LIMIT}
 use Rattle.mc_reader.proofs.LineEnds.{has_end-append}
 
-neither_has : (a b : Bool) → a ≡ false → b ≡ false → (a || b) ≡ false
+pub neither_has : (a b : Bool) → a ≡ false → b ≡ false → (a || b) ≡ false
 neither_has true b p q = absurd (cc)
 neither_has false b p q = q
 

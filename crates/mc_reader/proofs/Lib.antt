@@ -6,6 +6,7 @@ mod Fits
 mod Gathers
 mod ItemLemmas
 mod LineEnds
+mod Rendered
 mod Searches
 mod StepLemmas
 mod TextLemmas
