@@ -6,9 +6,11 @@ mod Fits
 mod Gathers
 mod ItemLemmas
 mod LineEnds
-mod Rendered
 mod Searches
 mod StepLemmas
 mod TextLemmas
 mod Unfinished
 mod Unique
+mod Written
+mod WrittenHits
+mod WrittenLines

@@ -1,31 +1,28 @@
--- The texts of replies spell them.
-use Rattle.std.proofs.Common.{◌≡◌, ℕ, ◌+◌, ◌<◌, ◌≤◌, ◌^◌, ◌==◌, nat_le, Bool, true, false, ◌&&◌, ◌||◌, not, cond, is_some, Option, Some, None, Result, Ok, Err, List, [], ◌∷◌, ◌++◌, length, take, drop, get_or, codes, decimal, suc, refl, sym, ap, ◌∙◌, subst, arith, append_assoc, append-nil, length-append}
-use Rattle.std.specs.List.{All, list_all, list_any, position_or_len, slice_split}
+-- The texts of replies of one line spell them.
+use Rattle.std.proofs.Common.{◌≡◌, ℕ, ◌+◌, ◌<◌, ◌≤◌, ◌^◌, ◌==◌, nat_le, Bool, true, false, ◌&&◌, not, cond, Some, None, Ok, Err, List, [], ◌∷◌, ◌++◌, length, take, drop, codes, decimal, suc, refl, sym, ap, ◌∙◌, subst, arith, append_assoc, length-append}
+use Rattle.std.specs.List.{list_any, position_or_len}
 use Rattle.std.specs.Str.{bytes_eq}
 use Rattle.std.specs.Str.Parse.{digits_value}
 use Rattle.std.proofs.lemmas.Bool.{and_parts, eqb-true, le-leb}
 use Rattle.std.proofs.lemmas.Bool.Decides.{nat_tests}
 use Rattle.std.proofs.lemmas.Fmt.{decimal_nonempty, digits_decimal, digits_value-decimal, length-decimal-le}
 use Rattle.std.proofs.lemmas.List.{take_all}
-use Rattle.std.proofs.lemmas.List.Folds.{list_any_at}
 use Rattle.mc_protocol.proofs.Digits.{digits}
-use Rattle.mc_protocol.specs.Decimals.{MAX_32, MAX_64, is_digit, are_digits, has_digits_alone}
-use Rattle.mc_protocol.specs.Legal.{class_of, is_legal, shows_number, suits, is_fit_for}
+use Rattle.mc_protocol.specs.Decimals.{MAX_64, is_digit, are_digits, has_digits_alone}
+use Rattle.mc_protocol.specs.Legal.{class_of, is_legal, suits, is_fit_for}
 use Rattle.mc_protocol.specs.Lines.{Word}
 use Rattle.mc_protocol.specs.Texts.{reply_text}
 use Rattle.mc_protocol.specs.declared.reply.Class.TheVariants as class
 use Rattle.mc_protocol.specs.declared.reply.Reply.{Reply}
 use Rattle.mc_protocol.specs.declared.reply.Reply.TheVariants as reply
 use Rattle.mc_protocol.specs.declared.request.Verb.{Verb}
-use Rattle.mc_reader.specs.Lines.{CR, LF, has_end, IsLine, line_says, text_of, says_of_text}
-use Rattle.mc_reader.specs.Replies.{Ends, one_line, Spells}
+use Rattle.mc_reader.specs.Lines.{CR, LF, has_end, line_says, says_of_text}
+use Rattle.mc_reader.specs.Replies.{one_line, Spells}
 use Rattle.mc_reader.specs.Words.{is_space, first_word, words_of, are_spaces, reply_of_word, error_of, error_says, number_says, others_say, text_says, says_after_word, says_after_words, hit_says}
 use Rattle.mc_reader.specs.declared.limits.TheConstants.{NUMBER_SPACES_LIMIT}
-use Rattle.mc_reader.specs.declared.fault.ReadFault.{ReadFault}
 use Rattle.mc_reader.specs.declared.fault.ReadFault.TheVariants.{NotAReply, NumberTooLarge, ErrorLine}
 use Rattle.mc_reader.specs.declared.fault.ErrorKind.TheVariants.{Error, Client, Server}
-use Rattle.mc_reader.specs.declared.said.Said.{Said}
-use Rattle.mc_reader.specs.declared.said.Said.TheVariants.{Whole, Hit}
+use Rattle.mc_reader.specs.declared.said.Said.TheVariants.{Whole}
 use Rattle.mc_reader.proofs.Blocks.{not_true}
 use Rattle.mc_reader.proofs.Fits.{both}
 use Rattle.mc_reader.proofs.Gathers.{neither_has}
@@ -35,53 +32,56 @@ use Rattle.mc_reader.proofs.TextLemmas.{text_is}
 
 -- ---- replies of one word
 
-legal_of : (verb : Verb) (r : Reply) → is_fit_for verb r ≡ true → is_legal verb (class_of r) ≡ true
+pub legal_of : (verb : Verb) (r : Reply) → is_fit_for verb r ≡ true → is_legal verb (class_of r) ≡ true
 legal_of verb r fit = (and_parts (is_legal verb (class_of r)) (suits verb r) fit).0
 
-
-stored : (verb : Verb) (key : Word) → is_fit_for verb reply.Stored ≡ true → Spells verb key (reply_text key reply.Stored) reply.Stored
+pub stored : (verb : Verb) (key : Word) → is_fit_for verb reply.Stored ≡ true → Spells verb key (reply_text key reply.Stored) reply.Stored
 unfolding text_says reply_of_word
 stored verb key fit =
     one_line (codes "STORED\r") (record { one = refl; short = omega arith })
     (ap (λ b. cond b (Ok (Whole reply.Stored)) (Err NotAReply)) (legal_of verb reply.Stored fit)) refl
 
-not_stored : (verb : Verb) (key : Word) → is_fit_for verb reply.NotStored ≡ true → Spells verb key (reply_text key reply.NotStored) reply.NotStored
+pub not_stored : (verb : Verb) (key : Word) → is_fit_for verb reply.NotStored ≡ true
+    → Spells verb key (reply_text key reply.NotStored) reply.NotStored
 unfolding text_says reply_of_word
 not_stored verb key fit =
     one_line (codes "NOT_STORED\r") (record { one = refl; short = omega arith })
     (ap (λ b. cond b (Ok (Whole reply.NotStored)) (Err NotAReply)) (legal_of verb reply.NotStored fit)) refl
 
-exists : (verb : Verb) (key : Word) → is_fit_for verb reply.Exists ≡ true → Spells verb key (reply_text key reply.Exists) reply.Exists
+pub exists : (verb : Verb) (key : Word) → is_fit_for verb reply.Exists ≡ true → Spells verb key (reply_text key reply.Exists) reply.Exists
 unfolding text_says reply_of_word
 exists verb key fit =
     one_line (codes "EXISTS\r") (record { one = refl; short = omega arith })
     (ap (λ b. cond b (Ok (Whole reply.Exists)) (Err NotAReply)) (legal_of verb reply.Exists fit)) refl
 
-not_found : (verb : Verb) (key : Word) → is_fit_for verb reply.NotFound ≡ true → Spells verb key (reply_text key reply.NotFound) reply.NotFound
+pub not_found : (verb : Verb) (key : Word) → is_fit_for verb reply.NotFound ≡ true
+    → Spells verb key (reply_text key reply.NotFound) reply.NotFound
 unfolding text_says reply_of_word
 not_found verb key fit =
     one_line (codes "NOT_FOUND\r") (record { one = refl; short = omega arith })
     (ap (λ b. cond b (Ok (Whole reply.NotFound)) (Err NotAReply)) (legal_of verb reply.NotFound fit)) refl
 
-miss : (verb : Verb) (key : Word) → is_fit_for verb reply.Miss ≡ true → Spells verb key (reply_text key reply.Miss) reply.Miss
+pub miss : (verb : Verb) (key : Word) → is_fit_for verb reply.Miss ≡ true → Spells verb key (reply_text key reply.Miss) reply.Miss
 unfolding text_says reply_of_word
 miss verb key fit =
     one_line (codes "END\r") (record { one = refl; short = omega arith })
     (ap (λ b. cond b (Ok (Whole reply.Miss)) (Err NotAReply)) (legal_of verb reply.Miss fit)) refl
 
-deleted : (verb : Verb) (key : Word) → is_fit_for verb reply.Deleted ≡ true → Spells verb key (reply_text key reply.Deleted) reply.Deleted
+pub deleted : (verb : Verb) (key : Word) → is_fit_for verb reply.Deleted ≡ true
+    → Spells verb key (reply_text key reply.Deleted) reply.Deleted
 unfolding text_says reply_of_word
 deleted verb key fit =
     one_line (codes "DELETED\r") (record { one = refl; short = omega arith })
     (ap (λ b. cond b (Ok (Whole reply.Deleted)) (Err NotAReply)) (legal_of verb reply.Deleted fit)) refl
 
-touched : (verb : Verb) (key : Word) → is_fit_for verb reply.Touched ≡ true → Spells verb key (reply_text key reply.Touched) reply.Touched
+pub touched : (verb : Verb) (key : Word) → is_fit_for verb reply.Touched ≡ true
+    → Spells verb key (reply_text key reply.Touched) reply.Touched
 unfolding text_says reply_of_word
 touched verb key fit =
     one_line (codes "TOUCHED\r") (record { one = refl; short = omega arith })
     (ap (λ b. cond b (Ok (Whole reply.Touched)) (Err NotAReply)) (legal_of verb reply.Touched fit)) refl
 
-not_number : (verb : Verb) (key : Word) → is_fit_for verb reply.NotNumber ≡ true
+pub not_number : (verb : Verb) (key : Word) → is_fit_for verb reply.NotNumber ≡ true
     → Spells verb key (reply_text key reply.NotNumber) reply.NotNumber
 unfolding text_says reply_of_word error_of error_says
 not_number verb key fit =
@@ -95,7 +95,7 @@ digit_isnt byte other p q =
     not_true (byte == other) (λ h. let e : is_digit other ≡ true = subst (λ b. is_digit b ≡ true) (eqb-true byte other h) p in absurd (cc))
 
 -- no byte of them is another than a digit
-none_of_digits : (other : ℕ) → is_digit other ≡ false → (word : Word) → are_digits word ≡ true → list_any (λ b. b == other) word ≡ false
+pub none_of_digits : (other : ℕ) → is_digit other ≡ false → (word : Word) → are_digits word ≡ true → list_any (λ b. b == other) word ≡ false
 none_of_digits other q [] h = refl
 none_of_digits other q (b ∷ word) h =
     let p = and_parts (is_digit b) (are_digits word) h in
@@ -108,7 +108,8 @@ place_none : (test : ℕ → Bool) (word : Word) → list_any test word ≡ fals
 place_none test [] h = refl
 place_none test (b ∷ word) h =
     let p = neither (test b) (list_any test word) h in
-    ap (λ t. cond (not t) (1 + position_or_len test word) 0) p.0 ∙ one_and (position_or_len test word) (length word) (place_none test word p.1)
+    ap (λ t. cond (not t) (1 + position_or_len test word) 0) p.0
+    ∙ one_and (position_or_len test word) (length word) (place_none test word p.1)
 
 -- a word with no space is the first of a text that is it alone
 alone : (word : Word) → list_any is_space word ≡ false → first_word word ≡ word
@@ -120,10 +121,11 @@ other_word b other word rest h = first_fails (b == other) (bytes_eq word rest) h
 
 no_word : (a b c d e f g : Bool) → a ≡ false → b ≡ false → c ≡ false → d ≡ false → e ≡ false → f ≡ false → g ≡ false
     → cond a (Some reply.Stored) (cond b (Some reply.NotStored) (cond c (Some reply.Exists)
-      (cond d (Some reply.NotFound) (cond e (Some reply.Miss) (cond f (Some reply.Deleted) (cond g (Some reply.Touched) None)))))) ≡ None
+    (cond d (Some reply.NotFound) (cond e (Some reply.Miss) (cond f (Some reply.Deleted) (cond g (Some reply.Touched) None)))))) ≡ None
 no_word a b c d e f g p q r s t u v = rw (p, q, r, s, t, u, v) refl
 
-no_error : (a b c : Bool) → a ≡ false → b ≡ false → c ≡ false → cond a (Some Error) (cond b (Some Client) (cond c (Some Server) None)) ≡ None
+no_error : (a b c : Bool) → a ≡ false → b ≡ false → c ≡ false
+    → cond a (Some Error) (cond b (Some Client) (cond c (Some Server) None)) ≡ None
 no_error a b c p q r = rw (p, q, r) refl
 
 digits_no_reply : (word : Word) → 0 < length word → are_digits word ≡ true → reply_of_word word ≡ None
@@ -155,12 +157,12 @@ drop_whole : (word : Word) → drop (length word) word ≡ []
 drop_whole [] = refl
 drop_whole (b ∷ word) = drop_whole word
 
-some_length : (n : ℕ) → 0 < n → not (n == 0) ≡ true
+pub some_length : (n : ℕ) → 0 < n → not (n == 0) ≡ true
 some_length n some = grind (arith, nat_tests)
 
 chosen : (alone : Bool) (spaces : List ℕ) (value n : ℕ) → alone ≡ true → spaces ≡ [] → value ≡ n → n ≤ MAX_64
     → cond (alone && are_spaces spaces && nat_le (length spaces) NUMBER_SPACES_LIMIT)
-      (cond (nat_le value MAX_64) (Ok (Whole (reply.Number value))) (Err NumberTooLarge)) (Err NotAReply) ≡ Ok (Whole (reply.Number n))
+    (cond (nat_le value MAX_64) (Ok (Whole (reply.Number value))) (Err NumberTooLarge)) (Err NotAReply) ≡ Ok (Whole (reply.Number n))
 chosen alone spaces value n p q r small = rw (p, q, r, le-leb n MAX_64 small) refl
 
 -- a word of digits is read as its number
@@ -171,9 +173,10 @@ number_read word n some h value small =
     let first = alone word (none_of_digits 32 refl word h) in
     let left : drop (length (first_word word)) word ≡ [] = ap (λ w. drop (length w) word) first ∙ drop_whole word in
     let digits : has_digits_alone (first_word word) ≡ true =
-      ap has_digits_alone first ∙ both (not (length word == 0)) (are_digits word) (some_length (length word) some) h in
+    ap has_digits_alone first ∙ both (not (length word == 0)) (are_digits word) (some_length (length word) some) h in
     let number : digits_value 10 (first_word word) ≡ n = ap (digits_value 10) first ∙ value in
-    chosen (has_digits_alone (first_word word)) (drop (length (first_word word)) word) (digits_value 10 (first_word word)) n digits left number small
+    chosen (has_digits_alone (first_word word)) (drop (length (first_word word)) word) (digits_value 10 (first_word word)) n digits left
+    number small
 
 -- what others say where the verb counts
 counts : (verb : Verb) (key : Word) (text : List ℕ) → is_legal verb class.Number ≡ true → others_say verb key text ≡ number_says text
@@ -182,11 +185,12 @@ counts verb key text legal =
     ap (λ b. cond b (number_says text) (cond (is_legal verb class.Hit) (hit_says verb key (words_of text)) (Err NotAReply))) legal
 
 -- a text that is neither a reply of one word nor an error
-other_text : (verb : Verb) (key : Word) (text : List ℕ) → reply_of_word text ≡ None → error_of text ≡ None → text_says verb key text ≡ others_say verb key text
+pub other_text : (verb : Verb) (key : Word) (text : List ℕ) → reply_of_word text ≡ None → error_of text ≡ None
+    → text_says verb key text ≡ others_say verb key text
 unfolding text_says
 other_text verb key text p q = ap (says_after_word verb key text) p ∙ ap (says_after_words verb key text) q
 
-number : (verb : Verb) (key : Word) (n : ℕ) → n ≤ MAX_64 → is_fit_for verb (reply.Number n) ≡ true
+pub number : (verb : Verb) (key : Word) (n : ℕ) → n ≤ MAX_64 → is_fit_for verb (reply.Number n) ≡ true
     → Spells verb key (reply_text key (reply.Number n)) (reply.Number n)
 number verb key n small fit =
     let below : n < 2 ^ 64 = omega arith in
@@ -196,10 +200,10 @@ number verb key n small fit =
     let short : length word ≤ 20 = length-decimal-le 20 n (omega arith) (omega arith) below in
     let long = length-append word (CR ∷ []) in
     let says : line_says verb key (word ++ CR ∷ []) ≡ Ok (Whole (reply.Number n)) =
-      ap (says_of_text verb key) (text_is word CR)
-      ∙ other_text verb key word (digits_no_reply word some are) (digits_no_error word some are)
-      ∙ counts verb key word (legal_of verb (reply.Number n) fit)
-      ∙ number_read word n some are (digits_value-decimal digits n below) small in
+    ap (says_of_text verb key) (text_is word CR)
+    ∙ other_text verb key word (digits_no_reply word some are) (digits_no_error word some are)
+    ∙ counts verb key word (legal_of verb (reply.Number n) fit)
+    ∙ number_read word n some are (digits_value-decimal digits n below) small in
     let unended : has_end (word ++ CR ∷ []) ≡ false =
-      has_end-append word (CR ∷ []) ∙ neither_has (has_end word) (has_end (CR ∷ [])) (none_of_digits 10 refl word are) refl in
+    has_end-append word (CR ∷ []) ∙ neither_has (has_end word) (has_end (CR ∷ [])) (none_of_digits 10 refl word are) refl in
     one_line (word ++ CR ∷ []) (record { one = unended; short = omega arith }) says (sym (append_assoc word (CR ∷ []) (LF ∷ [])))
