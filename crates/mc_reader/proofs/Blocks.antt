@@ -92,7 +92,7 @@ pub end_fails : (hit : Reply) (line : List ℕ) (fault : ReadFault) → end_faul
     → Err fault ≡ end_says hit line
 end_fails hit line fault e = sym (ap (outcome_after hit) e)
 
-not_true : (b : Bool) → (b ≡ true → ⊥) → b ≡ false
+pub not_true : (b : Bool) → (b ≡ true → ⊥) → b ≡ false
 not_true true h = absurd (h refl)
 not_true false h = refl
 

@@ -8,11 +8,11 @@ use Rattle.mc_reader.specs.declared.fault.ReadFault.TheVariants.{LineTooLong}
 use Rattle.mc_reader.specs.declared.limits.TheConstants.{LINE_LIMIT}
 use Rattle.mc_reader.proofs.LineEnds.{has_end-append}
 
-neither_has : (a b : Bool) → a ≡ false → b ≡ false → (a || b) ≡ false
+pub neither_has : (a b : Bool) → a ≡ false → b ≡ false → (a || b) ≡ false
 neither_has true b p q = absurd (cc)
 neither_has false b p q = q
 
-none_joined : (a b : List ℕ) → has_end a ≡ false → has_end b ≡ false → has_end (a ++ b) ≡ false
+pub none_joined : (a b : List ℕ) → has_end a ≡ false → has_end b ≡ false → has_end (a ++ b) ≡ false
 none_joined a b p q = has_end-append a b ∙ neither_has (has_end a) (has_end b) p q
 
 -- a line that isn't ended grows by a piece with no LF that has room

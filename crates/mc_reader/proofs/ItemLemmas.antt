@@ -43,7 +43,7 @@ one_fails : (a b : Bool) → b ≡ false → (a && b) ≡ false
 one_fails true b e = e
 one_fails false b e = refl
 
-first_fails : (a b : Bool) → a ≡ false → (a && b) ≡ false
+pub first_fails : (a b : Bool) → a ≡ false → (a && b) ≡ false
 first_fails true b e = absurd (cc)
 first_fails false b e = refl
 

@@ -11,3 +11,6 @@ mod StepLemmas
 mod TextLemmas
 mod Unfinished
 mod Unique
+mod Written
+mod WrittenHits
+mod WrittenLines

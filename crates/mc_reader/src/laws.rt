@@ -12,3 +12,8 @@ pub fn one_reply()
 pub fn spelled_replies_fit()
     ensures { law.SpelledRepliesFit }
 {}
+
+/// What `mc_protocol` renders for a reply that fits is read as that reply, for a key as requests have it.
+pub fn written_is_spelled()
+    ensures { law.WrittenIsSpelled }
+{}

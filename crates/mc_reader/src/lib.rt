@@ -22,7 +22,7 @@ mod step;
 mod words;
 
 pub use fault::{ErrorKind, ReadFault};
-pub use laws::{one_reply, spelled_replies_fit};
+pub use laws::{one_reply, spelled_replies_fit, written_is_spelled};
 pub use limits::{LINE_LIMIT, NUMBER_SPACES_LIMIT};
 pub use reader::{Fed, ReplyReader};
 pub use shape::Shape;
