@@ -11,7 +11,7 @@ pub record StreamState : Type 0 where
 abbrev pub CanFail : StreamState → Type 0
 CanFail state = state.failures + 1 < 2 ^ 64
 
--- bytes that are told grow by these, and those that are not told stay so
+-- bytes that the stream tells grow by these; what it does not tell stays untold
 abbrev pub Grows : Option (List ℕ) → Option (List ℕ) → List ℕ → Type 0
 Grows None None bytes = Unit {0}
 Grows (Some before) (Some after) bytes = after ≡ before ++ bytes
