@@ -109,7 +109,12 @@ static ROWS: [Row; 5] = [
         "unexplained",
     ),
     // no turns to search in
-    (&[(P, Begin), (P, NotFound), (P, Begin), (P, Stored)], 0, 0, "undecided"),
+    (
+        &[(P, Begin), (P, NotFound), (P, Begin), (P, Stored)],
+        0,
+        0,
+        "undecided",
+    ),
 ];
 
 #[test]
