@@ -1,7 +1,9 @@
 //! A reader of memcached's replies, which come in pieces of any length (`protocol.txt`, the classic text protocol).
 //!
-//! Below it stands `mc_protocol`. What a reply is stands in `specs/Replies.antt`, by cases on whole texts: the texts that spell
-//! a reply, and the shortest texts at which it fails; what a line says stands in `specs/Lines.antt` and `specs/Words.antt`.
+//! Below it stand `mc_protocol`, and `memchr` for the search of a byte. What a reply is stands in `specs/Replies.antt`, by
+//! cases on whole texts: the texts that spell a reply, and the shortest texts at which it fails; what a line says stands in
+//! `specs/Lines.antt` and `specs/Words.antt`. Its laws: a text has one outcome and no proper prefix with one, what is spelled
+//! fits its request, and what `mc_protocol` renders for a reply is read as that reply.
 //! The crates above use the one contract of [`ReplyReader::feed`]: its answer rests on the joined bytes that were fed since
 //! the reader was made, and not on how they were cut.
 #![tactic(auto)]
