@@ -1,3 +1,4 @@
 pub mod Carried
 pub mod Pieces
 pub mod Received
+pub mod WholeReplies

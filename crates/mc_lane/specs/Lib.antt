@@ -1,4 +1,5 @@
 pub mod Lanes
+pub mod Laws
 pub mod MemoryStreams
 pub mod Receiving
 pub mod Sending

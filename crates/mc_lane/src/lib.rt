@@ -8,6 +8,7 @@
 #![tactic(auto)]
 
 mod lane;
+mod laws;
 mod memory_stream;
 mod receiving;
 mod sending;
@@ -16,6 +17,7 @@ mod traffic;
 mod wire;
 
 pub use lane::Lane;
+pub use laws::whole_reply_is_answered;
 pub use memory_stream::MemoryStream;
 pub use stream::{Broken, Stream};
 pub use wire::Wire;
