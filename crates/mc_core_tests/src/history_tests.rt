@@ -5,14 +5,20 @@ use crate::given::{Step, checked, events};
 use crate::scripts::{COUNTER, LONE_BRANCH};
 use mc_core::{Ending, drive};
 use mc_explain::{Verdict, judge, print_explanation};
-use mc_protocol::Actor::*;
 use mc_model::History;
+use mc_protocol::Actor::*;
 use mc_protocol::{Fault, OutOfMemory};
 use std::alloc::Global;
 use std::test::Fail;
 
 /// A script, steps, how many of them are refused, how P, A and B stand then, and the lines of the explanation of the history.
-type Row = (&'static [u8], &'static [Step], u64, [Ending; 3], &'static str);
+type Row = (
+    &'static [u8],
+    &'static [Step],
+    u64,
+    [Ending; 3],
+    &'static str,
+);
 
 static ROWS: [Row; 7] = [
     // an event of A before P is done, one after A failed, and a reply that no increment has
@@ -56,33 +62,63 @@ static ROWS: [Row; 7] = [
         "P 0\nP 1\nA 2\nB 3\n",
     ),
     // nothing
-    (COUNTER, &[], 0, [Ending::Running, Ending::NotBegun, Ending::NotBegun], ""),
+    (
+        COUNTER,
+        &[],
+        0,
+        [Ending::Running, Ending::NotBegun, Ending::NotBegun],
+        "",
+    ),
     // P fails before its first call, between its calls, and while the second one waits
     (
         COUNTER,
         &[(P, Fail(Fault::WriteFailed)), (A, Begin)],
         1,
-        [Ending::Failed(Fault::WriteFailed), Ending::NotBegun, Ending::NotBegun],
+        [
+            Ending::Failed(Fault::WriteFailed),
+            Ending::NotBegun,
+            Ending::NotBegun,
+        ],
         "",
     ),
     (
         COUNTER,
         &[(P, Begin), (P, NotFound), (P, Fail(Fault::Closed))],
         0,
-        [Ending::Failed(Fault::Closed), Ending::NotBegun, Ending::NotBegun],
+        [
+            Ending::Failed(Fault::Closed),
+            Ending::NotBegun,
+            Ending::NotBegun,
+        ],
         "P 0\n",
     ),
     (
         COUNTER,
-        &[(P, Begin), (P, NotFound), (P, Begin), (P, Fail(Fault::ReadFailed)), (P, Stored)],
+        &[
+            (P, Begin),
+            (P, NotFound),
+            (P, Begin),
+            (P, Fail(Fault::ReadFailed)),
+            (P, Stored),
+        ],
         1,
-        [Ending::Failed(Fault::ReadFailed), Ending::NotBegun, Ending::NotBegun],
+        [
+            Ending::Failed(Fault::ReadFailed),
+            Ending::NotBegun,
+            Ending::NotBegun,
+        ],
         "P 0\n",
     ),
     // a branch without a call is done when P is
     (
         LONE_BRANCH,
-        &[(P, Begin), (P, NotFound), (P, Begin), (P, Stored), (B, Begin)],
+        &[
+            (P, Begin),
+            (P, NotFound),
+            (P, Begin),
+            (P, Stored),
+            (B, Begin),
+        ],
         1,
         [Ending::Done, Ending::Running, Ending::Done],
         "P 0\nP 1\n",
@@ -90,11 +126,7 @@ static ROWS: [Row; 7] = [
 ];
 
 /// What came of the steps: how many were refused, how the sections stand, and what the history is judged to be.
-fn seen(
-    alloc: Global,
-    script: &[u8],
-    steps: &[Step],
-) -> Result<(u64, [Ending; 3], Vec<u8>), Fail> {
+fn seen(alloc: Global, script: &[u8], steps: &[Step]) -> Result<(u64, [Ending; 3], Vec<u8>), Fail> {
     let code = checked(alloc, script)?;
     let (world, skipped) = drive(alloc, &code, events(alloc, steps)?)?;
     let endings = [world.ending(P), world.ending(A), world.ending(B)];

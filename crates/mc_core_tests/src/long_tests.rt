@@ -5,9 +5,8 @@ use crate::given::{Step, events, sound};
 use mc_code::decode;
 use mc_core::{Ending, drive};
 use mc_explain::{Verdict, judge};
-use mc_protocol::Actor;
 use mc_protocol::Actor::*;
-use mc_protocol::OutOfMemory;
+use mc_protocol::{Actor, OutOfMemory};
 use mc_verify::Checked;
 use std::alloc::Global;
 use std::test::Fail;
@@ -30,9 +29,13 @@ fn image(alloc: Global) -> Result<Vec<u8>, OutOfMemory> {
         for call in 0..24u8 {
             let after = call + 1;
             if section == 0 && call == 0 {
-                image.extend_from_slice(&[0, 0, 255, 255, 255, after, 255, 255, after, 255, 255, 255])?;
+                image.extend_from_slice(&[
+                    0, 0, 255, 255, 255, after, 255, 255, after, 255, 255, 255,
+                ])?;
             } else {
-                image.extend_from_slice(&[0, 1, 255, 255, 255, 255, after, after, 255, 255, 255, 255])?;
+                image.extend_from_slice(&[
+                    0, 1, 255, 255, 255, 255, after, after, 255, 255, 255, 255,
+                ])?;
             }
         }
         image.push(3)?;
@@ -86,12 +89,22 @@ fn seen(alloc: Global, code: &Checked, merge: usize) -> Result<Seen, OutOfMemory
     ];
     let (verdict, turns) = judge(alloc, &history, 1_000)?;
     let is_explained = matches!(verdict, Verdict::Explained(_));
-    Ok((skipped, endings, world.notes().len(), sent, is_explained, turns))
+    Ok((
+        skipped,
+        endings,
+        world.notes().len(),
+        sent,
+        is_explained,
+        turns,
+    ))
 }
 
 #[test]
 fn goes_to_its_end_in_every_merge(rt: HostRuntime) -> Result<(), Fail> {
-    let code = sound(rt.alloc(), decode(rt.alloc(), image(rt.alloc())?.as_slice())?)?;
+    let code = sound(
+        rt.alloc(),
+        decode(rt.alloc(), image(rt.alloc())?.as_slice())?,
+    )?;
     for merge in 0..4 {
         let found = seen(rt.alloc(), &code, merge)?;
         let expected = (0, [Ending::Done; 3], 6 * CALLS, [CALLS; 3], true, 72);

@@ -33,7 +33,11 @@ static ROWS: &[Row] = &[
     (&[(P, Begin)], (A, Begin), Some(NotYet)),
     // between P's calls
     (&[(P, Begin), (P, NotFound)], (P, Begin), None),
-    (&[(P, Begin), (P, NotFound)], (P, NotFound), Some(NotWaiting)),
+    (
+        &[(P, Begin), (P, NotFound)],
+        (P, NotFound),
+        Some(NotWaiting),
+    ),
     (&[(P, Begin), (P, NotFound)], (B, Begin), Some(NotYet)),
     // P is done
     (DONE, (P, Begin), Some(Over)),
@@ -44,10 +48,26 @@ static ROWS: &[Row] = &[
     (DONE, (B, Fail(Fault::Closed)), None),
     // P failed, with a call that waits, and without one
     (&[(P, Fail(Fault::Ended))], (P, Begin), Some(Over)),
-    (&[(P, Begin), (P, Fail(Fault::Ended))], (P, Begin), Some(Over)),
-    (&[(P, Begin), (P, Fail(Fault::Ended))], (P, Stored), Some(Over)),
-    (&[(P, Begin), (P, Fail(Fault::Ended))], (P, Fail(Fault::Ended)), Some(Over)),
-    (&[(P, Begin), (P, Fail(Fault::Ended))], (A, Begin), Some(NotYet)),
+    (
+        &[(P, Begin), (P, Fail(Fault::Ended))],
+        (P, Begin),
+        Some(Over),
+    ),
+    (
+        &[(P, Begin), (P, Fail(Fault::Ended))],
+        (P, Stored),
+        Some(Over),
+    ),
+    (
+        &[(P, Begin), (P, Fail(Fault::Ended))],
+        (P, Fail(Fault::Ended)),
+        Some(Over),
+    ),
+    (
+        &[(P, Begin), (P, Fail(Fault::Ended))],
+        (A, Begin),
+        Some(NotYet),
+    ),
 ];
 
 /// What is against an event after these steps, of which none is refused.
