@@ -1,5 +1,5 @@
 -- In every merge the calls of a right world find the flags as they need them.
-use Rattle.std.proofs.Common.{◌≡◌, ◌⊎◌, inl, inr, Option, Some, None, List, [], ◌∷◌, ◌++◌, map, refl, ap, sym, subst, ◌∙◌}
+use Rattle.std.proofs.Common.{◌≡◌, ◌⊎◌, inl, inr, List, [], ◌∷◌, ◌++◌, map, refl, ap, sym, subst, ◌∙◌}
 use Rattle.std.specs.Option.{option_to_list}
 use Rattle.std.proofs.lemmas.List.{append-nil}
 use Rattle.mc_protocol.specs.Merge.{IsMerge}
@@ -12,17 +12,16 @@ use Rattle.mc_code.specs.Code.{Code, instructions_in}
 use Rattle.mc_code.specs.Paths.{IsComplete}
 use Rattle.mc_code.specs.Paths as path
 use Rattle.mc_code.specs.RunLaws.{edges_of}
-use Rattle.mc_code.specs.declared.instr.Call.{Call}
 use Rattle.mc_code.proofs.RunLemmas.{ends_complete}
 use Rattle.mc_verify.specs.Faults.{IsSound}
 use Rattle.mc_verify.specs.Flags.{IsAdmitted, all_clear}
 use Rattle.mc_verify.specs.Laws.{MaySend}
 use Rattle.mc_verify.proofs.Sent.{sent_admitted}
-use Rattle.mc_core.specs.Logs.{call_of, answered_in, new_log, IsRightLog}
-use Rattle.mc_core.specs.Safety.{sent_by, answered_by, AreSentBy, AreAdmitted}
-use Rattle.mc_core.specs.Worlds.{World, log_of, exchanges_of, IsBegun, IsDone}
+use Rattle.mc_core.specs.Logs.{call_of, answered_in, new_log}
+use Rattle.mc_core.specs.Safety.{AreSentBy, AreAdmitted}
+use Rattle.mc_core.specs.Worlds.{World, log_of, exchanges_of, IsDone}
 use Rattle.mc_core.proofs.Sending.{sent_in, answered_sent, all_sent, templates_exchanged}
-use Rattle.mc_core.proofs.StepLemmas.{IsRightIn, MayBeRight, IsRight, begun_is_right}
+use Rattle.mc_core.proofs.StepLemmas.{IsRightIn, MayBeRight, IsRight}
 
 -- a merge of nothing
 empty_merge : {xs ys zs : List Template} → IsMerge xs ys zs → xs ≡ [] → ys ≡ [] → zs ≡ []

@@ -1,9 +1,9 @@
 -- P of sound code deletes each key before it does anything else.
-use Rattle.std.proofs.Common.{◌≡◌, ◌⊎◌, inl, inr, ℕ, ◌+◌, ◌<◌, ◌≤◌, ◌==◌, Bool, true, false, ◌&&◌, Option, Some, None, List, [], ◌∷◌, ◌++◌, length, map, slice_get, slice_index_or, refl, ap, sym, subst, ◌∙◌, arith, length-append}
+use Rattle.std.proofs.Common.{◌≡◌, ◌⊎◌, inl, inr, ℕ, ◌+◌, ◌<◌, ◌≤◌, ◌==◌, Bool, true, false, ◌&&◌, Option, Some, None, List, [], ◌∷◌, ◌++◌, length, map, slice_get, refl, ap, sym, subst, ◌∙◌, arith, length-append}
 use Rattle.std.proofs.lemmas.Bool.{cases_lt, and_parts, eqb-true}
 use Rattle.std.proofs.lemmas.List.{append-nil, append_assoc, length-map}
 use Rattle.std.proofs.lemmas.Option.{get_or_from_slice_get}
-use Rattle.mc_protocol.specs.Legal.{class_of, is_legal, suits, is_fit_for}
+use Rattle.mc_protocol.specs.Legal.{class_of, is_legal, is_fit_for}
 use Rattle.mc_protocol.specs.declared.actor.Actor.TheVariants as actor
 use Rattle.mc_protocol.specs.declared.reply.Class.{Class}
 use Rattle.mc_protocol.specs.declared.reply.Class.TheVariants as class
@@ -23,7 +23,6 @@ use Rattle.mc_code.specs.declared.instr.Instr.{Instr}
 use Rattle.mc_code.specs.declared.instr.Instr.TheVariants as instr
 use Rattle.mc_code.proofs.LookUps.{some_is}
 use Rattle.mc_code.proofs.RunLemmas.{run_sends, ended_at_halt}
-use Rattle.mc_code.proofs.StepFacts.{fit_is_legal}
 use Rattle.mc_code.proofs.Stopping.{StopsAt, one_stop}
 use Rattle.mc_verify.specs.Faults.{IsSound}
 use Rattle.mc_verify.specs.Structure.{is_delete, is_delete_of, clears_at}

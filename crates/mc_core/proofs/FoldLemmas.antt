@@ -1,18 +1,14 @@
 -- Folds: one for each list of events, and the same again for the notes that they leave.
 use Rattle.std.proofs.Common.{◌≡◌, ◌⊎◌, inl, inr, ℕ, ◌+◌, List, [], ◌∷◌, ◌++◌, refl, ap, sym, subst, ◌∙◌, arith}
-use Rattle.std.proofs.lemmas.List.{append-nil, append_assoc}
 use Rattle.mc_protocol.specs.declared.actor.Actor.{Actor}
 use Rattle.mc_protocol.specs.declared.actor.Actor.TheVariants as actor
 use Rattle.mc_code.specs.Code.{Code}
-use Rattle.mc_core.specs.declared.ending.Ending.{Ending}
 use Rattle.mc_core.specs.declared.ending.Ending.TheVariants as ending
 use Rattle.mc_core.specs.declared.event.Event.{Event}
-use Rattle.mc_core.specs.declared.event.Event.TheVariants as event
 use Rattle.mc_core.specs.declared.step_refusal.StepRefusal.{StepRefusal}
 use Rattle.mc_core.specs.Laws.{FoldsRepeat, FoldsOnce, EndsOnce}
-use Rattle.mc_core.specs.Logs.{Log}
-use Rattle.mc_core.specs.Steps.{IsRefused, Follows, IsStep, IsFold, ends, steps, skips, IsWorldOf}
-use Rattle.mc_core.specs.Worlds.{World, Noted, new_world, with_note, IsBegun, IsDone, IsEnding}
+use Rattle.mc_core.specs.Steps.{IsRefused, IsStep, IsFold, ends, steps, skips, IsWorldOf}
+use Rattle.mc_core.specs.Worlds.{World, Noted, new_world}
 use Rattle.mc_core.proofs.StepLemmas.{IsRight, step_right, step_grows, step_once, never_both}
 
 -- ---- what holds along a fold

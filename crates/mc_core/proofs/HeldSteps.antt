@@ -1,23 +1,22 @@
 -- What a world holds after an event that it takes.
-use Rattle.std.proofs.Common.{◌≡◌, ◌≢◌, ◌⊎◌, inl, inr, ℕ, Option, Some, None, List, [], ◌∷◌, ◌++◌, length, refl, ap, sym, subst, ◌∙◌, arith}
-use Rattle.std.specs.List.{zip}
+use Rattle.std.proofs.Common.{◌≡◌, ◌≢◌, ◌⊎◌, inl, inr, ℕ, Option, Some, None, List, [], ◌∷◌, ◌++◌, refl, ap, sym, subst, ◌∙◌}
 use Rattle.mc_protocol.specs.Sections.{section_of}
 use Rattle.mc_protocol.specs.declared.actor.Actor.{Actor}
 use Rattle.mc_protocol.specs.declared.actor.Actor.TheVariants as actor
 use Rattle.mc_protocol.specs.declared.sections.Sections.{Sections}
 use Rattle.mc_code.specs.Code.{Code}
 use Rattle.mc_code.specs.Runs.{Exchange}
-use Rattle.mc_code.specs.Standing.{ComesTo, Leaves, no_variables}
+use Rattle.mc_code.specs.Standing.{ComesTo, Leaves}
 use Rattle.mc_code.specs.States.{Tagged, State, ended}
 use Rattle.mc_code.proofs.LookUps.{some_is}
-use Rattle.mc_machine.specs.Machine.{IsAt, StartsFrom, actor_of, numbers_of, outstanding_of}
+use Rattle.mc_machine.specs.Machine.{IsAt, StartsFrom, actor_of, numbers_of}
 use Rattle.mc_machine.specs.declared.machine.Machine.{Machine}
 use Rattle.mc_core.specs.declared.ending.Ending.{Ending}
 use Rattle.mc_core.specs.declared.ending.Ending.TheVariants as ending
 use Rattle.mc_core.specs.declared.event.Event.{Event}
 use Rattle.mc_core.specs.declared.event.Event.TheVariants as event
 use Rattle.mc_core.specs.declared.section.Section.{Section}
-use Rattle.mc_core.specs.Fields.{replies_of, waiting_in, fault_in, log_in, world_in, held_in, IsKept, EndsAs, Takes, Begins, LeavesNumbers, BranchesBegin, BranchesFollow, AllTake}
+use Rattle.mc_core.specs.Fields.{replies_of, waiting_in, fault_in, log_in, world_in, held_in, IsKept, Takes, Begins, BranchesBegin, BranchesFollow, AllTake}
 use Rattle.mc_core.specs.Held.{Held, Stands, HasMachine, IsHeldBy}
 use Rattle.mc_core.specs.Logs.{Log, new_log, exchanges_in}
 use Rattle.mc_core.specs.Steps.{IsStep, IsWorldOf}
@@ -48,14 +47,19 @@ ending_as_before c w v who (ending.Failed fault) same stands = (same.begun stand
 machine_as_before : (c : Code) (w v : World) (who : Actor) (x : Ending) (o : Option Machine) → AsBefore c w v who → HasMachine c w who x o
     → HasMachine c v who x o
 machine_as_before c w v who x o same (inl none) = inl none
-machine_as_before c w v who x o same (inr (m, begun, is, stands)) = inr (m, begun, is, record {
-  actor = stands.actor;
-  waits = stands.waits ∙ sym (ap (λ (log : Log). log.waiting) same.log_is);
-  variables = stands.variables;
-  st = stands.st;
-  begins = same.begins stands.variables stands.begins;
-  at = subst (λ xs. IsAt c m stands.variables xs stands.st) (sym (ap (exchanges_in c) same.log_is)) stands.at;
-})
+machine_as_before c w v who x o same (inr (m, begun, is, stands)) = inr (
+  m,
+  begun,
+  is,
+  record {
+    actor = stands.actor;
+    waits = stands.waits ∙ sym (ap (λ (log : Log). log.waiting) same.log_is);
+    variables = stands.variables;
+    st = stands.st;
+    begins = same.begins stands.variables stands.begins;
+    at = subst (λ xs. IsAt c m stands.variables xs stands.st) (sym (ap (exchanges_in c) same.log_is)) stands.at;
+  },
+)
 
 -- ---- the section of the event
 
@@ -134,14 +138,19 @@ pub branch_begins : (c : Code) (v : World) (who : Actor) (numbers : List ℕ) (v
     → StartsFrom c who numbers variables → BeginsIn c v who variables → IsBegun c v who → log_of v who ≡ new_log → BranchIn c v who t
 branch_begins c v who numbers variables s t begins starts begins_in begun new = record {
   stands = by_end here;
-  machine = inr (begins.m, has_begun here, begins.machine, record {
-    actor = begins.actor;
-    waits = begins.idle ∙ sym (ap (λ (log : Log). log.waiting) new);
-    variables = variables;
-    st = at.0;
-    begins = begins_in;
-    at = subst (λ xs. IsAt c begins.m variables xs at.0) (sym (ap (exchanges_in c) new)) at.1;
-  });
+  machine = inr (
+    begins.m,
+    has_begun here,
+    begins.machine,
+    record {
+      actor = begins.actor;
+      waits = begins.idle ∙ sym (ap (λ (log : Log). log.waiting) new);
+      variables = variables;
+      st = at.0;
+      begins = begins_in;
+      at = subst (λ xs. IsAt c begins.m variables xs at.0) (sym (ap (exchanges_in c) new)) at.1;
+    },
+  );
 }
   where
     at : (st : State) × IsAt c begins.m variables [] st
@@ -158,11 +167,14 @@ branch_begins c v who numbers variables s t begins starts begins_in begun new = 
     by_end (inl (is, comes)) =
         let ends = subst (λ xs. ComesTo c who variables xs at.0 ended) (sym (ap (exchanges_in c) new))
         (subst (λ a. ComesTo c a variables [] at.0 ended) begins.actor comes) in
-        subst (IsEnding c v who) (sym is) (begun, (
-          ap (λ (log : Log). log.fault) new,
-          ap (λ (log : Log). log.waiting) new,
-          (variables, at.0, begins_in, ends),
-        ))
+        subst (IsEnding c v who) (sym is) (
+          begun,
+          (
+            ap (λ (log : Log). log.fault) new,
+            ap (λ (log : Log). log.waiting) new,
+            (variables, at.0, begins_in, ends),
+          ),
+        )
     by_end (inr (is, goes_on)) = subst (IsEnding c v who) (sym is) (begun, ap (λ (log : Log). log.fault) new, not_done)
       where
         not_done : IsDone c v who → ⊥

@@ -1,24 +1,20 @@
 -- What is recorded of a fold keeps the rules of a history.
-use Rattle.std.proofs.Common.{◌≡◌, ◌⊎◌, inl, inr, ℕ, ◌+◌, ◌<◌, ◌≤◌, nat_le, Bool, true, false, not, ◌&&◌, ◌||◌, Option, Some, None, is_some, List, [], ◌∷◌, ◌++◌, length, map, slice_index_or, refl, ap, ap₂, sym, subst, ◌∙◌, arith, length-append, if◌then◌else◌}
-use Rattle.std.specs.FinSet as set
-use Rattle.std.specs.List.{list_all}
+use Rattle.std.proofs.Common.{◌≡◌, ◌⊎◌, inl, inr, ℕ, ◌<◌, ◌≤◌, nat_le, Bool, true, false, not, ◌&&◌, ◌||◌, Option, Some, None, List, [], ◌∷◌, ◌++◌, length, map, slice_index_or, refl, ap, ap₂, sym, subst, ◌∙◌, arith, length-append}
 use Rattle.std.specs.Option.{option_to_list}
 use Rattle.std.proofs.lemmas.Bool.{cases_lt, and_parts, leb-true}
-use Rattle.std.proofs.lemmas.List.{append-nil, append_assoc, length-map, map-append, get_or_at}
+use Rattle.std.proofs.lemmas.List.{append-nil, length-map, map-append, get_or_at}
 use Rattle.mc_protocol.specs.Legal.{is_fit_for}
 use Rattle.mc_protocol.specs.declared.actor.Actor.{Actor}
 use Rattle.mc_protocol.specs.declared.actor.Actor.TheVariants as actor
 use Rattle.mc_protocol.specs.declared.fault.Fault.{Fault}
 use Rattle.mc_protocol.specs.declared.limits.TheConstants.{KEYS_LIMIT, REQUESTS_LIMIT}
 use Rattle.mc_protocol.specs.declared.reply.Reply.{Reply}
-use Rattle.mc_script.specs.declared.step.Template.{Template}
 use Rattle.mc_code.specs.Calls.{IsCalling, exchange_of, template_of}
 use Rattle.mc_code.specs.Code.{Code, IsCode}
-use Rattle.mc_code.specs.Runs.{Exchange}
-use Rattle.mc_code.specs.Standing.{ComesTo, no_variables}
+use Rattle.mc_code.specs.Standing.{ComesTo}
 use Rattle.mc_code.specs.States.{Tagged, ended}
 use Rattle.mc_code.specs.declared.instr.Call.{Call}
-use Rattle.mc_model.specs.History.{has_words, has_key, is_delete, are_answered, is_none_sent, comes_late, is_history, fault_at, is_seen, key_count, is_answered_rightly}
+use Rattle.mc_model.specs.History.{has_words, has_key, is_delete, are_answered, is_none_sent, is_history, fault_at, is_seen, key_count}
 use Rattle.mc_model.specs.Next as next
 use Rattle.mc_model.specs.Notes as recorded
 use Rattle.mc_model.specs.Notes.{is_record, fault_of, sections_in}
@@ -26,25 +22,25 @@ use Rattle.mc_model.specs.Sections.{Sections, section_of}
 use Rattle.mc_model.specs.declared.note.Note.TheVariants as note
 use Rattle.mc_model.specs.declared.sent.Sent.{Sent}
 use Rattle.mc_model.proofs.Answering.{last_of-push}
-use Rattle.mc_model.proofs.Faults.{fault_by_tests, first_failed}
+use Rattle.mc_model.proofs.Faults.{fault_by_tests}
 use Rattle.mc_model.proofs.NoteFaults.{fault_by_sections, record_push, record_parts, nothing_noted}
 use Rattle.mc_verify.specs.Faults.{IsSound}
 use Rattle.mc_core.specs.declared.event.Event.{Event}
 use Rattle.mc_core.specs.declared.event.Event.TheVariants as event
 use Rattle.mc_core.specs.declared.step_refusal.StepRefusal.TheVariants as refusal
-use Rattle.mc_core.specs.Histories.{begin_count, call_after, no_call, record_of, recorded_after, sent_of, unanswered, sent_in, sections_of}
-use Rattle.mc_core.specs.Laws.{FoldsAreRecorded, IsRecorded}
-use Rattle.mc_core.specs.Logs.{Log, new_log, call_of, calls_in, exchanges_in, request_of, with_call, with_reply, with_fault, IsRightLog}
-use Rattle.mc_core.specs.Steps.{Follows, IsNext, IsStep, IsFold, Waits}
-use Rattle.mc_core.specs.Worlds.{World, Noted, new_world, log_of, with_note, events_of, exchanges_of, BeginsIn, IsBegun, IsDone}
-use Rattle.mc_core.proofs.Clearing.{FrontClears, front_clears, done_cleared, calls_in_front, stands_in_front}
+use Rattle.mc_core.specs.Histories.{begin_count, call_after, no_call, record_of, sent_of, unanswered, sent_in, sections_of}
+use Rattle.mc_core.specs.Laws.{FoldsAreRecorded}
+use Rattle.mc_core.specs.Logs.{Log, new_log, call_of, calls_in, request_of, with_call, with_reply, with_fault, IsRightLog}
+use Rattle.mc_core.specs.Steps.{Follows, IsNext, IsStep}
+use Rattle.mc_core.specs.Worlds.{World, log_of, with_note, events_of, exchanges_of, BeginsIn, IsBegun, IsDone}
+use Rattle.mc_core.proofs.Clearing.{front_clears, done_cleared, calls_in_front, stands_in_front}
 use Rattle.mc_core.proofs.FoldLemmas.{kept_along, new_is_right}
 use Rattle.mc_core.proofs.NextRequest.{request_words, key_there, few_keys, call_made}
 use Rattle.mc_core.proofs.NotedEvents.{AreNoted, noted_step, new_is_noted}
 use Rattle.mc_core.proofs.Recorded.{GrowsTo, record_grown, sections_recorded, begun_all}
 use Rattle.mc_core.proofs.Safe.{few_calls}
 use Rattle.mc_core.proofs.SeenNumbers.{next_seen}
-use Rattle.mc_core.proofs.StepLemmas.{IsRightIn, MayBeRight, IsRight, begun_is_right, step_right, still_new, begins_once}
+use Rattle.mc_core.proofs.StepLemmas.{IsRightIn, IsRight, begun_is_right, step_right, still_new}
 
 -- ---- sections
 

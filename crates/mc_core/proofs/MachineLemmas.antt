@@ -1,5 +1,5 @@
 -- Where machines stand.
-use Rattle.std.proofs.Common.{List, [], ◌∷◌, ◌++◌}
+use Rattle.std.proofs.Common.{[], ◌∷◌, ◌++◌}
 use Rattle.mc_protocol.specs.declared.reply.Reply.{Reply}
 use Rattle.mc_code.specs.Calls.{exchange_of}
 use Rattle.mc_code.specs.Code.{Code}

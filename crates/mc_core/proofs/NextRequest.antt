@@ -1,13 +1,11 @@
 -- The next call of a section of a right world is a request that its history may have.
-use Rattle.std.proofs.Common.{◌≡◌, ◌≢◌, ◌⊎◌, inl, inr, ℕ, zero, suc, ◌+◌, ◌<◌, ◌≤◌, ◌==◌, nat_le, Bool, true, false, not, cond, ◌&&◌, ◌||◌, bytes_eq, Option, Some, None, is_some, List, [], ◌∷◌, ◌++◌, length, map, replicate, slice_get, slice_index_or, refl, ap, ap₂, sym, subst, ◌∙◌, arith, length-append, if◌then◌else◌}
+use Rattle.std.proofs.Common.{◌≡◌, ◌⊎◌, inl, inr, ℕ, ◌+◌, ◌<◌, ◌≤◌, ◌==◌, nat_le, Bool, true, false, cond, ◌&&◌, ◌||◌, bytes_eq, Some, List, [], ◌∷◌, ◌++◌, length, map, slice_get, slice_index_or, refl, ap, sym, subst, ◌∙◌, arith}
 use Rattle.std.specs.FinSet as set
 use Rattle.std.specs.Ordering.{nat_cmp}
 use Rattle.std.specs.Cmp.Lexicographic.{slice_cmp}
-use Rattle.std.specs.List.{All, AllPass, list_all, list_any}
-use Rattle.std.specs.Option.{option_to_list}
-use Rattle.std.proofs.lemmas.Bool.{cases_lt, cases_eq, and_parts, and_from, eqb-true, leb-true, le-leb}
+use Rattle.std.specs.List.{AllPass, list_all, list_any}
+use Rattle.std.proofs.lemmas.Bool.{cases_lt, and_parts, eqb-true, leb-true, le-leb}
 use Rattle.std.proofs.lemmas.Cmp.{nat_list_cmp_total}
-use Rattle.std.proofs.lemmas.List.{append-nil, length-map}
 use Rattle.std.proofs.lemmas.List.Sums.{AllPass-from_list_all}
 use Rattle.std.proofs.lemmas.Option.{get_or_from_slice_get, slice_get_within}
 use Rattle.std.proofs.lemmas.Slice.Eq.{bytes_eq-Decides}
@@ -16,34 +14,29 @@ use Rattle.mc_protocol.specs.Fields.{fields_of}
 use Rattle.mc_protocol.specs.Names.{is_name, is_key}
 use Rattle.mc_protocol.specs.declared.limits.TheConstants.{KEYS_LIMIT, KEY_BYTES_LIMIT, REPLY_BODY_LIMIT, SCRIPT_BODY_LIMIT}
 use Rattle.mc_protocol.specs.declared.actor.Actor.{Actor}
-use Rattle.mc_protocol.specs.declared.actor.Actor.TheVariants as actor
 use Rattle.mc_protocol.specs.declared.reply.Reply.{Reply}
-use Rattle.mc_protocol.specs.declared.reply.Reply.TheVariants as reply
 use Rattle.mc_protocol.specs.declared.request.Fields.{Fields}
 use Rattle.mc_protocol.specs.declared.request.Fields.TheVariants as fields
 use Rattle.mc_protocol.specs.declared.request.Verb.{Verb}
-use Rattle.mc_protocol.specs.declared.request.Verb.TheVariants as verb
 use Rattle.mc_script.specs.ScriptWords.{is_body, are_body_bytes}
 use Rattle.mc_script.specs.Templates.{is_nothing, is_variable, is_amount, has_fields, IsTemplate}
 use Rattle.mc_script.specs.declared.step.Argument.{Argument}
 use Rattle.mc_script.specs.declared.step.Argument.TheVariants as argument
 use Rattle.mc_script.specs.declared.step.Template.{Template}
-use Rattle.mc_code.specs.Calls.{IsCalling, MakesAll, exchange_of, template_of, no_template}
-use Rattle.mc_code.specs.Code.{Code, IsCode, instructions_in}
-use Rattle.mc_code.specs.NumberLaws.{Shows, IsShownIn, Holds}
+use Rattle.mc_code.specs.Calls.{IsCalling, exchange_of, template_of, no_template}
+use Rattle.mc_code.specs.Code.{Code, IsCode}
+use Rattle.mc_code.specs.NumberLaws.{Shows, IsShownIn}
 use Rattle.mc_code.specs.Runs.{Exchange, met_at, met_by_send}
-use Rattle.mc_code.specs.Standing.{BeginsAfter, Leaves, no_variables}
-use Rattle.mc_code.specs.States.{Tagged, nothing, State, initial_state, call, wrong_kind, call_with, with_argument, send_outcome, wanted_by, is_same}
+use Rattle.mc_code.specs.States.{Tagged, State, call, with_argument, send_outcome}
 use Rattle.mc_code.specs.declared.instr.Call.{Call}
-use Rattle.mc_code.specs.declared.kind.Kind.TheVariants as kind
 use Rattle.mc_code.proofs.LookUps.{some_is}
 use Rattle.mc_code.proofs.StandingLemmas.{template_is}
-use Rattle.mc_model.specs.History.{has_words, lacks_the_others, has_its_fields, is_on, has_key, is_cas, shows, shows_number, is_gets, is_seen, are_answered, key_count}
+use Rattle.mc_model.specs.History.{has_words, lacks_the_others, has_key, shows, shows_number, is_gets}
 use Rattle.mc_model.specs.declared.sent.Sent.{Sent}
 use Rattle.mc_model.proofs.Keys.{key_set}
-use Rattle.mc_core.specs.Histories.{sent_of, unanswered, sent_in}
-use Rattle.mc_core.specs.Logs.{Log, request_of}
-use Rattle.mc_core.proofs.Clearing.{FrontClears, IsClearing}
+use Rattle.mc_core.specs.Histories.{sent_of}
+use Rattle.mc_core.specs.Logs.{request_of}
+use Rattle.mc_core.proofs.Clearing.{FrontClears}
 
 -- ---- words
 

@@ -1,5 +1,5 @@
 -- What an event does to its own section: to the log that the fields say, how it stands, and where its machine stands.
-use Rattle.std.proofs.Common.{◌≡◌, ◌≢◌, ◌⊎◌, inl, inr, ℕ, true, Option, Some, None, List, [], ◌∷◌, ◌++◌, length, map, slice_get, refl, ap, sym, subst, ◌∙◌, arith}
+use Rattle.std.proofs.Common.{◌≡◌, ◌≢◌, ◌⊎◌, inl, inr, ℕ, true, Option, Some, None, List, [], ◌∷◌, ◌++◌, length, slice_get, refl, ap, sym, subst, ◌∙◌, arith}
 use Rattle.std.specs.List.{zip, flat_map}
 use Rattle.std.proofs.lemmas.List.{append-nil, map-append}
 use Rattle.std.proofs.lemmas.List.Concat.{flat_map-append}
@@ -11,25 +11,23 @@ use Rattle.mc_code.specs.Calls.{IsCalling, exchange_of}
 use Rattle.mc_code.specs.Code.{Code, instructions_in}
 use Rattle.mc_code.specs.Paths.{Slides}
 use Rattle.mc_code.specs.Runs.{Exchange}
-use Rattle.mc_code.specs.Standing.{ComesTo, StandsAt}
+use Rattle.mc_code.specs.Standing.{ComesTo}
 use Rattle.mc_code.specs.States.{Tagged, State, ended}
 use Rattle.mc_code.specs.declared.instr.Call.{Call}
 use Rattle.mc_code.specs.declared.instr.Instr.{Instr}
 use Rattle.mc_code.specs.declared.instr.Instr.TheVariants as instr
-use Rattle.mc_code.proofs.LookUps.{some_is}
 use Rattle.mc_code.proofs.RunLemmas.{ended_at_halt}
 use Rattle.mc_code.proofs.Stopping.{StopsAt, one_stop}
-use Rattle.mc_machine.specs.Machine.{IsAt, actor_of, outstanding_of, waits_at}
+use Rattle.mc_machine.specs.Machine.{IsAt, actor_of, waits_at}
 use Rattle.mc_machine.specs.declared.machine.Machine.{Machine}
-use Rattle.mc_core.specs.declared.ending.Ending.{Ending}
 use Rattle.mc_core.specs.declared.ending.Ending.TheVariants as ending
 use Rattle.mc_core.specs.declared.event.Event.{Event}
 use Rattle.mc_core.specs.declared.event.Event.TheVariants as event
 use Rattle.mc_core.specs.declared.section.Section.{Section}
-use Rattle.mc_core.specs.Fields.{reply_in, replies_of, waiting_in, fault_in, log_in, IsKept, MakesNext, EndsAs, TakesReply, SameCalls}
+use Rattle.mc_core.specs.Fields.{reply_in, replies_of, waiting_in, fault_in, log_in, MakesNext, EndsAs, TakesReply, SameCalls}
 use Rattle.mc_core.specs.Held.{Stands, HasMachine}
 use Rattle.mc_core.specs.Logs.{Log, exchanges_in, with_call, with_reply, with_fault}
-use Rattle.mc_core.specs.Steps.{IsNext, Follows}
+use Rattle.mc_core.specs.Steps.{Follows}
 use Rattle.mc_core.specs.Worlds.{World, Noted, log_of, with_note, event_of, events_of, exchanges_of, BeginsIn, IsBegun, IsDone, IsEnding}
 use Rattle.mc_core.proofs.StepLemmas.{begins_once}
 
@@ -143,14 +141,19 @@ own_begin c w who m n notes s t logged goes_on running makes machine calls ends 
   follows = (makes.made, (stands.variables, stands.begins, calling), refl);
   stands = λ v has. subst (IsEnding c v who) (sym still) (has.begun, faultless v has, not_done v has);
   machine = λ v has.
-      inr (n, λ e. (let clash : ending.Running ≡ ending.NotBegun = sym still ∙ e in cc), machine, record {
-        actor = is_who;
-        waits = makes.outstanding ∙ sym (ap (λ (log : Log). log.waiting) has.log_is);
-        variables = stands.variables;
-        st = stands.st;
-        begins = has.begins stands.variables stands.begins;
-        at = subst (λ xs. IsAt c n stands.variables xs stands.st) (sym (ap (exchanges_in c) has.log_is)) there;
-      });
+      inr (
+        n,
+        λ e. (let clash : ending.Running ≡ ending.NotBegun = sym still ∙ e in cc),
+        machine,
+        record {
+          actor = is_who;
+          waits = makes.outstanding ∙ sym (ap (λ (log : Log). log.waiting) has.log_is);
+          variables = stands.variables;
+          st = stands.st;
+          begins = has.begins stands.variables stands.begins;
+          at = subst (λ xs. IsAt c n stands.variables xs stands.st) (sym (ap (exchanges_in c) has.log_is)) there;
+        },
+      );
 }
   where
     stands : Stands c w who m
@@ -196,14 +199,19 @@ own_reply c w who m n made reply notes s t logged as_many goes_on takes machine 
       (no_fault here ∙ sym goes_on.running.1);
   follows = (made, sym stands.waits ∙ takes.waits, refl);
   stands = λ v has. by_end v has here;
-  machine = λ v has. inr (n, has_begun here, machine, record {
-    actor = is_who;
-    waits = takes.idle ∙ sym (ap (λ (log : Log). log.waiting) has.log_is);
-    variables = stands.variables;
-    st = next.0;
-    begins = has.begins stands.variables stands.begins;
-    at = subst (λ xs. IsAt c n stands.variables xs next.0) (sym (exchanged v has)) next.1;
-  });
+  machine = λ v has. inr (
+    n,
+    has_begun here,
+    machine,
+    record {
+      actor = is_who;
+      waits = takes.idle ∙ sym (ap (λ (log : Log). log.waiting) has.log_is);
+      variables = stands.variables;
+      st = next.0;
+      begins = has.begins stands.variables stands.begins;
+      at = subst (λ xs. IsAt c n stands.variables xs next.0) (sym (exchanged v has)) next.1;
+    },
+  );
 }
   where
     stands : Stands c w who m
@@ -254,11 +262,14 @@ own_reply c w who m n made reply notes s t logged as_many goes_on takes machine 
         let at_end =
         subst (λ xs. ComesTo c who stands.variables xs next.0 ended) (sym (exchanged v has))
         (subst (λ a. ComesTo c a stands.variables after next.0 ended) is_who comes) in
-        subst (IsEnding c v who) (sym is) (has.begun, (
-          faultless v has,
-          ap (λ (log : Log). log.waiting) has.log_is,
-          (stands.variables, next.0, has.begins stands.variables stands.begins, at_end),
-        ))
+        subst (IsEnding c v who) (sym is) (
+          has.begun,
+          (
+            faultless v has,
+            ap (λ (log : Log). log.waiting) has.log_is,
+            (stands.variables, next.0, has.begins stands.variables stands.begins, at_end),
+          ),
+        )
     by_end v has (inr (is, goes_on)) = subst (IsEnding c v who) (sym is) (has.begun, faultless v has, not_done)
       where
         not_done : IsDone c v who → ⊥
@@ -289,14 +300,19 @@ own_fail c w who m fault notes s t logged goes_on has_m machine calls ends = rec
   follows = refl;
   stands = λ v has. subst (IsEnding c v who) (sym ends) (has.begun, ap (λ (log : Log). log.fault) has.log_is);
   machine = λ v has.
-      inr (m, λ e. (let clash : ending.Failed fault ≡ ending.NotBegun = sym ends ∙ e in cc), machine ∙ has_m, record {
-        actor = stands.actor;
-        waits = stands.waits ∙ sym (ap (λ (log : Log). log.waiting) has.log_is);
-        variables = stands.variables;
-        st = stands.st;
-        begins = has.begins stands.variables stands.begins;
-        at = subst (λ xs. IsAt c m stands.variables xs stands.st) (sym (ap (exchanges_in c) has.log_is)) stands.at;
-      });
+      inr (
+        m,
+        λ e. (let clash : ending.Failed fault ≡ ending.NotBegun = sym ends ∙ e in cc),
+        machine ∙ has_m,
+        record {
+          actor = stands.actor;
+          waits = stands.waits ∙ sym (ap (λ (log : Log). log.waiting) has.log_is);
+          variables = stands.variables;
+          st = stands.st;
+          begins = has.begins stands.variables stands.begins;
+          at = subst (λ xs. IsAt c m stands.variables xs stands.st) (sym (ap (exchanges_in c) has.log_is)) stands.at;
+        },
+      );
 }
   where
     stands : Stands c w who m

@@ -1,5 +1,5 @@
 -- What is recorded of a world: it spells the calls of its logs, and grows with them.
-use Rattle.std.proofs.Common.{◌≡◌, ℕ, zero, suc, ◌+◌, ◌<◌, ◌≤◌, Bool, true, false, Option, Some, None, List, [], ◌∷◌, ◌++◌, length, map, take, drop, slice_index_or, refl, ap, ap₂, sym, subst, ◌∙◌, arith, length-append, if◌then◌else◌}
+use Rattle.std.proofs.Common.{◌≡◌, ℕ, zero, suc, ◌+◌, ◌<◌, ◌≤◌, Bool, true, false, Option, Some, None, List, [], ◌∷◌, ◌++◌, length, map, take, drop, slice_index_or, refl, ap, ap₂, sym, ◌∙◌, arith, length-append, if◌then◌else◌}
 use Rattle.std.specs.List.{flat_map}
 use Rattle.std.specs.Option.{option_to_list}
 use Rattle.std.proofs.lemmas.List.{append-nil, append_assoc, map-append, length-map, take_all, drop-drop, drop_more, get_or_append_left}
@@ -8,7 +8,6 @@ use Rattle.mc_protocol.specs.declared.actor.Actor.{Actor}
 use Rattle.mc_protocol.specs.declared.actor.Actor.TheVariants as actor
 use Rattle.mc_protocol.specs.declared.fault.Fault.{Fault}
 use Rattle.mc_protocol.specs.declared.reply.Reply.{Reply}
-use Rattle.mc_protocol.specs.declared.request.Request.{Request}
 use Rattle.mc_code.specs.Code.{Code}
 use Rattle.mc_code.specs.declared.instr.Call.{Call}
 use Rattle.mc_model.specs.Notes as recorded

@@ -1,14 +1,12 @@
 -- How a world's history is recorded, note by note.
-use Rattle.std.proofs.Common.{◌≡◌, ◌≢◌, ◌⊎◌, inl, inr, ℕ, zero, suc, ◌+◌, ◌<◌, ◌≤◌, ◌^◌, Option, Some, None, List, [], ◌∷◌, ◌++◌, length, map, take, drop, slice_get, slice_index_or, refl, ap, sym, subst, ◌∙◌, arith, length-append}
+use Rattle.std.proofs.Common.{◌≡◌, ◌≢◌, ◌⊎◌, inl, inr, ℕ, zero, suc, ◌+◌, ◌<◌, ◌≤◌, ◌^◌, Option, Some, None, List, [], ◌∷◌, ◌++◌, length, map, take, drop, slice_index_or, refl, ap, sym, subst, ◌∙◌, arith}
 use Rattle.std.specs.List.{zip}
 use Rattle.std.specs.Option.{option_to_list}
 use Rattle.std.proofs.lemmas.List.{append-nil, take-append-drop, drop_more, take_more}
-use Rattle.std.proofs.lemmas.Slice.Zip.{firsts-zip}
 use Rattle.std.proofs.lemmas.Option.{slice_get_within}
 use Rattle.mc_protocol.specs.Sections.{section_of}
 use Rattle.mc_protocol.specs.declared.actor.Actor.{Actor}
 use Rattle.mc_protocol.specs.declared.actor.Actor.TheVariants as actor
-use Rattle.mc_protocol.specs.declared.limits.TheConstants.{REQUESTS_LIMIT}
 use Rattle.mc_protocol.specs.declared.reply.Reply.{Reply}
 use Rattle.mc_protocol.specs.declared.sections.Sections.{Sections}
 use Rattle.mc_code.specs.Calls.{IsCalling, MakesAll, exchange_of}
@@ -26,17 +24,17 @@ use Rattle.mc_verify.specs.Faults.{IsSound}
 use Rattle.mc_core.specs.declared.event.Event.{Event}
 use Rattle.mc_core.specs.declared.event.Event.TheVariants as event
 use Rattle.mc_core.specs.declared.section.Section.{Section}
-use Rattle.mc_core.specs.Fields.{replies_of, waiting_in, log_in, world_in, calls_of, note_in, noted_by, BeginsNamed, HaveRoom, AreBegun, CountsBegin}
+use Rattle.mc_core.specs.Fields.{replies_of, waiting_in, world_in, calls_of, note_in, noted_by, BeginsNamed, HaveRoom, AreBegun, CountsBegin}
 use Rattle.mc_core.specs.Histories.{begin_count, no_call, recorded_after, recorded_from}
-use Rattle.mc_core.specs.Logs.{Log, call_of, calls_in, exchanges_in, request_of, IsNextCall, IsRightLog}
-use Rattle.mc_core.specs.Worlds.{World, Noted, log_of, event_of, events_of}
+use Rattle.mc_core.specs.Logs.{call_of, calls_in, exchanges_in, request_of, IsNextCall}
+use Rattle.mc_core.specs.Worlds.{World, Noted, log_of, event_of}
 use Rattle.mc_core.proofs.FoldLemmas.{fold_right}
 use Rattle.mc_core.proofs.HeldSteps.{Fields}
-use Rattle.mc_core.proofs.NotedEvents.{AreNoted, fold_noted}
+use Rattle.mc_core.proofs.NotedEvents.{fold_noted}
 use Rattle.mc_core.proofs.OwnSection.{own_event}
-use Rattle.mc_core.proofs.Recorded.{begun_in, begun_more, begun_first, begun_all, from_append, count_append}
+use Rattle.mc_core.proofs.Recorded.{begun_in, begun_more, begun_first, begun_all, from_append}
 use Rattle.mc_core.proofs.Safe.{folds_within_room}
-use Rattle.mc_core.proofs.StepLemmas.{MayBeRight, IsRight}
+use Rattle.mc_core.proofs.StepLemmas.{MayBeRight}
 use Rattle.mc_core.proofs.Taking.{logged}
 
 -- ---- templates of calls

@@ -1,22 +1,19 @@
 -- A fold in sound code is safe, and within its room.
-use Rattle.std.proofs.Common.{◌≡◌, ◌⊎◌, inl, inr, ℕ, ◌<◌, ◌≤◌, ◌^◌, Bool, true, false, if◌then◌else◌, Option, Some, None, List, [], ◌∷◌, ◌++◌, length, map, slice_get, slice_index_or, refl, ap, sym, subst, ◌∙◌, arith}
-use Rattle.std.specs.List.{All, flat_map}
+use Rattle.std.proofs.Common.{◌≡◌, inl, inr, ◌<◌, ◌≤◌, ◌^◌, Bool, true, false, if◌then◌else◌, Option, Some, None, List, [], ◌∷◌, ◌++◌, length, map, slice_get, slice_index_or, refl, ap, sym, subst, ◌∙◌, arith}
+use Rattle.std.specs.List.{flat_map}
 use Rattle.std.specs.Option.{option_to_list}
-use Rattle.std.proofs.lemmas.List.{append-nil, append_assoc, length-map}
 use Rattle.std.proofs.lemmas.List.Elements.{All-head, All-tail}
 use Rattle.std.proofs.lemmas.Option.{get_or_from_slice_get}
 use Rattle.mc_protocol.specs.declared.actor.Actor.{Actor}
 use Rattle.mc_protocol.specs.declared.actor.Actor.TheVariants as actor
-use Rattle.mc_protocol.specs.declared.fault.Fault.{Fault}
 use Rattle.mc_protocol.specs.declared.limits.TheConstants.{REQUESTS_LIMIT}
 use Rattle.mc_protocol.specs.declared.reply.Reply.{Reply}
-use Rattle.mc_script.specs.declared.step.Argument.{Argument}
 use Rattle.mc_script.specs.declared.step.Template.{Template}
 use Rattle.mc_code.specs.Calls.{IsCalling, MakesAll, exchange_of, template_of, no_template}
-use Rattle.mc_code.specs.Code.{Code, IsCode, section_of}
+use Rattle.mc_code.specs.Code.{Code, section_of}
 use Rattle.mc_code.specs.Runs.{Exchange, met_at, met_by_send}
-use Rattle.mc_code.specs.Standing.{BeginsAfter, BeginsWith, Leaves}
-use Rattle.mc_code.specs.States.{Tagged, nothing, State, initial_state, call, send_outcome}
+use Rattle.mc_code.specs.Standing.{BeginsAfter, Leaves}
+use Rattle.mc_code.specs.States.{Tagged, nothing, initial_state, call, send_outcome}
 use Rattle.mc_code.specs.declared.instr.Call.{Call}
 use Rattle.mc_code.proofs.LookUps.{some_is}
 use Rattle.mc_code.proofs.MadeCalls.{calls_stand}
@@ -29,16 +26,16 @@ use Rattle.mc_verify.proofs.Right.{sound_right}
 use Rattle.mc_core.specs.declared.event.Event.{Event}
 use Rattle.mc_core.specs.declared.event.Event.TheVariants as event
 use Rattle.mc_core.specs.Laws.{FoldsAreSafe, FoldsAreWithinRoom}
-use Rattle.mc_core.specs.Logs.{Log, new_log, call_of, calls_in, events_of_pair, begin_of, events_in, exchanges_in, request_of, IsNextCall, IsRightLog}
-use Rattle.mc_core.specs.Safety.{IsSmallEvent, IsSmallNote, AreSmall, RanRight, IsRightRun, bytes_of_all, IsWithinBudget}
-use Rattle.mc_core.specs.Worlds.{World, Noted, log_of, event_of, events_of, exchanges_of, BeginsIn}
+use Rattle.mc_core.specs.Logs.{Log, call_of, calls_in, events_of_pair, begin_of, exchanges_in, IsNextCall, IsRightLog}
+use Rattle.mc_core.specs.Safety.{IsSmallEvent, IsSmallNote, AreSmall, RanRight, bytes_of_all}
+use Rattle.mc_core.specs.Worlds.{World, Noted, log_of, events_of, exchanges_of}
 use Rattle.mc_core.proofs.Admitting.{admitted}
 use Rattle.mc_core.proofs.FoldLemmas.{fold_right}
 use Rattle.mc_core.proofs.LogLemmas.{new_is_right}
 use Rattle.mc_core.proofs.NotedEvents.{AreNoted, fold_noted, few_notes, silent}
 use Rattle.mc_core.proofs.Sending.{log_within}
 use Rattle.mc_core.proofs.SmallNumbers.{IsSmallState, AreSmallExchanges, run_small, initial_small, MayHave, text_within, sent_number}
-use Rattle.mc_core.proofs.StepLemmas.{IsRightIn, MayBeRight, IsRight}
+use Rattle.mc_core.proofs.StepLemmas.{MayBeRight}
 
 -- ---- small replies
 
@@ -169,14 +166,17 @@ pub ran_right : (c : Code) (w : World) (who : Actor) → IsSound c → MayBeRigh
 ran_right c w who sound (inl new) = inl new
 ran_right c w who sound (inr right) =
     let stands = calls_stand c who right.variables (log_of w who).answered right.right.makes in
-    inr (right.variables, record {
-      begins = right.begins;
-      makes = right.right;
-      place = stands.0;
-      st = stands.1;
-      stands = stands.2;
-      right = sound_right c who right.variables (exchanges_of c w who) sound (exchanges_of c w actor.P, right.begins);
-    })
+    inr (
+      right.variables,
+      record {
+        begins = right.begins;
+        makes = right.right;
+        place = stands.0;
+        st = stands.1;
+        stands = stands.2;
+        right = sound_right c who right.variables (exchanges_of c w who) sound (exchanges_of c w actor.P, right.begins);
+      },
+    )
 
 -- ---- all of it
 

@@ -1,34 +1,31 @@
 -- The cas unique of a call was shown before it, in its own section or in P.
-use Rattle.std.proofs.Common.{◌≡◌, ◌⊎◌, inl, inr, ℕ, zero, suc, ◌==◌, nat_le, Bool, true, false, not, ◌&&◌, ◌||◌, Some, None, List, [], ◌∷◌, ◌++◌, map, replicate, slice_get, slice_index_or, refl, ap, sym, subst, ◌∙◌, if◌then◌else◌}
+use Rattle.std.proofs.Common.{◌≡◌, ◌⊎◌, inl, inr, ℕ, zero, suc, ◌==◌, nat_le, Bool, true, false, not, ◌&&◌, ◌||◌, Some, List, [], ◌∷◌, replicate, slice_get, slice_index_or, refl, ap, sym, subst, ◌∙◌, if◌then◌else◌}
 use Rattle.std.specs.List.{list_any}
 use Rattle.std.proofs.lemmas.Bool.{and_parts, eqb-true}
 use Rattle.mc_protocol.specs.Decimals.{MAX_32}
 use Rattle.mc_protocol.specs.Fields.{fields_of}
 use Rattle.mc_protocol.specs.declared.actor.Actor.{Actor}
 use Rattle.mc_protocol.specs.declared.actor.Actor.TheVariants as actor
-use Rattle.mc_protocol.specs.declared.reply.Reply.{Reply}
 use Rattle.mc_protocol.specs.declared.request.Verb.{Verb}
 use Rattle.mc_protocol.specs.declared.request.Verb.TheVariants as verb
-use Rattle.mc_script.specs.Templates.{is_nothing, is_variable, has_fields, IsTemplate}
+use Rattle.mc_script.specs.Templates.{is_variable, has_fields}
 use Rattle.mc_script.specs.ScriptWords.{is_body}
 use Rattle.mc_script.specs.declared.step.Argument.{Argument}
 use Rattle.mc_script.specs.declared.step.Argument.TheVariants as argument
 use Rattle.mc_script.specs.declared.step.Template.{Template}
-use Rattle.mc_code.specs.Calls.{IsCalling, exchange_of, template_of}
+use Rattle.mc_code.specs.Calls.{IsCalling, template_of}
 use Rattle.mc_code.specs.Code.{Code, IsCode, instructions_in}
 use Rattle.mc_code.specs.NumberLaws.{IsShownIn, Holds}
 use Rattle.mc_code.specs.Runs.{Exchange}
 use Rattle.mc_code.specs.Standing.{BeginsAfter, Leaves, StandsAt, no_variables}
-use Rattle.mc_code.specs.States.{Tagged, nothing, State, initial_state, call, wrong_kind, call_with, with_argument, send_outcome, wanted_by, is_same}
+use Rattle.mc_code.specs.States.{Tagged, nothing, State, initial_state, call, wrong_kind, call_with, with_argument, wanted_by, is_same}
 use Rattle.mc_code.specs.declared.instr.Call.{Call}
-use Rattle.mc_code.specs.declared.kind.Kind.{Kind}
 use Rattle.mc_code.specs.declared.kind.Kind.TheVariants as kind
 use Rattle.mc_code.proofs.LookUps.{some_is}
 use Rattle.mc_code.proofs.Shown.{numbers_were_shown}
 use Rattle.mc_model.specs.History.{is_cas, is_seen, shows}
-use Rattle.mc_model.specs.declared.sent.Sent.{Sent}
-use Rattle.mc_core.specs.Histories.{sent_of, unanswered, sent_in}
-use Rattle.mc_core.specs.Logs.{Log, exchanges_in, request_of}
+use Rattle.mc_core.specs.Histories.{unanswered, sent_in}
+use Rattle.mc_core.specs.Logs.{Log, exchanges_in}
 use Rattle.mc_core.proofs.NextRequest.{call_made, shown_any}
 
 -- ---- the variable of a cas

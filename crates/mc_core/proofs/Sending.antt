@@ -1,39 +1,28 @@
 -- What the sections of a right world have sent: calls of paths, within the budgets, which find the flags as they need them.
-use Rattle.std.proofs.Common.{◌≡◌, ◌⊎◌, inl, inr, ℕ, ◌<◌, ◌≤◌, Option, Some, None, List, [], ◌∷◌, ◌++◌, length, map, slice_get, slice_index_or, refl, ap, sym, subst, ◌∙◌, arith}
+use Rattle.std.proofs.Common.{◌≡◌, ◌⊎◌, inl, inr, ℕ, ◌<◌, ◌≤◌, Option, Some, None, List, [], ◌∷◌, ◌++◌, map, refl, ap, sym, subst, ◌∙◌, arith}
 use Rattle.std.specs.Option.{option_to_list}
 use Rattle.std.proofs.lemmas.Bool.{cases_lt}
 use Rattle.std.proofs.lemmas.List.{append-nil, append_assoc, map-append}
 use Rattle.std.proofs.lemmas.Option.{get_or_from_slice_get}
-use Rattle.mc_protocol.specs.Merge.{IsMerge, none}
 use Rattle.mc_protocol.specs.declared.actor.Actor.{Actor}
-use Rattle.mc_protocol.specs.declared.actor.Actor.TheVariants as actor
 use Rattle.mc_protocol.specs.declared.reply.Reply.{Reply}
-use Rattle.mc_protocol.proofs.Merges.{MergeBegins, merge_first}
 use Rattle.mc_script.specs.declared.step.Template.{Template}
-use Rattle.mc_code.specs.Calls.{IsCalling, MakesAll, exchange_of, template_of, no_template, calls_of, LeadsIn, Opens}
-use Rattle.mc_code.specs.Code.{Code, section_of, instructions_in}
-use Rattle.mc_code.specs.Paths.{Edge, IsComplete}
-use Rattle.mc_code.specs.Paths as path
+use Rattle.mc_code.specs.Calls.{IsCalling, MakesAll, exchange_of, template_of, no_template, calls_of, Opens}
+use Rattle.mc_code.specs.Code.{Code, section_of}
 use Rattle.mc_code.specs.RunLaws.{edges_of}
 use Rattle.mc_code.specs.Runs.{Exchange}
-use Rattle.mc_code.specs.Standing.{no_variables, ComesTo}
-use Rattle.mc_code.specs.States.{Tagged, ended}
+use Rattle.mc_code.specs.States.{Tagged}
 use Rattle.mc_code.specs.declared.instr.Call.{Call}
 use Rattle.mc_code.proofs.MadeCalls.{calls_stand}
 use Rattle.mc_code.proofs.RunLemmas.{run_path}
 use Rattle.mc_code.proofs.StandingLemmas.{calls_open}
 use Rattle.mc_verify.specs.Costs.{cost_along, bound_of}
 use Rattle.mc_verify.specs.Faults.{IsSound}
-use Rattle.mc_verify.specs.Flags.{IsAdmitted, all_clear}
 use Rattle.mc_verify.specs.Laws.{MaySend}
 use Rattle.mc_verify.specs.declared.measure.Measure.{Measure}
 use Rattle.mc_verify.specs.declared.measure.Measure.TheVariants as measure
 use Rattle.mc_verify.specs.declared.refusal.RefusalKind.TheVariants as kind
-use Rattle.mc_verify.proofs.Sent.{sent_admitted}
-use Rattle.mc_core.specs.Logs.{Log, new_log, call_of, calls_in, answered_in, exchanges_in, IsNextCall, IsRightLog}
-use Rattle.mc_core.specs.Safety.{sent_by, answered_by, AreSentBy, AreAdmitted}
-use Rattle.mc_core.specs.Worlds.{World, log_of, exchanges_of, IsDone, IsBegun}
-use Rattle.mc_core.proofs.StepLemmas.{IsRightIn, MayBeRight, IsRight}
+use Rattle.mc_core.specs.Logs.{Log, call_of, calls_in, answered_in, exchanges_in, IsNextCall, IsRightLog}
 
 -- ---- templates of calls
 

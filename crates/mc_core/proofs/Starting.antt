@@ -1,5 +1,5 @@
 -- What a new world holds.
-use Rattle.std.proofs.Common.{◌≡◌, ◌≢◌, ◌⊎◌, inl, inr, ℕ, ◌≤◌, Option, Some, None, List, [], length, refl, ap, sym, subst, ◌∙◌, arith}
+use Rattle.std.proofs.Common.{◌≡◌, ◌≢◌, ◌⊎◌, inl, inr, ℕ, ◌≤◌, Option, None, List, [], length, refl, ap, sym, subst, ◌∙◌, arith}
 use Rattle.std.specs.List.{zip}
 use Rattle.std.specs.Vec.{vec_capacity}
 use Rattle.mc_protocol.specs.Sections.{section_of}
@@ -10,19 +10,19 @@ use Rattle.mc_protocol.specs.declared.sections.Sections.{Sections}
 use Rattle.mc_code.specs.Code.{Code}
 use Rattle.mc_code.specs.Standing.{no_variables}
 use Rattle.mc_code.proofs.LookUps.{some_is}
-use Rattle.mc_machine.specs.Machine.{StartsFrom, numbers_of}
+use Rattle.mc_machine.specs.Machine.{numbers_of}
 use Rattle.mc_machine.specs.declared.machine.Machine.{Machine}
 use Rattle.mc_core.specs.declared.ending.Ending.{Ending}
 use Rattle.mc_core.specs.declared.ending.Ending.TheVariants as ending
 use Rattle.mc_core.specs.declared.section.Section.{Section}
 use Rattle.mc_core.specs.Fields.{waiting_in, fault_in, log_in, world_in, held_in, IsKept, SameCalls, Begins, BranchesBegin, BranchesFollow}
 use Rattle.mc_core.specs.Held.{Stands, HasMachine, IsHeldBy}
-use Rattle.mc_core.specs.Logs.{Log, new_log}
+use Rattle.mc_core.specs.Logs.{new_log}
 use Rattle.mc_core.specs.Steps.{ends}
 use Rattle.mc_core.specs.Worlds.{World, new_world, IsDone, IsEnding}
 use Rattle.mc_core.proofs.FoldLemmas.{ends_once}
 use Rattle.mc_core.proofs.HeldSteps.{BranchIn, Left, p_leaves, branch_begins, branch_log, is_done, world_is}
-use Rattle.mc_core.proofs.OwnSection.{same_log, log_is}
+use Rattle.mc_core.proofs.OwnSection.{log_is}
 use Rattle.mc_core.proofs.Taking.{IsNew, p_begun}
 
 -- three sections in which nothing happened, with room for all calls

@@ -1,15 +1,13 @@
 -- Steps keep worlds right, and lead to one world.
-use Rattle.std.proofs.Common.{◌≡◌, ◌⊎◌, inl, inr, ℕ, Bool, true, false, Option, Some, None, List, [], ◌∷◌, ◌++◌, refl, ap, sym, subst, ◌∙◌}
+use Rattle.std.proofs.Common.{◌≡◌, ◌⊎◌, inl, inr, Bool, true, false, Option, Some, None, List, [], ◌∷◌, ◌++◌, refl, ap, sym, subst, ◌∙◌}
 use Rattle.mc_protocol.specs.Legal.{is_fit_for}
 use Rattle.mc_protocol.specs.declared.actor.Actor.{Actor}
 use Rattle.mc_protocol.specs.declared.actor.Actor.TheVariants as actor
-use Rattle.mc_protocol.specs.declared.fault.Fault.{Fault}
-use Rattle.mc_protocol.specs.declared.reply.Reply.{Reply}
 use Rattle.mc_code.specs.Calls.{IsCalling, template_of}
 use Rattle.mc_code.specs.Code.{Code}
 use Rattle.mc_code.specs.Runs.{Exchange}
 use Rattle.mc_code.specs.Standing.{BeginsAfter, ComesTo, Leaves, no_variables}
-use Rattle.mc_code.specs.States.{Tagged, State, ended}
+use Rattle.mc_code.specs.States.{Tagged, ended}
 use Rattle.mc_code.specs.declared.instr.Call.{Call}
 use Rattle.mc_code.proofs.LookUps.{some_is}
 use Rattle.mc_code.proofs.StandingLemmas.{leaves_once, calls_once}
@@ -17,8 +15,8 @@ use Rattle.mc_core.specs.declared.event.Event.{Event}
 use Rattle.mc_core.specs.declared.event.Event.TheVariants as event
 use Rattle.mc_core.specs.declared.step_refusal.StepRefusal.{StepRefusal}
 use Rattle.mc_core.specs.declared.step_refusal.StepRefusal.TheVariants as refusal
-use Rattle.mc_core.specs.Logs.{Log, new_log, exchanges_in, events_in, with_call, with_reply, with_fault, IsRightLog}
-use Rattle.mc_core.specs.Steps.{Waits, IsAgainst, IsRefused, IsNext, Follows, IsStep}
+use Rattle.mc_core.specs.Logs.{Log, new_log, events_in, with_call, with_reply, with_fault, IsRightLog}
+use Rattle.mc_core.specs.Steps.{IsRefused, IsNext, Follows, IsStep}
 use Rattle.mc_core.specs.Worlds.{World, log_of, with_note, exchanges_of, BeginsIn, IsBegun, IsDone}
 use Rattle.mc_core.proofs.LogLemmas.{new_is_right, call_is_right, reply_is_right, fault_is_right, events_with_call, events_with_reply, events_with_fault}
 

@@ -1,11 +1,9 @@
 -- What a world's step knows, from what the world holds and from the refusal that it found.
-use Rattle.std.proofs.Common.{◌≡◌, ℕ, ◌+◌, ◌*◌, ◌<◌, ◌≤◌, Option, Some, None, List, [], ◌∷◌, ◌++◌, length, refl, ap, sym, subst, ◌∙◌, arith, length-append}
-use Rattle.std.specs.Vec.{vec_len, vec_capacity}
+use Rattle.std.proofs.Common.{◌≡◌, ℕ, ◌<◌, ◌≤◌, Option, Some, None, List, [], ◌∷◌, ◌++◌, length, ap, sym, subst, ◌∙◌, arith, length-append}
 use Rattle.std.proofs.lemmas.List.Elements.{All-push}
 use Rattle.mc_protocol.specs.Sections.{section_of}
 use Rattle.mc_protocol.specs.declared.actor.Actor.{Actor}
 use Rattle.mc_protocol.specs.declared.actor.Actor.TheVariants as actor
-use Rattle.mc_protocol.specs.declared.limits.TheConstants.{REQUESTS_LIMIT}
 use Rattle.mc_protocol.specs.declared.sections.Sections.{Sections}
 use Rattle.mc_code.specs.Code.{Code, IsCode}
 use Rattle.mc_verify.specs.Faults.{IsSound}
@@ -13,12 +11,12 @@ use Rattle.mc_core.specs.declared.ending.Ending.TheVariants as ending
 use Rattle.mc_core.specs.declared.event.Event.{Event}
 use Rattle.mc_core.specs.declared.section.Section.{Section}
 use Rattle.mc_core.specs.declared.step_refusal.StepRefusal.{StepRefusal}
-use Rattle.mc_core.specs.Fields.{waiting_in, log_in, world_in, held_in, AreKept, refusal_in, NamesATemplate, MayTake, LeavesAfter, AllTake}
+use Rattle.mc_core.specs.Fields.{waiting_in, world_in, held_in, AreKept, refusal_in, NamesATemplate, MayTake, LeavesAfter, AllTake}
 use Rattle.mc_core.specs.Held.{Held, IsHeldBy}
 use Rattle.mc_core.specs.Logs.{Log}
-use Rattle.mc_core.specs.Safety.{IsSmallEvent, IsSmallNote, AreSmall}
+use Rattle.mc_core.specs.Safety.{IsSmallEvent, IsSmallNote}
 use Rattle.mc_core.specs.Steps.{IsStep, IsRefused}
-use Rattle.mc_core.specs.Worlds.{World, Noted, log_of}
+use Rattle.mc_core.specs.Worlds.{Noted, log_of}
 use Rattle.mc_core.proofs.HeldSteps.{Fields, After, held_after}
 use Rattle.mc_core.proofs.Refusals.{IsFree, refused_rightly, taken_rightly}
 use Rattle.mc_core.proofs.Safe.{folds_within_room}
@@ -109,6 +107,6 @@ pub step_taken : (c : Code) (s t : Sections Section) (notes more : List Noted) (
 step_taken c s t notes more who e h may takes is grows =
     let after = step_after c s t notes who e may takes in (
       subst (λ more. IsStep c h.world who e (world_in t more)) (sym grows)
-      (subst (λ w. IsStep c w who e (world_in t (notes ++ (who, e) ∷ []))) (ap (λ (h : Held). h.world) is) after.step),
+          (subst (λ w. IsStep c w who e (world_in t (notes ++ (who, e) ∷ []))) (ap (λ (h : Held). h.world) is) after.step),
       subst (λ more. IsHeldBy c (held_in t more)) (sym grows) after.held,
     )

@@ -1,6 +1,5 @@
 -- What a world's fields must be for an event to be taken, and what they keep.
-use Rattle.std.proofs.Common.{◌≡◌, ◌≢◌, ◌⊎◌, inl, inr, ℕ, ◌+◌, ◌*◌, ◌<◌, ◌≤◌, Bool, true, false, Option, Some, None, List, [], ◌∷◌, ◌++◌, length, map, slice_get, refl, ap, sym, subst, ◌∙◌, arith, length-append}
-use Rattle.std.specs.List.{zip}
+use Rattle.std.proofs.Common.{◌≡◌, ◌≢◌, ◌⊎◌, inl, inr, ℕ, ◌<◌, Bool, true, false, Option, Some, None, List, [], ◌∷◌, ◌++◌, length, map, slice_get, refl, ap, sym, subst, ◌∙◌, arith, length-append}
 use Rattle.std.specs.Option.{option_to_list}
 use Rattle.std.specs.Vec.{vec_len, vec_capacity}
 use Rattle.std.proofs.lemmas.List.{append-nil, length-map}
@@ -10,7 +9,6 @@ use Rattle.mc_protocol.specs.Legal.{is_fit_for}
 use Rattle.mc_protocol.specs.Sections.{section_of}
 use Rattle.mc_protocol.specs.declared.actor.Actor.{Actor}
 use Rattle.mc_protocol.specs.declared.actor.Actor.TheVariants as actor
-use Rattle.mc_protocol.specs.declared.limits.TheConstants.{REQUESTS_LIMIT}
 use Rattle.mc_protocol.specs.declared.reply.Reply.{Reply}
 use Rattle.mc_protocol.specs.declared.sections.Sections.{Sections}
 use Rattle.mc_script.specs.declared.step.Template.{Template}
@@ -19,9 +17,8 @@ use Rattle.mc_code.specs.Code.{Code, IsCode}
 use Rattle.mc_code.specs.Standing.{ComesTo, no_variables}
 use Rattle.mc_code.specs.States.{ended}
 use Rattle.mc_code.specs.declared.instr.Call.{Call}
-use Rattle.mc_code.proofs.LookUps.{some_is}
 use Rattle.mc_code.proofs.StandingLemmas.{calls_open}
-use Rattle.mc_machine.specs.Machine.{IsAt, actor_of, numbers_of, outstanding_of}
+use Rattle.mc_machine.specs.Machine.{actor_of, outstanding_of}
 use Rattle.mc_machine.specs.declared.machine.Machine.{Machine}
 use Rattle.mc_verify.specs.Faults.{IsSound}
 use Rattle.mc_core.specs.declared.ending.Ending.{Ending}
@@ -30,14 +27,12 @@ use Rattle.mc_core.specs.declared.event.Event.{Event}
 use Rattle.mc_core.specs.declared.event.Event.TheVariants as event
 use Rattle.mc_core.specs.declared.section.Section.{Section}
 use Rattle.mc_core.specs.declared.step_refusal.StepRefusal.TheVariants as refusal
-use Rattle.mc_core.specs.Fields.{replies_of, waiting_in, log_in, world_in, held_in, IsKept, NamesATemplate, MayTake, Takes, SameCalls, Begins, LeavesNumbers, BranchesBegin, BranchesFollow, AllTake}
-use Rattle.mc_core.specs.Held.{Stands, HasMachine, IsHeldBy}
-use Rattle.mc_core.specs.Logs.{Log, new_log, call_of, calls_in}
-use Rattle.mc_core.specs.Steps.{ends}
-use Rattle.mc_core.specs.Worlds.{World, Noted, new_world, log_of, with_note, exchanges_of, IsDone, IsEnding}
-use Rattle.mc_core.proofs.FoldLemmas.{ends_once}
-use Rattle.mc_core.proofs.HeldSteps.{Before, Fields, BranchIn, Left, own_after, p_leaves, branch_begins, machine_stands, has_machine, is_done}
-use Rattle.mc_core.proofs.OwnSection.{HasLog, OwnAfter, own_replies, other_replies, same_log}
+use Rattle.mc_core.specs.Fields.{replies_of, waiting_in, log_in, world_in, IsKept, NamesATemplate, MayTake, Takes, SameCalls, Begins, LeavesNumbers, BranchesBegin, BranchesFollow, AllTake}
+use Rattle.mc_core.specs.Held.{Stands, HasMachine}
+use Rattle.mc_core.specs.Logs.{Log, call_of}
+use Rattle.mc_core.specs.Worlds.{World, Noted, new_world, log_of, with_note, exchanges_of, IsEnding}
+use Rattle.mc_core.proofs.HeldSteps.{Before, Fields, BranchIn, own_after, p_leaves, branch_begins, machine_stands, has_machine, is_done}
+use Rattle.mc_core.proofs.OwnSection.{HasLog, own_replies, other_replies}
 use Rattle.mc_core.proofs.Refusals.{IsFree}
 use Rattle.mc_core.proofs.Safe.{folds_within_room}
 
@@ -145,8 +140,16 @@ may_take c s notes who e fields kept sound running free = by_event e free
             exchanges_of c w who,
             stands.st,
             stands.at,
-            λ comes. at.2 (at.1, none, (stands.variables, stands.st, stands.begins,
-            subst (λ a. ComesTo c a stands.variables (exchanges_of c w who) stands.st ended) stands.actor comes)),
+            λ comes. at.2 (
+              at.1,
+              none,
+              (
+                stands.variables,
+                stands.st,
+                stands.begins,
+                subst (λ a. ComesTo c a stands.variables (exchanges_of c w who) stands.st ended) stands.actor comes,
+              ),
+            ),
           ),
         )
     by_event (event.Reply reply) free = by_waiting (log_of w who).waiting refl reply free

@@ -1,5 +1,5 @@
 -- Laws of folds, whatever the code and the events are.
-use Rattle.std.specs.Prelude.{◌≡◌, ℕ, ◌+◌, ◌*◌, ◌≤◌, true, List, [], ◌∷◌, ◌++◌, length}
+use Rattle.std.specs.Prelude.{◌≡◌, ℕ, ◌+◌, ◌*◌, ◌≤◌, true, List, length}
 use Rattle.mc_protocol.specs.declared.actor.Actor.{Actor}
 use Rattle.mc_protocol.specs.declared.limits.TheConstants.{REQUESTS_LIMIT}
 use Rattle.mc_code.specs.Code.{Code, IsCode}

@@ -1,5 +1,5 @@
 -- Logs: what one section of code sent and received, and what ended it before its code did.
-use Rattle.std.specs.Prelude.{◌≡◌, ℕ, Option, Some, None, List, [], ◌∷◌, ◌++◌, map, flat_map, option_to_list, slice_index_or}
+use Rattle.std.specs.Prelude.{Option, Some, None, List, [], ◌∷◌, ◌++◌, map, flat_map, option_to_list, slice_index_or}
 use Rattle.mc_protocol.specs.declared.actor.Actor.{Actor}
 use Rattle.mc_protocol.specs.declared.fault.Fault.{Fault}
 use Rattle.mc_protocol.specs.declared.reply.Reply.{Reply}

@@ -16,7 +16,7 @@ use Rattle.mc_code.specs.declared.instr.Call.{Call}
 use Rattle.mc_verify.specs.Flags.{IsAdmitted, all_clear}
 use Rattle.mc_core.specs.declared.event.Event.{Event}
 use Rattle.mc_core.specs.declared.event.Event.TheVariants as event
-use Rattle.mc_core.specs.Logs.{Log, new_log, calls_in, answered_in, events_in, request_of, IsRightLog}
+use Rattle.mc_core.specs.Logs.{new_log, calls_in, answered_in, events_in, request_of, IsRightLog}
 use Rattle.mc_core.specs.Worlds.{World, Noted, log_of, events_of, exchanges_of, BeginsIn}
 
 -- ---- numbers of 64 bits

@@ -11,7 +11,7 @@ use Rattle.mc_core.specs.declared.event.Event.{Event}
 use Rattle.mc_core.specs.declared.event.Event.TheVariants as event
 use Rattle.mc_core.specs.declared.step_refusal.StepRefusal.{StepRefusal}
 use Rattle.mc_core.specs.declared.step_refusal.StepRefusal.TheVariants as refusal
-use Rattle.mc_core.specs.Logs.{Log, with_call, with_reply, with_fault}
+use Rattle.mc_core.specs.Logs.{with_call, with_reply, with_fault}
 use Rattle.mc_core.specs.Worlds.{World, Noted, new_world, log_of, with_note, exchanges_of, BeginsIn, IsBegun, IsDone}
 
 -- ---- refusals

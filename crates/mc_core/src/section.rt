@@ -40,12 +40,7 @@ impl Section {
     }
 
     /// Begins with these numbers in its variables. P looks at none.
-    pub(crate) fn begin(
-        &mut self,
-        checked: &Checked,
-        actor: Actor,
-        numbers: [u64; VARIABLES_LIMIT],
-    )
+    pub(crate) fn begin(&mut self, checked: &Checked, actor: Actor, numbers: [u64; VARIABLES_LIMIT])
         requires begins { (variables : List Tagged) × machines.StartsFrom checked.now.code actor numbers variables }
         ensures { fields.Begins checked.now.code actor numbers self.old self.new }
     {

@@ -127,7 +127,12 @@ fn know_event(event: &Event)
         Event::Reply(Reply::Number(number)) => {
             let _number = *number;
         }
-        Event::Reply(Reply::Hit { cas: Some(number), .. }) => {
+        Event::Reply(
+            Reply::Hit {
+                cas: Some(number),
+                ..
+            },
+        ) => {
             let _number = *number;
         }
         _ => {}

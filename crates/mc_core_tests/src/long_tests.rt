@@ -5,9 +5,9 @@ use crate::given::{Step, events, sound};
 use mc_code::decode;
 use mc_core::{Ending, drive};
 use mc_explain::{Verdict, judge};
-use mc_protocol::Actor;
 use mc_protocol::Actor::*;
-use mc_protocol::OutOfMemory;
+use mc_protocol::{Actor, OutOfMemory};
+use mc_verify::Checked;
 use std::alloc::Global;
 use std::test::Fail;
 
@@ -29,9 +29,13 @@ fn image(alloc: Global) -> Result<Vec<u8>, OutOfMemory> {
         for call in 0..24u8 {
             let after = call + 1;
             if section == 0 && call == 0 {
-                image.extend_from_slice(&[0, 0, 255, 255, 255, after, 255, 255, after, 255, 255, 255])?;
+                image.extend_from_slice(&[
+                    0, 0, 255, 255, 255, after, 255, 255, after, 255, 255, 255,
+                ])?;
             } else {
-                image.extend_from_slice(&[0, 1, 255, 255, 255, 255, after, after, 255, 255, 255, 255])?;
+                image.extend_from_slice(&[
+                    0, 1, 255, 255, 255, 255, after, after, 255, 255, 255, 255,
+                ])?;
             }
         }
         image.push(3)?;
@@ -68,22 +72,43 @@ fn turns(alloc: Global, merge: usize) -> Result<Vec<Actor>, OutOfMemory> {
     Ok(turns)
 }
 
+/// What came of the merge: how many steps were refused, how the sections stand, how many notes there are, and how many requests
+/// each section of the history has, whether it is explained, and in how many turns.
+type Seen = (u64, [Ending; 3], usize, [usize; 3], bool, u64);
+
+fn seen(alloc: Global, code: &Checked, merge: usize) -> Result<Seen, OutOfMemory> {
+    let turns = turns(alloc, merge)?;
+    let steps = steps(alloc, turns.as_slice())?;
+    let (world, skipped) = drive(alloc, code, events(alloc, steps.as_slice())?)?;
+    let endings = [world.ending(P), world.ending(A), world.ending(B)];
+    let history = world.history(alloc, code)?;
+    let sent = [
+        history.sent(P).len(),
+        history.sent(A).len(),
+        history.sent(B).len(),
+    ];
+    let (verdict, turns) = judge(alloc, &history, 1_000)?;
+    let is_explained = matches!(verdict, Verdict::Explained(_));
+    Ok((
+        skipped,
+        endings,
+        world.notes().len(),
+        sent,
+        is_explained,
+        turns,
+    ))
+}
+
 #[test]
 fn goes_to_its_end_in_every_merge(rt: HostRuntime) -> Result<(), Fail> {
-    let code = sound(rt.alloc(), decode(rt.alloc(), image(rt.alloc())?.as_slice())?)?;
+    let code = sound(
+        rt.alloc(),
+        decode(rt.alloc(), image(rt.alloc())?.as_slice())?,
+    )?;
     for merge in 0..4 {
-        let turns = turns(rt.alloc(), merge)?;
-        let steps = steps(rt.alloc(), turns.as_slice())?;
-        let (world, skipped) = drive(rt.alloc(), &code, events(rt.alloc(), steps.as_slice())?)?;
-        assert_eq!(rt; skipped, 0);
-        assert_eq!(rt; [P, A, B].map(|actor| world.ending(actor)), [Ending::Done; 3]);
-        assert_eq!(rt; world.notes().len(), 6 * CALLS);
-        let history = world.history(rt.alloc(), &code)?;
-        assert_eq!(rt; [P, A, B].map(|actor| history.sent(actor).len()), [CALLS; 3]);
-        let (verdict, turns) = judge(rt.alloc(), &history, 1_000)?;
-        let is_explained = matches!(verdict, Verdict::Explained(_));
-        assert!(rt; is_explained);
-        assert_eq!(rt; turns, 72);
+        let found = seen(rt.alloc(), &code, merge)?;
+        let expected = (0, [Ending::Done; 3], 6 * CALLS, [CALLS; 3], true, 72);
+        assert_eq!(rt; found, expected);
     }
     Ok(())
 }

@@ -1,12 +1,14 @@
 //! Which events are refused, and for what.
 
 use crate::given::Given::*;
-use crate::given::{Step, checked, events};
+use crate::given::{Given, Step, checked, events};
 use crate::scripts::COUNTER;
 use mc_core::StepRefusal::*;
 use mc_core::{Event, StepRefusal, World, drive};
 use mc_protocol::Actor::*;
-use mc_protocol::{Fault, Reply};
+use mc_protocol::{Actor, Fault, OutOfMemory, Reply};
+use mc_verify::Checked;
+use std::alloc::Global;
 use std::test::Fail;
 
 /// The steps that lead to a world, an event, and what is against it: `None` where it is taken.
@@ -31,7 +33,11 @@ static ROWS: &[Row] = &[
     (&[(P, Begin)], (A, Begin), Some(NotYet)),
     // between P's calls
     (&[(P, Begin), (P, NotFound)], (P, Begin), None),
-    (&[(P, Begin), (P, NotFound)], (P, NotFound), Some(NotWaiting)),
+    (
+        &[(P, Begin), (P, NotFound)],
+        (P, NotFound),
+        Some(NotWaiting),
+    ),
     (&[(P, Begin), (P, NotFound)], (B, Begin), Some(NotYet)),
     // P is done
     (DONE, (P, Begin), Some(Over)),
@@ -42,21 +48,47 @@ static ROWS: &[Row] = &[
     (DONE, (B, Fail(Fault::Closed)), None),
     // P failed, with a call that waits, and without one
     (&[(P, Fail(Fault::Ended))], (P, Begin), Some(Over)),
-    (&[(P, Begin), (P, Fail(Fault::Ended))], (P, Begin), Some(Over)),
-    (&[(P, Begin), (P, Fail(Fault::Ended))], (P, Stored), Some(Over)),
-    (&[(P, Begin), (P, Fail(Fault::Ended))], (P, Fail(Fault::Ended)), Some(Over)),
-    (&[(P, Begin), (P, Fail(Fault::Ended))], (A, Begin), Some(NotYet)),
+    (
+        &[(P, Begin), (P, Fail(Fault::Ended))],
+        (P, Begin),
+        Some(Over),
+    ),
+    (
+        &[(P, Begin), (P, Fail(Fault::Ended))],
+        (P, Stored),
+        Some(Over),
+    ),
+    (
+        &[(P, Begin), (P, Fail(Fault::Ended))],
+        (P, Fail(Fault::Ended)),
+        Some(Over),
+    ),
+    (
+        &[(P, Begin), (P, Fail(Fault::Ended))],
+        (A, Begin),
+        Some(NotYet),
+    ),
 ];
+
+/// What is against an event after these steps, of which none is refused.
+fn refusal_after(
+    alloc: Global,
+    code: &Checked,
+    steps: &[Step],
+    actor: Actor,
+    given: Given,
+) -> Result<(u64, Option<StepRefusal>), OutOfMemory> {
+    let (mut world, skipped) = drive(alloc, code, events(alloc, steps)?)?;
+    let found = world.step(code, actor, given.event());
+    Ok((skipped, found.map_err(|(refusal, _)| refusal).err()))
+}
 
 #[test]
 fn takes_and_refuses(rt: HostRuntime) -> Result<(), Fail> {
     let code = checked(rt.alloc(), COUNTER)?;
     for (steps, (actor, given), expected) in ROWS {
-        let (mut world, skipped) = drive(rt.alloc(), &code, events(rt.alloc(), steps)?)?;
-        assert_eq!(rt; skipped, 0);
-        let found = world.step(&code, *actor, given.event());
-        let refusal = found.map_err(|(refusal, _)| refusal).err();
-        assert_eq!(rt; refusal, *expected);
+        let found = refusal_after(rt.alloc(), &code, steps, *actor, *given)?;
+        assert_eq!(rt; found, (0, *expected));
     }
     Ok(())
 }

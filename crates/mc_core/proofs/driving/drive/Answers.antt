@@ -1,4 +1,4 @@
-use Rattle.std.proofs.Common.{◌≡◌, ℕ, ◌+◌, ◌≤◌, List, [], ◌∷◌, ◌++◌, length, arith, length-append, refl, sym, ◌∙◌}
+use Rattle.std.proofs.Common.{[], ◌∷◌, arith, length-append, sym, ◌∙◌}
 use Rattle.mc_core.proofs.LongerFolds.{taken, skipped_over}
 use Rattle.mc_core.proofs.Safe.{folds_safe}
 use Rattle.mc_core.proofs.driving.drive.Goals as goal

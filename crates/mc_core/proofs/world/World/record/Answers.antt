@@ -1,4 +1,4 @@
-use Rattle.std.proofs.Common.{◌≡◌, ap, sym, subst, ◌∙◌}
+use Rattle.std.proofs.Common.{ap, sym, subst, ◌∙◌}
 use Rattle.mc_core.specs.Fields.{world_in}
 use Rattle.mc_core.specs.Held.{Held}
 use Rattle.mc_core.proofs.HeldSteps.{Fields}

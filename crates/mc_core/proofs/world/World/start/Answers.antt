@@ -1,10 +1,8 @@
-use Rattle.std.proofs.Common.{◌≡◌, ap, sym, subst, ◌∙◌}
-use Rattle.mc_protocol.specs.Sections.{section_of}
-use Rattle.mc_protocol.specs.declared.actor.Actor.TheVariants as actor
+use Rattle.std.proofs.Common.{ap, sym, subst, ◌∙◌}
 use Rattle.mc_core.specs.Held.{IsHeldBy}
 use Rattle.mc_core.specs.Fields.{world_in, held_in}
-use Rattle.mc_core.proofs.Starting.{AreNew, IsStart, are_new, started}
-use Rattle.mc_core.proofs.Taking.{IsNew, leaves_start}
+use Rattle.mc_core.proofs.Starting.{are_new, started}
+use Rattle.mc_core.proofs.Taking.{leaves_start}
 use Rattle.mc_core.proofs.world.World.start.Goals as goal
 
 pub begin_branches-requires : goal.begin_branches-requires

@@ -1,6 +1,5 @@
-use Rattle.std.proofs.Common.{◌≡◌, ◌<◌, sym, subst, ◌∙◌, arith, vec_len, vec_capacity}
-use Rattle.mc_core.proofs.HeldSteps.{Fields}
-use Rattle.mc_core.proofs.Stepping.{MayStep, fields_of, named, refused_by, may_step, step_may_take, step_leaves, step_room, step_kept, step_taken}
+use Rattle.std.proofs.Common.{arith, vec_capacity}
+use Rattle.mc_core.proofs.Stepping.{fields_of, named, refused_by, may_step, step_may_take, step_leaves, step_room, step_kept, step_taken}
 use Rattle.mc_core.proofs.world.World.step.Goals as goal
 
 pub refusal-requires : goal.refusal-requires
