@@ -33,7 +33,8 @@ empty_merge {xs} {ys} {zs} m e f = by_first zs (merge_first m)
     by_first (z ∷ zs) (inr (others, is, more)) = let none = sym f ∙ is in absurd (cc)
 
 -- what a section has sent that has begun
-right_sent : (c : Code) (w : World) (who : Actor) (calls : List Template) → IsRightIn c w who → AreSentBy c w who calls → MaySend c who calls
+right_sent : (c : Code) (w : World) (who : Actor) (calls : List Template) → IsRightIn c w who → AreSentBy c w who calls
+    → MaySend c who calls
 right_sent c w who calls right (inl are) = subst (MaySend c who) (sym are) (all_sent c who right.variables (log_of w who) right.right)
 right_sent c w who calls right (inr are) = subst (MaySend c who) (sym are) (answered_sent c who right.variables (log_of w who) right.right)
 

@@ -84,7 +84,8 @@ clears_there c place sound inside = by_instr (slice_get (instructions_in c actor
     by_instr : (o : Option Instr) → slice_get (instructions_in c actor.P) place ≡ o → ClearsAt c place
     by_instr o at = by_test (clears_at c.templates place o) refl
       where
-        by_shape : (o : Option Instr) → slice_get (instructions_in c actor.P) place ≡ o → clears_at c.templates place o ≡ true → ClearsAt c place
+        by_shape : (o : Option Instr) → slice_get (instructions_in c actor.P) place ≡ o → clears_at c.templates place o ≡ true
+            → ClearsAt c place
         by_shape None at clears = absurd (cc)
         by_shape (Some (instr.Send n next)) at clears = by_template n next (slice_get c.templates n) at refl clears
         by_shape (Some (instr.Bind v)) at clears = absurd (cc)
@@ -228,7 +229,8 @@ pub stands_in_front : (c : Code) (variables : List Tagged) (pairs : List (Call �
 stands_in_front c variables pairs sound makes = (front_along c variables [] pairs sound (starts_in_front c variables) makes).1
 
 -- P isn't done before it has deleted all keys
-pub done_cleared : (c : Code) (variables : List Tagged) (pairs : List (Call × Reply)) (st : State) → IsSound c → MakesAll c actor.P variables [] pairs
+pub done_cleared : (c : Code) (variables : List Tagged) (pairs : List (Call × Reply)) (st : State) → IsSound c
+    → MakesAll c actor.P variables [] pairs
     → ComesTo c actor.P variables (map (exchange_of c) pairs) st ended → length c.keys ≤ length pairs
 done_cleared c variables pairs st sound makes (p, stands, met) = by_order (cases_lt (length exchanges) (length c.keys))
   where

@@ -14,7 +14,8 @@ use Rattle.mc_core.proofs.StepLemmas.{IsRight, step_right, step_grows, step_once
 -- ---- what holds along a fold
 
 -- what each step keeps holds at the end
-pub kept_along : (c : Code) (P : World → Type 0) → ((w : World) (who : Actor) (e : Event) (next : World) → P w → IsStep c w who e next → P next)
+pub kept_along : (c : Code) (P : World → Type 0)
+    → ((w : World) (who : Actor) (e : Event) (next : World) → P w → IsStep c w who e next → P next)
     → {w end : World} {events : List Noted} {skipped : ℕ} → IsFold c w events end skipped → P w → P end
 kept_along c P keeps ends here = here
 kept_along c P keeps (steps {w = w} {next = next} {who = who} {e = e} step fold) here =
@@ -38,7 +39,8 @@ FoldBegins c w ((who, e) ∷ events) end skipped =
     ((next : World) × IsStep c w who e next × IsFold c next events end skipped)
     ⊎ ((r : StepRefusal) × (others : ℕ) × IsRefused c w who e r × IsFold c w events end others × (skipped ≡ others + 1))
 
-fold_begins : {c : Code} {w end : World} {events : List Noted} {skipped : ℕ} → IsFold c w events end skipped → FoldBegins c w events end skipped
+fold_begins : {c : Code} {w end : World} {events : List Noted} {skipped : ℕ} → IsFold c w events end skipped
+    → FoldBegins c w events end skipped
 fold_begins ends = (refl, refl)
 fold_begins (steps {next = next} step fold) = inl (next, step, fold)
 fold_begins (skips {skipped = others} r refused fold) = inr (r, others, refused, fold, refl)
@@ -68,7 +70,8 @@ folds_once c w v v' events skipped skipped' x y = once c v' skipped' x (fold_beg
 
 -- ---- the fold of its notes
 
-fold_append : {c : Code} {w mid end : World} {xs ys : List Noted} {skipped others : ℕ} → IsFold c w xs mid skipped → IsFold c mid ys end others
+fold_append : {c : Code} {w mid end : World} {xs ys : List Noted} {skipped others : ℕ} → IsFold c w xs mid skipped
+    → IsFold c mid ys end others
     → IsFold c w (xs ++ ys) end (skipped + others)
 fold_append {c} {w} {mid} {end} {xs} {ys} {skipped} {others} ends more =
     let e : others ≡ 0 + others = omega arith in subst (λ n. IsFold c mid ys end n) e more
@@ -85,7 +88,8 @@ fold_step c w mid next xs who e skipped fold step =
     subst (IsFold c w (xs ++ (who, e) ∷ []) next) none (fold_append fold (steps step ends))
 
 -- or refused
-pub fold_skip : (c : Code) (w mid : World) (xs : List Noted) (who : Actor) (e : Event) (r : StepRefusal) (skipped : ℕ) → IsFold c w xs mid skipped
+pub fold_skip : (c : Code) (w mid : World) (xs : List Noted) (who : Actor) (e : Event) (r : StepRefusal) (skipped : ℕ)
+    → IsFold c w xs mid skipped
     → IsRefused c mid who e r → IsFold c w (xs ++ (who, e) ∷ []) mid (skipped + 1)
 fold_skip c w mid xs who e r skipped fold refused = fold_append fold (skips r refused ends)
 

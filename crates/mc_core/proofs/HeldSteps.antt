@@ -81,14 +81,16 @@ pub record Before (c : Code) (w : World) (who : Actor) (notes : List Noted) (s :
   pub machine : HasMachine c w who s.ending s.machine
   pub kept : IsKept notes who s
 
-goes_on_in : (c : Code) (w : World) (who : Actor) (notes : List Noted) (s : Section) (m : Machine) → Before c w who notes s → s.machine ≡ Some m
+goes_on_in : (c : Code) (w : World) (who : Actor) (notes : List Noted) (s : Section) (m : Machine) → Before c w who notes s
+    → s.machine ≡ Some m
     → GoesOnIn c w who m
 goes_on_in c w who notes s m before is = record {
   running = subst (IsEnding c w who) before.running before.stands;
   stands = machine_stands c w who s.ending s.machine m before.machine before.running is;
 }
 
-pub own_after : (c : Code) (w : World) (who : Actor) (e : Event) (notes : List Noted) (s t : Section) → Before c w who notes s → Takes c s e t
+pub own_after : (c : Code) (w : World) (who : Actor) (e : Event) (notes : List Noted) (s t : Section) → Before c w who notes s
+    → Takes c s e t
     → OwnAfter c w who e notes t
 own_after c w who event.Begin notes s t before (m, n, is_m, is_n, makes, calls, ends) =
     own_begin c w who m n notes s t before.logged (goes_on_in c w who notes s m before is_m) before.running makes is_n calls ends
@@ -134,7 +136,8 @@ EndsOrGoesOn c m variables exchanges st e =
     ((e ≡ ending.Done) × ComesTo c (actor_of m) variables exchanges st ended)
     ⊎ ((e ≡ ending.Running) × (ComesTo c (actor_of m) variables exchanges st ended → ⊥))
 
-pub branch_begins : (c : Code) (v : World) (who : Actor) (numbers : List ℕ) (variables : List Tagged) (s t : Section) → Begins c who numbers s t
+pub branch_begins : (c : Code) (v : World) (who : Actor) (numbers : List ℕ) (variables : List Tagged) (s t : Section)
+    → Begins c who numbers s t
     → StartsFrom c who numbers variables → BeginsIn c v who variables → IsBegun c v who → log_of v who ≡ new_log → BranchIn c v who t
 branch_begins c v who numbers variables s t begins starts begins_in begun new = record {
   stands = by_end here;
@@ -350,7 +353,8 @@ not_begun c w who ending.Running never stands = absurd (never stands.0)
 not_begun c w who ending.Done never stands = absurd (never stands.0)
 not_begun c w who (ending.Failed fault) never stands = absurd (never stands.0)
 
-no_machine : (c : Code) (w : World) (who : Actor) (x : Ending) (o : Option Machine) → x ≡ ending.NotBegun → HasMachine c w who x o → o ≡ None
+no_machine : (c : Code) (w : World) (who : Actor) (x : Ending) (o : Option Machine) → x ≡ ending.NotBegun → HasMachine c w who x o
+    → o ≡ None
 no_machine c w who x o not (inl (same, none)) = none
 no_machine c w who x o not (inr (m, begun, is, stands)) = absurd (begun not)
 
@@ -370,7 +374,8 @@ begun_faultless c who numbers variables s t begins starts =
     by_end (inr (is, comes)) = ap fault_in is
 
 -- the log of a branch that begins now
-pub branch_log : (c : Code) (who : Actor) (numbers : List ℕ) (variables : List Tagged) (notes more : List Noted) (s t : Section) → Begins c who numbers s t
+pub branch_log : (c : Code) (who : Actor) (numbers : List ℕ) (variables : List Tagged) (notes more : List Noted) (s t : Section)
+    → Begins c who numbers s t
     → StartsFrom c who numbers variables → replies_of who more ≡ replies_of who notes → s.ending ≡ ending.NotBegun → s.machine ≡ None
     → log_in more who t ≡ log_in notes who s
 branch_log c who numbers variables notes more s t begins starts replies not none =

@@ -109,7 +109,8 @@ p_begins c w right goes_on idle = record { turn = turn; key = key }
         let same = ap length whole ∙ idle_length c w.logs.p idle in
         omega (arith, few, same)
 
-    key : (made : Call) (variables : List Tagged) → BeginsIn c w actor.P variables → IsCalling c actor.P variables (exchanges_of c w actor.P) made
+    key : (made : Call) (variables : List Tagged) → BeginsIn c w actor.P variables
+        → IsCalling c actor.P variables (exchanges_of c w actor.P) made
         → IsSound c → IsCode c
         → (has_key (request_of c made).key sents ≡ true)
         ⊎ ((actor.P ≡ actor.P) × (is_delete (template_of c made).verb ≡ true) × (key_count (sections_of c w) < KEYS_LIMIT))
@@ -149,7 +150,8 @@ branch_key c w who right done made variables calling sound kept =
     let declared = (call_made c who variables (exchanges_of c w who) made kept calling).0.key in
     cleared_key c w.logs.p in_p.variables (template_of c made).key sound in_p.right all declared
 
-may_begin : (c : Code) (w : World) (who : Actor) → IsRight c w → IsBegun c w who → (IsDone c w who → ⊥) → (log_of w who).waiting ≡ None → MayBegin c w who
+may_begin : (c : Code) (w : World) (who : Actor) → IsRight c w → IsBegun c w who → (IsDone c w who → ⊥) → (log_of w who).waiting ≡ None
+    → MayBegin c w who
 may_begin c w actor.P right begun goes_on idle = p_begins c w right goes_on idle
 may_begin c w actor.A right begun goes_on idle = record {
   turn = rw (idle_answered c w.logs.p begun.1, idle_answered c w.logs.a idle) refl;
@@ -173,7 +175,8 @@ not_full s who sent few keys = ap₂ (λ x y. x || y) (above REQUESTS_LIMIT (len
         by_test true e = absurd (let most = leb-true m n e in omega (arith, less, most))
         by_test false e = e
 
-    by_keys : (has_key sent.request.key s.p ≡ true) ⊎ (key_count s < KEYS_LIMIT) → (nat_le KEYS_LIMIT (key_count s) && not (has_key sent.request.key s.p)) ≡ false
+    by_keys : (has_key sent.request.key s.p ≡ true) ⊎ (key_count s < KEYS_LIMIT)
+        → (nat_le KEYS_LIMIT (key_count s) && not (has_key sent.request.key s.p)) ≡ false
     by_keys (inl there) = ap (λ b. nat_le KEYS_LIMIT (key_count s) && not b) there ∙ and_false (nat_le KEYS_LIMIT (key_count s))
       where
         and_false : (b : Bool) → (b && false) ≡ false
@@ -262,7 +265,8 @@ begun_calls log made idle =
     ap (λ l. l ++ made ∷ [])
     (sym (ap (λ o. map call_of log.answered ++ option_to_list o) idle ∙ append-nil (map call_of log.answered)))
 
-answered_calls : (log : Log) (made : Call) (reply : Reply) → log.waiting ≡ Some made → calls_in (with_reply log made reply) ≡ calls_in log ++ []
+answered_calls : (log : Log) (made : Call) (reply : Reply) → log.waiting ≡ Some made
+    → calls_in (with_reply log made reply) ≡ calls_in log ++ []
 answered_calls log made reply waits =
     append-nil (map call_of (log.answered ++ (made, reply) ∷ []))
     ∙ map-append call_of log.answered ((made, reply) ∷ [])
@@ -384,7 +388,8 @@ step_recorded c w v who event.Begin sound kept holds right step = begin_recorded
 step_recorded c w v who (event.Reply reply) sound kept holds right step = reply_recorded c w v who reply holds step
 step_recorded c w v who (event.Fail fault) sound kept holds right step = fail_recorded c w v who fault holds step
 
-step_holds : (c : Code) → IsSound c → IsCode c → (w : World) (who : Actor) (e : Event) (v : World) → Holds c w → IsStep c w who e v → Holds c v
+step_holds : (c : Code) → IsSound c → IsCode c → (w : World) (who : Actor) (e : Event) (v : World) → Holds c w → IsStep c w who e v
+    → Holds c v
 step_holds c sound kept w who e v holds step =
     let right = step_right c w who e v holds.right step in record {
       right = right;

@@ -42,7 +42,8 @@ pub waiting_is_next : (c : Code) (who : Actor) (variables : List Tagged) (log : 
     → log.waiting ≡ Some made → IsCalling c who variables (exchanges_in c log) made
 waiting_is_next c who variables log made right waits = subst (IsNextCall c who variables (exchanges_in c log)) waits right.next
 
-pub reply_is_right : (c : Code) (who : Actor) (variables : List Tagged) (log : Log) (made : Call) (reply : Reply) → IsRightLog c who variables log
+pub reply_is_right : (c : Code) (who : Actor) (variables : List Tagged) (log : Log) (made : Call) (reply : Reply)
+    → IsRightLog c who variables log
     → log.waiting ≡ Some made → is_fit_for (template_of c made).verb reply ≡ true → IsRightLog c who variables (with_reply log made reply)
 reply_is_right c who variables log made reply right waits fit = record {
   makes = makes_push c who variables [] log.answered made reply right.makes (waiting_is_next c who variables log made right waits) fit;
@@ -83,7 +84,8 @@ events_with_reply log made reply waits well =
     ∙ append-nil (answered ++ event.Begin ∷ event.Reply reply ∷ []) in
     after ∙ sym (append_assoc answered (event.Begin ∷ []) (event.Reply reply ∷ [])) ∙ ap (λ l. l ++ event.Reply reply ∷ []) (sym before)
 
-pub events_with_fault : (log : Log) (fault : Fault) → log.fault ≡ None → events_in (with_fault log fault) ≡ events_in log ++ event.Fail fault ∷ []
+pub events_with_fault : (log : Log) (fault : Fault) → log.fault ≡ None
+    → events_in (with_fault log fault) ≡ events_in log ++ event.Fail fault ∷ []
 events_with_fault log fault well =
     let answered = flat_map events_of_pair log.answered in
     let before : events_in log ≡ answered ++ begun_by log.waiting =

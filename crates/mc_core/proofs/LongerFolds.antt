@@ -17,7 +17,8 @@ taken c xs old new who e skipped (Ok x) fold step is = fold_step c new_world old
 taken c xs old new who e skipped (Err x) fold step is = absurd (cc)
 
 pub skipped_over : {X : Type 0} (c : Code) (xs : List Noted) (old new : Held) (who : Actor) (e : Event) (skipped : ℕ) (r : Result X (StepRefusal × Event))
-    → IsFold c new_world xs old.world skipped → IfErr r (λ refused. IsRefused c old.world who e refused.0) → OnErr r (new ≡ old) → is_err r ≡ true
+    → IsFold c new_world xs old.world skipped → IfErr r (λ refused. IsRefused c old.world who e refused.0) → OnErr r (new ≡ old)
+    → is_err r ≡ true
     → IsFold c new_world (xs ++ (who, e) ∷ []) new.world (skipped + 1)
 skipped_over c xs old new who e skipped (Ok x) fold refused same is = absurd (cc)
 skipped_over c xs old new who e skipped (Err x) fold refused same is =

@@ -7,7 +7,8 @@ use Rattle.mc_machine.specs.Machine.{Stands, MayBeAnswered, IsAnswered}
 use Rattle.mc_machine.specs.declared.machine.Machine.{Machine}
 
 -- a machine stands somewhere after a reply
-pub answered_stands : (c : Code) (m n : Machine) (reply : Reply) → Stands c m → MayBeAnswered c m reply → IsAnswered c m reply n → Stands c n
+pub answered_stands : (c : Code) (m n : Machine) (reply : Reply) → Stands c m → MayBeAnswered c m reply → IsAnswered c m reply n
+    → Stands c n
 answered_stands c m n reply (variables, exchanges, st, at) (made, waits, fit) answered =
     let next = answered made variables exchanges st waits at in
     (variables, exchanges ++ exchange_of c (made, reply) ∷ [], next.0, next.1)

@@ -79,7 +79,8 @@ key_kept c index kept inside =
 
 -- ---- what is known of a call
 
-number_zero : (t u : Template) (a : Argument) (variables : List Tagged) (n : ℕ) → with_argument t a variables ≡ call u n → is_nothing a ≡ true → n ≡ 0
+number_zero : (t u : Template) (a : Argument) (variables : List Tagged) (n : ℕ) → with_argument t a variables ≡ call u n
+    → is_nothing a ≡ true → n ≡ 0
 number_zero t u argument.Nothing variables n e none = cc
 number_zero t u (argument.Number m) variables n e none = absurd (cc)
 number_zero t u (argument.Variable v) variables n e none = absurd (cc)
@@ -173,7 +174,8 @@ gets_shown c key number made given (flags, body, gets, same, is) =
     eqb_refl : (n : ℕ) → (n == n) ≡ true
     eqb_refl n = grind arith
 
-pub shown_any : (c : Code) (key number : ℕ) (pairs : List (Call × Reply)) (more : List Sent) → IsShownIn key number (map (exchange_of c) pairs)
+pub shown_any : (c : Code) (key number : ℕ) (pairs : List (Call × Reply)) (more : List Sent)
+    → IsShownIn key number (map (exchange_of c) pairs)
     → list_any (shows (slice_index_or c.keys key []) number) (map (sent_of c) pairs ++ more) ≡ true
 shown_any c key number [] more shown = absurd shown
 shown_any c key number ((made, given) ∷ pairs) more (inl here) =

@@ -25,7 +25,8 @@ use Rattle.mc_core.proofs.StepLemmas.{step_grows}
 abbrev pub AreNoted : World → Type 0
 AreNoted w = (who : Actor) → events_of who w.notes ≡ events_in (log_of w who)
 
-events_push : (who : Actor) (notes : List Noted) (noted : Noted) → events_of who (notes ++ noted ∷ []) ≡ events_of who notes ++ event_of who noted
+events_push : (who : Actor) (notes : List Noted) (noted : Noted)
+    → events_of who (notes ++ noted ∷ []) ≡ events_of who notes ++ event_of who noted
 events_push who notes noted =
     flat_map-append (event_of who) notes (noted ∷ []) ∙ ap (λ l. events_of who notes ++ l) (append-nil (event_of who noted))
 
@@ -97,7 +98,8 @@ few_events log =
     let mapped = length-map log.answered call_of in
     omega (arith, last, pairs, events, calls, mapped)
 
-pub few_notes : (w : World) (most : ℕ) → AreNoted w → ((who : Actor) → length (calls_in (log_of w who)) ≤ most) → length w.notes ≤ 3 * (2 * most + 1)
+pub few_notes : (w : World) (most : ℕ) → AreNoted w → ((who : Actor) → length (calls_in (log_of w who)) ≤ most)
+    → length w.notes ≤ 3 * (2 * most + 1)
 few_notes w most noted few =
     let all = count_notes w.notes in
     let p = few_events (log_of w actor.P) in

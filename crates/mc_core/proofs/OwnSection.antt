@@ -44,7 +44,8 @@ own_event actor.P e = refl
 own_event actor.A e = refl
 own_event actor.B e = refl
 
-pub own_replies : (who : Actor) (notes : List Noted) (e : Event) → replies_of who (notes ++ (who, e) ∷ []) ≡ replies_of who notes ++ reply_in e
+pub own_replies : (who : Actor) (notes : List Noted) (e : Event)
+    → replies_of who (notes ++ (who, e) ∷ []) ≡ replies_of who notes ++ reply_in e
 own_replies who notes e =
     replies_push who notes (who, e)
     ∙ ap (λ l. replies_of who notes ++ flat_map reply_in l) (own_event who e)
@@ -58,7 +59,8 @@ other_replies who other notes e none =
 
 -- ---- logs
 
-pub log_is : (answered answered' : List (Call × Reply)) (waiting waiting' : Option Call) (fault fault' : Option Fault) → answered ≡ answered'
+pub log_is : (answered answered' : List (Call × Reply)) (waiting waiting' : Option Call) (fault fault' : Option Fault)
+    → answered ≡ answered'
     → waiting ≡ waiting' → fault ≡ fault'
     → (let log : Log = record { answered = answered; waiting = waiting; fault = fault } in log)
     ≡ record { answered = answered'; waiting = waiting'; fault = fault' }
@@ -93,7 +95,8 @@ stops_waiting section p waits i q at leads = by_instr i (ap waits_at (sym at) �
     by_instr instr.Halt waits leads = leads
 
 -- a section whose machine stands somewhere comes to its end there, if anywhere
-pub end_there : (c : Code) (m : Machine) (variables : List Tagged) (exchanges : List Exchange) (st other : State) → IsAt c m variables exchanges st
+pub end_there : (c : Code) (m : Machine) (variables : List Tagged) (exchanges : List Exchange) (st other : State)
+    → IsAt c m variables exchanges st
     → ComesTo c (actor_of m) variables exchanges other ended → ComesTo c (actor_of m) variables exchanges st ended
 end_there c m variables exchanges st other at (p, stands, met) =
     let section = instructions_in c (actor_of m) in
@@ -126,7 +129,8 @@ pub record OwnAfter (c : Code) (w : World) (who : Actor) (e : Event) (notes : Li
 
 -- ---- a call begins
 
-pub own_begin : (c : Code) (w : World) (who : Actor) (m n : Machine) (notes : List Noted) (s t : Section) → log_of w who ≡ log_in notes who s
+pub own_begin : (c : Code) (w : World) (who : Actor) (m n : Machine) (notes : List Noted) (s t : Section)
+    → log_of w who ≡ log_in notes who s
     → GoesOnIn c w who m → s.ending ≡ ending.Running → MakesNext c m n → t.machine ≡ Some n → SameCalls s t → t.ending ≡ s.ending
     → OwnAfter c w who event.Begin notes t
 own_begin c w who m n notes s t logged goes_on running makes machine calls ends = record {

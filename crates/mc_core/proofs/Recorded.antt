@@ -35,15 +35,18 @@ count_append (event.Begin ∷ xs) ys = let e = count_append xs ys in omega (arit
 count_append (event.Reply reply ∷ xs) ys = count_append xs ys
 count_append (event.Fail fault ∷ xs) ys = count_append xs ys
 
-pub begun_more : (who : Actor) (front : List Noted) (noted : Noted) → begun_in who (front ++ noted ∷ []) ≡ begun_in who front + begin_count (event_of who noted)
+pub begun_more : (who : Actor) (front : List Noted) (noted : Noted)
+    → begun_in who (front ++ noted ∷ []) ≡ begun_in who front + begin_count (event_of who noted)
 begun_more who front noted =
     ap begin_count (flat_map-append (event_of who) front (noted ∷ []) ∙ ap (λ l. events_of who front ++ l) (append-nil (event_of who noted)))
     ∙ count_append (events_of who front) (event_of who noted)
 
-pub begun_first : (who : Actor) (noted : Noted) (notes : List Noted) → begun_in who (noted ∷ notes) ≡ begin_count (event_of who noted) + begun_in who notes
+pub begun_first : (who : Actor) (noted : Noted) (notes : List Noted)
+    → begun_in who (noted ∷ notes) ≡ begin_count (event_of who noted) + begun_in who notes
 begun_first who noted notes = count_append (event_of who noted) (events_of who notes)
 
-count_pairs : (pairs : List (Call × Reply)) (rest : List Event) → begin_count (flat_map events_of_pair pairs ++ rest) ≡ length pairs + begin_count rest
+count_pairs : (pairs : List (Call × Reply)) (rest : List Event)
+    → begin_count (flat_map events_of_pair pairs ++ rest) ≡ length pairs + begin_count rest
 count_pairs [] rest = omega arith
 count_pairs ((made, reply) ∷ pairs) rest = let e = count_pairs pairs rest in omega (arith, e)
 
@@ -115,12 +118,14 @@ first_requests c w who front (other, event.Begin) few = by_section (is_same_sect
     by_section false same few = refl
 first_requests c w who front (other, event.Reply reply) few = by_section (is_same_section who other)
   where
-    by_section : (b : Bool) → [] ≡ map (request_of c) (take (begin_count (if b then event.Reply reply ∷ [] else [])) (calls_from w who (begun_in who front)))
+    by_section : (b : Bool)
+        → [] ≡ map (request_of c) (take (begin_count (if b then event.Reply reply ∷ [] else [])) (calls_from w who (begun_in who front)))
     by_section true = refl
     by_section false = refl
 first_requests c w who front (other, event.Fail fault) few = by_section (is_same_section who other)
   where
-    by_section : (b : Bool) → [] ≡ map (request_of c) (take (begin_count (if b then event.Fail fault ∷ [] else [])) (calls_from w who (begun_in who front)))
+    by_section : (b : Bool)
+        → [] ≡ map (request_of c) (take (begin_count (if b then event.Fail fault ∷ [] else [])) (calls_from w who (begun_in who front)))
     by_section true = refl
     by_section false = refl
 
@@ -146,7 +151,8 @@ requests_from c w who front (noted ∷ notes) few =
 
 -- ---- replies
 
-replies_from : (c : Code) (w : World) (who : Actor) (front notes : List Noted) → replies_in who (recorded_from c w front notes) ≡ replies_of who notes
+replies_from : (c : Code) (w : World) (who : Actor) (front notes : List Noted)
+    → replies_in who (recorded_from c w front notes) ≡ replies_of who notes
 replies_from c w who front [] = refl
 replies_from c w who front ((other, event.Begin) ∷ notes) = replies_from c w who (front ++ (other, event.Begin) ∷ []) notes ∙ by_section (is_same_section who other)
   where

@@ -68,7 +68,8 @@ log_named c w who (inr right) =
     pairs_named c who right.variables [] log.answered (option_to_list log.waiting) right.right.makes
     (waiting_named c who right.variables (exchanges_in c log) log.waiting right.right.next)
 
-named_at : (c : Code) (calls : List Call) (n : ℕ) → AreNamed c calls → n < length calls → (slice_index_or calls n no_call).template < length c.templates
+named_at : (c : Code) (calls : List Call) (n : ℕ) → AreNamed c calls → n < length calls
+    → (slice_index_or calls n no_call).template < length c.templates
 named_at c [] n named inside = absurd (omega (arith, inside))
 named_at c (made ∷ calls) zero named inside = named.0
 named_at c (made ∷ calls) (suc n) named inside = named_at c calls n named.1 (omega (arith, inside))
@@ -168,7 +169,8 @@ counts_next begun more notes n who e are counts at other =
     ∙ sym (begun_more other (take n notes) (who, e))
     ∙ ap (begun_in other) (sym at.next)
 
-pub counts_room : (c : Code) (s : Sections Section) (notes : List Noted) (n : ℕ) (noted : Noted) (begun : Sections ℕ) → Fields c s notes → IsCode c
+pub counts_room : (c : Code) (s : Sections Section) (notes : List Noted) (n : ℕ) (noted : Noted) (begun : Sections ℕ) → Fields c s notes
+    → IsCode c
     → IsSound c → IsAt notes n noted → AreBegun begun (take n notes) → HaveRoom begun
 counts_room c s notes n noted begun fields kept sound at are = (few actor.P (are actor.P), few actor.A (are actor.A), few actor.B (are actor.B))
   where
@@ -202,7 +204,8 @@ memory_alone kind never = by_kind (is_memory kind)
 
 -- ---- as the code has it
 
-pub begins_named_for : (c d : Code) (s : Sections Section) (notes : List Noted) (n m : ℕ) (who : Actor) (e : Event) (own : Section) → Fields c s notes
+pub begins_named_for : (c d : Code) (s : Sections Section) (notes : List Noted) (n m : ℕ) (who : Actor) (e : Event) (own : Section)
+    → Fields c s notes
     → IsAt notes n (who, e) → d ≡ c → own ≡ section_of s who → m ≡ begun_in who (take n notes) → BeginsNamed d own m e
 begins_named_for c d s notes n m who e own fields at code same count =
     subst (λ d. BeginsNamed d own m e) (sym code)

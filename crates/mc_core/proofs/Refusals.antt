@@ -29,7 +29,8 @@ not_yet c w who e not = record { against = not; first = none_before }
     none_before refusal.NotWaiting less x = omega arith
     none_before refusal.WrongReply less x = omega arith
 
-over : (c : Code) (w : World) (who : Actor) (e : Event) → IsBegun c w who → IsAgainst c w who e refusal.Over → IsRefused c w who e refusal.Over
+over : (c : Code) (w : World) (who : Actor) (e : Event) → IsBegun c w who → IsAgainst c w who e refusal.Over
+    → IsRefused c w who e refusal.Over
 over c w who e begun is_over = record { against = is_over; first = none_before }
   where
     none_before : (other : StepRefusal) → refusal_number other < 2 → IsAgainst c w who e other → ⊥
@@ -80,7 +81,8 @@ wrong_reply c w who made reply running waits wrong = record { against = (made, w
 
 -- ---- refused
 
-the_one : (c : Code) (w : World) (who : Actor) (e : Event) (x r : StepRefusal) → IsRefused c w who e x → Some x ≡ Some r → IsRefused c w who e r
+the_one : (c : Code) (w : World) (who : Actor) (e : Event) (x r : StepRefusal) → IsRefused c w who e x → Some x ≡ Some r
+    → IsRefused c w who e r
 the_one c w who e x r refused is = subst (IsRefused c w who e) (some_is x r is) refused
 
 refused_on : (c : Code) (w : World) (who : Actor) (e : Event) (o : Option Call) (r : StepRefusal) → IsEnding c w who ending.Running

@@ -131,14 +131,16 @@ requests_counted : (c : Code) (calls : List Call) → cost_along c measure.Reque
 requests_counted c [] = refl
 requests_counted c (made ∷ calls) = let e = requests_counted c calls in omega (arith, e)
 
-bytes_counted : (c : Code) (calls : List Call) → AreFit c calls → bytes_of_all c calls ≤ cost_along c measure.Bytes (map (template_of c) calls)
+bytes_counted : (c : Code) (calls : List Call) → AreFit c calls
+    → bytes_of_all c calls ≤ cost_along c measure.Bytes (map (template_of c) calls)
 bytes_counted c [] fit = omega arith
 bytes_counted c (made ∷ calls) fit =
     let here = text_within (template_of c made) (slice_index_or c.keys (template_of c made).key []) made.number fit.0 in
     let rest = bytes_counted c calls fit.1 in
     omega (arith, here, rest)
 
-pub few_calls : (c : Code) (w : World) (who : Actor) → IsSound c → MayBeRight c w who → length (calls_in (log_of w who)) ≤ (section_of c who).budget.requests
+pub few_calls : (c : Code) (w : World) (who : Actor) → IsSound c → MayBeRight c w who
+    → length (calls_in (log_of w who)) ≤ (section_of c who).budget.requests
 few_calls c w who sound (inl new) =
     let right = subst (IsRightLog c who []) (sym new) (new_is_right c who []) in
     let within = log_within c measure.Requests who [] (log_of w who) sound right in

@@ -55,7 +55,8 @@ held_by t (kind.Num, m) n cas e =
     let wrong : wrong_kind t ≡ call t n = ap (λ v. if is_same kind.Num (wanted_by v t.key) then call t m else wrong_kind t) (sym cas) ∙ e in
     absurd (cc)
 
-cas_fields : (vars flags : ℕ) (a : Argument) (body : List ℕ) → has_fields vars (fields_of verb.Cas) flags a body ≡ true → is_variable vars a ≡ true
+cas_fields : (vars flags : ℕ) (a : Argument) (body : List ℕ) → has_fields vars (fields_of verb.Cas) flags a body ≡ true
+    → is_variable vars a ≡ true
 cas_fields vars flags a body e = (and_parts (nat_le flags MAX_32) (is_variable vars a) (and_parts (nat_le flags MAX_32 && is_variable vars a) (is_body body) e).0).1
 
 -- the variable that a cas takes holds its cas unique
@@ -97,7 +98,8 @@ shown_in_p c before variables v key n (st, (p, stands, met), is) holds =
     by_law (inl first) = absurd (none_held c.vars v key n first)
     by_law (inr shown) = shown
 
-begins_shown : (c : Code) (before : List Exchange) (who : Actor) (variables : List Tagged) (v key n : ℕ) → BeginsAfter c before who variables
+begins_shown : (c : Code) (before : List Exchange) (who : Actor) (variables : List Tagged) (v key n : ℕ)
+    → BeginsAfter c before who variables
     → Holds (initial_state variables) v key n → IsShownIn key n before
 begins_shown c before actor.P variables v key n begins holds =
     absurd (none_held c.vars v key n (subst (λ vs. slice_get vs v ≡ Some (kind.Cas key, n)) begins holds))

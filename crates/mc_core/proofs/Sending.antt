@@ -62,7 +62,8 @@ calling_opens c who variables exchanges made calling =
     let same : template_of c made ≡ opens.1 = get_or_from_slice_get c.templates made.template opens.1 no_template opens.2 in
     (opens.0, subst (λ t. Opens c who opens.0 (calls_of (edges_of exchanges) ++ t ∷ [])) (sym same) opens.3)
 
-pub all_sent : (c : Code) (who : Actor) (variables : List Tagged) (log : Log) → IsRightLog c who variables log → MaySend c who (sent_in c log)
+pub all_sent : (c : Code) (who : Actor) (variables : List Tagged) (log : Log) → IsRightLog c who variables log
+    → MaySend c who (sent_in c log)
 all_sent c who variables log right = by_waiting log.waiting refl
   where
     by_waiting : (o : Option Call) → log.waiting ≡ o → MaySend c who (sent_in c log)
@@ -109,7 +110,8 @@ KeepsBound c m who calls = cost_along c m calls ≤ bound_of m (section_of c who
 
 -- the calls before are within the bound, and so are these after them
 pairs_within : (c : Code) (m : Measure) (who : Actor) (variables : List Tagged) → IsSound c
-    → (before : List Exchange) (pairs : List (Call × Reply)) → MakesAll c who variables before pairs → KeepsBound c m who (calls_of (edges_of before))
+    → (before : List Exchange) (pairs : List (Call × Reply)) → MakesAll c who variables before pairs
+    → KeepsBound c m who (calls_of (edges_of before))
     → KeepsBound c m who (calls_of (edges_of (before ++ map (exchange_of c) pairs)))
 pairs_within c m who variables sound before [] makes within =
     subst (λ l. KeepsBound c m who (calls_of (edges_of l))) (sym (append-nil before)) within
@@ -121,7 +123,8 @@ pairs_within c m who variables sound before ((made, reply) ∷ pairs) makes with
     let rest = pairs_within c m who variables sound (before ++ x ∷ []) pairs makes.2 (subst (KeepsBound c m who) (sym grown) here) in
     subst (λ l. KeepsBound c m who (calls_of (edges_of l))) (append_assoc before (x ∷ []) (map (exchange_of c) pairs)) rest
   where
-    more_calls : (xs : List Exchange) → calls_of (edges_of (xs ++ exchange_of c (made, reply) ∷ [])) ≡ calls_of (edges_of xs) ++ template_of c made ∷ []
+    more_calls : (xs : List Exchange)
+        → calls_of (edges_of (xs ++ exchange_of c (made, reply) ∷ [])) ≡ calls_of (edges_of xs) ++ template_of c made ∷ []
     more_calls [] = refl
     more_calls ((t, given) ∷ xs) = ap (λ l. t ∷ l) (more_calls xs)
 

@@ -134,7 +134,8 @@ template_is : (t u : Template) (m n : ℕ) → call t m ≡ call u n → u ≡ t
 template_is t u m n e = cc
 
 -- what a send comes to, if it is a call, has a number that it may have
-pub sent_number : (t u : Template) (a : Argument) (variables : List Tagged) (n : ℕ) → ((v : ℕ) → IsSmall (slice_index_or variables v nothing))
+pub sent_number : (t u : Template) (a : Argument) (variables : List Tagged) (n : ℕ)
+    → ((v : ℕ) → IsSmall (slice_index_or variables v nothing))
     → with_argument t a variables ≡ call u n → MayHave a n
 sent_number t u argument.Nothing variables n small e = number_is t u 0 n e
 sent_number t u (argument.Number m) variables n small e = number_is t u m n e

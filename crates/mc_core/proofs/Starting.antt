@@ -166,7 +166,8 @@ are_new p a b in_p in_a in_b = record { news = news; room = room }
     news actor.A = record { machine = in_a.machine; answered = in_a.answered; ending = in_a.ending }
     news actor.B = record { machine = in_b.machine; answered = in_b.answered; ending = in_b.ending }
 
-    room : (who : Actor) → REQUESTS_LIMIT ≤ vec_capacity (section_of (let s : Sections Section = record { p = p; a = a; b = b } in s) who).answered
+    room : (who : Actor)
+        → REQUESTS_LIMIT ≤ vec_capacity (section_of (let s : Sections Section = record { p = p; a = a; b = b } in s) who).answered
     room actor.P = in_p.room
     room actor.A = in_a.room
     room actor.B = in_b.room

@@ -85,7 +85,8 @@ is_fit false not = absurd (not refl)
 -- the section's log after the event is right, and has it as its last
 pub record Grows (c : Code) (w : World) (who : Actor) (e : Event) (new : World) : Type 0 where
   pub log : Log
-  pub right : (variables : List Tagged) → BeginsIn c w who variables → IsRightLog c who variables (log_of w who) → IsRightLog c who variables log
+  pub right : (variables : List Tagged) → BeginsIn c w who variables → IsRightLog c who variables (log_of w who)
+      → IsRightLog c who variables log
   pub events : events_in log ≡ events_in (log_of w who) ++ e ∷ []
   pub new_is : new ≡ with_note w who e log
 
@@ -123,7 +124,8 @@ step_grows c w who (event.Fail fault) new step = record {
 -- ---- the world after an event
 
 -- while P goes on nothing has happened in a branch
-pub still_new : (c : Code) (w : World) (who : Actor) → (IsBegun c w who → IsDone c w actor.P) → MayBeRight c w who → (IsDone c w actor.P → ⊥)
+pub still_new : (c : Code) (w : World) (who : Actor) → (IsBegun c w who → IsDone c w actor.P) → MayBeRight c w who
+    → (IsDone c w actor.P → ⊥)
     → log_of w who ≡ new_log
 still_new c w who branch (inl new) goes_on = new
 still_new c w who branch (inr right) goes_on = absurd (goes_on (branch right.begun))
@@ -188,7 +190,8 @@ next_once c w who made other (variables, begins, calling) (others, begins', call
     calls_once c who others (exchanges_of c w who) made other
     (subst (λ vs. IsCalling c who vs (exchanges_of c w who) made) same calling) calling'
 
-pub step_once : (c : Code) (w : World) (who : Actor) (e : Event) (new other : World) → IsStep c w who e new → IsStep c w who e other → new ≡ other
+pub step_once : (c : Code) (w : World) (who : Actor) (e : Event) (new other : World) → IsStep c w who e new → IsStep c w who e other
+    → new ≡ other
 step_once c w who event.Begin new other x y =
     let f : Follows c w who event.Begin new = x.follows in
     let g : Follows c w who event.Begin other = y.follows in

@@ -35,14 +35,16 @@ named c d s notes who own fields code is =
     subst (λ d. NamesATemplate d (waiting_in own.machine)) (sym code) (subst (λ (s : Section). NamesATemplate c (waiting_in s.machine)) (sym is) there)
 
 -- the refusal that is found
-found_at : (c d : Code) (s : Sections Section) (who : Actor) (own : Section) (e : Event) (found : Option StepRefusal) → d ≡ c → own ≡ section_of s who
+found_at : (c d : Code) (s : Sections Section) (who : Actor) (own : Section) (e : Event) (found : Option StepRefusal) → d ≡ c
+    → own ≡ section_of s who
     → found ≡ refusal_in d own.ending (waiting_in own.machine) e
     → refusal_in c (section_of s who).ending (waiting_in (section_of s who).machine) e ≡ found
 found_at c d s who own e found code is finds =
     sym (finds ∙ ap (λ d. refusal_in d own.ending (waiting_in own.machine) e) code
     ∙ ap (λ (s : Section). refusal_in c s.ending (waiting_in s.machine) e) is)
 
-waits_in : (s : Sections Section) (notes : List Noted) (who : Actor) → (log_of (world_in s notes) who).waiting ≡ waiting_in (section_of s who).machine
+waits_in : (s : Sections Section) (notes : List Noted) (who : Actor)
+    → (log_of (world_in s notes) who).waiting ≡ waiting_in (section_of s who).machine
 waits_in s notes who = ap (λ (log : Log). log.waiting) (logged s notes who)
 
 pub refused_by : (c d : Code) (s : Sections Section) (notes : List Noted) (who : Actor) (own : Section) (e : Event) (h : Held)
@@ -68,7 +70,8 @@ may_step c d s notes who own e found fields code same finds none =
     (waits_in s notes who) (found_at c d s who own e found code same finds ∙ none) in
     record { fields = fields; running = free.0; free = free.1 }
 
-pub step_may_take : (c : Code) (s : Sections Section) (notes : List Noted) (who : Actor) (e : Event) → MayStep c s notes who e → IsCode c → IsSound c
+pub step_may_take : (c : Code) (s : Sections Section) (notes : List Noted) (who : Actor) (e : Event) → MayStep c s notes who e → IsCode c
+    → IsSound c
     → MayTake c (section_of s who) e
 step_may_take c s notes who e may kept sound = may_take c s notes who e may.fields kept sound may.running may.free
 
@@ -77,7 +80,8 @@ pub step_leaves : (c : Code) (s : Sections Section) (notes : List Noted) (who : 
 step_leaves c s notes who e may is p takes done =
     leaves_after c s notes e p may.fields (subst (λ who. (section_of s who).ending ≡ ending.Running) is may.running) takes done
 
-pub step_after : (c : Code) (s t : Sections Section) (notes : List Noted) (who : Actor) (e : Event) → MayStep c s notes who e → AllTake c s who e t
+pub step_after : (c : Code) (s t : Sections Section) (notes : List Noted) (who : Actor) (e : Event) → MayStep c s notes who e
+    → AllTake c s who e t
     → After c (world_in s notes) who e (held_in t (notes ++ (who, e) ∷ []))
 step_after c s t notes who e may takes = held_after c s t notes who e may.fields may.running may.free takes
 
@@ -92,7 +96,8 @@ step_room c s t notes who e capacity may takes are kept sound =
     omega (arith, few, one, room)
 
 -- and what is kept is kept
-pub step_kept : (c : Code) (s t : Sections Section) (notes more : List Noted) (who : Actor) (e : Event) (capacity new : ℕ) → AllTake c s who e t
+pub step_kept : (c : Code) (s t : Sections Section) (notes more : List Noted) (who : Actor) (e : Event) (capacity new : ℕ)
+    → AllTake c s who e t
     → AreKept s notes capacity → IsSmallEvent e → more ≡ notes ++ (who, e) ∷ [] → capacity ≤ new → AreKept t more new
 step_kept c s t notes more who e capacity new takes are small is grows =
     subst (λ more. AreKept t more new) (sym is) (record {
@@ -101,7 +106,8 @@ step_kept c s t notes more who e capacity new takes are small is grows =
       small = All-push IsSmallNote notes (who, e) are.small small;
     })
 
-pub step_taken : (c : Code) (s t : Sections Section) (notes more : List Noted) (who : Actor) (e : Event) (h : Held) → MayStep c s notes who e
+pub step_taken : (c : Code) (s t : Sections Section) (notes more : List Noted) (who : Actor) (e : Event) (h : Held)
+    → MayStep c s notes who e
     → AllTake c s who e t → held_in s notes ≡ h → more ≡ notes ++ (who, e) ∷ []
     → IsStep c h.world who e (world_in t more) × IsHeldBy c (held_in t more)
 step_taken c s t notes more who e h may takes is grows =

@@ -48,7 +48,8 @@ names_it c m (Some made) named = by_template (slice_get c.templates made.templat
     by_template (Some t) at = slice_get_within c.templates made.template t at
 
 -- a call that waits names a template that is there
-pub names_a_template : (c : Code) (w : World) (who : Actor) (x : Ending) (o : Option Machine) → HasMachine c w who x o → NamesATemplate c (waiting_in o)
+pub names_a_template : (c : Code) (w : World) (who : Actor) (x : Ending) (o : Option Machine) → HasMachine c w who x o
+    → NamesATemplate c (waiting_in o)
 names_a_template c w who x o (inl (not, none)) = subst (λ o. NamesATemplate c (waiting_in o)) (sym none) tt
 names_a_template c w who x o (inr (m, begun, is, stands)) =
     subst (λ o. NamesATemplate c (waiting_in o)) (sym is) (names_it c m (outstanding_of m) named)
@@ -243,7 +244,8 @@ leaves_from c v p done stands (inr (m, begun, is, at)) =
     let left = p_leaves c v m (subst (IsEnding c v actor.P) done stands).1 at in
     record { m = m; machine = is; variables = left.variables; to_a = left.to_a; to_b = left.to_b }
 
-pub leaves_after : (c : Code) (s : Sections Section) (notes : List Noted) (e : Event) (p : Section) → Fields c s notes → s.p.ending ≡ ending.Running
+pub leaves_after : (c : Code) (s : Sections Section) (notes : List Noted) (e : Event) (p : Section) → Fields c s notes
+    → s.p.ending ≡ ending.Running
     → Takes c s.p e p → p.ending ≡ ending.Done → LeavesNumbers c p
 leaves_after c s notes e p fields running takes done =
     let w = world_in s notes in

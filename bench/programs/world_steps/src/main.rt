@@ -1,7 +1,6 @@
 //! Leads worlds through events again and again, and prints how many nanoseconds a step takes.
 //!
 //! The code has 24 calls in each section, all but the first of one template; after P's calls A's and B's go in turn.
-
 #![tactic(auto)]
 
 use mc_code::decode;
