@@ -14,6 +14,14 @@ def below(name, listed):
     return {name}.union(*(below(it, listed) for it in listed.get(name, []) if it in listed))
 
 
+def put(program, crate):
+    """Copies a program's sources, whose names end with `.source`: `rt ci` takes no others outside the crates."""
+    for file in program.rglob("*.source"):
+        to = crate / file.relative_to(program).with_suffix("")
+        to.parent.mkdir(parents=True, exist_ok=True)
+        shutil.copy(file, to)
+
+
 def ran(name, libraries):
     """What the program printed. It is built by proof in a copy of the repository, over what checks have kept in `out/`."""
     lines = [it.partition(":") for it in (ROOT / "crates.txt").read_text().splitlines() if not it.startswith("#")]
@@ -24,7 +32,7 @@ def ran(name, libraries):
         skipped = shutil.ignore_patterns("incremental", "must-fail", "wrong-bodies")
         for crate in needed:
             shutil.copytree(ROOT / "crates" / crate, copy / "crates" / crate, ignore=skipped)
-        shutil.copytree(ROOT / "bench/programs" / name, copy / "crates" / name)
+        put(ROOT / "bench/programs" / name, copy / "crates" / name)
         rows = [f"{crate}: {' '.join(listed[crate])}\n" for crate in sorted(needed)]
         (copy / "crates.txt").write_text("".join(rows) + f"{name}: {' '.join(libraries)}\n")
         shutil.copy(ROOT / "HANDLES", copy)

@@ -10,7 +10,7 @@ mod Searches
 mod StepLemmas
 mod TextLemmas
 mod Unfinished
-mod Unique
+pub mod Unique
 mod Written
 mod WrittenHits
 mod WrittenLines
