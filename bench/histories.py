@@ -236,6 +236,59 @@ def bodies(rng):
     return prefix + branches
 
 
+CLEARED = ("delete", "a"), ("NOT_FOUND",)
+
+
+def never(key):
+    """A hit that no server gives here: nothing stores this body."""
+    return ("get", key), ("HIT", 0, b"never")
+
+
+def hopeless_stores(count):
+    """`count` requests in each branch, all on one key: each stores a body of its own, and A's last is a hit that no order gives."""
+
+    def make(rng):
+        stored = [("A", ("set", "a", 0, b"a%d" % i), ("STORED",)) for i in range(count - 1)]
+        stored += [("B", ("set", "a", 0, b"b%d" % i), ("STORED",)) for i in range(count)]
+        return [("P", *CLEARED), *stored, ("A", *never("a"))]
+
+    return make
+
+
+def joins(word, size):
+    return ("append", "a", 0, word * (size // len(word)))
+
+
+def hopeless_appends(count, size):
+    """`count` appends of `size` bytes in each branch, and after A's a hit that no order gives: another body for each order."""
+
+    def make(rng):
+        prefix = [("P", *CLEARED), ("P", ("set", "a", 0, b""), ("STORED",))]
+        branches = [(actor, joins(b"%c%d" % (ord(actor), i), size)) for actor in "AB" for i in range(count)]
+        return prefix + [(actor, request, ("STORED",)) for actor, request in branches] + [("A", *never("a"))]
+
+    return make
+
+
+def grown(make_branch):
+    """Appends in P make a body of 975,000 bytes; then both branches send 12 requests, and A a hit that no order gives."""
+
+    def make(rng):
+        prefix = [("P", *CLEARED), ("P", ("set", "a", 0, b"x" * 65000), ("STORED",))]
+        prefix += [("P", ("append", "a", 0, b"x" * 65000), ("STORED",))] * 14
+        return prefix + [(actor, *make_branch(actor)) for actor in "AB" for _ in range(12)] + [("A", *never("a"))]
+
+    return make
+
+
+def touched(actor):
+    return ("touch", "a"), ("TOUCHED",)
+
+
+def appended(actor):
+    return ("append", "a", 0, actor.encode()), ("STORED",)
+
+
 class Kind:
     """A kind of histories."""
 
@@ -253,6 +306,11 @@ class Kind:
         self.limit = limit
 
 
+def hopeless(name, make):
+    """One history that has no explanation."""
+    return Kind(name, make, one=True, honest=False, impossible=True)
+
+
 KINDS = [
     Kind("start", no_request, one=True),
     Kind("job", job),
@@ -263,4 +321,9 @@ KINDS = [
     Kind("misses-6", misses(6), one=True, honest=False, impossible=True),
     Kind("misses-12", misses(12), one=True, honest=False, impossible=True),
     Kind("bodies", bodies, one=True, honest=False, impossible=True, limit=10_000),
+    *(hopeless(f"stores-{count}", hopeless_stores(count)) for count in (8, 16, 24)),
+    hopeless("appends-6", hopeless_appends(7, 6)),
+    hopeless("appends-60000", hopeless_appends(7, 60_000)),
+    hopeless("grown-touched", grown(touched)),
+    hopeless("grown-appended", grown(appended)),
 ]

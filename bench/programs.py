@@ -1,5 +1,6 @@
 """Builds and runs the programs of bench/programs, which measure libraries that the program `mcrace` doesn't show by themselves."""
 
+import contextlib
 import pathlib
 import shutil
 import subprocess
@@ -22,10 +23,14 @@ def put(program, crate):
         shutil.copy(file, to)
 
 
-def ran(name, libraries):
-    """What the program printed. It is built by proof in a copy of the repository, over what checks have kept in `out/`."""
+@contextlib.contextmanager
+def built(name, libraries, words=()):
+    """The program, and what it printed for these words. It is built by proof in a copy of the repository, over what checks have kept
+    in `out/`."""
     lines = [it.partition(":") for it in (ROOT / "crates.txt").read_text().splitlines() if not it.startswith("#")]
-    listed = {crate: words.split() for crate, _, words in lines if crate}
+    # after a crate's name may stand what its functions may do
+    listed = {crate.split()[0]: words.split() for crate, _, words in lines if crate}
+    heads = {crate.split()[0]: crate for crate, _, _ in lines if crate}
     needed = set().union(*(below(it, listed) for it in libraries))
     with tempfile.TemporaryDirectory() as folder:
         copy = pathlib.Path(folder)
@@ -33,10 +38,16 @@ def ran(name, libraries):
         for crate in needed:
             shutil.copytree(ROOT / "crates" / crate, copy / "crates" / crate, ignore=skipped)
         put(ROOT / "bench/programs" / name, copy / "crates" / name)
-        rows = [f"{crate}: {' '.join(listed[crate])}\n" for crate in sorted(needed)]
+        rows = [f"{heads[crate]}: {' '.join(listed[crate])}\n" for crate in sorted(needed)]
         (copy / "crates.txt").write_text("".join(rows) + f"{name}: {' '.join(libraries)}\n")
         shutil.copy(ROOT / "HANDLES", copy)
-        run = subprocess.run(["rt", "run"], cwd=copy / "crates" / name, capture_output=True, text=True)
+        run = subprocess.run(["rt", "run", "--", *words], cwd=copy / "crates" / name, capture_output=True, text=True)
         if run.returncode:
             sys.exit(f"bench/programs/{name}: {run.stdout[-2000:]}{run.stderr[-2000:]}")
-        return run.stdout.splitlines()[-1]
+        yield copy / "crates" / name / "out" / name, run.stdout
+
+
+def ran(name, libraries):
+    """The last line of what the program printed."""
+    with built(name, libraries) as (_, output):
+        return output.splitlines()[-1]

@@ -1,5 +1,5 @@
 -- Folds: one for each list of events, and the same again for the notes that they leave.
-use Rattle.std.proofs.Common.{◌≡◌, ◌⊎◌, inl, inr, ℕ, ◌+◌, List, [], ◌∷◌, ◌++◌, refl, ap, sym, subst, ◌∙◌, arith}
+use Rattle.std.proofs.Common.{◌≡◌, ◌⊎◌, inl, inr, ℕ, ◌+◌, List, [], ◌∷◌, ◌++◌, refl, ap, sym, subst, ◌∙◌, append-nil, append_assoc, arith}
 use Rattle.mc_protocol.specs.declared.actor.Actor.{Actor}
 use Rattle.mc_protocol.specs.declared.actor.Actor.TheVariants as actor
 use Rattle.mc_code.specs.Code.{Code}
@@ -102,6 +102,14 @@ repeats c w who e next fold step =
 
 pub folds_repeat : FoldsRepeat
 folds_repeat c events w skipped fold = kept_along c (IsWorldOf c) (repeats c) fold ends
+
+-- where none is refused, all events are noted
+pub all_noted : {c : Code} {w end : World} {events : List Noted} {skipped : ℕ} → IsFold c w events end skipped → skipped ≡ 0
+    → end.notes ≡ w.notes ++ events
+all_noted {w = w} ends none = sym (append-nil w.notes)
+all_noted {c} (steps {w = w} {next = next} {who = who} {e = e} {events = events} step fold) none =
+    all_noted fold none ∙ ap (λ l. l ++ events) (step_noted c w who e next step) ∙ append_assoc w.notes ((who, e) ∷ []) events
+all_noted (skips {skipped = others} r refused fold) none = absurd (omega (arith, none))
 
 -- ---- one ending
 

@@ -22,3 +22,4 @@ pub mod HistorySteps
 pub mod LongerFolds
 pub mod Stepping
 pub mod Recording
+pub mod SameWorlds

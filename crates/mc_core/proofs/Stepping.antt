@@ -1,11 +1,12 @@
 -- What a world's step knows, from what the world holds and from the refusal that it found.
-use Rattle.std.proofs.Common.{◌≡◌, ℕ, ◌<◌, ◌≤◌, Option, Some, None, List, [], ◌∷◌, ◌++◌, length, ap, sym, subst, ◌∙◌, arith, length-append}
+use Rattle.std.proofs.Common.{◌≡◌, refl, ℕ, ◌<◌, ◌≤◌, Option, Some, None, IfSome, List, [], ◌∷◌, ◌++◌, length, ap, sym, subst, ◌∙◌, arith, length-append}
 use Rattle.std.proofs.lemmas.List.Elements.{All-push}
 use Rattle.mc_protocol.specs.Sections.{section_of}
 use Rattle.mc_protocol.specs.declared.actor.Actor.{Actor}
 use Rattle.mc_protocol.specs.declared.actor.Actor.TheVariants as actor
 use Rattle.mc_protocol.specs.declared.sections.Sections.{Sections}
 use Rattle.mc_code.specs.Code.{Code, IsCode}
+use Rattle.mc_code.specs.declared.instr.Call.{Call}
 use Rattle.mc_verify.specs.Faults.{IsSound}
 use Rattle.mc_core.specs.declared.ending.Ending.TheVariants as ending
 use Rattle.mc_core.specs.declared.event.Event.{Event}
@@ -33,6 +34,18 @@ named c d s notes who own fields code is =
     let there =
     names_a_template c (world_in s notes) who (section_of s who).ending (section_of s who).machine (machine_at c s notes who fields) in
     subst (λ d. NamesATemplate d (waiting_in own.machine)) (sym code) (subst (λ (s : Section). NamesATemplate c (waiting_in s.machine)) (sym is) there)
+
+if_some : (c : Code) (o : Option Call) → NamesATemplate c o → IfSome o (λ made. made.template < length c.templates)
+if_some c None there = tt
+if_some c (Some made) there = there
+
+-- the call that waits
+pub waiting_named : (c : Code) (s : Sections Section) (notes : List Noted) (capacity : ℕ) (h : Held) (who : Actor) (own : Section)
+    (o : Option Call) → IsHeldBy c h → held_in s notes ≡ h → AreKept s notes capacity → own ≡ section_of s who
+    → o ≡ waiting_in own.machine → IfSome o (λ made. made.template < length c.templates)
+waiting_named c s notes capacity h who own o held is kept same waits =
+    let there = named c c s notes who own (fields_of c s notes capacity h held is kept) refl same in
+    if_some c o (subst (λ o. NamesATemplate c o) (sym waits) there)
 
 -- the refusal that is found
 found_at : (c d : Code) (s : Sections Section) (who : Actor) (own : Section) (e : Event) (found : Option StepRefusal) → d ≡ c

@@ -75,6 +75,14 @@ held_in s notes = record {
   machines = record { p = s.p.machine; a = s.a.machine; b = s.b.machine };
 }
 
+-- the same calls have replies, the same one waits, and the same fault ended both, or none
+abbrev pub HasSameLog : Section → Section → Type 0
+HasSameLog s t =
+    (s.answered.items ≡ t.answered.items) × (waiting_in s.machine ≡ waiting_in t.machine) × (fault_in s.ending ≡ fault_in t.ending)
+
+abbrev pub HaveSameLogs : Sections Section → Sections Section → Type 0
+HaveSameLogs s t = HasSameLog s.p t.p × HasSameLog s.a t.a × HasSameLog s.b t.b
+
 -- ---- what is kept
 
 -- each call that has a reply has one in the notes, and there is room for all calls
@@ -201,7 +209,7 @@ AllTake c s actor.B e t = (b : Section) × Takes c s.b e b × (t ≡ record s { 
 abbrev pub calls_of : Section → List Call
 calls_of s = s.answered.items ++ option_to_list (waiting_in s.machine)
 
--- the note of an event, where the section began so many calls before
+-- the note of an event, where the section began `begun` calls before
 abbrev pub note_in : Code → Section → ℕ → Event → Option Note
 note_in c s begun event.Begin = Some (note.Begin (request_of c (slice_index_or (calls_of s) begun no_call)))
 note_in c s begun (event.Reply reply) = Some (note.Reply reply)

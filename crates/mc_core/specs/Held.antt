@@ -37,3 +37,8 @@ pub record IsHeldBy (c : Code) (h : Held) : Type 0 where
   pub fold : IsWorldOf c h.world
   pub endings : (who : Actor) → IsEnding c h.world who (section_of h.endings who)
   pub machines : (who : Actor) → HasMachine c h.world who (section_of h.endings who) (section_of h.machines who)
+
+-- the fold of the world's notes, where that is this world, and none where it isn't
+abbrev pub FindsFold : Code → World → Option Held → Type 0
+FindsFold c w None = IsWorldOf c w → ⊥
+FindsFold c w (Some held) = (held.world ≡ w) × IsHeldBy c held

@@ -72,7 +72,7 @@ pub record IsStep (c : Code) (w : World) (who : Actor) (e : Event) (new : World)
 
 -- ---- folds
 
--- one event after the other is taken, or skipped where it is refused; so many are skipped
+-- one event after the other is taken, or skipped where it is refused; the number counts those that are skipped
 pub data IsFold (c : Code) : World → List Noted → World → ℕ → Type 0 where
   ends : {w : World} → IsFold c w [] w 0
   steps : {w next end : World} {who : Actor} {e : Event} {events : List Noted} {skipped : ℕ}

@@ -20,6 +20,7 @@ impl World {
     pub fn history(&self, alloc: Global, checked: &Checked) -> Result<History, OutOfMemory>
         requires held { IsHeldBy checked.now.code self.now }
         ensures same { IfOk result (λ h. h ≡ histories.history_of checked.now.code self.now.world) }
+        ensures sections { IfOk result (λ h. h.sections ≡ histories.sections_of checked.now.code self.now.world) }
         ensures history { IfOk result IsHistory }
     {
         know_code(checked);
@@ -53,7 +54,7 @@ impl World {
     }
 }
 
-/// The note of a section's event, where so many of its calls began before.
+/// The note of a section's event, where `begun` of its calls began before.
 fn note_of(
     alloc: Global,
     code: &Code,

@@ -4,8 +4,8 @@
 //! their replies (`specs/Logs.antt`); a world has the log of each section, and the notes of all events that it took, in order
 //! (`specs/Worlds.antt`). Which events it takes, what each does, and what the fold of a list of events is, stands in
 //! `specs/Steps.antt`; that each fold is safe, whatever the events are, in `specs/Safety.antt`; and the history of a world in
-//! `specs/Histories.antt`. The crate above uses `World::step` and `drive`, whose worlds are such folds, and `parse_steps`, which
-//! answers the list of events that a text spells (`specs/StepText.antt`).
+//! `specs/Histories.antt`. The crate above uses `World::step` and `drive`, whose worlds are such folds, `World::replay`, which leads
+//! a world by its notes once more, and `parse_steps`, which answers the list of events that a text spells (`specs/StepText.antt`).
 #![tactic(auto)]
 
 mod driving;
@@ -13,6 +13,7 @@ mod ending;
 mod event;
 mod history;
 mod laws;
+mod replaying;
 mod section;
 mod step_lines;
 mod step_refusal;

@@ -9,7 +9,7 @@ ghost use Rattle.mc_code.specs.States.{Tagged};
 use crate::{Ending, Event, StepRefusal};
 use mc_code::{Call, Code};
 use mc_machine::Machine;
-use mc_protocol::{Actor, OutOfMemory, REQUESTS_LIMIT, Reply, Sections, may_answer};
+use mc_protocol::{Actor, Fault, OutOfMemory, REQUESTS_LIMIT, Reply, Sections, may_answer};
 use mc_script::VARIABLES_LIMIT;
 use mc_verify::Checked;
 use std::alloc::Global;
@@ -56,6 +56,16 @@ impl Section {
         match &self.machine {
             Some(machine) => machine.waiting(),
             None => None,
+        }
+    }
+
+    /// What ended the section before its code did.
+    pub(crate) fn fault(&self) -> Option<Fault>
+        ensures { result ≡ fields.fault_in self.now.ending }
+    {
+        match self.ending {
+            Ending::Failed(fault) => Some(fault),
+            Ending::NotBegun | Ending::Running | Ending::Done => None,
         }
     }
 

@@ -1,6 +1,6 @@
 //! What happens in three sections of sound code, event by event.
-ghost use Rattle.std.specs.Prelude.{◌≡◌, ◌<◌, ◌≤◌, ◌∷◌, [], ◌++◌, OnOk, OnErr, IfOk, IfErr, vec_len, vec_capacity};
-ghost use Rattle.mc_code.specs.Code.{IsCode};
+ghost use Rattle.std.specs.Prelude.{◌≡◌, ◌<◌, ◌≤◌, ◌∷◌, [], ◌++◌, length, OnOk, OnErr, IfOk, IfErr, IfSome, vec_len, vec_capacity};
+ghost use Rattle.mc_code.specs.Code.{Code, IsCode};
 ghost use Rattle.mc_core.specs.Held.{IsHeldBy};
 ghost use Rattle.mc_core.specs.Safety.{AreSmall, IsSmallEvent};
 ghost use Rattle.mc_core.specs.Steps.{IsStep, IsRefused};
@@ -11,7 +11,7 @@ ghost use Rattle.mc_verify.specs.Faults.{IsSound};
 use crate::section::{Section, begin_branches, take_event};
 use crate::{Ending, Event, StepRefusal};
 use mc_code::Call;
-use mc_protocol::{Actor, OutOfMemory, REQUESTS_LIMIT, Reply, Sections};
+use mc_protocol::{Actor, Fault, OutOfMemory, REQUESTS_LIMIT, Reply, Sections};
 use mc_script::VARIABLES_LIMIT;
 use mc_verify::Checked;
 use std::alloc::Global;
@@ -95,11 +95,20 @@ impl World {
         self.sections.get(actor).ending
     }
 
-    /// The section's call that waits for its reply. A call that waited when the section failed waits for ever.
+    /// The section's call that waits for its reply. A call that waited when the section failed waits for ever. It names a
+    /// template of the code.
     pub fn waiting(&self, actor: Actor) -> Option<Call>
-        ensures { result ≡ (worlds.log_of self.now.world actor).waiting }
+        ensures call { result ≡ (worlds.log_of self.now.world actor).waiting }
+        ensures template { (c : Code) → IsHeldBy c self.now → IfSome result (λ call. call.template < length c.templates) }
     {
         self.sections.get(actor).waiting()
+    }
+
+    /// What ended the section before its code did.
+    pub fn fault(&self, actor: Actor) -> Option<Fault>
+        ensures { result ≡ (worlds.log_of self.now.world actor).fault }
+    {
+        self.sections.get(actor).fault()
     }
 
     /// The events that were taken, in order.

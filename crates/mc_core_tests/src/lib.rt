@@ -13,6 +13,8 @@ mod long_tests;
 #[cfg(test)]
 mod refusal_tests;
 #[cfg(test)]
+mod replay_tests;
+#[cfg(test)]
 mod scripts;
 #[cfg(test)]
 mod steps_tests;

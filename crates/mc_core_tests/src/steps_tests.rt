@@ -28,7 +28,7 @@ static LISTS: &[(&str, &str)] = &[
         "steps\nA reply HIT 7 =a%2Fb%0a\nB reply HIT 04294967295 = 18446744073709551615\nend\n",
         "A reply HIT 7 =a/b%0a\nB reply HIT 4294967295 = 18446744073709551615\n",
     ),
-    // each fault, also with zeros in front of its number
+    // each fault, also with zeros that lead its number
     (
         "steps\nP fail 1\nA fail 2\nB fail 03\nP fail 4\nA fail 5\nB fail 00000000000000000006\nP fail 7\nA fail 8\nend\n",
         "P fail 1\nA fail 2\nB fail 3\nP fail 4\nA fail 5\nB fail 6\nP fail 7\nA fail 8\n",
@@ -43,7 +43,7 @@ static LISTS: &[(&str, &str)] = &[
 
 // Texts that are none, each with the number of its first line, its fault, and the line of the fault.
 static FAULTS: &[(&str, u32, StepsKind, u32)] = &[
-    // nothing, as behind a script of twelve lines that nothing follows
+    // nothing, as after a script of twelve lines that nothing follows
     ("", 13, Header, 13),
     ("\n# steps\n", 13, Header, 13),
     ("", 1, Header, 1),

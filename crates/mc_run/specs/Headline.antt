@@ -10,7 +10,7 @@ use Rattle.mc_core.specs.Worlds.{World, Noted, new_world, log_of, events_of}
 use Rattle.mc_explain.specs.Verdicts.{IsTrueOf}
 use Rattle.mc_explain.specs.declared.verdict.Verdict.{Verdict}
 
--- these events lead to this world, so many of them are refused, and this is the verdict on the world's history
+-- these events lead to this world, `skipped` of them are refused, and this is the verdict on the world's history
 pub record IsTrial (c : Code) (events : List Noted) (w : World) (skipped : ℕ) (v : Verdict) : Type 0 where
   -- one event after the other is taken, or else refused, counted and skipped
   pub fold : IsFold c new_world events w skipped
@@ -24,5 +24,6 @@ pub record IsTrial (c : Code) (events : List Noted) (w : World) (skipped : ℕ) 
   pub budgets : (who : Actor) → IsWithinBudget c w who
   -- none sends after its connection failed
   pub silent : (who : Actor) → IsSilentAfterFault w who
-  -- an explanation names an allowed order in which the model gives every reply that was received
+  -- an explanation names an allowed order in which the model gives every reply that was received, and where the verdict is
+  -- unexplained there is none
   pub explained : IsTrueOf (history_of c w) v

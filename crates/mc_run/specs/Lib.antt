@@ -6,4 +6,11 @@ pub use Rattle.mc_core.specs.Steps
 pub use Rattle.mc_core.specs.Worlds
 pub use Rattle.mc_explain.specs.Explains
 pub use Rattle.mc_explain.specs.Verdicts
+pub use Rattle.mc_lane.specs.Lanes
+pub mod Agreement
+pub mod Books
 pub mod Headline
+pub mod Recorded
+pub mod Running
+-- What private contracts cite.
+pub mod Fronts

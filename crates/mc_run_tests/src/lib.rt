@@ -1,5 +1,24 @@
-//! Tests of `mc_run`: what lists of events lead to, and what the verdict on it is.
+//! Tests of `mc_run`: what lists of events lead to, what runs over three lanes come to, and the verdict on either; and which
+//! worlds and lanes agree.
 #![tactic(auto)]
 
 #[cfg(test)]
+mod agreement_tests;
+#[cfg(test)]
+mod book_tests;
+#[cfg(test)]
+mod counter;
+#[cfg(test)]
+mod lanes;
+#[cfg(test)]
+mod run_tests;
+#[cfg(test)]
+mod signal;
+#[cfg(test)]
+mod thread_tests;
+#[cfg(test)]
 mod trial_tests;
+#[cfg(test)]
+mod verdict;
+#[cfg(test)]
+mod waiting_stream;

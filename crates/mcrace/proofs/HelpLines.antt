@@ -24,6 +24,14 @@ asm_help : (program : List ℕ) → line_faults (program ∷ codes "asm" ∷ cod
 unfolding line_faults clap_on_literals
 asm_help program = refl
 
+drive_help : (program : List ℕ) → line_faults (program ∷ codes "drive" ∷ codes "--help" ∷ []) ≡ kind.DisplayHelp ∷ []
+unfolding line_faults clap_on_literals
+drive_help program = refl
+
+run_help : (program : List ℕ) → line_faults (program ∷ codes "run" ∷ codes "--help" ∷ []) ≡ kind.DisplayHelp ∷ []
+unfolding line_faults clap_on_literals
+run_help program = refl
+
 version : (program : List ℕ) → line_faults (program ∷ codes "--version" ∷ []) ≡ kind.DisplayVersion ∷ []
 unfolding line_faults clap_on_literals
 version program = refl
@@ -49,5 +57,7 @@ help_is_shown words (program, line) = elim line [
   | inr (inl is) ↦ rw is (shown_alone _ kind.DisplayHelp (judge_help program) (inl refl))
   | inr (inr (inl is)) ↦ rw is (shown_alone _ kind.DisplayHelp (asm_help program) (inl refl))
   | inr (inr (inr (inl is))) ↦ rw is (shown_alone _ kind.DisplayHelp (check_help program) (inl refl))
-  | inr (inr (inr (inr is))) ↦ rw is (shown_alone _ kind.DisplayVersion (version program) (inr refl))
+  | inr (inr (inr (inr (inl is)))) ↦ rw is (shown_alone _ kind.DisplayHelp (drive_help program) (inl refl))
+  | inr (inr (inr (inr (inr (inl is))))) ↦ rw is (shown_alone _ kind.DisplayHelp (run_help program) (inl refl))
+  | inr (inr (inr (inr (inr (inr is))))) ↦ rw is (shown_alone _ kind.DisplayVersion (version program) (inr refl))
 ]

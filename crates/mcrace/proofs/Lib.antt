@@ -1,7 +1,10 @@
+pub mod Fronts
 pub mod HelpLines
+pub mod LimitLines
 pub mod Line
 pub mod Maxima
 pub mod OptionValue
 pub mod PlainLines
 pub mod Right
+pub mod RunLines
 pub mod Taken

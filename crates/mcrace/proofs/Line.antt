@@ -11,7 +11,8 @@ use Rattle.clap.proofs.WalkLemmas.{first_value-rows}
 use Rattle.mcrace.specs.declared.arguments.Asked.{Asked}
 use Rattle.mcrace.specs.declared.arguments.Asked.TheVariants as asked
 use Rattle.mcrace.specs.Command.{AsksFor, IsAskedBy, IsFaultOf, IsLimit, IsShown}
-use Rattle.mcrace.specs.CommandLine.{given_limit, given_name, line_command, line_faults, line_limit, program_app}
+use Rattle.mcrace.specs.LineLaws.{HasLimit}
+use Rattle.mcrace.specs.CommandLine.{given_limit, given_name, given_target, line_command, line_faults, line_limit, line_target, program_app}
 
 -- the faults of the command that the program makes
 pub line_faults-is : (app : App) (words : List (List ℕ)) → app ≡ program_app
@@ -39,7 +40,12 @@ line_limit-is : (app : App) (words : List (List ℕ)) (m : ArgMatches) → app �
 unfolding line_limit
 line_limit-is app words m is found = ap given_limit (subcommand-is app words m is found)
 
--- the name and the limit's word among what was found for a subcommand
+line_target-is : (app : App) (words : List (List ℕ)) (m : ArgMatches) → app ≡ program_app → HasMatchesOf app words m
+    → given_target (subcommand_rows_of m) ≡ line_target words
+unfolding line_target
+line_target-is app words m is found = ap given_target (subcommand-is app words m is found)
+
+-- the name, the limit's word and the target among what was found for a subcommand
 name_of : {X : Type 0} (rows : X → Text × List Row) (o : Option X) → given_name (option_map rows o) ≡ option_map (λ x. (rows x).0) o
 name_of rows None = refl
 name_of rows (Some x) = refl
@@ -52,6 +58,11 @@ limit_of_rows : (entered : Option (Text × List Row)) (rows : List Row) → Some
 limit_of_rows None rows is = absurd (cc)
 limit_of_rows (Some found) rows is = ap (λ o. option_and_then (first_of (codes "limit")) o) (sym is)
 
+target_of_rows : (entered : Option (Text × List Row)) (rows : List Row) → Some rows ≡ option_map (λ found. found.1) entered
+    → given_target entered ≡ first_of (codes "target") rows
+target_of_rows None rows is = absurd (cc)
+target_of_rows (Some found) rows is = ap (λ o. option_and_then (first_of (codes "target")) o) (sym is)
+
 -- what the line names, by the subcommand that a parse answers
 module _ (app : App) (words : List (List ℕ)) (m : ArgMatches) (is : app ≡ program_app) (found : HasMatchesOf app words m) where
   pub command_is : (name : Text) → Some name ≡ subcommand_name_of m → line_command words ≡ Some name
@@ -61,6 +72,11 @@ module _ (app : App) (words : List (List ℕ)) (m : ArgMatches) (is : app ≡ pr
       → line_limit words ≡ first_value (found_of options) (codes "limit")
   limit_is options rows = sym (line_limit-is app words m is found)
       ∙ (limit_of_rows (subcommand_rows_of m) _ rows ∙ sym (first_value-rows (found_of options) (codes "limit")))
+
+  pub target_is : (options : ArgMatches) → Some (rows_of (found_of options)) ≡ option_map (λ (p : Text × List Row). p.1) (subcommand_rows_of m)
+      → line_target words ≡ first_value (found_of options) (codes "target")
+  target_is options rows = sym (line_target-is app words m is found)
+      ∙ (target_of_rows (subcommand_rows_of m) _ rows ∙ sym (first_value-rows (found_of options) (codes "target")))
 
 -- a fault that clap finds
 found_by_clap : (words : List (List ℕ)) (found : ErrorKind) → IsAmong found (line_faults words) → IsFaultOf words found
@@ -101,34 +117,94 @@ judge_is_not_asm same =
     let first : 106 ≡ 97 = ap first_byte same in
     omega (arith, first)
 
+pub judge_is_not_drive : Some (codes "judge") ≢ Some (codes "drive")
+judge_is_not_drive same =
+    let first : 106 ≡ 100 = ap first_byte same in
+    omega (arith, first)
+
 pub check_is_not_asm : Some (codes "check") ≢ Some (codes "asm")
 check_is_not_asm same =
     let first : 99 ≡ 97 = ap first_byte same in
     omega (arith, first)
 
--- the limit's word is none
-nothing_judged : (command : Option Text) (word : Option Text) → command ≡ Some (codes "judge") → ((limit : ℕ) → IsLimit word limit → ⊥)
-    → (wanted : Asked) → IsAskedBy command word wanted → ⊥
-nothing_judged command word judge none (asked.Judge limit) asks = none limit asks.1
-nothing_judged command word judge none asked.Check asks = judge_is_not_check (sym judge ∙ asks)
-nothing_judged command word judge none asked.Asm asks = judge_is_not_asm (sym judge ∙ asks)
+pub check_is_not_drive : Some (codes "check") ≢ Some (codes "drive")
+check_is_not_drive same =
+    let first : 99 ≡ 100 = ap first_byte same in
+    omega (arith, first)
 
-pub no_limit : (words : List (List ℕ)) (found : ErrorKind) → found ≡ kind.ValueValidation → line_faults words ≡ [] → line_command words ≡ Some (codes "judge")
-    → ((limit : ℕ) → IsLimit (line_limit words) limit → ⊥) → IsFaultOf words found
-no_limit words found is clear judge none =
-    found_by_program words found clear (nothing_judged _ _ judge none) (is_told found (λ help. absurd (cc)) (λ version. absurd (cc)))
+pub asm_is_not_drive : Some (codes "asm") ≢ Some (codes "drive")
+asm_is_not_drive same =
+    let first : 97 ≡ 100 = ap first_byte same in
+    omega (arith, first)
+
+pub judge_is_not_run : Some (codes "judge") ≢ Some (codes "run")
+judge_is_not_run same =
+    let first : 106 ≡ 114 = ap first_byte same in
+    omega (arith, first)
+
+pub check_is_not_run : Some (codes "check") ≢ Some (codes "run")
+check_is_not_run same =
+    let first : 99 ≡ 114 = ap first_byte same in
+    omega (arith, first)
+
+pub asm_is_not_run : Some (codes "asm") ≢ Some (codes "run")
+asm_is_not_run same =
+    let first : 97 ≡ 114 = ap first_byte same in
+    omega (arith, first)
+
+pub drive_is_not_run : Some (codes "drive") ≢ Some (codes "run")
+drive_is_not_run same =
+    let first : 100 ≡ 114 = ap first_byte same in
+    omega (arith, first)
+
+-- the limit's word is none
+nothing_limited : (command : Option Text) (word : Option Text) (name : Text) → HasLimit name → command ≡ Some name
+    → ((limit : ℕ) → IsLimit word limit → ⊥) → (wanted : Asked) → IsAskedBy command word wanted → ⊥
+nothing_limited command word name has named none (asked.Judge limit) asks = none limit asks.1
+nothing_limited command word name has named none (asked.Drive limit) asks = none limit asks.1
+nothing_limited command word name (inl judge) named none asked.Check asks = judge_is_not_check (sym (ap Some judge) ∙ (sym named ∙ asks))
+nothing_limited command word name (inr drive) named none asked.Check asks = check_is_not_drive (sym asks ∙ (named ∙ ap Some drive))
+nothing_limited command word name (inl judge) named none asked.Asm asks = judge_is_not_asm (sym (ap Some judge) ∙ (sym named ∙ asks))
+nothing_limited command word name (inr drive) named none asked.Asm asks = asm_is_not_drive (sym asks ∙ (named ∙ ap Some drive))
+nothing_limited command word name has named none (asked.Run limit) asks = none limit asks.1
+
+nothing_run : (command : Option Text) (word : Option Text) → command ≡ Some (codes "run") → ((limit : ℕ) → IsLimit word limit → ⊥)
+    → (wanted : Asked) → IsAskedBy command word wanted → ⊥
+nothing_run command word run none (asked.Judge limit) asks = none limit asks.1
+nothing_run command word run none (asked.Drive limit) asks = none limit asks.1
+nothing_run command word run none (asked.Run limit) asks = none limit asks.1
+nothing_run command word run none asked.Check asks = check_is_not_run (sym asks ∙ run)
+nothing_run command word run none asked.Asm asks = asm_is_not_run (sym asks ∙ run)
+
+pub no_limit : (words : List (List ℕ)) (found : ErrorKind) (name : Text) → HasLimit name → found ≡ kind.ValueValidation → line_faults words ≡ []
+    → line_command words ≡ Some name → ((limit : ℕ) → IsLimit (line_limit words) limit → ⊥) → IsFaultOf words found
+no_limit words found name has is clear named none =
+    found_by_program words found clear (nothing_limited _ _ name has named none) (is_told found (λ help. absurd (cc)) (λ version. absurd (cc)))
+
+pub no_limit_of_run : (words : List (List ℕ)) (found : ErrorKind) → found ≡ kind.ValueValidation → line_faults words ≡ []
+    → line_command words ≡ Some (codes "run") → ((limit : ℕ) → IsLimit (line_limit words) limit → ⊥) → IsFaultOf words found
+no_limit_of_run words found is clear named none =
+    found_by_program words found clear (nothing_run _ _ named none) (is_told found (λ help. absurd (cc)) (λ version. absurd (cc)))
 
 -- the subcommand is another one
-nothing_asked : (command : Option Text) (word : Option Text) → command ≢ Some (codes "judge") → command ≢ Some (codes "check")
-    → command ≢ Some (codes "asm") → (wanted : Asked) → IsAskedBy command word wanted → ⊥
-nothing_asked command word judge check asm (asked.Judge limit) asks = judge asks.0
-nothing_asked command word judge check asm asked.Check asks = check asks
-nothing_asked command word judge check asm asked.Asm asks = asm asks
+pub record IsNoSubcommand (command : Option Text) : Type 0 where
+  pub judge : command ≢ Some (codes "judge")
+  pub check : command ≢ Some (codes "check")
+  pub asm : command ≢ Some (codes "asm")
+  pub drive : command ≢ Some (codes "drive")
+  pub run : command ≢ Some (codes "run")
 
-pub no_subcommand : (words : List (List ℕ)) (found : ErrorKind) → found ≡ kind.MissingSubcommand → line_faults words ≡ [] → line_command words ≢ Some (codes "judge")
-    → line_command words ≢ Some (codes "check") → line_command words ≢ Some (codes "asm") → IsFaultOf words found
-no_subcommand words found is clear judge check asm =
-    found_by_program words found clear (nothing_asked _ _ judge check asm) (is_told found (λ help. absurd (cc)) (λ version. absurd (cc)))
+nothing_asked : (command : Option Text) (word : Option Text) → IsNoSubcommand command → (wanted : Asked) → IsAskedBy command word wanted → ⊥
+nothing_asked command word other (asked.Judge limit) asks = other.judge asks.0
+nothing_asked command word other asked.Check asks = other.check asks
+nothing_asked command word other asked.Asm asks = other.asm asks
+nothing_asked command word other (asked.Drive limit) asks = other.drive asks.0
+nothing_asked command word other (asked.Run limit) asks = other.run asks.0
+
+pub no_subcommand : (words : List (List ℕ)) (found : ErrorKind) → found ≡ kind.MissingSubcommand → line_faults words ≡ []
+    → IsNoSubcommand (line_command words) → IsFaultOf words found
+no_subcommand words found is clear other =
+    found_by_program words found clear (nothing_asked _ _ other) (is_told found (λ help. absurd (cc)) (λ version. absurd (cc)))
 
 -- a line that asks for something fails only where memory runs out
 pub asking_lacks_memory : (words : List (List ℕ)) (wanted : Asked) (found : ErrorKind) → AsksFor words wanted

@@ -1,8 +1,11 @@
 -- The answer to what was read is right for the whole input.
-use Rattle.std.proofs.Common.{arith, refl, ap, sym, subst, inl, inr, ◌≡◌, ◌∙◌, ℕ, ◌<◌, ◌≤◌, List, [], ◌++◌, length, Option, Some, None, length-append, append-nil}
+use Rattle.std.proofs.Common.{Bool, false, arith, refl, ap, sym, subst, inl, inr, ◌≡◌, ◌∙◌, ℕ, ◌<◌, ◌≤◌, List, [], ◌++◌, length, Option, Some, None, length-append, append-nil}
 use Rattle.mcrace.specs.declared.arguments.Asked.{Asked}
 use Rattle.mcrace.specs.Answers.{Does, IsAnswer, INPUT_LIMIT, out_of_memory_text}
 use Rattle.mcrace.specs.Command.{Answers, IsWhole}
+use Rattle.mcrace.specs.Input.{FailsBy}
+use Rattle.mcrace.specs.declared.input.InputFault.{InputFault}
+use Rattle.mcrace.specs.declared.input.InputFault.TheVariants as fault
 use Rattle.mcrace.specs.Streams.{Grows, IsAtEnd, Loses}
 use Rattle.mcrace.specs.declared.status.Status.{Status}
 use Rattle.mcrace.specs.declared.status.Status.TheVariants as status
@@ -57,3 +60,8 @@ pub out_of_memory_answers : (asked : Asked) (left : Option (List ℕ)) (old : Op
 out_of_memory_answers asked left old new ended grows ended_is =
     let whole = some_whole left in
     answers_of asked left old new ended out_of_memory_text (whole.0, whole.1, inr (inr (refl, ended_is))) grows
+
+-- where the input has not failed, it was memory that ran out
+pub only_memory : (before : Bool) (after : Bool) (f : InputFault) → FailsBy before after f → after ≡ false → f ≡ fault.OutOfMemory
+only_memory before after fault.Broken fails whole = absurd (cc (fails, whole))
+only_memory before after fault.OutOfMemory fails whole = refl

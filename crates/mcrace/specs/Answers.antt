@@ -6,7 +6,9 @@ use Rattle.mcrace.specs.declared.status.Status.{Status}
 use Rattle.mcrace.specs.declared.status.Status.TheVariants as status
 use Rattle.mcrace.specs.AsmAnswers.{Assembles}
 use Rattle.mcrace.specs.CheckAnswers.{Checks}
+use Rattle.mcrace.specs.DriveAnswers.{Drives}
 use Rattle.mcrace.specs.JudgeAnswers.{Judges}
+use Rattle.mcrace.specs.RunAnswers.{Plays}
 
 -- the most bytes of an input
 abbrev pub INPUT_LIMIT : ℕ
@@ -17,6 +19,8 @@ abbrev pub Does : Asked → List ℕ → List ℕ → Status → Type 0
 Does (asked.Judge limit) text output ended = Judges limit text output ended
 Does asked.Check text output ended = Checks text output ended
 Does asked.Asm text output ended = Assembles text output ended
+Does (asked.Drive limit) text output ended = Drives text output ended
+Does (asked.Run limit) text output ended = Plays text output ended
 
 abbrev pub too_long_text : List ℕ
 too_long_text = codes "refused input too long\n"

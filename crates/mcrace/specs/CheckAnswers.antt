@@ -6,12 +6,10 @@ use Rattle.mc_protocol.specs.declared.actor.Actor.TheVariants as actor
 use Rattle.mc_protocol.specs.declared.sections.Sections.{Sections}
 use Rattle.mc_code.specs.Code.{Code}
 use Rattle.mc_verify.specs.Checked.{IsChecked}
-use Rattle.mc_verify.specs.Refusals.{IsLeast, kind_name, kind_number}
+use Rattle.mc_verify.specs.Refusals.{IsLeast}
 use Rattle.mc_verify.specs.declared.cost.Cost.{Cost}
-use Rattle.mc_verify.specs.declared.refusal.Refusal.{Refusal}
 use Rattle.mcrace.specs.Loading.{Loads, load_refusal}
-use Rattle.mcrace.specs.Refusals.{refusal_text}
-use Rattle.mcrace.specs.declared.refusal.Place.TheVariants as place
+use Rattle.mcrace.specs.Soundness.{unsound_text}
 use Rattle.mcrace.specs.declared.status.Status.{Status}
 use Rattle.mcrace.specs.declared.status.Status.TheVariants as status
 use Rattle.mcrace.specs.declared.check.Verification.{Verification}
@@ -37,11 +35,6 @@ cost_line section cost = actor_word section ++ (codes " " ++ (decimal cost.reque
 abbrev pub accepted_text : Sections Cost → List ℕ
 accepted_text maxima =
     codes "accepted\n" ++ (cost_line actor.P maxima.p ++ (cost_line actor.A maxima.a ++ cost_line actor.B maxima.b))
-
--- what is written for other code: its least fault, and the section and the place of the instruction where it stands
-abbrev pub unsound_text : Refusal → List ℕ
-unsound_text refusal = refusal_text (codes "verify") (kind_number refusal.kind) (kind_name refusal.kind)
-    (place.Instruction refusal.actor refusal.place)
 
 -- what is written for an answer
 abbrev pub text_of : Verification → List ℕ

@@ -21,6 +21,8 @@ abbrev pub IsAskedBy : Option (List ℕ) → Option (List ℕ) → Asked → Typ
 IsAskedBy command word (asked.Judge limit) = (command ≡ Some (codes "judge")) × IsLimit word limit
 IsAskedBy command word asked.Check = command ≡ Some (codes "check")
 IsAskedBy command word asked.Asm = command ≡ Some (codes "asm")
+IsAskedBy command word (asked.Drive limit) = (command ≡ Some (codes "drive")) × IsLimit word limit
+IsAskedBy command word (asked.Run limit) = (command ≡ Some (codes "run")) × IsLimit word limit
 
 -- what the words ask for: clap finds no fault in them, and reads this
 abbrev pub AsksFor : List (List ℕ) → Asked → Type 0

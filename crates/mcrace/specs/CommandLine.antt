@@ -29,6 +29,21 @@ asm_app = new_app (codes "asm")
 abbrev pub check_app : App
 check_app = new_app (codes "check")
 
+-- the subcommand `drive`
+abbrev pub drive_app : App
+drive_app = with_rule (new_app (codes "drive")) limit_rule
+
+-- the argument that names a server
+abbrev pub target_rule : Rule
+target_rule = record (new_rule (codes "target")) {
+  value_names = 1;
+  required = true;
+}
+
+-- the subcommand `run`
+abbrev pub run_app : App
+run_app = with_rule (with_rule (new_app (codes "run")) target_rule) limit_rule
+
 -- the program, without its subcommands
 abbrev pub bare_app : App
 bare_app = record {
@@ -42,7 +57,9 @@ bare_app = record {
 
 -- what clap reads of the program's command
 abbrev pub program_app : App
-program_app = with_subcommand (with_subcommand (with_subcommand bare_app judge_app.top) check_app.top) asm_app.top
+program_app = with_subcommand
+    (with_subcommand (with_subcommand (with_subcommand (with_subcommand bare_app judge_app.top) check_app.top) asm_app.top) drive_app.top)
+    run_app.top
 
 -- the kinds of the first fault that clap finds in the words, of which it gives one; a call for help or for the version is one too
 unfoldable pub line_faults : List (List ℕ) → Kinds
@@ -55,6 +72,10 @@ given_name entered = option_map (λ found. found.0) entered
 abbrev pub given_limit : Option (Text × List Row) → Option Text
 given_limit entered = option_and_then (λ found. first_of (codes "limit") found.1) entered
 
+-- the first value of its argument that names a server
+abbrev pub given_target : Option (Text × List Row) → Option Text
+given_target entered = option_and_then (λ found. first_of (codes "target") found.1) entered
+
 -- the name of the subcommand that clap finds in the words
 unfoldable pub line_command : List (List ℕ) → Option Text
 line_command words = given_name (subcommand_of program_app words)
@@ -62,3 +83,7 @@ line_command words = given_name (subcommand_of program_app words)
 -- the word that clap finds in the words as the value of `--limit`
 unfoldable pub line_limit : List (List ℕ) → Option Text
 line_limit words = given_limit (subcommand_of program_app words)
+
+-- the word that clap finds in the words as the name of a server
+unfoldable pub line_target : List (List ℕ) → Option Text
+line_target words = given_target (subcommand_of program_app words)

@@ -1,5 +1,5 @@
 -- What `judge` answers to a text.
-use Rattle.std.specs.Prelude.{◌≡◌, ◌≢◌, ℕ, Option, Some, None, List, ◌++◌, codes}
+use Rattle.std.specs.Prelude.{◌≡◌, ◌≢◌, ℕ, Option, Some, None, List, codes}
 use Rattle.mc_model.specs.Notes.{History}
 use Rattle.mc_model.specs.Kinds.{kind_name, kind_number}
 use Rattle.mc_model.specs.declared.rules.HistoryKind.TheVariants as kind
@@ -7,11 +7,9 @@ use Rattle.mc_explain.specs.declared.fault.HistoryFault.{HistoryFault}
 use Rattle.mc_explain.specs.Claim.{Claim}
 use Rattle.mc_explain.specs.HistoryText.{SpellsHistory}
 use Rattle.mc_explain.specs.Explains.{Explains}
-use Rattle.mc_explain.specs.PrintedHistory.{claim_text}
 use Rattle.mc_explain.specs.Verdicts.{IsStated, IsTrueOf, IsWithin}
-use Rattle.mc_explain.specs.declared.verdict.Verdict.{Verdict}
-use Rattle.mc_explain.specs.declared.verdict.Verdict.TheVariants as verdict
 use Rattle.mcrace.specs.Refusals.{refusal_text}
+use Rattle.mcrace.specs.Verdicts.{verdict_status, verdict_text}
 use Rattle.mcrace.specs.declared.refusal.Place.TheVariants as place
 use Rattle.mcrace.specs.declared.status.Status.{Status}
 use Rattle.mcrace.specs.declared.status.Status.TheVariants as status
@@ -34,22 +32,6 @@ IsRight limit text (judgement.Refused fault) = (fault.kind ≢ kind.OutOfMemory)
 -- what is written for a history that is refused
 abbrev pub history_refusal : HistoryFault → List ℕ
 history_refusal fault = refusal_text (codes "history") (kind_number fault.kind) (kind_name fault.kind) (place.Line fault.line)
-
--- what is written where an explanation was found
-abbrev pub explained_text : Claim → List ℕ
-explained_text claim = codes "explained\n" ++ claim_text claim ++ codes "end\n"
-
--- what is written for a verdict
-abbrev pub verdict_text : Verdict → List ℕ
-verdict_text (verdict.Explained claim) = explained_text claim
-verdict_text verdict.Unexplained = codes "unexplained\n"
-verdict_text verdict.Undecided = codes "undecided\n"
-
--- the exit status of a verdict
-abbrev pub verdict_status : Verdict → Status
-verdict_status (verdict.Explained claim) = status.Success
-verdict_status verdict.Unexplained = status.Unexplained
-verdict_status verdict.Undecided = status.NoAnswer
 
 -- what is written for an answer
 abbrev pub text_of : Judgement → List ℕ

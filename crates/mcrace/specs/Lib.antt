@@ -3,10 +3,15 @@ pub mod AsmAnswers
 pub mod CheckAnswers
 pub mod Command
 pub mod CommandLine
+pub mod DriveAnswers
+pub mod Endings
 pub mod Input
 pub mod JudgeAnswers
 pub mod LineLaws
 pub mod Loading
 pub mod Refusals
+pub mod RunAnswers
+pub mod Soundness
 pub mod Statuses
 pub mod Streams
+pub mod Verdicts

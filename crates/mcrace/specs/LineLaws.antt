@@ -1,37 +1,51 @@
 -- What the definition of a line says of the lines that are mostly written, and of any line.
-use Rattle.std.specs.Prelude.{◌≡◌, ◌⊎◌, ℕ, false, List, [], ◌∷◌, ◌++◌, codes}
+use Rattle.std.specs.Prelude.{◌≡◌, ◌⊎◌, ◌==◌, ℕ, false, List, [], ◌∷◌, ◌++◌, codes}
 use Rattle.mc_protocol.specs.Decimals.{SpellsNumber, is_digit}
 use Rattle.mcrace.specs.Command.{AsksFor, IsFaulty, MayTell}
 use Rattle.mcrace.specs.CommandLine.{DEFAULT_LIMIT, GREATEST_LIMIT}
 use Rattle.mcrace.specs.declared.arguments.Asked.{Asked}
 use Rattle.mcrace.specs.declared.arguments.Asked.TheVariants as asked
 
--- the words after `judge` name the limit: there are none, or `--limit` and a decimal, as two words or joined by `=`
+-- the words after a subcommand name its limit: there are none, or `--limit` and a decimal, as two words or joined by `=`
 abbrev pub NamesLimit : List (List ℕ) → ℕ → Type 0
 NamesLimit words limit = ((words ≡ []) × (limit ≡ DEFAULT_LIMIT))
     ⊎ ((number : List ℕ) × SpellsNumber GREATEST_LIMIT number limit
     × ((words ≡ codes "--limit" ∷ number ∷ []) ⊎ (words ≡ (codes "--limit=" ++ number) ∷ [])))
 
--- the words are the program's name, a subcommand, and words that name the limit of `judge`
+-- the word is no option, and not empty
+abbrev pub IsName : List ℕ → Type 0
+IsName word = (first : ℕ) × (others : List ℕ) × (word ≡ first ∷ others) × ((first == 45) ≡ false)
+
+-- the words are the program's name, a subcommand, the name of a server after `run`, and words that name the limit of `judge`, of `drive`
+-- and of `run`
 abbrev pub IsPlainLine : List (List ℕ) → Asked → Type 0
 IsPlainLine words (asked.Judge limit) =
     (program : List ℕ) × (others : List (List ℕ)) × (words ≡ program ∷ codes "judge" ∷ others) × NamesLimit others limit
 IsPlainLine words asked.Check = (program : List ℕ) × (words ≡ program ∷ codes "check" ∷ [])
 IsPlainLine words asked.Asm = (program : List ℕ) × (words ≡ program ∷ codes "asm" ∷ [])
+IsPlainLine words (asked.Drive limit) =
+    (program : List ℕ) × (others : List (List ℕ)) × (words ≡ program ∷ codes "drive" ∷ others) × NamesLimit others limit
+IsPlainLine words (asked.Run limit) = (program : List ℕ) × (server : List ℕ) × (others : List (List ℕ))
+    × (words ≡ program ∷ codes "run" ∷ server ∷ others) × IsName server × NamesLimit others limit
 
 abbrev pub PlainLinesAsk : Type 0
 PlainLinesAsk = (words : List (List ℕ)) (wanted : Asked) → IsPlainLine words wanted → AsksFor words wanted
 
+-- a subcommand that has a limit
+abbrev pub HasLimit : List ℕ → Type 0
+HasLimit name = (name ≡ codes "judge") ⊎ (name ≡ codes "drive")
+
 abbrev pub SignedLimitsAreFaulty : Type 0
-SignedLimitsAreFaulty = (program : List ℕ) (sign : ℕ) (number : List ℕ) → is_digit sign ≡ false
-    → IsFaulty (program ∷ codes "judge" ∷ (codes "--limit=" ++ sign ∷ number) ∷ [])
+SignedLimitsAreFaulty = (program : List ℕ) (name : List ℕ) (sign : ℕ) (number : List ℕ) → HasLimit name → is_digit sign ≡ false
+    → IsFaulty (program ∷ name ∷ (codes "--limit=" ++ sign ∷ number) ∷ [])
 
 -- the words are the program's name, and `--help`, perhaps after a subcommand, or `--version`
 abbrev pub IsHelpLine : List (List ℕ) → Type 0
 IsHelpLine words = (program : List ℕ)
     × ((words ≡ program ∷ codes "--help" ∷ []) ⊎ ((words ≡ program ∷ codes "judge" ∷ codes "--help" ∷ [])
     ⊎ ((words ≡ program ∷ codes "asm" ∷ codes "--help" ∷ []) ⊎ ((words ≡ program ∷ codes "check" ∷ codes "--help" ∷ [])
-    ⊎ (words ≡ program ∷ codes "--version" ∷ [])))))
+    ⊎ ((words ≡ program ∷ codes "drive" ∷ codes "--help" ∷ [])
+    ⊎ ((words ≡ program ∷ codes "run" ∷ codes "--help" ∷ []) ⊎ (words ≡ program ∷ codes "--version" ∷ [])))))))
 
 abbrev pub HelpIsShown : Type 0
 HelpIsShown = (words : List (List ℕ)) → IsHelpLine words → IsFaulty words × (MayTell words → ⊥)

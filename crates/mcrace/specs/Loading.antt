@@ -5,6 +5,7 @@ use Rattle.mc_script.specs.Kinds as script_kinds
 use Rattle.mc_script.specs.declared.fault.ScriptFault.{ScriptFault}
 use Rattle.mc_script.specs.declared.fault.ScriptKind.TheVariants as script_kind
 use Rattle.mc_script.specs.Script.{Script}
+use Rattle.mc_script.specs.FrontText.{SpellsFront}
 use Rattle.mc_script.specs.ScriptText.{SpellsScript}
 use Rattle.mc_code.specs.AsmKinds as asm_kinds
 use Rattle.mc_code.specs.ImageKinds as image_kinds
@@ -48,6 +49,19 @@ IsScriptFault text (load_fault.NoImage found) = ⊥
 
 abbrev pub LoadsScript : List ℕ → Result Code LoadFault → Type 0
 LoadsScript text loaded = MatchResult loaded (IsScriptCode text) (IsScriptFault text)
+
+-- ---- scripts that something follows
+
+-- the code of the script that the first size bytes of the text spell
+abbrev pub IsFrontCode : List ℕ → Code → ℕ → Type 0
+IsFrontCode text code size = (s : Script) × SpellsFront text s size × IsAssembled s code
+
+-- why the text begins with no code: it begins with no script, or with one that is too large
+abbrev pub IsFrontFault : List ℕ → LoadFault → Type 0
+IsFrontFault text (load_fault.NoScript found) =
+    (found.kind ≢ script_kind.OutOfMemory) × ((s : Script) (size : ℕ) → SpellsFront text s size → ⊥)
+IsFrontFault text (load_fault.TooLarge limit) = (s : Script) × (size : ℕ) × SpellsFront text s size × IsTooLarge s limit
+IsFrontFault text (load_fault.NoImage found) = ⊥
 
 -- ---- images
 

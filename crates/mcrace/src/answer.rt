@@ -3,12 +3,14 @@ ghost use Rattle.std.specs.Prelude.{◌≡◌, IfOk};
 ghost use Rattle.mcrace.specs.Answers as answers;
 ghost use Rattle.mcrace.specs.AsmAnswers.{Assembles};
 ghost use Rattle.mcrace.specs.CheckAnswers.{Checks};
+ghost use Rattle.mcrace.specs.DriveAnswers.{Drives};
 ghost use Rattle.mcrace.specs.JudgeAnswers.{Judges};
+ghost use Rattle.mcrace.specs.RunAnswers.{Plays};
 
 use crate::arguments::Asked;
 use crate::loading::load_script;
 use crate::status::Status;
-use crate::{asm, check, judge};
+use crate::{asm, check, drive, judge, run};
 use std::alloc::{AllocError, Global};
 
 /// The most bytes of an input.
@@ -31,17 +33,27 @@ pub fn answer_to(alloc: Global, asked: Asked, text: &[u8]) -> Result<Answer, All
     ensures { IfOk result (λ answer. answers.IsAnswer asked text.now answer.output.items answer.status) }
 {
     if text.len() > INPUT_LIMIT {
-        let output = Vec::from_slice(alloc, TOO_LONG)?;
-        return Ok(Answer {
-            output,
-            status: Status::Refused,
-        });
+        return too_long(alloc);
     }
     match asked {
         Asked::Judge(limit) => judge_answer(alloc, text, limit),
         Asked::Check => check_answer(alloc, text),
         Asked::Asm => asm_answer(alloc, text),
+        Asked::Drive(limit) => drive_answer(alloc, text, limit),
+        // Whoever can reach a server answers by `run_command`.
+        Asked::Run(_) => unplayed_answer(alloc, text),
     }
+}
+
+/// What is answered to a text that is too long.
+pub fn too_long(alloc: Global) -> Result<Answer, AllocError>
+    ensures { IfOk result (λ answer. (answer.output.items ≡ answers.too_long_text) × (answer.status ≡ Status.Refused)) }
+{
+    let output = Vec::from_slice(alloc, TOO_LONG)?;
+    Ok(Answer {
+        output,
+        status: Status::Refused,
+    })
 }
 
 fn judge_answer(alloc: Global, text: &[u8], limit: u64) -> Result<Answer, AllocError>
@@ -68,5 +80,23 @@ fn asm_answer(alloc: Global, text: &[u8]) -> Result<Answer, AllocError>
     let loaded = load_script(alloc, text)?;
     let output = asm::text_of(alloc, &loaded)?;
     let status = asm::status_of(&loaded);
+    Ok(Answer { output, status })
+}
+
+fn drive_answer(alloc: Global, text: &[u8], limit: u64) -> Result<Answer, AllocError>
+    ensures { IfOk result (λ answer. Drives text.now answer.output.items answer.status) }
+{
+    let driven = drive::drive_text(alloc, text, limit)?;
+    let output = drive::text_of(alloc, &driven)?;
+    let status = drive::status_of(&driven);
+    Ok(Answer { output, status })
+}
+
+fn unplayed_answer(alloc: Global, text: &[u8]) -> Result<Answer, AllocError>
+    ensures { IfOk result (λ answer. Plays text.now answer.output.items answer.status) }
+{
+    let played = run::check_text(alloc, text)?;
+    let output = run::text_of(alloc, &played)?;
+    let status = run::status_of(&played);
     Ok(Answer { output, status })
 }

@@ -1,19 +1,19 @@
 //! What `check` answers to an input.
-ghost use Rattle.std.specs.Prelude.{◌≡◌, IfErr, IfOk, string_bytes};
+ghost use Rattle.std.specs.Prelude.{◌≡◌, IfOk, string_bytes};
 ghost use Rattle.clap.specs.Words.{app_of};
 ghost use Rattle.mc_verify.specs.Checked.{IsChecked};
 ghost use Rattle.mcrace.specs.CheckAnswers as answers;
 ghost use Rattle.mcrace.specs.CommandLine.{check_app};
-ghost use Rattle.mcrace.specs.Refusals as refusals;
 
-use crate::loading;
 use crate::loading::LoadFault;
-use crate::refusal::{Place, Refusal, refusal_text};
+use crate::refusal::refusal_text;
 use crate::status::Status;
+use crate::verifying::verify_code;
+use crate::{loading, verifying};
 use clap::Command;
 use mc_code::Code;
 use mc_protocol::{Actor, Sections};
-use mc_verify::{Checked, Cost, RefusalKind, verify};
+use mc_verify::{Checked, Cost};
 use std::alloc::{AllocError, Global};
 
 /// What is answered to an input.
@@ -40,13 +40,9 @@ pub fn check_input(alloc: Global, input: &[u8]) -> Result<Verification, AllocErr
 fn check_code(alloc: Global, code: Code) -> Result<Verification, AllocError>
     ensures { IfOk result (answers.IsRightFor code) }
 {
-    match verify(alloc, code) {
+    match verify_code(alloc, code)? {
         Ok(checked) => Ok(Verification::Accepted(maxima_of(&checked))),
-        // Want of memory is no fault of the code.
-        Err((refusal, _)) => match refusal.kind {
-            RefusalKind::OutOfMemory => Err(AllocError),
-            _ => Ok(Verification::Unsound(refusal)),
-        },
+        Err(refusal) => Ok(Verification::Unsound(refusal)),
     }
 }
 
@@ -69,7 +65,7 @@ pub fn text_of(alloc: Global, answer: &Verification) -> Result<Vec<u8>, AllocErr
 {
     match answer {
         Verification::Accepted(maxima) => accepted_text(alloc, maxima),
-        Verification::Unsound(refusal) => refusal_text(alloc, refusal_of(*refusal)),
+        Verification::Unsound(refusal) => refusal_text(alloc, verifying::refusal_of(*refusal)),
         Verification::NoCode(fault) => refusal_text(alloc, loading::refusal_of(*fault)),
     }
 }
@@ -90,17 +86,6 @@ fn cost_line(alloc: Global, actor: Actor, cost: Cost) -> Result<String, AllocErr
     let section = actor.word();
     let Cost { requests, bytes } = cost;
     format!(in alloc; "{section} {requests} {bytes}\n")
-}
-
-fn refusal_of(refusal: mc_verify::Refusal) -> Refusal
-    ensures { refusals.text_of result ≡ answers.unsound_text refusal }
-{
-    Refusal {
-        what: "verify",
-        number: refusal.kind.number(),
-        name: refusal.kind.name(),
-        place: Place::Instruction(refusal.actor, refusal.place),
-    }
 }
 
 /// The exit status of an answer.

@@ -85,8 +85,20 @@ fn answer<I: Source, O: Sink>(alloc: Global, asked: Asked, input: &mut I, output
 {
     match read_answer(alloc, asked, input) {
         Ok(answer) => write_text(answer.output.as_slice(), answer.status, output),
-        Err(InputFault::Broken) => Status::NoAnswer,
-        Err(InputFault::OutOfMemory) => write_text(OUT_OF_MEMORY, Status::NoAnswer, output),
+        Err(fault) => write_fault(fault, output),
+    }
+}
+
+/// What is written where the input was not read or not answered, and its status.
+pub fn write_fault<O: Sink>(fault: InputFault, output: &mut O) -> Status
+    ensures broken { fault ≡ InputFault.Broken → output.new ≡ output.old }
+    ensures memory { fault ≡ InputFault.OutOfMemory → O.has_failed output.old ≡ false → O.has_failed output.new ≡ false
+        → Grows (O.written output.old) (O.written output.new) out_of_memory_text }
+    ensures status { result ≡ Status.NoAnswer }
+{
+    match fault {
+        InputFault::Broken => Status::NoAnswer,
+        InputFault::OutOfMemory => write_text(OUT_OF_MEMORY, Status::NoAnswer, output),
     }
 }
 
@@ -131,8 +143,8 @@ fn explain<O: Sink, F: Sink>(alloc: Global, error: &Error, output: &mut O, fault
     }
 }
 
-// Writes the text by one call, and answers the status, or that of a failure.
-fn write_text<S: Sink>(text: &[u8], status: Status, sink: &mut S) -> Status
+/// Writes the text by one call, and answers the status, or that of a failure.
+pub fn write_text<S: Sink>(text: &[u8], status: Status, sink: &mut S) -> Status
     ensures written { S.has_failed sink.old ≡ false → S.has_failed sink.new ≡ false
         → Grows (S.written sink.old) (S.written sink.new) text.now × (result ≡ status) }
     ensures broken { S.has_failed sink.old ≡ false → S.has_failed sink.new ≡ true → result ≡ Status.NoAnswer }

@@ -8,10 +8,9 @@ ghost use Rattle.mcrace.specs.Refusals as refusals;
 use crate::limit;
 use crate::refusal::{Place, Refusal, refusal_text};
 use crate::status::Status;
+use crate::verdicts::{verdict_status, verdict_text};
 use clap::Command;
-use mc_explain::{
-    Explanation, HistoryFault, Verdict, confirms, judge, parse_history, print_explanation,
-};
+use mc_explain::{Explanation, HistoryFault, Verdict, confirms, judge, parse_history};
 use mc_model::{History, HistoryKind};
 use std::alloc::{AllocError, Global};
 
@@ -81,25 +80,6 @@ pub fn text_of(alloc: Global, answer: &Judgement) -> Result<Vec<u8>, AllocError>
     }
 }
 
-fn verdict_text(alloc: Global, verdict: &Verdict) -> Result<Vec<u8>, AllocError>
-    ensures { IfOk result (λ text. text.items ≡ answers.verdict_text verdict.now) }
-{
-    match verdict {
-        Verdict::Explained(explanation) => explained_text(alloc, explanation),
-        Verdict::Unexplained => Vec::from_slice(alloc, b"unexplained\n"),
-        Verdict::Undecided => Vec::from_slice(alloc, b"undecided\n"),
-    }
-}
-
-fn explained_text(alloc: Global, explanation: &Explanation) -> Result<Vec<u8>, AllocError>
-    ensures { IfOk result (λ text. text.items ≡ answers.explained_text explanation.now) }
-{
-    let mut text = Vec::from_slice(alloc, b"explained\n")?;
-    print_explanation(explanation, &mut text)?;
-    text.extend_from_slice(b"end\n")?;
-    Ok(text)
-}
-
 fn refusal_of(fault: HistoryFault) -> Refusal
     ensures { refusals.text_of result ≡ answers.history_refusal fault }
 {
@@ -116,10 +96,10 @@ pub fn status_of(answer: &Judgement) -> Status
     ensures { result ≡ answers.status_of answer.now }
 {
     match answer {
-        Judgement::Confirmed | Judgement::Judged(Verdict::Explained(_), _) => Status::Success,
-        Judgement::NotConfirmed | Judgement::Judged(Verdict::Unexplained, _) => Status::Unexplained,
+        Judgement::Confirmed => Status::Success,
+        Judgement::NotConfirmed => Status::Unexplained,
+        Judgement::Judged(verdict, _) => verdict_status(verdict),
         Judgement::Refused(_) => Status::Refused,
-        Judgement::Judged(Verdict::Undecided, _) => Status::NoAnswer,
     }
 }
 
@@ -214,9 +194,11 @@ that another server may read as a number.
 
 What is answered:
   explained    an explanation was found; its lines follow, and `end`
-  unexplained  the search came to its end, and found none
+  unexplained  there is none: the search came to its end
   undecided    the turns of the search were used up before either was known
-A turn tries one request at one place of the order.
+A turn tries one request at one place of the order. The search keeps in memory
+from where it found no way on, up to 256 MiB; past that it keeps no more, and
+may take more turns.
 
 Where a line `explain` and the lines of an explanation stand before `end`, that
 one is judged, and none is searched for:

@@ -1,20 +1,19 @@
 //! What the definition of a line says of the lines that are mostly written, and of any line.
 ghost use Rattle.mcrace.specs.LineLaws.{HelpIsShown, LinesAskOnce, PlainLinesAsk, SignedLimitsAreFaulty};
 
-/// `mcrace judge`, `mcrace judge --limit N`, `mcrace judge --limit=N`, `mcrace check` and `mcrace asm` have no fault, and ask
-/// for what they say.
+/// `mcrace judge`, `mcrace judge --limit N` and `mcrace judge --limit=N`, the same of `mcrace drive`, `mcrace check` and `mcrace
+/// asm` have no fault, and ask for what they say.
 pub fn plain_lines_ask()
     ensures { PlainLinesAsk }
 {}
 
-/// A limit that begins with a sign, as in `mcrace judge --limit=+5`, is a fault, and so is one that begins with any other
-/// byte than a digit.
+/// A limit of `judge` or `drive` that begins with a sign, as in `mcrace judge --limit=+5`, is a fault, and so is one that
+/// begins with any other byte than a digit.
 pub fn signed_limits_are_faulty()
     ensures { SignedLimitsAreFaulty }
 {}
 
-/// `mcrace --help`, `mcrace judge --help`, `mcrace check --help`, `mcrace asm --help` and `mcrace --version` ask for nothing and
-/// are no faulty lines: they show help or the version.
+/// `mcrace --help`, the same after each subcommand, and `mcrace --version` ask for nothing: they show help or the version.
 pub fn help_is_shown()
     ensures { HelpIsShown }
 {}

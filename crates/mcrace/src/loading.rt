@@ -1,11 +1,11 @@
 //! Reading code: a script's, which is assembled, or an image's.
-ghost use Rattle.std.specs.Prelude.{◌≡◌, IfErr, IfOk};
+ghost use Rattle.std.specs.Prelude.{◌≡◌, ◌≢◌, IfErr, IfOk};
 ghost use Rattle.mcrace.specs.Loading as loading;
 ghost use Rattle.mcrace.specs.Refusals as refusals;
 
 use crate::refusal::{Place, Refusal};
 use mc_code::{AsmFault, Code, ImageFault, ImageKind, assemble, decode};
-use mc_script::{Script, ScriptFault, ScriptKind, parse};
+use mc_script::{Script, ScriptFault, ScriptKind, parse, parse_front};
 use std::alloc::{AllocError, Global};
 
 // The first bytes of an image, whatever its version.
@@ -39,11 +39,34 @@ pub fn load_script(alloc: Global, text: &[u8]) -> Result<Result<Code, LoadFault>
 {
     match parse(alloc, text) {
         Ok(script) => assemble_script(alloc, &script),
-        // Want of memory is no fault of the text.
-        Err(fault) => match fault.kind {
-            ScriptKind::OutOfMemory => Err(AllocError),
-            _ => Ok(Err(LoadFault::NoScript(fault))),
+        Err(fault) => Ok(Err(no_script(fault)?)),
+    }
+}
+
+/// The code of the script that the text begins with, and how many bytes that script has; whatever follows it.
+pub fn load_front(
+    alloc: Global,
+    text: &[u8],
+) -> Result<Result<(Code, usize), LoadFault>, AllocError>
+    ensures code { IfOk result (λ loaded. IfOk loaded (λ front. loading.IsFrontCode text.now front.0 front.1)) }
+    ensures fault { IfOk result (λ loaded. IfErr loaded (loading.IsFrontFault text.now)) }
+{
+    match parse_front(alloc, text) {
+        Ok((script, size)) => match assemble_script(alloc, &script)? {
+            Ok(code) => Ok(Ok((code, size))),
+            Err(fault) => Ok(Err(fault)),
         },
+        Err(fault) => Ok(Err(no_script(fault)?)),
+    }
+}
+
+// Want of memory is no fault of the text.
+fn no_script(fault: ScriptFault) -> Result<LoadFault, AllocError>
+    ensures { IfOk result (λ found. (found ≡ LoadFault.NoScript fault) × (fault.kind ≢ ScriptKind.OutOfMemory)) }
+{
+    match fault.kind {
+        ScriptKind::OutOfMemory => Err(AllocError),
+        _ => Ok(LoadFault::NoScript(fault)),
     }
 }
 

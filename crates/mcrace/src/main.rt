@@ -6,35 +6,75 @@ mod arguments;
 mod asm;
 mod check;
 mod command;
+mod dial;
+mod drive;
+mod endings;
 mod input;
 mod judge;
 mod limit;
 mod line_laws;
 mod loading;
 mod refusal;
+mod run;
+mod run_command;
+mod run_status;
 mod status;
 mod streams;
+mod verdicts;
+mod verifying;
 
+use arguments::{Target, read_run};
+use input::InputFault;
+use run_command::run_script;
+use std::alloc::Global;
+use std::io::Eprint;
+use std::net::{Net, TcpStream};
 use std::process::ExitCode;
 use std::rt::Env;
+use std::sync::Wait;
+use std::thread::Threads;
 use std::{env, io};
-use streams::{Reader, Writer};
+use streams::{Reader, Sink, Source, Writer};
 
 fn main(rt: HostRuntime) -> ExitCode {
     let mut input = Reader::new(rt.reader());
     let mut output = Writer::new(rt.stdout());
     let mut faults = Writer::new(rt.stderr());
     let status = match line_of(&rt) {
-        Ok(line) => command::command(
-            rt.alloc(),
-            line.as_slice(),
-            &mut input,
-            &mut output,
-            &mut faults,
-        ),
+        Ok(line) => match read_run(rt.alloc(), line.as_slice()) {
+            Ok(Some(target)) => play(&rt, rt.alloc(), target, &mut input, &mut output),
+            Ok(None) => command::command(
+                rt.alloc(),
+                line.as_slice(),
+                &mut input,
+                &mut output,
+                &mut faults,
+            ),
+            Err(_) => command::write_fault(InputFault::OutOfMemory, &mut output).number(),
+        },
         Err(error) => command::unread_line(&error, &mut output, &mut faults),
     };
     ExitCode::from(status)
+}
+
+// Runs the script on the input. Why there is no connection goes to standard error.
+fn play<R, I: Source, O: Sink>(
+    rt: &R,
+    alloc: Global,
+    target: Target<'_>,
+    input: &mut I,
+    output: &mut O,
+) -> u8
+where
+    R: Net<Stream = TcpStream> + Threads + Wait + Sync + Eprint,
+{
+    let Target { server, limit } = target;
+    let (status, reason) = run_script(rt, alloc, server, limit, input, output);
+    if let Some(error) = reason {
+        // There is nowhere else to say that this could not be said.
+        let _ = eprintln!(rt; "mcrace: {server}: {error}");
+    }
+    status.number()
 }
 
 // The words of the command line, the program's name first.
@@ -46,5 +86,9 @@ fn line_of<R: Env + AllocGlobal>(rt: &R) -> io::Result<Vec<String>> {
 mod asm_tests;
 #[cfg(test)]
 mod check_tests;
+#[cfg(test)]
+mod drive_tests;
+#[cfg(test)]
+mod run_tests;
 #[cfg(test)]
 mod tests;

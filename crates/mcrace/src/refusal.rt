@@ -23,7 +23,7 @@ pub enum Place {
 /// Why an input is refused.
 #[derive(Clone, Copy, Debug, Drop, PartialEq, Eq)]
 pub struct Refusal {
-    /// What was to be read or made, or looked at: `history`, `script`, `image`, `asm` or `verify`.
+    /// What was to be read or made, or looked at: `history`, `script`, `image`, `asm`, `verify` or `steps`.
     pub what: &'static str,
     pub number: u32,
     pub name: &'static str,

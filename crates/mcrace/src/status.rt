@@ -1,5 +1,6 @@
 //! The exit statuses.
 ghost use Rattle.std.specs.Prelude.{◌≡◌};
+ghost use Rattle.mcrace.specs.Statuses as statuses;
 ghost use Rattle.mcrace.specs.Statuses.{status_number};
 
 /// How a run of the program ended.
@@ -28,6 +29,16 @@ impl Status {
             Status::WrongLine => 2,
             Status::Refused => 3,
             Status::NoAnswer => 4,
+        }
+    }
+    /// The status of two parts together: what is unexplained goes before what has no answer, and that before success.
+    pub fn joined(self, other: Status) -> Status
+        ensures { result ≡ statuses.joined self other }
+    {
+        match (self, other) {
+            (Status::Success, other) => other,
+            (Status::NoAnswer, Status::Unexplained) => Status::Unexplained,
+            (one, _) => one,
         }
     }
 }

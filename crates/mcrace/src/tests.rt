@@ -143,7 +143,14 @@ fn helps(rt: HostRuntime) -> Result<(), Fail> {
     let rows: [(&[&str], &[&str]); 3] = [
         (
             &["--help"],
-            &["Tests servers", "judge", "check", "asm", "Exit status"],
+            &[
+                "Tests servers",
+                "judge",
+                "check",
+                "asm",
+                "drive",
+                "Exit status",
+            ],
         ),
         (&["judge", "--help"], &HELP_OF_JUDGE),
         (&["help", "judge"], &HELP_OF_JUDGE),

@@ -1,7 +1,7 @@
-use Rattle.std.proofs.Common.{inl, inr, map, rules, string_bytes, sym, Some, ◌≡◌, ◌∙◌}
-use Rattle.std.proofs.lemmas.Result.{IfOk-weaker, IfErr-weaker, err_from_is_err_and}
+use Rattle.std.proofs.Common.{codes, inl, inr, map, refl, rules, string_bytes, sym, Some, ◌≡◌, ◌∙◌}
+use Rattle.std.proofs.lemmas.Result.{err_from_is_err_and}
 use Rattle.clap.specs.Words.{kind_of}
-use Rattle.mcrace.proofs.Line.{command_is, fault_by_clap, limit_is, line_faults-is, no_limit, no_subcommand, program_is_simple}
+use Rattle.mcrace.proofs.Line.{command_is, fault_by_clap, limit_is, line_faults-is, no_limit, no_limit_of_run, no_subcommand, program_is_simple}
 use Rattle.mcrace.proofs.arguments.read_line.Goals as goal
 
 pub returns-in_err-matches-clause-fault : goal.returns-in_err-matches-clause-fault
@@ -19,20 +19,69 @@ returns-in-judge-clause-asked c =
     let none = sym (line_faults-is _ words program) ∙ c.in_ok-matches.ensures.kinds (program_is_simple _ program) in
     let command = command_is _ words _ program matches _ c.in-Some.ensures.name in
     let limit = limit_is _ words _ program matches _ c.in-Some.ensures.rows in
-    IfOk-weaker c.read_judge_options.result _ _ (λ asked is. rw is.1 (none, (command ∙ search rules, rw limit is.2))) c.read_judge_options.ensures.asked
+    (none, (command ∙ search rules, rw limit c.in_ok-limit-in-judge.ensures.limit))
 
-pub returns-in-judge-clause-fault : goal.returns-in-judge-clause-fault
-returns-in-judge-clause-fault c =
+pub returns-in_err-limit-in-judge-clause-fault : goal.returns-in_err-limit-in-judge-clause-fault
+returns-in_err-limit-in-judge-clause-fault c =
     let words = map string_bytes c.args.line.now in
     let program = c.in_ok-program.ensures in
     let matches = c.in_ok-matches.ensures.matches in
     let clear = sym (line_faults-is _ words program) ∙ c.in_ok-matches.ensures.kinds (program_is_simple _ program) in
     let command = command_is _ words _ program matches _ c.in-Some.ensures.name in
     let limit = limit_is _ words _ program matches _ c.in-Some.ensures.rows in
-    IfErr-weaker c.read_judge_options.result _ _ (λ error fails. elim fails [
+    let p = err_from_is_err_and c.from_residual-in_err-limit-in-judge.result c.from_residual-in_err-limit-in-judge.ensures.1 in
+    rw (p.1, p.2) (elim c.in_err-limit-in-judge.ensures.fault [
       | inl memory ↦ inl memory
-      | inr none ↦ inr (no_limit words (kind_of error) none.0 clear (command ∙ search rules) (rw limit none.1))
-    ]) c.read_judge_options.ensures.fault
+      | inr none ↦ inr (no_limit words _ (codes "judge") (inl refl) none.0 clear (command ∙ search rules) (rw limit none.1))
+    ])
+
+pub returns-in-drive-clause-asked : goal.returns-in-drive-clause-asked
+returns-in-drive-clause-asked c =
+    let words = map string_bytes c.args.line.now in
+    let program = c.in_ok-program.ensures in
+    let matches = c.in_ok-matches.ensures.matches in
+    let none = sym (line_faults-is _ words program) ∙ c.in_ok-matches.ensures.kinds (program_is_simple _ program) in
+    let command = command_is _ words _ program matches _ c.in-Some.ensures.name in
+    let limit = limit_is _ words _ program matches _ c.in-Some.ensures.rows in
+    (none, (command ∙ search rules, rw limit c.in_ok-limit-in-drive.ensures.limit))
+
+pub returns-in_err-limit-in-drive-clause-fault : goal.returns-in_err-limit-in-drive-clause-fault
+returns-in_err-limit-in-drive-clause-fault c =
+    let words = map string_bytes c.args.line.now in
+    let program = c.in_ok-program.ensures in
+    let matches = c.in_ok-matches.ensures.matches in
+    let clear = sym (line_faults-is _ words program) ∙ c.in_ok-matches.ensures.kinds (program_is_simple _ program) in
+    let command = command_is _ words _ program matches _ c.in-Some.ensures.name in
+    let limit = limit_is _ words _ program matches _ c.in-Some.ensures.rows in
+    let p = err_from_is_err_and c.from_residual-in_err-limit-in-drive.result c.from_residual-in_err-limit-in-drive.ensures.1 in
+    rw (p.1, p.2) (elim c.in_err-limit-in-drive.ensures.fault [
+      | inl memory ↦ inl memory
+      | inr none ↦ inr (no_limit words _ (codes "drive") (inr refl) none.0 clear (command ∙ search rules) (rw limit none.1))
+    ])
+
+pub returns-in-run-clause-asked : goal.returns-in-run-clause-asked
+returns-in-run-clause-asked c =
+    let words = map string_bytes c.args.line.now in
+    let program = c.in_ok-program.ensures in
+    let matches = c.in_ok-matches.ensures.matches in
+    let none = sym (line_faults-is _ words program) ∙ c.in_ok-matches.ensures.kinds (program_is_simple _ program) in
+    let command = command_is _ words _ program matches _ c.in-Some.ensures.name in
+    let limit = limit_is _ words _ program matches _ c.in-Some.ensures.rows in
+    (none, (command ∙ search rules, rw limit c.in_ok-limit-in-run.ensures.limit))
+
+pub returns-in_err-limit-in-run-clause-fault : goal.returns-in_err-limit-in-run-clause-fault
+returns-in_err-limit-in-run-clause-fault c =
+    let words = map string_bytes c.args.line.now in
+    let program = c.in_ok-program.ensures in
+    let matches = c.in_ok-matches.ensures.matches in
+    let clear = sym (line_faults-is _ words program) ∙ c.in_ok-matches.ensures.kinds (program_is_simple _ program) in
+    let command = command_is _ words _ program matches _ c.in-Some.ensures.name in
+    let limit = limit_is _ words _ program matches _ c.in-Some.ensures.rows in
+    let p = err_from_is_err_and c.from_residual-in_err-limit-in-run.result c.from_residual-in_err-limit-in-run.ensures.1 in
+    rw (p.1, p.2) (elim c.in_err-limit-in-run.ensures.fault [
+      | inl memory ↦ inl memory
+      | inr none ↦ inr (no_limit_of_run words _ none.0 clear (command ∙ search rules) (rw limit none.1))
+    ])
 
 pub returns-in-asm-clause-asked : goal.returns-in-asm-clause-asked
 returns-in-asm-clause-asked c =
@@ -57,8 +106,13 @@ returns-in-Some-clause-fault c =
     let clear = sym (line_faults-is _ words program) ∙ c.in_ok-matches.ensures.kinds (program_is_simple _ program) in
     let command = command_is _ words _ program c.in_ok-matches.ensures.matches _ c.in-Some.ensures.name in
     inr (no_subcommand words _ c.in_ok-no_subcommand-in_default.ensures clear
-    (λ is. c.in_default.not-judge (other (sym command ∙ is))) (λ is. c.in_default.not-check (other (sym command ∙ is)))
-    (λ is. c.in_default.not-asm (other (sym command ∙ is))))
+    (record {
+      judge = λ is. c.in_default.not-judge (other (sym command ∙ is));
+      check = λ is. c.in_default.not-check (other (sym command ∙ is));
+      asm = λ is. c.in_default.not-asm (other (sym command ∙ is));
+      drive = λ is. c.in_default.not-drive (other (sym command ∙ is));
+      run = λ is. c.in_default.not-run (other (sym command ∙ is));
+    }))
   where
     other : {X : Type 0} {x y : X} → Some x ≡ Some y → x ≡ y
     other is = cc

@@ -1,0 +1,7 @@
+-- What these proofs alone cite.
+pub mod Agreed
+mod FromReader
+pub mod Fronts
+pub mod InOrder
+pub mod IsRecorded
+pub mod Shown

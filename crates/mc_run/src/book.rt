@@ -1,0 +1,102 @@
+//! The book of a run: what its threads note, one event after the other.
+ghost use Rattle.std.specs.Prelude.{◌≡◌, ◌<◌, Some, length, OnOk, OnErr, IfOk, IfErr, IfSome};
+ghost use Rattle.mc_core.specs.Held.{IsHeldBy};
+ghost use Rattle.mc_core.specs.Steps.{IsStep, IsRefused};
+ghost use Rattle.mc_core.specs.Worlds.{log_of, new_world};
+
+use mc_code::{Call, Code};
+use mc_core::{Event, StepRefusal, World};
+use mc_protocol::{Actor, OutOfMemory};
+use mc_verify::Checked;
+use std::alloc::Global;
+use std::marker::Model;
+
+/// The world of a run, and the sound code that it is a world of, which the book borrows. Threads share it under a lock, which
+/// then keeps that the world is the fold of its notes. Contracts see the code and the world.
+#[derive(Debug, Drop)]
+pub struct Book<'c> {
+    checked: &'c Checked,
+    world: World,
+}
+
+impl<'c> Model for Book<'c> {
+    ghost use Rattle.mc_run.specs.Books.{BookRecord};
+
+    ghost Value = { BookRecord };
+
+    ghost use Rattle.mc_core.specs.Held.{IsHeldBy};
+
+    ghost view = { λ b. record { checked = b.checked.now; world = b.world } };
+
+    ghost invariant = { λ b. IsHeldBy b.checked.now.code b.world };
+}
+
+impl<'c> Book<'c> {
+    /// The book in which nothing is noted. It has room for all notes that it may come to.
+    ///
+    /// # Errors
+    ///
+    /// That memory ran out.
+    pub fn new(alloc: Global, checked: &'c Checked) -> Result<Self, OutOfMemory>
+        ensures checked { IfOk result (λ book. book.checked ≡ checked.now) }
+        ensures new { IfOk result (λ book. book.world.world ≡ new_world) }
+    {
+        Ok(Book {
+            checked,
+            world: World::start(alloc, checked)?,
+        })
+    }
+
+    /// Notes an event of a section, or hands it back with the first of all that is against it. An `Err` changes nothing. No
+    /// memory is taken.
+    ///
+    /// # Errors
+    ///
+    /// What is against the event: see [`StepRefusal`].
+    pub fn note(&mut self, actor: Actor, event: Event) -> Result<(), (StepRefusal, Event)>
+        ensures taken { OnOk result (IsStep self.old.checked.code self.old.world.world actor event self.new.world.world) }
+        ensures refused { IfErr result (λ refused. IsRefused self.old.checked.code self.old.world.world actor event refused.0) }
+        ensures event { IfErr result (λ refused. refused.1 ≡ event) }
+        ensures err { OnErr result (self.new ≡ self.old) }
+        ensures checked { self.new.checked ≡ self.old.checked }
+    {
+        self.world.step(self.checked, actor, event)
+    }
+
+    /// Notes that the section's next call begins. The result is the code with that call, or nothing where the section has no
+    /// more calls to make: it is over, or is a branch that doesn't begin.
+    pub(crate) fn begin(&mut self, actor: Actor) -> Option<(&'c Code, Call)>
+        ensures checked { self.new.checked ≡ self.old.checked }
+        ensures code { IfSome result (λ begun. begun.0.now ≡ self.old.checked.code) }
+        ensures waits { IfSome result (λ begun. (log_of self.new.world.world actor).waiting ≡ Some begun.1) }
+        ensures template { IfSome result (λ begun. begun.1.template < length begun.0.now.templates) }
+    {
+        self.note(actor, Event::Begin).ok()?;
+        let call = self.world.waiting(actor)?;
+        Some((self.checked.code(), call))
+    }
+
+    /// The code that it borrows.
+    pub fn checked(&self) -> &'c Checked
+        ensures { result.now ≡ self.now.checked }
+    {
+        self.checked
+    }
+
+    /// The world of what was noted.
+    pub fn world(&self) -> &World
+        ensures world { result.now ≡ self.now.world }
+        ensures held { IsHeldBy self.now.checked.code result.now }
+    {
+        &self.world
+    }
+
+    /// The world, without the book.
+    pub fn into_world(self) -> World
+        ensures world { result ≡ self.entry.world }
+        ensures held { IsHeldBy self.entry.checked.code result }
+    {
+        let Book { world, .. } = self;
+        world
+    }
+}

@@ -1,0 +1,79 @@
+//! Runs: what came of a script that ran over three lanes.
+ghost use Rattle.std.specs.Prelude.{◌≡◌, IfOk};
+ghost use Rattle.mc_core.specs.Held.{IsHeldBy};
+ghost use Rattle.mc_core.specs.Histories.{history_of};
+ghost use Rattle.mc_explain.specs.Verdicts.{IsStated};
+ghost use Rattle.mc_run.specs.Headline.{IsTrial};
+
+use crate::Lanes;
+use mc_core::{World, folds_are_safe};
+use mc_explain::{Verdict, judge};
+use mc_lane::Stream;
+use mc_model::History;
+use mc_protocol::OutOfMemory;
+use mc_verify::Checked;
+use std::alloc::{AllocError, Global};
+use thiserror::Error;
+
+/// What came of a run: the world of all that was noted, and the lanes with what they recorded.
+#[derive(Debug, Drop)]
+pub struct Run<S: Stream> {
+    /// Its notes stand in the order in which the threads made them.
+    pub world: World,
+    /// Those of the sections that didn't fail are open.
+    pub lanes: Lanes<S>,
+}
+
+/// Why there is no run. The lanes are dropped then.
+#[derive(Clone, Copy, Debug, PartialEq, Eq, Error)]
+pub enum RunError {
+    /// What was noted isn't what the lanes recorded.
+    #[error("the notes don't agree with the lanes")]
+    BookMismatch,
+    /// No thread could be made for a branch.
+    #[error("no thread could be made")]
+    NoThread,
+    /// Memory ran out outside the sections.
+    #[error("out of memory")]
+    OutOfMemory,
+}
+
+impl From<AllocError> for RunError {
+    ghost use Rattle.std.specs.Prelude.{◌≡◌};
+    ghost use Rattle.mc_run.specs.declared.run.RunError.TheVariants.{OutOfMemory};
+
+    ghost from_gives = { λ _ e. e ≡ OutOfMemory };
+
+    fn from(_e: AllocError) -> RunError {
+        RunError::OutOfMemory
+    }
+}
+
+impl<S: Stream> Run<S> {
+    /// The history of the run and the verdict on it. The search for an explanation uses at most `limit` turns.
+    ///
+    /// The run's code is the one that it ran. Of its notes, as of the events of a [`trial`](crate::trial), all is true that
+    /// stands there, and none of them was refused.
+    ///
+    /// # Errors
+    ///
+    /// That memory ran out: then there is no verdict.
+    pub fn judge(
+        &self,
+        alloc: Global,
+        checked: &Checked,
+        limit: u64,
+    ) -> Result<(History, Verdict), OutOfMemory>
+        requires held { IsHeldBy checked.now.code self.now.world }
+        ensures headline { IfOk result (λ judged. IsTrial checked.now.code self.now.world.world.notes self.now.world.world 0 judged.1) }
+        ensures history { IfOk result (λ judged. judged.0 ≡ history_of checked.now.code self.now.world.world) }
+        ensures states { IfOk result (λ judged. IsStated (history_of checked.now.code self.now.world.world) judged.1) }
+    {
+        folds_are_safe();
+        let _code = checked.code();
+        let _notes = self.world.notes();
+        let history = self.world.history(alloc, checked)?;
+        let (verdict, _) = judge(alloc, &history, limit)?;
+        Ok((history, verdict))
+    }
+}

@@ -1,0 +1,113 @@
+//! What the runs of these tests have: lanes over streams in memory, and a gate that both branches come to.
+
+ghost use Rattle.std.specs.Prelude.{IfOk};
+ghost use Rattle.mc_core.specs.Held.{IsHeldBy};
+ghost use Rattle.mc_lane.specs.MemoryStreams.{state_of};
+ghost use Rattle.mc_lane.specs.Streams.{CanFail};
+ghost use Rattle.mc_run.specs.Running.{AreNew, IsNew};
+
+use crate::signal::Signal;
+use mc_core::Ending;
+use mc_lane::{Lane, MemoryStream, Stream};
+use mc_protocol::{Actor, Fault, OutOfMemory};
+use mc_run::{Gate, Lanes, Run, RunError, run_lanes};
+use mc_verify::Checked;
+use std::alloc::{AllocError, Global};
+use std::sync::Wait;
+use std::test::Fail;
+use std::thread::Threads;
+
+/// What a server answers over one lane, in pieces, and the call of its stream that fails, where reads and writes are counted
+/// together from 1.
+pub(crate) type Served = (&'static [&'static [u8]], u64);
+
+/// A call that is never made.
+pub(crate) const NEVER: u64 = u64::MAX;
+
+/// A stream in memory of a server.
+pub(crate) fn stream(alloc: Global, served: Served) -> Result<MemoryStream, OutOfMemory>
+    ensures { IfOk result (λ stream. CanFail (state_of stream)) }
+{
+    let (pieces, failing_call) = served;
+    Ok(MemoryStream::new(alloc, pieces, 64)?.with_failure_at(failing_call.max(1)))
+}
+
+/// A new lane over it.
+fn lane(alloc: Global, served: Served) -> Result<Lane<MemoryStream>, OutOfMemory>
+    ensures { IfOk result IsNew }
+{
+    Ok(Lane::new(alloc, stream(alloc, served)?, 1_000))
+}
+
+/// The lanes of P, A and B, in this order.
+pub(crate) fn lanes(alloc: Global, served: [Served; 3]) -> Result<Lanes<MemoryStream>, OutOfMemory>
+    ensures { IfOk result AreNew }
+{
+    let [p, a, b] = served;
+    Ok(Lanes {
+        p: lane(alloc, p)?,
+        a: lane(alloc, a)?,
+        b: lane(alloc, b)?,
+    })
+}
+
+/// Runs code over these lanes. Want of memory in a section is an error here, as that of a thread is: none of these tests
+/// expects it.
+pub(crate) fn run<S: Stream + Send, G: Gate, R: Threads + Wait + Sync>(
+    rt: &R,
+    alloc: Global,
+    checked: &Checked,
+    lanes: Lanes<S>,
+    gate: &G,
+) -> Result<Run<S>, Fail>
+    requires { AreNew lanes }
+    ensures { IfOk result (λ run. IsHeldBy checked.now.code run.world) }
+{
+    let run = match run_lanes(rt, alloc, checked, lanes, gate) {
+        Err(RunError::NoThread) => return Err(AllocError)?,
+        other => other?,
+    };
+    for actor in [Actor::P, Actor::A, Actor::B] {
+        if run.world.ending(actor) == Ending::Failed(Fault::Memory) {
+            return Err(AllocError)?;
+        }
+    }
+    Ok(run)
+}
+
+/// A gate that holds the first call of each branch until both have come to it.
+#[derive(Drop)]
+pub(crate) struct BothBegin {
+    a: Signal,
+    b: Signal,
+    /// A thread waited for too long.
+    pub(crate) missed: Signal,
+}
+
+impl BothBegin {
+    pub(crate) fn new() -> BothBegin {
+        BothBegin {
+            a: Signal::new(),
+            b: Signal::new(),
+            missed: Signal::new(),
+        }
+    }
+}
+
+impl Gate for BothBegin {
+    fn before(&self, actor: Actor, call: u32) {
+        match (actor, call) {
+            (Actor::A, 0) => {
+                self.a.raise();
+                self.b.wait(&self.missed);
+            }
+            (Actor::B, 0) => {
+                self.b.raise();
+                self.a.wait(&self.missed);
+            }
+            _ => {}
+        }
+    }
+
+    fn after(&self, _actor: Actor, _call: u32) {}
+}

@@ -1,0 +1,247 @@
+//! Runs of two increments of one counter, over streams in memory: what they note, what their lanes record, and the verdict.
+
+use crate::counter::counter;
+use crate::lanes::{BothBegin, NEVER, Served, lanes, run};
+use crate::verdict::text;
+use Ending::{Done, Failed, NotBegun};
+use mc_core::Ending;
+use mc_lane::{Lane, MemoryStream};
+use mc_protocol::{Actor, Fault, Verb};
+use mc_reader::Shape;
+use mc_run::{FreeGate, Lanes, Run, RunError, agrees, run_lanes_with};
+use std::test::Fail;
+use std::thread::Builder;
+
+/// What P sends, and what each branch sends.
+const PREFIX: &[u8] = b"delete a\r\nset a 0 0 1\r\n5\r\n";
+
+const INCREMENT: &[u8] = b"incr a 1\r\n";
+
+/// What the server answers to P, and the replies to an increment that is the first, the second, or neither.
+const TO_PREFIX: &[&[u8]] = &[b"NOT_FOUND\r\n", b"STORED\r\n"];
+
+const SIX: Served = (&[b"6\r\n"], NEVER);
+
+const SEVEN: Served = (&[b"7\r\n"], NEVER);
+
+/// What the streams of P, A and B do, how the sections end, what is sent over each lane, and the verdict: the lines of an
+/// explanation, or a word.
+struct Row {
+    p: Served,
+    a: Served,
+    b: Served,
+    endings: [Ending; 3],
+    sent: [&'static [u8]; 3],
+    verdict: &'static str,
+}
+
+static ROWS: &[Row] = &[
+    // each call of P's stream fails in turn: a write, a read, and both once more
+    Row {
+        p: (TO_PREFIX, 1),
+        a: SIX,
+        b: SEVEN,
+        endings: [Failed(Fault::WriteFailed), NotBegun, NotBegun],
+        sent: [b"", b"", b""],
+        verdict: "",
+    },
+    Row {
+        p: (TO_PREFIX, 2),
+        a: SIX,
+        b: SEVEN,
+        endings: [Failed(Fault::ReadFailed), NotBegun, NotBegun],
+        sent: [b"delete a\r\n", b"", b""],
+        verdict: "",
+    },
+    Row {
+        p: (TO_PREFIX, 3),
+        a: SIX,
+        b: SEVEN,
+        endings: [Failed(Fault::WriteFailed), NotBegun, NotBegun],
+        sent: [b"delete a\r\n", b"", b""],
+        verdict: "P 0\n",
+    },
+    Row {
+        p: (TO_PREFIX, 4),
+        a: SIX,
+        b: SEVEN,
+        endings: [Failed(Fault::ReadFailed), NotBegun, NotBegun],
+        sent: [PREFIX, b"", b""],
+        verdict: "P 0\n",
+    },
+    // each call of a branch's stream
+    Row {
+        p: (TO_PREFIX, NEVER),
+        a: (&[b"6\r\n"], 1),
+        b: SIX,
+        endings: [Done, Failed(Fault::WriteFailed), Done],
+        sent: [PREFIX, b"", INCREMENT],
+        verdict: "P 0\nP 1\nB 2\n",
+    },
+    Row {
+        p: (TO_PREFIX, NEVER),
+        a: (&[b"6\r\n"], 2),
+        b: SIX,
+        endings: [Done, Failed(Fault::ReadFailed), Done],
+        sent: [PREFIX, INCREMENT, INCREMENT],
+        verdict: "P 0\nP 1\nB 2\n",
+    },
+    Row {
+        p: (TO_PREFIX, NEVER),
+        a: SIX,
+        b: (&[b"7\r\n"], 1),
+        endings: [Done, Done, Failed(Fault::WriteFailed)],
+        sent: [PREFIX, INCREMENT, b""],
+        verdict: "P 0\nP 1\nA 2\n",
+    },
+    Row {
+        p: (TO_PREFIX, NEVER),
+        a: SIX,
+        b: (&[b"7\r\n"], 2),
+        endings: [Done, Done, Failed(Fault::ReadFailed)],
+        sent: [PREFIX, INCREMENT, INCREMENT],
+        verdict: "P 0\nP 1\nA 2\n",
+    },
+    // A's stream ends before the reply is whole
+    Row {
+        p: (TO_PREFIX, NEVER),
+        a: (&[], NEVER),
+        b: SIX,
+        endings: [Done, Failed(Fault::Ended), Done],
+        sent: [PREFIX, INCREMENT, INCREMENT],
+        verdict: "P 0\nP 1\nB 2\n",
+    },
+    Row {
+        p: (TO_PREFIX, NEVER),
+        a: (&[b"6"], NEVER),
+        b: SIX,
+        endings: [Done, Failed(Fault::Ended), Done],
+        sent: [PREFIX, INCREMENT, INCREMENT],
+        verdict: "P 0\nP 1\nB 2\n",
+    },
+    Row {
+        p: (TO_PREFIX, NEVER),
+        a: (&[b"6\r"], NEVER),
+        b: SIX,
+        endings: [Done, Failed(Fault::Ended), Done],
+        sent: [PREFIX, INCREMENT, INCREMENT],
+        verdict: "P 0\nP 1\nB 2\n",
+    },
+    // it answers what is no reply to an increment, or an error
+    Row {
+        p: (TO_PREFIX, NEVER),
+        a: (&[b"6x\r\n"], NEVER),
+        b: SIX,
+        endings: [Done, Failed(Fault::BadReply), Done],
+        sent: [PREFIX, INCREMENT, INCREMENT],
+        verdict: "P 0\nP 1\nB 2\n",
+    },
+    Row {
+        p: (TO_PREFIX, NEVER),
+        a: (&[b"ERROR\r\n"], NEVER),
+        b: SIX,
+        endings: [Done, Failed(Fault::ErrorLine), Done],
+        sent: [PREFIX, INCREMENT, INCREMENT],
+        verdict: "P 0\nP 1\nB 2\n",
+    },
+    // it answers a number that no order of the increments gives; what comes after the reply isn't looked at
+    Row {
+        p: (TO_PREFIX, NEVER),
+        a: (&[b"9\r\n", b"6\r\n"], NEVER),
+        b: SIX,
+        endings: [Done, Done, Done],
+        sent: [PREFIX, INCREMENT, INCREMENT],
+        verdict: "unexplained",
+    },
+];
+
+#[test]
+fn comes_to_what_its_streams_answer(rt: HostRuntime) -> Result<(), Fail> {
+    let counter = counter(rt.alloc())?;
+    for (number, row) in ROWS.iter().enumerate() {
+        let given = lanes(rt.alloc(), [row.p, row.a, row.b])?;
+        let mut run = run(&rt, rt.alloc(), &counter, given, &FreeGate)?;
+        assert_eq!(rt; endings(&run), row.endings, "{number}");
+        assert!(rt; have_sent(&run.lanes, row.sent), "{number}");
+        assert!(rt;
+            agrees(rt.alloc(), &counter, &run.world, &run.lanes)?,
+            "{number}"
+        );
+        let (_, verdict) = run.judge(rt.alloc(), &counter, 1_000_000)?;
+        let found = text(rt.alloc(), &verdict)?;
+        assert_eq!(rt; found.as_slice(), row.verdict.as_bytes(), "{number}");
+        assert!(rt; !sends_when_closed(&mut run.lanes.p), "{number}");
+        assert!(rt; !sends_when_closed(&mut run.lanes.a), "{number}");
+        assert!(rt; !sends_when_closed(&mut run.lanes.b), "{number}");
+    }
+    Ok(())
+}
+
+#[test]
+fn notes_both_increments(rt: HostRuntime) -> Result<(), Fail> {
+    let counter = counter(rt.alloc())?;
+    let gate = BothBegin::new();
+    let given = [(TO_PREFIX, NEVER), SIX, (&[b"7\r\n8\r\n"], NEVER)];
+    let run = run(&rt, rt.alloc(), &counter, lanes(rt.alloc(), given)?, &gate)?;
+    assert!(rt; !gate.missed.is_raised());
+    assert_eq!(rt; endings(&run), [Done, Done, Done]);
+    assert!(rt; have_sent(&run.lanes, [PREFIX, INCREMENT, INCREMENT]));
+    // what came after B's reply
+    assert_eq!(rt; run.lanes.b.got(), b"7\r\n8\r\n".as_slice());
+    assert_eq!(rt; run.lanes.b.taken(), 3);
+    let (_, verdict) = run.judge(rt.alloc(), &counter, 1_000_000)?;
+    let found = text(rt.alloc(), &verdict)?;
+    assert_eq!(rt; found.as_slice(), b"P 0\nP 1\nA 2\nB 3\n".as_slice());
+    // no turns to search in
+    let (_, verdict) = run.judge(rt.alloc(), &counter, 0)?;
+    let found = text(rt.alloc(), &verdict)?;
+    assert_eq!(rt; found.as_slice(), b"undecided".as_slice());
+    Ok(())
+}
+
+#[test]
+fn agrees_with_its_own_lanes_alone(rt: HostRuntime) -> Result<(), Fail> {
+    let counter = counter(rt.alloc())?;
+    let given = lanes(rt.alloc(), [(TO_PREFIX, NEVER), SIX, SEVEN])?;
+    let Run { world, lanes } = run(&rt, rt.alloc(), &counter, given, &FreeGate)?;
+    assert!(rt; agrees(rt.alloc(), &counter, &world, &lanes)?);
+    let Lanes { p, a, b } = lanes;
+    let exchanged = Lanes { p, a: b, b: a };
+    assert!(rt; !agrees(rt.alloc(), &counter, &world, &exchanged)?);
+    Ok(())
+}
+
+#[test]
+fn has_no_run_without_a_thread(rt: HostRuntime) -> Result<(), Fail> {
+    let counter = counter(rt.alloc())?;
+    let given = lanes(rt.alloc(), [(TO_PREFIX, NEVER), SIX, SEVEN])?;
+    // no thread has such a stack
+    let builder = Builder::new().stack_size(usize::MAX);
+    let run = run_lanes_with(&rt, rt.alloc(), &counter, given, &FreeGate, builder);
+    assert_eq!(rt; run.err(), Some(RunError::NoThread));
+    Ok(())
+}
+
+/// How the sections of a run stand.
+fn endings(run: &Run<MemoryStream>) -> [Ending; 3] {
+    [Actor::P, Actor::A, Actor::B].map(|actor| run.world.ending(actor))
+}
+
+/// Whether this was sent over the lanes of P, A and B.
+fn have_sent(lanes: &Lanes<MemoryStream>, sent: [&[u8]; 3]) -> bool {
+    let [p, a, b] = sent;
+    lanes.p.sent() == p && lanes.a.sent() == a && lanes.b.sent() == b
+}
+
+/// Whether a lane that is closed sends anything in one more call.
+fn sends_when_closed(lane: &mut Lane<MemoryStream>) -> bool {
+    if !lane.is_closed() {
+        return false;
+    }
+    let before = lane.sent().len();
+    let shape = Shape {
+        verb: Verb::Incr,
+        key: b"a",
+    };
+    lane.call(INCREMENT, shape) != Err(Fault::Closed) || lane.sent().len() != before
+}

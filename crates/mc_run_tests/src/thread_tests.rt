@@ -1,0 +1,202 @@
+//! That the branches of a run go on at once, in threads of their own, and that their calls are noted when they are made.
+
+ghost use Rattle.std.specs.Prelude.{IfOk};
+ghost use Rattle.mc_run.specs.Running.{IsNew};
+
+use crate::counter::counter;
+use crate::lanes::{NEVER, Served, lanes, run, stream};
+use crate::signal::Signal;
+use crate::waiting_stream::WaitingStream;
+use mc_core::{Ending, Event, World};
+use mc_lane::Lane;
+use mc_protocol::{Actor, OutOfMemory, Reply};
+use mc_run::{FreeGate, Gate, Lanes};
+use std::alloc::Global;
+use std::test::Fail;
+
+/// What the server answers to P, and the replies to an increment that is the first or the second.
+const TO_PREFIX: Served = (&[b"NOT_FOUND\r\n", b"STORED\r\n"], NEVER);
+
+const SIX: Served = (&[b"6\r\n"], NEVER);
+
+const SEVEN: Served = (&[b"7\r\n"], NEVER);
+
+/// A gate that holds A's first call until B's first call has passed.
+#[derive(Drop)]
+struct BFirst {
+    b_passed: Signal,
+    missed: Signal,
+}
+
+impl Gate for BFirst {
+    fn before(&self, actor: Actor, call: u32) {
+        if (actor, call) == (Actor::A, 0) {
+            self.b_passed.wait(&self.missed);
+        }
+    }
+
+    fn after(&self, actor: Actor, call: u32) {
+        if (actor, call) == (Actor::B, 0) {
+            self.b_passed.raise();
+        }
+    }
+}
+
+#[test]
+fn goes_on_while_a_gate_holds_the_other_branch(rt: HostRuntime) -> Result<(), Fail> {
+    let counter = counter(rt.alloc())?;
+    let gate = BFirst {
+        b_passed: Signal::new(),
+        missed: Signal::new(),
+    };
+    let given = lanes(rt.alloc(), [TO_PREFIX, SEVEN, SIX])?;
+    let run = run(&rt, rt.alloc(), &counter, given, &gate)?;
+    assert!(rt; are_done(&run.world), "{:?}", run.world);
+    assert!(rt; !gate.missed.is_raised());
+    Ok(())
+}
+
+/// What happens in the threads of a run with waiting streams.
+#[derive(Drop)]
+struct Signals {
+    p_written: Signal,
+    a_written: Signal,
+    b_written: Signal,
+    b_passed: Signal,
+    missed: Signal,
+}
+
+impl Signals {
+    fn new() -> Signals {
+        Signals {
+            p_written: Signal::new(),
+            a_written: Signal::new(),
+            b_written: Signal::new(),
+            b_passed: Signal::new(),
+            missed: Signal::new(),
+        }
+    }
+}
+
+#[test]
+fn goes_on_while_the_other_branch_is_read(rt: HostRuntime) -> Result<(), Fail> {
+    let counter = counter(rt.alloc())?;
+    let signals = Signals::new();
+    // each branch's stream is read once the other's was written to
+    let given = Lanes {
+        p: lane(
+            rt.alloc(),
+            TO_PREFIX,
+            &signals.p_written,
+            &signals.p_written,
+            &signals,
+        )?,
+        a: lane(
+            rt.alloc(),
+            SIX,
+            &signals.a_written,
+            &signals.b_written,
+            &signals,
+        )?,
+        b: lane(
+            rt.alloc(),
+            SEVEN,
+            &signals.b_written,
+            &signals.a_written,
+            &signals,
+        )?,
+    };
+    let run = run(&rt, rt.alloc(), &counter, given, &FreeGate)?;
+    assert!(rt; are_done(&run.world), "{:?}", run.world);
+    assert!(rt; !signals.missed.is_raised());
+    Ok(())
+}
+
+/// A gate that tells when B's first call has passed.
+#[derive(Drop)]
+struct TellsOfB<'s>(&'s Signal);
+
+impl<'s> Gate for TellsOfB<'s> {
+    fn before(&self, _actor: Actor, _call: u32) {}
+
+    fn after(&self, actor: Actor, call: u32) {
+        if (actor, call) == (Actor::B, 0) {
+            self.0.raise();
+        }
+    }
+}
+
+#[test]
+fn notes_that_a_call_begins_before_its_reply_is_read(rt: HostRuntime) -> Result<(), Fail> {
+    let counter = counter(rt.alloc())?;
+    let signals = Signals::new();
+    // B is read once A was written to, and A once B's reply was noted
+    let given = Lanes {
+        p: lane(
+            rt.alloc(),
+            TO_PREFIX,
+            &signals.p_written,
+            &signals.p_written,
+            &signals,
+        )?,
+        a: lane(
+            rt.alloc(),
+            SIX,
+            &signals.a_written,
+            &signals.b_passed,
+            &signals,
+        )?,
+        b: lane(
+            rt.alloc(),
+            SEVEN,
+            &signals.b_written,
+            &signals.a_written,
+            &signals,
+        )?,
+    };
+    let run = run(
+        &rt,
+        rt.alloc(),
+        &counter,
+        given,
+        &TellsOfB(&signals.b_passed),
+    )?;
+    assert!(rt; are_done(&run.world), "{:?}", run.world);
+    assert!(rt; !signals.missed.is_raised());
+    let begun = run
+        .world
+        .notes()
+        .iter()
+        .position(|noted| *noted == (Actor::A, Event::Begin));
+    let replied = run.world.notes().iter().position(|noted| *noted
+        == (Actor::B, Event::Reply(Reply::Number(7))));
+    assert!(rt; begun.is_some());
+    assert!(rt; begun < replied, "{:?}", run.world.notes());
+    Ok(())
+}
+
+/// A new lane over a stream that tells when it is written to, and is read only after a signal.
+fn lane<'s>(
+    alloc: Global,
+    served: Served,
+    written: &'s Signal,
+    until: &'s Signal,
+    signals: &'s Signals,
+) -> Result<Lane<WaitingStream<'s>>, OutOfMemory>
+    ensures { IfOk result IsNew }
+{
+    let stream = WaitingStream {
+        inner: stream(alloc, served)?,
+        written,
+        until,
+        missed: &signals.missed,
+    };
+    Ok(Lane::new(alloc, stream, 1_000))
+}
+
+/// Whether all sections came to their ends.
+fn are_done(world: &World) -> bool {
+    [Actor::P, Actor::A, Actor::B]
+        .iter()
+        .all(|actor| world.ending(*actor) == Ending::Done)
+}

@@ -1,0 +1,166 @@
+"""Servers to play scripts against, and what a play printed."""
+
+import contextlib
+import enum
+import re
+import shutil
+import socket
+import struct
+import subprocess
+import sys
+import threading
+import time
+from dataclasses import dataclass
+
+SECONDS = 60
+
+# The end of a verdict or the verdict itself, after which the history begins.
+HISTORY = re.compile(rb"^history 2\n", re.M)
+
+ENDINGS = re.compile(rb"(?:[PAB] (?:done|running|not begun|failed \d \w+)\n){3}")
+
+
+@dataclass
+class Play:
+    """What `mcrace run` answered."""
+
+    status: int
+    endings: str
+    verdict: bytes
+    history: bytes
+    output: bytes
+    faults: bytes
+
+    @property
+    def word(self):
+        """The verdict's word."""
+        return self.verdict.decode().partition("\n")[0]
+
+
+def play(program, port, script, prepare=None):
+    """Plays a script against the server on this port of 127.0.0.1."""
+    words = [program, "run", f"127.0.0.1:{port}"]
+    ran = subprocess.run(words, input=script, capture_output=True, timeout=SECONDS, preexec_fn=prepare)
+    endings = ENDINGS.match(ran.stdout)
+    told = ran.stdout[endings.end() :] if endings else b""
+    begin = HISTORY.search(told)
+    at = begin.start() if begin else len(told)
+    lines = endings.group().decode() if endings else ""
+    return Play(ran.returncode, lines, told[:at], told[at:], ran.stdout, ran.stderr)
+
+
+def judged(program, history):
+    """What `mcrace judge` answers to a history."""
+    return subprocess.run([program, "judge"], input=history, capture_output=True, timeout=SECONDS).stdout
+
+
+def free_port():
+    with socket.create_server(("127.0.0.1", 0)) as server:
+        return server.getsockname()[1]
+
+
+def wait_for(port, process):
+    """Waits until the process listens on its port."""
+    for _ in range(100):
+        with contextlib.suppress(OSError), socket.create_connection(("127.0.0.1", port), 1):
+            return
+        if process.poll() is not None:
+            break
+        time.sleep(0.05)
+    sys.exit(f"{process.args[0]} doesn't listen on port {port}")
+
+
+@contextlib.contextmanager
+def started(words, port):
+    """A server that is a program of its own, as long as the block runs."""
+    process = subprocess.Popen(words, stdout=subprocess.DEVNULL, stderr=subprocess.DEVNULL)
+    try:
+        wait_for(port, process)
+        yield port
+    finally:
+        process.terminate()
+        process.wait()
+
+
+def memcached():
+    """A memcached on a free port, with one thread, and as the user nobody where root starts it; or None."""
+    program = shutil.which("memcached")
+    if program is None:
+        return None
+    port = free_port()
+    return started([program, "-t", "1", "-u", "nobody", "-l", "127.0.0.1", "-p", str(port)], port)
+
+
+def read_request(reader):
+    """The line of a request, with its block read; empty at the end."""
+    line = reader.readline()
+    words = line.split()
+    if words and words[0] in (b"set", b"add", b"replace", b"append", b"prepend", b"cas"):
+        reader.read(int(words[4]) + 2)
+    return line
+
+
+class Step(enum.Enum):
+    """What a scripted server does on a connection, beside sending bytes."""
+
+    READ = "read a request"
+    MEET = "wait until another connection comes to this step too"
+    END = "end the connection"
+    RESET = "end it by a reset"
+
+
+def answers(*texts):
+    """The steps in which each of these texts answers a request."""
+    return [step for text in texts for step in (Step.READ, text)]
+
+
+def answers_both(text):
+    """The steps in which this text answers a branch's request, once the other branch's has come too."""
+    return [Step.READ, Step.MEET, text]
+
+
+class Scripted:
+    """A server on a free port that takes three connections, in the order P, A, B, and does the steps of each. After its last step
+    a connection stays open."""
+
+    def __init__(self, p, a, b):
+        self.talks = [p, a, b]
+        self.meeting = threading.Barrier(2)
+        self.listener = socket.create_server(("127.0.0.1", 0))
+        self.port = self.listener.getsockname()[1]
+
+    def __enter__(self):
+        threading.Thread(target=self.serve, daemon=True).start()
+        return self
+
+    def __exit__(self, *_):
+        self.listener.close()
+
+    def serve(self):
+        with contextlib.suppress(OSError):
+            taken = [(self.listener.accept()[0], talk) for talk in self.talks]
+            # A connection that is reset unread is gone before another one is answered.
+            for connection, talk in sorted(taken, key=lambda it: it[1][:1] != [Step.RESET]):
+                if talk[:1] == [Step.RESET]:
+                    self.talk(connection, talk)
+                else:
+                    threading.Thread(target=self.talk, args=(connection, talk), daemon=True).start()
+
+    def talk(self, connection, talk):
+        connection.setsockopt(socket.IPPROTO_TCP, socket.TCP_NODELAY, 1)
+        with contextlib.suppress(OSError, threading.BrokenBarrierError), connection, connection.makefile("rb") as reader:
+            for step in talk:
+                if step is Step.READ:
+                    read_request(reader)
+                elif step is Step.MEET:
+                    self.meeting.wait(SECONDS)
+                elif step is Step.RESET:
+                    # The close then sends a reset.
+                    connection.setsockopt(socket.SOL_SOCKET, socket.SO_LINGER, struct.pack("ii", 1, 0))
+                    return
+                elif step is Step.END:
+                    return
+                else:
+                    connection.sendall(step)
+            while reader.read(1):
+                pass
