@@ -220,7 +220,7 @@ The faults:
   3 Ended        the server ended the connection where a reply was due
   4 BadReply     what came is no reply that the request may have
   5 ErrorLine    the server answered with a line that reports an error
-  6 TooMuch      more came than the longest reply
+  6 TooMuch      more came than 262,144 bytes
   7 Closed       the section was closed already
   8 Memory       there was no memory
 
