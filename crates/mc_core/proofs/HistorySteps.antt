@@ -1,28 +1,24 @@
 -- What is recorded of a fold keeps the rules of a history.
-use Rattle.std.proofs.Common.{◌≡◌, ◌⊎◌, inl, inr, ℕ, ◌<◌, ◌≤◌, nat_le, Bool, true, false, not, ◌&&◌, ◌||◌, Option, Some, None, List, [], ◌∷◌, ◌++◌, length, map, slice_index_or, refl, ap, ap₂, sym, subst, ◌∙◌, arith, length-append}
+use Rattle.std.proofs.Common.{◌≡◌, inr, ◌<◌, Bool, true, false, not, Option, Some, None, List, [], ◌∷◌, ◌++◌, length, map, slice_index_or}
+use Rattle.std.proofs.Common.{refl, ap, sym, subst, ◌∙◌, arith, length-append}
 use Rattle.std.specs.Option.{option_to_list}
-use Rattle.std.proofs.lemmas.Bool.{cases_lt, and_parts, leb-true}
 use Rattle.std.proofs.lemmas.List.{append-nil, length-map, map-append, get_or_at}
 use Rattle.mc_protocol.specs.Legal.{is_fit_for}
 use Rattle.mc_protocol.specs.declared.actor.Actor.{Actor}
 use Rattle.mc_protocol.specs.declared.actor.Actor.TheVariants as actor
 use Rattle.mc_protocol.specs.declared.fault.Fault.{Fault}
-use Rattle.mc_protocol.specs.declared.limits.TheConstants.{KEYS_LIMIT, REQUESTS_LIMIT}
+use Rattle.mc_protocol.specs.declared.limits.TheConstants.{REQUESTS_LIMIT}
 use Rattle.mc_protocol.specs.declared.reply.Reply.{Reply}
-use Rattle.mc_code.specs.Calls.{IsCalling, exchange_of, template_of}
+use Rattle.mc_code.specs.Calls.{template_of}
 use Rattle.mc_code.specs.Code.{Code, IsCode}
-use Rattle.mc_code.specs.Standing.{ComesTo}
-use Rattle.mc_code.specs.States.{Tagged, ended}
 use Rattle.mc_code.specs.declared.instr.Call.{Call}
-use Rattle.mc_model.specs.History.{has_words, has_key, is_delete, are_answered, is_none_sent, is_history, fault_at, is_seen, key_count}
+use Rattle.mc_model.specs.History.{is_history, fault_at}
 use Rattle.mc_model.specs.Next as next
 use Rattle.mc_model.specs.Notes as recorded
-use Rattle.mc_model.specs.Notes.{is_record, fault_of, sections_in}
-use Rattle.mc_model.specs.Sections.{Sections, section_of}
+use Rattle.mc_model.specs.Notes.{is_record}
+use Rattle.mc_model.specs.Sections.{section_of}
 use Rattle.mc_model.specs.declared.note.Note.TheVariants as note
-use Rattle.mc_model.specs.declared.sent.Sent.{Sent}
 use Rattle.mc_model.proofs.Answering.{last_of-push}
-use Rattle.mc_model.proofs.Faults.{fault_by_tests}
 use Rattle.mc_model.proofs.NoteFaults.{fault_by_sections, record_push, record_parts, nothing_noted}
 use Rattle.mc_verify.specs.Faults.{IsSound}
 use Rattle.mc_core.specs.declared.event.Event.{Event}
@@ -30,207 +26,15 @@ use Rattle.mc_core.specs.declared.event.Event.TheVariants as event
 use Rattle.mc_core.specs.declared.step_refusal.StepRefusal.TheVariants as refusal
 use Rattle.mc_core.specs.Histories.{begin_count, call_after, no_call, record_of, sent_of, unanswered, sent_in, sections_of}
 use Rattle.mc_core.specs.Laws.{FoldsAreRecorded}
-use Rattle.mc_core.specs.Logs.{Log, new_log, call_of, calls_in, request_of, with_call, with_reply, with_fault, IsRightLog}
+use Rattle.mc_core.specs.Logs.{Log, call_of, calls_in, request_of, with_call, with_reply, with_fault}
 use Rattle.mc_core.specs.Steps.{Follows, IsNext, IsStep}
-use Rattle.mc_core.specs.Worlds.{World, log_of, with_note, events_of, exchanges_of, BeginsIn, IsBegun, IsDone}
-use Rattle.mc_core.proofs.Clearing.{front_clears, done_cleared, calls_in_front, stands_in_front}
+use Rattle.mc_core.specs.Worlds.{World, new_world, log_of, with_note, events_of}
+use Rattle.mc_core.proofs.FaultlessRequests.{MayBegin, section_is, idle_length, may_begin, begin_faultless}
 use Rattle.mc_core.proofs.FoldLemmas.{kept_along, new_is_right}
-use Rattle.mc_core.proofs.NextRequest.{request_words, key_there, few_keys, call_made}
 use Rattle.mc_core.proofs.NotedEvents.{AreNoted, noted_step, new_is_noted}
 use Rattle.mc_core.proofs.Recorded.{GrowsTo, record_grown, sections_recorded, begun_all}
 use Rattle.mc_core.proofs.Safe.{few_calls}
-use Rattle.mc_core.proofs.SeenNumbers.{next_seen}
-use Rattle.mc_core.proofs.StepLemmas.{IsRightIn, IsRight, begun_is_right, step_right, still_new}
-
--- ---- sections
-
-section_is : (c : Code) (w : World) (who : Actor) → section_of (sections_of c w) who ≡ sent_in c (log_of w who)
-section_is c w actor.P = refl
-section_is c w actor.A = refl
-section_is c w actor.B = refl
-
-all_answered : (c : Code) (pairs : List (Call × Reply)) → are_answered (map (sent_of c) pairs ++ []) ≡ true
-all_answered c [] = refl
-all_answered c ((made, reply) ∷ pairs) = all_answered c pairs
-
--- a section with no call that waits has a reply to each request
-idle_answered : (c : Code) (log : Log) → log.waiting ≡ None → are_answered (sent_in c log) ≡ true
-idle_answered c log idle =
-    ap (λ o. are_answered (map (sent_of c) log.answered ++ map (unanswered c) (option_to_list o))) idle ∙ all_answered c log.answered
-
-none_sent : (c : Code) (log : Log) → log ≡ new_log → is_none_sent (sent_in c log) ≡ true
-none_sent c log new = ap (λ log. is_none_sent (sent_in c log)) new
-
--- ---- what an accepted begin finds
-
--- P is idle, and the section too; and P hasn't begun a call after a branch did
-pub record MayBegin (c : Code) (w : World) (who : Actor) : Type 0 where
-  pub turn : next.may_come (sections_of c w) who ≡ true
-  pub key : (made : Call) (variables : List Tagged) → BeginsIn c w who variables → IsCalling c who variables (exchanges_of c w who) made
-      → IsSound c → IsCode c
-      → (has_key (request_of c made).key (sent_in c w.logs.p) ≡ true)
-      ⊎ ((who ≡ actor.P) × (is_delete (template_of c made).verb ≡ true) × (key_count (sections_of c w) < KEYS_LIMIT))
-
-few_declared : (c : Code) → IsCode c → length c.keys ≤ KEYS_LIMIT
-few_declared c kept = leb-true _ _ (and_parts _ _ (and_parts _ _ kept.keys).0).0
-
--- the keys of P's calls, once it has deleted all
-cleared_key : (c : Code) (log : Log) (variables : List Tagged) (j : ℕ) → IsSound c → IsRightLog c actor.P variables log
-    → length c.keys ≤ length log.answered → j < length c.keys → has_key (slice_index_or c.keys j []) (sent_in c log) ≡ true
-cleared_key c log variables j sound right all declared =
-    key_there c 0 j log.answered (map (unanswered c) (option_to_list log.waiting)) (front_clears c variables log.answered sound right.makes)
-    (omega arith) (omega (arith, all, declared)) declared
-
-idle_length : (c : Code) (log : Log) → log.waiting ≡ None → length (sent_in c log) ≡ length log.answered
-idle_length c log idle =
-    ap (λ o. length (map (sent_of c) log.answered ++ map (unanswered c) (option_to_list o))) idle
-    ∙ ap length (append-nil (map (sent_of c) log.answered)) ∙ length-map log.answered (sent_of c)
-
-p_begins : (c : Code) (w : World) → IsRight c w → (IsDone c w actor.P → ⊥) → w.logs.p.waiting ≡ None → MayBegin c w actor.P
-p_begins c w right goes_on idle = record { turn = turn; key = key }
-  where
-    new_a : w.logs.a ≡ new_log
-    new_a = still_new c w actor.A (λ d. d) (right actor.A) goes_on
-
-    new_b : w.logs.b ≡ new_log
-    new_b = still_new c w actor.B (λ d. d) (right actor.B) goes_on
-
-    turn : next.may_come (sections_of c w) actor.P ≡ true
-    turn = rw (none_sent c w.logs.a new_a, none_sent c w.logs.b new_b, idle_answered c w.logs.p idle) refl
-
-    sents : List Sent
-    sents = sent_in c w.logs.p
-
-    count : key_count (sections_of c w) ≤ length w.logs.p.answered
-    count =
-        let whole : sents ++ sent_in c w.logs.a ++ sent_in c w.logs.b ≡ sents =
-        ap₂ (λ x y. sents ++ x ++ y) (ap (sent_in c) new_a) (ap (sent_in c) new_b) ∙ append-nil (sents ++ []) ∙ append-nil sents in
-        let few = few_keys (sents ++ sent_in c w.logs.a ++ sent_in c w.logs.b) in
-        let same = ap length whole ∙ idle_length c w.logs.p idle in
-        omega (arith, few, same)
-
-    key : (made : Call) (variables : List Tagged) → BeginsIn c w actor.P variables
-        → IsCalling c actor.P variables (exchanges_of c w actor.P) made
-        → IsSound c → IsCode c
-        → (has_key (request_of c made).key sents ≡ true)
-        ⊎ ((actor.P ≡ actor.P) × (is_delete (template_of c made).verb ≡ true) × (key_count (sections_of c w) < KEYS_LIMIT))
-    key made variables begins calling sound kept = by_order (cases_lt (length w.logs.p.answered) (length c.keys))
-      where
-        in_p : IsRightIn c w actor.P
-        in_p = begun_is_right c w actor.P (right actor.P) tt
-
-        log_right : IsRightLog c actor.P variables w.logs.p
-        log_right = subst (λ vs. IsRightLog c actor.P vs w.logs.p) (in_p.begins ∙ sym begins) in_p.right
-
-        mapped : length (exchanges_of c w actor.P) ≡ length w.logs.p.answered
-        mapped = length-map w.logs.p.answered (exchange_of c)
-
-        by_order : (length w.logs.p.answered < length c.keys) ⊎ (length c.keys ≤ length w.logs.p.answered)
-            → (has_key (request_of c made).key sents ≡ true)
-            ⊎ ((actor.P ≡ actor.P) × (is_delete (template_of c made).verb ≡ true) × (key_count (sections_of c w) < KEYS_LIMIT))
-        by_order (inl inside) =
-            let front = calls_in_front c variables (exchanges_of c w actor.P) made sound
-            (stands_in_front c variables w.logs.p.answered sound log_right.makes) (omega (arith, inside, mapped)) calling in
-            let most = few_declared c kept in
-            inr (refl, ap is_delete front.clearing.verb, omega (arith, count, inside, most))
-        by_order (inr all) =
-            let declared = (call_made c actor.P variables (exchanges_of c w actor.P) made kept calling).0.key in
-            inl (cleared_key c w.logs.p variables (template_of c made).key sound log_right all declared)
-
--- what a branch finds once P is done
-branch_key : (c : Code) (w : World) (who : Actor) → IsRight c w → IsDone c w actor.P → (made : Call) (variables : List Tagged)
-    → IsCalling c who variables (exchanges_of c w who) made → IsSound c → IsCode c
-    → has_key (request_of c made).key (sent_in c w.logs.p) ≡ true
-branch_key c w who right done made variables calling sound kept =
-    let in_p = begun_is_right c w actor.P (right actor.P) tt in
-    let over = done.2 in
-    let same : over.0 ≡ in_p.variables = over.2 ∙ sym in_p.begins in
-    let comes = subst (λ vs. ComesTo c actor.P vs (exchanges_of c w actor.P) over.1 ended) same over.3 in
-    let all = done_cleared c in_p.variables w.logs.p.answered over.1 sound in_p.right.makes comes in
-    let declared = (call_made c who variables (exchanges_of c w who) made kept calling).0.key in
-    cleared_key c w.logs.p in_p.variables (template_of c made).key sound in_p.right all declared
-
-may_begin : (c : Code) (w : World) (who : Actor) → IsRight c w → IsBegun c w who → (IsDone c w who → ⊥) → (log_of w who).waiting ≡ None
-    → MayBegin c w who
-may_begin c w actor.P right begun goes_on idle = p_begins c w right goes_on idle
-may_begin c w actor.A right begun goes_on idle = record {
-  turn = rw (idle_answered c w.logs.p begun.1, idle_answered c w.logs.a idle) refl;
-  key = λ made variables begins calling sound kept. inl (branch_key c w actor.A right begun made variables calling sound kept);
-}
-may_begin c w actor.B right begun goes_on idle = record {
-  turn = rw (idle_answered c w.logs.p begun.1, idle_answered c w.logs.b idle) refl;
-  key = λ made variables begins calling sound kept. inl (branch_key c w actor.B right begun made variables calling sound kept);
-}
-
--- ---- a request without a fault
-
-not_full : (s : Sections) (who : Actor) (sent : Sent) → length (section_of s who) < REQUESTS_LIMIT
-    → (has_key sent.request.key s.p ≡ true) ⊎ (key_count s < KEYS_LIMIT) → next.is_full s who sent ≡ false
-not_full s who sent few keys = ap₂ (λ x y. x || y) (above REQUESTS_LIMIT (length (section_of s who)) few) (by_keys keys)
-  where
-    above : (m n : ℕ) → n < m → nat_le m n ≡ false
-    above m n less = by_test (nat_le m n) refl
-      where
-        by_test : (b : Bool) → nat_le m n ≡ b → nat_le m n ≡ false
-        by_test true e = absurd (let most = leb-true m n e in omega (arith, less, most))
-        by_test false e = e
-
-    by_keys : (has_key sent.request.key s.p ≡ true) ⊎ (key_count s < KEYS_LIMIT)
-        → (nat_le KEYS_LIMIT (key_count s) && not (has_key sent.request.key s.p)) ≡ false
-    by_keys (inl there) = ap (λ b. nat_le KEYS_LIMIT (key_count s) && not b) there ∙ and_false (nat_le KEYS_LIMIT (key_count s))
-      where
-        and_false : (b : Bool) → (b && false) ≡ false
-        and_false true = refl
-        and_false false = refl
-    by_keys (inr few) = ap (λ b. b && not (has_key sent.request.key s.p)) (above KEYS_LIMIT (key_count s) few)
-
-begin_faultless : (c : Code) (w : World) (who : Actor) (made : Call) (variables : List Tagged) → IsSound c → IsCode c
-    → is_history (sections_of c w) ≡ true → MayBegin c w who → length (sent_in c (log_of w who)) < REQUESTS_LIMIT
-    → BeginsIn c w who variables → IsCalling c who variables (exchanges_of c w who) made
-    → fault_at (sections_of c w) who (unanswered c made) ≡ None
-begin_faultless c w who made variables sound kept history may few begins calling =
-    fault_by_tests s who sent history ∙ rw (words, full, may.turn, cleared, seen) refl
-  where
-    s : Sections
-    s = sections_of c w
-
-    sent : Sent
-    sent = unanswered c made
-
-    words : has_words sent.request ≡ true
-    words = request_words c who variables (exchanges_of c w who) made kept calling
-
-    key : (has_key sent.request.key s.p ≡ true)
-        ⊎ ((who ≡ actor.P) × (is_delete (template_of c made).verb ≡ true) × (key_count s < KEYS_LIMIT))
-    key = may.key made variables begins calling sound kept
-
-    room : (has_key sent.request.key s.p ≡ true) ⊎ ((who ≡ actor.P) × (is_delete (template_of c made).verb ≡ true) × (key_count s < KEYS_LIMIT))
-        → (has_key sent.request.key s.p ≡ true) ⊎ (key_count s < KEYS_LIMIT)
-    room (inl there) = inl there
-    room (inr (prefix, deletes, few)) = inr few
-
-    full : next.is_full s who sent ≡ false
-    full = not_full s who sent (subst (λ l. length l < REQUESTS_LIMIT) (sym (section_is c w who)) few) (room key)
-
-    by_key : (has_key sent.request.key s.p ≡ true) ⊎ ((who ≡ actor.P) × (is_delete (template_of c made).verb ≡ true) × (key_count s < KEYS_LIMIT))
-        → next.clears s who sent ≡ true
-    by_key (inl there) = ap (λ b. b || (next.is_prefix who && is_delete sent.request.verb)) there
-    by_key (inr (prefix, deletes, few)) =
-        ap₂ (λ x y. has_key sent.request.key s.p || (next.is_prefix x && y)) prefix deletes ∙ or_true (has_key sent.request.key s.p)
-      where
-        or_true : (b : Bool) → (b || true) ≡ true
-        or_true true = refl
-        or_true false = refl
-
-    cleared : next.clears s who sent ≡ true
-    cleared = by_key key
-
-    seen : next.number_is_seen s who sent ≡ true
-    seen =
-        ap (λ l. is_seen s.p sent || is_seen l sent) (section_is c w who)
-        ∙ next_seen c who w.logs.p (log_of w who) variables made kept begins calling
-
--- ---- steps
+use Rattle.mc_core.proofs.StepLemmas.{IsRight, step_right}
 
 pub record Holds (c : Code) (w : World) : Type 0 where
   pub right : IsRight c w
@@ -308,7 +112,8 @@ begin_recorded c w v who sound kept holds right step = subst (λ v. is_record (r
     few : length (sent_in c (log_of w who)) < REQUESTS_LIMIT
     few =
         let most = few_calls c v who sound (right who) in
-        let same = ap (λ v. length (calls_in (log_of v who))) follows.2 ∙ ap (λ log. length (calls_in log)) (own_log w who event.Begin log) in
+        let same =
+        ap (λ v. length (calls_in (log_of v who))) follows.2 ∙ ap (λ log. length (calls_in log)) (own_log w who event.Begin log) in
         let budget = (kept.sections who).requests in
         let all = idle_length c (log_of w who) idle in
         let mapped = length-map (log_of w who).answered call_of in
@@ -399,5 +204,6 @@ step_holds c sound kept w who e v holds step =
 
 pub folds_recorded : FoldsAreRecorded
 folds_recorded c events w skipped kept sound fold =
-    let holds = kept_along c (Holds c) (step_holds c sound kept) fold (record { right = new_is_right c; noted = new_is_noted; rules = nothing_noted }) in
+    let start : Holds c new_world = record { right = new_is_right c; noted = new_is_noted; rules = nothing_noted } in
+    let holds = kept_along c (Holds c) (step_holds c sound kept) fold start in
     record { sections = sections_recorded c w holds.noted; rules = holds.rules }

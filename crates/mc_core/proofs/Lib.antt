@@ -11,6 +11,10 @@ mod Safe
 pub mod MachineLemmas
 pub mod Refusals
 pub mod OwnSection
+pub mod SectionSteps
+pub mod BranchStarts
+pub mod HeldWorlds
+pub mod PrefixSteps
 pub mod HeldSteps
 pub mod Taking
 pub mod Starting
@@ -18,6 +22,7 @@ pub mod Recorded
 pub mod Clearing
 pub mod NextRequest
 pub mod SeenNumbers
+pub mod FaultlessRequests
 pub mod HistorySteps
 pub mod LongerFolds
 pub mod Stepping

@@ -29,7 +29,7 @@ use Rattle.mc_core.specs.Histories.{begin_count, no_call, recorded_after, record
 use Rattle.mc_core.specs.Logs.{call_of, calls_in, exchanges_in, request_of, IsNextCall}
 use Rattle.mc_core.specs.Worlds.{World, Noted, log_of, event_of}
 use Rattle.mc_core.proofs.FoldLemmas.{fold_right}
-use Rattle.mc_core.proofs.HeldSteps.{Fields}
+use Rattle.mc_core.proofs.HeldWorlds.{Fields}
 use Rattle.mc_core.proofs.NotedEvents.{fold_noted}
 use Rattle.mc_core.proofs.OwnSection.{own_event}
 use Rattle.mc_core.proofs.Recorded.{begun_in, begun_more, begun_first, begun_all, from_append}

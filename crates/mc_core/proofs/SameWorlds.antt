@@ -10,7 +10,7 @@ use Rattle.mc_protocol.specs.declared.sections.Sections.{Sections}
 use Rattle.mc_code.specs.Code.{Code}
 use Rattle.mc_code.specs.declared.instr.Call.{Call}
 use Rattle.mc_core.specs.declared.section.Section.{Section}
-use Rattle.mc_core.specs.Fields.{IsKept, AreKept, HasSameLog, HaveSameLogs, log_in, replies_of, world_in}
+use Rattle.mc_core.specs.Fields.{IsKept, HasSameLog, HaveSameLogs, log_in, replies_of, world_in}
 use Rattle.mc_core.specs.Logs.{Log}
 use Rattle.mc_core.specs.Steps.{IsFold, IsWorldOf}
 use Rattle.mc_core.specs.Worlds.{World, Noted, new_world, log_of}

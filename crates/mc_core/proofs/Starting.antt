@@ -20,8 +20,9 @@ use Rattle.mc_core.specs.Held.{Stands, HasMachine, IsHeldBy}
 use Rattle.mc_core.specs.Logs.{new_log}
 use Rattle.mc_core.specs.Steps.{ends}
 use Rattle.mc_core.specs.Worlds.{World, new_world, IsDone, IsEnding}
+use Rattle.mc_core.proofs.BranchStarts.{BranchIn, Left, p_leaves, branch_begins, branch_log, is_done}
 use Rattle.mc_core.proofs.FoldLemmas.{ends_once}
-use Rattle.mc_core.proofs.HeldSteps.{BranchIn, Left, p_leaves, branch_begins, branch_log, is_done, world_is}
+use Rattle.mc_core.proofs.HeldWorlds.{world_is}
 use Rattle.mc_core.proofs.OwnSection.{log_is}
 use Rattle.mc_core.proofs.Taking.{IsNew, p_begun}
 

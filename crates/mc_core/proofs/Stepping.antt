@@ -18,7 +18,8 @@ use Rattle.mc_core.specs.Logs.{Log}
 use Rattle.mc_core.specs.Safety.{IsSmallEvent, IsSmallNote}
 use Rattle.mc_core.specs.Steps.{IsStep, IsRefused}
 use Rattle.mc_core.specs.Worlds.{Noted, log_of}
-use Rattle.mc_core.proofs.HeldSteps.{Fields, After, held_after}
+use Rattle.mc_core.proofs.HeldSteps.{held_after}
+use Rattle.mc_core.proofs.HeldWorlds.{Fields, After}
 use Rattle.mc_core.proofs.Refusals.{IsFree, refused_rightly, taken_rightly}
 use Rattle.mc_core.proofs.Safe.{folds_within_room}
 use Rattle.mc_core.proofs.Taking.{names_a_template, logged, ending_at, machine_at, may_take, leaves_after, kept_after}

@@ -31,10 +31,12 @@ use Rattle.mc_core.specs.Fields.{replies_of, waiting_in, log_in, world_in, IsKep
 use Rattle.mc_core.specs.Held.{Stands, HasMachine}
 use Rattle.mc_core.specs.Logs.{Log, call_of}
 use Rattle.mc_core.specs.Worlds.{World, Noted, new_world, log_of, with_note, exchanges_of, IsEnding}
-use Rattle.mc_core.proofs.HeldSteps.{Before, Fields, BranchIn, own_after, p_leaves, branch_begins, machine_stands, has_machine, is_done}
+use Rattle.mc_core.proofs.BranchStarts.{BranchIn, p_leaves, branch_begins, is_done}
+use Rattle.mc_core.proofs.HeldWorlds.{Fields}
 use Rattle.mc_core.proofs.OwnSection.{HasLog, own_replies, other_replies}
 use Rattle.mc_core.proofs.Refusals.{IsFree}
 use Rattle.mc_core.proofs.Safe.{folds_within_room}
+use Rattle.mc_core.proofs.SectionSteps.{Before, machine_stands, has_machine, own_after}
 
 -- ---- templates
 

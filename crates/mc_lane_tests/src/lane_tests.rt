@@ -199,3 +199,40 @@ fn keeps_its_record_when_closed(rt: HostRuntime) -> Result<(), Fail> {
     assert!(rt; shows(&lane, &shown));
     Ok(())
 }
+
+// The data of the longest reply.
+const BODY_BYTES: usize = 65_536;
+
+// How many bytes a lane may receive, and what the last of four calls answers there. Each reply has its data, a line of 17 bytes
+// before it and 7 bytes after it, so four replies have 262,240 bytes.
+static LIMITS: &[(u32, Result<Class, Fault>)] = &[
+    (262_144, Err(Fault::TooMuch)),
+    (262_239, Err(Fault::TooMuch)),
+    (262_240, Ok(Class::Hit)),
+];
+
+#[test]
+fn receives_four_of_the_longest_replies(rt: HostRuntime) -> Result<(), Fail> {
+    let mut reply = Vec::new(rt.alloc());
+    reply.extend_from_slice(b"VALUE a 0 65536\r\n")?;
+    reply.extend_from_slice(vec![in rt.alloc(); b'x'; BODY_BYTES]?.as_slice())?;
+    reply.extend_from_slice(b"\r\nEND\r\n")?;
+    let pieces = [reply.as_slice(); 4];
+    for (max_bytes, last) in LIMITS {
+        let stream = MemoryStream::new(rt.alloc(), &pieces, 64)?;
+        let mut lane = Lane::new(rt.alloc(), stream, *max_bytes);
+        for answer in [Ok(Class::Hit), Ok(Class::Hit), Ok(Class::Hit), *last] {
+            let shape = Shape {
+                verb: Verb::Get,
+                key: b"a",
+            };
+            let answered = lane.call(b"get a\r\n", shape).map(|reply| reply.class());
+            assert_eq!(rt; answered, answer, "{max_bytes}");
+        }
+        assert_eq!(rt; lane.got().len(), *max_bytes as usize);
+        let whole = if last.is_ok() { 262_240 } else { 196_680 };
+        assert_eq!(rt; lane.taken(), whole);
+        assert_eq!(rt; lane.fault(), last.err());
+    }
+    Ok(())
+}

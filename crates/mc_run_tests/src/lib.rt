@@ -7,9 +7,15 @@ mod agreement_tests;
 #[cfg(test)]
 mod book_tests;
 #[cfg(test)]
+mod branch_rows;
+#[cfg(test)]
+mod carried;
+#[cfg(test)]
 mod counter;
 #[cfg(test)]
 mod lanes;
+#[cfg(test)]
+mod prefix_rows;
 #[cfg(test)]
 mod run_tests;
 #[cfg(test)]

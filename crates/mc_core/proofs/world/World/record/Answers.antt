@@ -1,7 +1,7 @@
 use Rattle.std.proofs.Common.{ap, sym, subst, ◌∙◌}
 use Rattle.mc_core.specs.Fields.{world_in}
 use Rattle.mc_core.specs.Held.{Held}
-use Rattle.mc_core.proofs.HeldSteps.{Fields}
+use Rattle.mc_core.proofs.HeldWorlds.{Fields}
 use Rattle.mc_core.proofs.Recording.{is_at, begins_named_for, recorded_next_for, counts_next, counts_room}
 use Rattle.mc_core.proofs.Stepping.{fields_of}
 use Rattle.mc_core.proofs.world.World.record.Goals as goal

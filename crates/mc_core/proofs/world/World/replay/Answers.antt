@@ -1,4 +1,4 @@
-use Rattle.std.proofs.Common.{◌≡◌, sym, ap, ◌∙◌, arith}
+use Rattle.std.proofs.Common.{sym, ap, ◌∙◌, arith}
 use Rattle.mc_core.specs.Held.{Held}
 use Rattle.mc_core.proofs.SameWorlds.{refolded, other_logs, none_skipped}
 use Rattle.mc_core.proofs.world.World.replay.Goals as goal
