@@ -1,8 +1,10 @@
 pub mod Fronts
 pub mod HelpLines
+pub mod LimitFirst
 pub mod LimitLines
 pub mod Line
 pub mod Maxima
+pub mod NamedServers
 pub mod OptionValue
 pub mod PlainLines
 pub mod Right

@@ -2,7 +2,8 @@
 use Rattle.std.proofs.Common.{refl, sym, arith, ap, inl, inr, codes, true, false, ℕ, List, [], ◌∷◌, ◌++◌, ◌≡◌, ◌∙◌, ◌==◌, Some, None}
 use Rattle.clap.proofs.OnLiterals.{clap_on_literals}
 use Rattle.mc_protocol.specs.Decimals.{SpellsNumber, are_digits, is_digit}
-use Rattle.mcrace.proofs.Line.{asm_is_not_drive, asm_is_not_run, check_is_not_asm, check_is_not_drive, check_is_not_run, drive_is_not_run, judge_is_not_asm, judge_is_not_check, judge_is_not_drive, judge_is_not_run}
+use Rattle.mcrace.proofs.Line.{asm_is_not_drive, asm_is_not_run, check_is_not_asm, check_is_not_drive, check_is_not_run, drive_is_not_run}
+use Rattle.mcrace.proofs.Line.{judge_is_not_asm, judge_is_not_check, judge_is_not_drive, judge_is_not_run}
 use Rattle.mcrace.proofs.RunLines as run
 use Rattle.mcrace.proofs.LimitLines.{TakesLimit, limit_words, drive_takes_limit, judge_takes_limit}
 use Rattle.mcrace.proofs.OptionValue.{IsNoFlag, no_flag}
@@ -43,7 +44,7 @@ no_hyphen d digit = ne_eqb _ _ (λ e. absurd (cc (ap is_digit e)))
 first_digit : (d : ℕ) (ds : List ℕ) → are_digits (d ∷ ds) ≡ true → is_digit d ≡ true
 first_digit d ds digits = grind (arith, common_steps)
 
-decimal_is_no_flag : (number : List ℕ) (limit : ℕ) → SpellsNumber GREATEST_LIMIT number limit → IsNoFlag number
+pub decimal_is_no_flag : (number : List ℕ) (limit : ℕ) → SpellsNumber GREATEST_LIMIT number limit → IsNoFlag number
 decimal_is_no_flag [] limit spells = absurd (cc (spells.some))
 decimal_is_no_flag (d ∷ ds) limit spells = no_flag d ds (no_hyphen d (first_digit d ds spells.digits))
 
@@ -67,13 +68,16 @@ names_limit name takes program others limit (inr (number, spells, inr joined)) =
       rw (takes.joined_has_limit program number) spells,
     )
 
-name_is_no_flag : (server : List ℕ) → IsName server → IsNoFlag server
+pub name_is_no_flag : (server : List ℕ) → IsName server → IsNoFlag server
 name_is_no_flag server (first, others, is, other) = rw is (no_flag first others other)
 
-run_asks : (program : List ℕ) (server : List ℕ) (others : List (List ℕ)) (limit : ℕ) → IsNoFlag server → NamesLimit others limit
+pub run_asks : (program : List ℕ) (server : List ℕ) (others : List (List ℕ)) (limit : ℕ) → IsNoFlag server → NamesLimit others limit
     → AsksFor (program ∷ codes "run" ∷ server ∷ others) (asked.Run limit)
 run_asks program server others limit plain (inl none) =
-    rw none.0 (run.alone_is_right program server plain, (run.alone_is_named program server plain, rw (run.alone_has_no_limit program server plain) none.1))
+    rw none.0 (
+      run.alone_is_right program server plain,
+      (run.alone_is_named program server plain, rw (run.alone_has_no_limit program server plain) none.1),
+    )
 run_asks program server others limit plain (inr (number, spells, inl apart)) =
     let value = decimal_is_no_flag number limit spells in
     rw apart (
@@ -101,7 +105,8 @@ plain_lines_ask words asked.Asm (program, is) = rw is (asm_has_no_faults program
 plain_lines_ask words (asked.Drive limit) (program, others, is, names) =
     let found = names_limit (codes "drive") drive_takes_limit program others limit names in
     rw is (found.0, (found.1, found.2))
-plain_lines_ask words (asked.Run limit) (program, server, others, is, names, limited) = rw is (run_asks program server others limit (name_is_no_flag server names) limited)
+plain_lines_ask words (asked.Run limit) (program, server, others, is, names, limited) =
+    rw is (run_asks program server others limit (name_is_no_flag server names) limited)
 
 -- a word that begins with no digit is no limit
 signed_is_none : (sign : ℕ) (number : List ℕ) (limit : ℕ) → is_digit sign ≡ false → SpellsNumber GREATEST_LIMIT (sign ∷ number) limit → ⊥

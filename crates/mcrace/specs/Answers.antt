@@ -28,6 +28,9 @@ too_long_text = codes "refused input too long\n"
 abbrev pub out_of_memory_text : List ℕ
 out_of_memory_text = codes "out of memory\n"
 
+abbrev pub not_utf8_text : List ℕ
+not_utf8_text = codes "error: the command line is not UTF-8\n"
+
 -- the same; or the text is too long, and that is written; or that memory ran out, which it may over any text
 abbrev pub IsAnswer : Asked → List ℕ → List ℕ → Status → Type 0
 IsAnswer asked text output ended = ((length text ≤ INPUT_LIMIT) × Does asked text output ended)

@@ -1,8 +1,8 @@
 -- What the definition of a line says of the lines that are mostly written, and of any line.
-use Rattle.std.specs.Prelude.{◌≡◌, ◌⊎◌, ◌==◌, ℕ, false, List, [], ◌∷◌, ◌++◌, codes}
+use Rattle.std.specs.Prelude.{◌≡◌, ◌⊎◌, ◌==◌, ℕ, false, Some, List, [], ◌∷◌, ◌++◌, codes}
 use Rattle.mc_protocol.specs.Decimals.{SpellsNumber, is_digit}
 use Rattle.mcrace.specs.Command.{AsksFor, IsFaulty, MayTell}
-use Rattle.mcrace.specs.CommandLine.{DEFAULT_LIMIT, GREATEST_LIMIT}
+use Rattle.mcrace.specs.CommandLine.{DEFAULT_LIMIT, GREATEST_LIMIT, line_target}
 use Rattle.mcrace.specs.declared.arguments.Asked.{Asked}
 use Rattle.mcrace.specs.declared.arguments.Asked.TheVariants as asked
 
@@ -30,6 +30,15 @@ IsPlainLine words (asked.Run limit) = (program : List ℕ) × (server : List ℕ
 
 abbrev pub PlainLinesAsk : Type 0
 PlainLinesAsk = (words : List (List ℕ)) (wanted : Asked) → IsPlainLine words wanted → AsksFor words wanted
+
+-- the words are the program's name, `run`, the name of a server and words that name a limit, in one of the two orders
+abbrev pub IsRunLine : List (List ℕ) → List ℕ → ℕ → Type 0
+IsRunLine words server limit = (program : List ℕ) × (others : List (List ℕ)) × IsName server × NamesLimit others limit
+    × ((words ≡ program ∷ codes "run" ∷ server ∷ others) ⊎ (words ≡ program ∷ codes "run" ∷ (others ++ server ∷ [])))
+
+abbrev pub RunLinesNameServers : Type 0
+RunLinesNameServers = (words : List (List ℕ)) (server : List ℕ) (limit : ℕ) → IsRunLine words server limit
+    → AsksFor words (asked.Run limit) × (line_target words ≡ Some server)
 
 -- a subcommand that has a limit
 abbrev pub HasLimit : List ℕ → Type 0

@@ -1,11 +1,13 @@
 //! The whole program, over any streams.
 ghost use Rattle.std.specs.Prelude.{◌≡◌, ◌≢◌, ◌⊎◌, ℕ, List, [], ◌+◌, ◌<◌, ◌≤◌, true, false, map, string_bytes, length, IfOk, IfErr};
-ghost use Rattle.mcrace.specs.Answers.{IsAnswer, out_of_memory_text};
+ghost use Rattle.mcrace.specs.Answers.{IsAnswer, not_utf8_text, out_of_memory_text};
 ghost use Rattle.mcrace.specs.Command.{AsksFor, Answers, IsFaulty, IsShown, IsWhole, MayShow, MayTell};
 ghost use Rattle.mcrace.specs.Input as input_rule;
 ghost use Rattle.mcrace.specs.Statuses.{status_number};
 ghost use Rattle.mcrace.specs.Streams.{Grows, TakesAtMost};
 ghost use Rattle.clap.specs.Words.{kind_of};
+ghost use Rattle.std.specs.IoError.{error_kind};
+ghost use Rattle.std.specs.declared.io.ErrorKind.TheVariants as io_kind;
 
 use crate::answer::{Answer, INPUT_LIMIT, OUT_OF_MEMORY, answer_to};
 use crate::arguments::{Asked, read_line};
@@ -60,8 +62,15 @@ pub fn command<I: Source, O: Sink, F: Sink>(
     }
 }
 
-/// The exit status where the line could not be read: memory ran out, or a word of it is not UTF-8.
+/// The exit status where the line could not be read: memory ran out, which goes to the output, or a word of it is not UTF-8, which
+/// goes to the faults.
 pub fn unread_line<O: Sink, F: Sink>(error: &io::Error, output: &mut O, faults: &mut F) -> u8
+    ensures memory { error_kind error.now ≡ io_kind.OutOfMemory → (faults.new ≡ faults.old)
+        × (O.has_failed output.old ≡ false → O.has_failed output.new ≡ false
+        → (result ≡ 4) × Grows (O.written output.old) (O.written output.new) out_of_memory_text) }
+    ensures word { error_kind error.now ≢ io_kind.OutOfMemory → (output.new ≡ output.old)
+        × (F.has_failed faults.old ≡ false → F.has_failed faults.new ≡ false
+        → (result ≡ 2) × Grows (F.written faults.old) (F.written faults.new) not_utf8_text) }
     ensures broken_output { O.has_failed output.old ≡ false → O.has_failed output.new ≡ true → result ≡ 4 }
     ensures broken_faults { F.has_failed faults.old ≡ false → F.has_failed faults.new ≡ true → result ≡ 4 }
     ensures fails { (result ≡ 2) ⊎ (result ≡ 4) }

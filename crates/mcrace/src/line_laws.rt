@@ -1,10 +1,16 @@
 //! What the definition of a line says of the lines that are mostly written, and of any line.
-ghost use Rattle.mcrace.specs.LineLaws.{HelpIsShown, LinesAskOnce, PlainLinesAsk, SignedLimitsAreFaulty};
+ghost use Rattle.mcrace.specs.LineLaws.{HelpIsShown, LinesAskOnce, PlainLinesAsk, RunLinesNameServers, SignedLimitsAreFaulty};
 
 /// `mcrace judge`, `mcrace judge --limit N` and `mcrace judge --limit=N`, the same of `mcrace drive`, `mcrace check` and `mcrace
 /// asm` have no fault, and ask for what they say.
 pub fn plain_lines_ask()
     ensures { PlainLinesAsk }
+{}
+
+/// `mcrace run SERVER`, `mcrace run SERVER --limit N`, `mcrace run SERVER --limit=N`, and the last two with the server at the end,
+/// have no fault, and ask for a run against that server with that limit.
+pub fn run_lines_name_servers()
+    ensures { RunLinesNameServers }
 {}
 
 /// A limit of `judge` or `drive` that begins with a sign, as in `mcrace judge --limit=+5`, is a fault, and so is one that

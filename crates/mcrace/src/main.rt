@@ -1,6 +1,11 @@
 //! Tests servers that speak memcached's text protocol.
 #![tactic(auto)]
 
+ghost use Rattle.std.specs.Prelude.{◌≡◌, false, true};
+ghost use Rattle.mcrace.specs.Command.{Answers};
+ghost use Rattle.mcrace.specs.Statuses.{status_number};
+ghost use Rattle.mcrace.specs.Streams.{TakesAtMost};
+
 mod answer;
 mod arguments;
 mod asm;
@@ -23,9 +28,10 @@ mod streams;
 mod verdicts;
 mod verifying;
 
-use arguments::{Target, read_run};
+use arguments::{Asked, Target, read_run};
 use input::InputFault;
 use run_command::run_script;
+use status::Status;
 use std::alloc::Global;
 use std::io::Eprint;
 use std::net::{Net, TcpStream};
@@ -67,6 +73,14 @@ fn play<R, I: Source, O: Sink>(
 ) -> u8
 where
     R: Net<Stream = TcpStream> + Threads + Wait + Sync + Eprint,
+    ensures answered { I.has_failed input.old ≡ false → I.has_failed input.new ≡ false
+        → O.has_failed output.old ≡ false → O.has_failed output.new ≡ false
+        → (ended : Status) × (result ≡ status_number ended)
+        × Answers (Asked.Run target.entry.limit) (I.left input.old) (O.written output.old) (O.written output.new) ended }
+    ensures broken_input { I.has_failed input.old ≡ false → I.has_failed input.new ≡ true
+        → (result ≡ 4) × (output.new ≡ output.old) }
+    ensures broken_output { O.has_failed output.old ≡ false → O.has_failed output.new ≡ true → result ≡ 4 }
+    ensures taken { TakesAtMost 1048577 (I.left input.old) (I.left input.new) }
 {
     let Target { server, limit } = target;
     let (status, reason) = run_script(rt, alloc, server, limit, input, output);
