@@ -9,7 +9,7 @@ use mc_protocol::Verb::*;
 use mc_protocol::{Actor, Fault, OutOfMemory, Verb};
 use mc_reader::Shape;
 use mc_run::{Lanes, agrees};
-use std::alloc::Global;
+use std::alloc::{AllocError, Global};
 use std::test::Fail;
 
 /// A script whose branches add 2.
@@ -50,13 +50,14 @@ impl Carried {
         let stream = MemoryStream::new(alloc, &[self.got], self.room)?;
         let mut lane = Lane::new(alloc, stream, 1_000);
         'carrying: for (verb, text) in self.requests {
-            let _ = lane.call(
-                text,
-                Shape {
-                    verb: *verb,
-                    key: b"a",
-                },
-            );
+            let shape = Shape {
+                verb: *verb,
+                key: b"a",
+            };
+            // other faults are what the tests want
+            if lane.call(text, shape) == Err(Fault::Memory) {
+                return Err(AllocError);
+            }
         }
         Ok(lane)
     }
