@@ -1,13 +1,15 @@
 // What a run of two increments costs without mcrace: it connects three sockets to 127.0.0.1, sends the bytes that mcrace sends for
 // examples/two-increments.script, and reads the replies. P's two requests go one after the other; then both branches' requests are
-// written before either reply is read. One thread does it all, and nothing is noted or judged.
+// written before either reply is read. One thread does it all, and nothing is noted or judged. With `threads` A's request and its
+// reply are those of a thread of its own, which is started for it, as in mcrace.
 //
-// usage: plain_run PORT RUNS
+// usage: plain_run PORT RUNS [threads]
 //
 // It prints the microseconds of a run in the mean, and those of its connects alone.
 #include <arpa/inet.h>
 #include <netinet/in.h>
 #include <netinet/tcp.h>
+#include <pthread.h>
 #include <stdio.h>
 #include <stdlib.h>
 #include <string.h>
@@ -54,8 +56,37 @@ static int answers(int one, const char *line, const char *other) {
   return (got == strlen(line) && !memcmp(reply, line, got)) || (got == strlen(other) && !memcmp(reply, other, got));
 }
 
+static void increment(int one) { ask(one, "incr a 1\r\n"); }
+
+// Whichever of the two was faster.
+static void await_increment(int one) {
+  if (!answers(one, "6\r\n", "7\r\n"))
+    stop("incr");
+}
+
+static void *branch(void *one) {
+  increment(*(int *)one);
+  await_increment(*(int *)one);
+  return 0;
+}
+
+static void run_branches(int a, int b) {
+  increment(a);
+  increment(b);
+  await_increment(a);
+  await_increment(b);
+}
+
+static void run_threads(int a, int b) {
+  pthread_t of_a;
+  if (pthread_create(&of_a, 0, branch, &a))
+    stop("pthread_create");
+  branch(&b);
+  pthread_join(of_a, 0);
+}
+
 int main(int count, char **words) {
-  int port = count == 3 ? atoi(words[1]) : 0, runs = count == 3 ? atoi(words[2]) : 0;
+  int port = count >= 3 ? atoi(words[1]) : 0, runs = count >= 3 ? atoi(words[2]) : 0;
   double all = 0, connects = 0;
   if (!port || runs <= 0)
     return 2;
@@ -69,11 +100,7 @@ int main(int count, char **words) {
     ask(p, "set a 0 0 1\r\n5\r\n");
     if (!answers(p, "STORED\r\n", "STORED\r\n"))
       stop("set");
-    ask(a, "incr a 1\r\n");
-    ask(b, "incr a 1\r\n");
-    // Whichever of the two was faster.
-    if (!answers(a, "6\r\n", "7\r\n") || !answers(b, "6\r\n", "7\r\n"))
-      stop("incr");
+    (count > 3 ? run_threads : run_branches)(a, b);
     close(p), close(a), close(b);
     all += microseconds() - begin;
   }

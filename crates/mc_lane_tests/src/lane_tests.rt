@@ -1,19 +1,24 @@
 //! What a lane answers and records over streams that are cut, fail or end, and when it closes.
 
 use mc_lane::{Lane, MemoryStream};
-use mc_protocol::{Class, Fault, Verb};
+use mc_protocol::{Class, Fault, OutOfMemory, Verb};
 use mc_reader::Shape;
+use std::alloc::AllocError;
 use std::test::Fail;
 
 static DELETE: &[u8] = b"delete a\r\n";
 
-// One call of a lane: the class of the reply to `delete a`.
-fn delete(lane: &mut Lane<MemoryStream>) -> Result<Class, Fault> {
+// One call of a lane: the class of the reply to `delete a`. Want of memory is an error here: no test expects it.
+fn delete(lane: &mut Lane<MemoryStream>) -> Result<Result<Class, Fault>, OutOfMemory> {
     let shape = Shape {
         verb: Verb::Delete,
         key: b"a",
     };
-    lane.call(DELETE, shape).map(|reply| reply.class())
+    match lane.call(DELETE, shape) {
+        Ok(reply) => Ok(Ok(reply.class())),
+        Err(Fault::Memory) => Err(AllocError),
+        Err(fault) => Ok(Err(fault)),
+    }
 }
 
 // What a lane records.
@@ -139,7 +144,7 @@ fn answers_and_records(rt: HostRuntime) -> Result<(), Fail> {
             .with_failure_at(row.failing_call);
         let mut lane = Lane::new(rt.alloc(), stream, row.max_bytes);
         assert!(rt; !lane.is_closed());
-        let answers = [delete(&mut lane), delete(&mut lane)];
+        let answers = [delete(&mut lane)?, delete(&mut lane)?];
         assert_eq!(rt; answers, row.answers);
         assert!(rt; shows(&lane, &row.shown), "{answers:?}");
         assert_eq!(rt; lane.is_closed(), row.shown.fault.is_some());
@@ -165,7 +170,7 @@ fn closes_at_each_call_that_fails(rt: HostRuntime) -> Result<(), Fail> {
             .with_longest_write(4)
             .with_failure_at(*failing_call);
         let mut lane = Lane::new(rt.alloc(), stream, 64);
-        let answers = [delete(&mut lane), delete(&mut lane)];
+        let answers = [delete(&mut lane)?, delete(&mut lane)?];
         assert_eq!(rt;
             answers,
             [Err(*fault), Err(Fault::Closed)],
@@ -186,10 +191,10 @@ fn closes_at_each_call_that_fails(rt: HostRuntime) -> Result<(), Fail> {
 fn keeps_its_record_when_closed(rt: HostRuntime) -> Result<(), Fail> {
     let stream = MemoryStream::new(rt.alloc(), &[b"DELETED\r\n", b"DELETED\r\n"], 64)?;
     let mut lane = Lane::new(rt.alloc(), stream, 64);
-    assert_eq!(rt; delete(&mut lane), Ok(Class::Deleted));
+    assert_eq!(rt; delete(&mut lane)?, Ok(Class::Deleted));
     lane.close();
     assert!(rt; lane.is_closed());
-    assert_eq!(rt; delete(&mut lane), Err(Fault::Closed));
+    assert_eq!(rt; delete(&mut lane)?, Err(Fault::Closed));
     let shown = Shown {
         sent: DELETE,
         got: b"DELETED\r\n",

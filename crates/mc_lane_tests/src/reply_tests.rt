@@ -3,7 +3,7 @@
 use mc_lane::{Lane, MemoryStream};
 use mc_protocol::{Fault, OutOfMemory, Verb, render_reply};
 use mc_reader::Shape;
-use std::alloc::Global;
+use std::alloc::{AllocError, Global};
 use std::test::Fail;
 
 // A verb, and a reply that a request of it for the key a may have.
@@ -28,7 +28,7 @@ fn shape(verb: Verb) -> Shape<'static> {
     Shape { verb, key: b"a" }
 }
 
-// The text of what a lane over these pieces answers, or its fault.
+// The text of what a lane over these pieces answers, or its fault. Want of memory is an error here: no test expects it.
 fn answer(
     alloc: Global,
     pieces: &[&[u8]],
@@ -42,6 +42,7 @@ fn answer(
             render_reply(b"a", &reply, &mut text)?;
             Ok((Ok(text), lane))
         }
+        Err(Fault::Memory) => Err(AllocError),
         Err(fault) => Ok((Err(fault), lane)),
     }
 }

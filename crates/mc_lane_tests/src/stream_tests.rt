@@ -41,12 +41,14 @@ fn fails_at_one_call(rt: HostRuntime) -> Result<(), Fail> {
 }
 
 #[test]
-fn carries_bytes_of_std(rt: HostRuntime) {
-    let mut wire = Wire::new(VecDeque::new(rt.alloc()));
+fn carries_bytes_of_std(rt: HostRuntime) -> Result<(), Fail> {
+    // there is room, so that no write is broken for want of memory
+    let mut wire = Wire::new(VecDeque::with_capacity(rt.alloc(), 3)?);
     let mut buffer = [0; 4];
     assert_eq!(rt; wire.write(b"abc"), Ok(3));
     assert_eq!(rt; (wire.read(&mut buffer), buffer), (Ok(3), *b"abc\0"));
     assert_eq!(rt; wire.read(&mut buffer), Ok(0));
+    Ok(())
 }
 
 // A writer that takes nothing, and a reader that was interrupted.

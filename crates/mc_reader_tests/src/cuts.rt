@@ -1,18 +1,30 @@
-//! Feeds a text in pieces, and looks whether the answer is the same however it is cut.
+//! Feeds a text in pieces, and looks whether the answer is the same however it is cut. Want of memory is an error here: no test
+//! expects it.
 use crate::wanted::{Row, Wanted};
-use mc_protocol::Verb;
+use mc_protocol::{OutOfMemory, Verb};
 use mc_reader::{Fed, ReadFault, ReplyReader, Shape};
-use std::alloc::Global;
+use std::alloc::{AllocError, Global};
 
 pub(crate) fn shape(verb: Verb) -> Shape<'static> {
     Shape { verb, key: b"a" }
 }
 
-/// Whether the reader answers `More`.
-pub(crate) fn goes_on(reader: &mut ReplyReader<'_>, piece: &[u8]) -> bool {
+/// What the reader answers to the piece.
+pub(crate) fn feed(
+    reader: &mut ReplyReader<'_>,
+    piece: &[u8],
+) -> Result<Result<Fed, ReadFault>, OutOfMemory> {
     match reader.feed(piece) {
-        Ok(Fed::More) => true,
-        _ => false,
+        Err(ReadFault::OutOfMemory) => Err(AllocError),
+        answer => Ok(answer),
+    }
+}
+
+/// Whether the reader answers `More`.
+pub(crate) fn goes_on(reader: &mut ReplyReader<'_>, piece: &[u8]) -> Result<bool, OutOfMemory> {
+    match feed(reader, piece)? {
+        Ok(Fed::More) => Ok(true),
+        _ => Ok(false),
     }
 }
 
@@ -22,19 +34,19 @@ pub(crate) fn answers(
     piece: &[u8],
     used: usize,
     wanted: &Wanted,
-) -> bool {
-    match reader.feed(piece) {
-        Ok(Fed::Done { reply, used: count }) => wanted.is_reply(&reply) && count == used,
-        Ok(Fed::More) => false,
-        Err(fault) => wanted.is_fault(fault),
+) -> Result<bool, OutOfMemory> {
+    match feed(reader, piece)? {
+        Ok(Fed::Done { reply, used: count }) => Ok(wanted.is_reply(&reply) && count == used),
+        Ok(Fed::More) => Ok(false),
+        Err(fault) => Ok(wanted.is_fault(fault)),
     }
 }
 
 /// Whether the reader has answered before.
-pub(crate) fn is_over(reader: &mut ReplyReader<'_>) -> bool {
-    match reader.feed(b"END\r\n") {
-        Err(ReadFault::Failed) => true,
-        _ => false,
+pub(crate) fn is_over(reader: &mut ReplyReader<'_>) -> Result<bool, OutOfMemory> {
+    match feed(reader, b"END\r\n")? {
+        Err(ReadFault::Failed) => Ok(true),
+        _ => Ok(false),
     }
 }
 
@@ -45,15 +57,17 @@ fn is_read_at_cut(
     text: &[u8],
     cut: usize,
     wanted: &Wanted,
-) -> bool {
+) -> Result<bool, OutOfMemory> {
     if cut > text.len() {
-        return false;
+        return Ok(false);
     }
     let (front, back) = text.split_at(cut);
     let mut reader = ReplyReader::new(alloc, shape);
-    goes_on(&mut reader, front)
-        && answers(&mut reader, back, back.len(), wanted)
-        && is_over(&mut reader)
+    Ok(
+        goes_on(&mut reader, front)?
+            && answers(&mut reader, back, back.len(), wanted)?
+            && is_over(&mut reader)?,
+    )
 }
 
 /// Feeds all but the last piece of `len` bytes, and answers that one, where the reader goes on at each of them.
@@ -61,16 +75,16 @@ pub(crate) fn last_piece<'t>(
     reader: &mut ReplyReader<'_>,
     text: &'t [u8],
     len: usize,
-) -> Option<&'t [u8]> {
+) -> Result<Option<&'t [u8]>, OutOfMemory> {
     let mut rest = text;
     'pieces: while rest.len() > len && len > 0 {
         let (piece, others) = rest.split_at(len);
-        if !goes_on(reader, piece) {
-            return None;
+        if !goes_on(reader, piece)? {
+            return Ok(None);
         }
         rest = others;
     }
-    Some(rest)
+    Ok(Some(rest))
 }
 
 /// Whether the text is answered so at its end, fed in pieces of `len` bytes, and not before.
@@ -80,37 +94,54 @@ pub(crate) fn is_read_in_pieces(
     text: &[u8],
     len: usize,
     wanted: &Wanted,
-) -> bool {
+) -> Result<bool, OutOfMemory> {
     let mut reader = ReplyReader::new(alloc, shape);
-    match last_piece(&mut reader, text, len) {
-        Some(last) => answers(&mut reader, last, last.len(), wanted) && is_over(&mut reader),
-        None => false,
+    match last_piece(&mut reader, text, len)? {
+        Some(last) => {
+            Ok(answers(&mut reader, last, last.len(), wanted)? && is_over(&mut reader)?)
+        }
+        None => Ok(false),
     }
 }
 
 /// Whether the text is answered so at its end: in one piece, byte by byte, at every cut, and where more bytes follow it in
 /// its last piece.
-pub(crate) fn is_read(alloc: Global, shape: Shape<'_>, text: &[u8], wanted: &Wanted) -> bool {
+pub(crate) fn is_read(
+    alloc: Global,
+    shape: Shape<'_>,
+    text: &[u8],
+    wanted: &Wanted,
+) -> Result<bool, OutOfMemory> {
     for cut in 0..text.len() {
-        if !is_read_at_cut(alloc, shape, text, cut, wanted) {
-            return false;
+        if !is_read_at_cut(alloc, shape, text, cut, wanted)? {
+            return Ok(false);
         }
     }
-    is_read_in_pieces(alloc, shape, text, text.len(), wanted)
-        && is_read_in_pieces(alloc, shape, text, 1, wanted)
-        && is_read_before_another(alloc, shape, text, wanted)
+    Ok(
+        is_read_in_pieces(alloc, shape, text, text.len(), wanted)?
+            && is_read_in_pieces(alloc, shape, text, 1, wanted)?
+            && is_read_before_another(alloc, shape, text, wanted)?,
+    )
 }
 
 /// Whether the text is answered so where other bytes follow it in the piece, and these are left.
-fn is_read_before_another(alloc: Global, shape: Shape<'_>, text: &[u8], wanted: &Wanted) -> bool {
-    let Ok(longer) = [text, b"STORED\r\n".as_slice()].concat(alloc) else {
-        return false;
-    };
+fn is_read_before_another(
+    alloc: Global,
+    shape: Shape<'_>,
+    text: &[u8],
+    wanted: &Wanted,
+) -> Result<bool, OutOfMemory> {
+    let longer = [text, b"STORED\r\n".as_slice()].concat(alloc)?;
     let mut reader = ReplyReader::new(alloc, shape);
     answers(&mut reader, longer.as_slice(), text.len(), wanted)
 }
 
 /// The first row that isn't answered as it should be.
-pub(crate) fn first_other(alloc: Global, rows: &[Row]) -> Option<usize> {
-    rows.iter().position(|(verb, text, wanted)| !is_read(alloc, shape(*verb), text, wanted))
+pub(crate) fn first_other(alloc: Global, rows: &[Row]) -> Result<Option<usize>, OutOfMemory> {
+    for (place, (verb, text, wanted)) in rows.iter().enumerate() {
+        if !is_read(alloc, shape(*verb), text, wanted)? {
+            return Ok(Some(place));
+        }
+    }
+    Ok(None)
 }

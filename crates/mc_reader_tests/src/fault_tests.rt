@@ -3,6 +3,7 @@ use crate::cuts::first_other;
 use crate::wanted::{Row, Wanted};
 use mc_protocol::Verb;
 use mc_reader::{ErrorKind, ReadFault};
+use std::test::Fail;
 
 const NOT_A_REPLY: Wanted = Wanted::Fault(ReadFault::NotAReply);
 
@@ -133,18 +134,21 @@ static BLOCKS: &[Row] = &[
 ];
 
 #[test]
-fn refuses_lines(rt: HostRuntime) {
-    assert_eq!(rt; first_other(rt.alloc(), LINES), None);
+fn refuses_lines(rt: HostRuntime) -> Result<(), Fail> {
+    assert_eq!(rt; first_other(rt.alloc(), LINES)?, None);
+    Ok(())
 }
 
 #[test]
-fn refuses_lines_of_items(rt: HostRuntime) {
-    assert_eq!(rt; first_other(rt.alloc(), ITEM_LINES), None);
+fn refuses_lines_of_items(rt: HostRuntime) -> Result<(), Fail> {
+    assert_eq!(rt; first_other(rt.alloc(), ITEM_LINES)?, None);
+    Ok(())
 }
 
 #[test]
-fn refuses_blocks(rt: HostRuntime) {
-    assert_eq!(rt; first_other(rt.alloc(), BLOCKS), None);
+fn refuses_blocks(rt: HostRuntime) -> Result<(), Fail> {
+    assert_eq!(rt; first_other(rt.alloc(), BLOCKS)?, None);
+    Ok(())
 }
 
 static FAULTS: &[(ReadFault, u8, &str)] = &[

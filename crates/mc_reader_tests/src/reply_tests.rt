@@ -79,13 +79,15 @@ static HITS: &[Row] = &[
 ];
 
 #[test]
-fn reads_lines(rt: HostRuntime) {
-    assert_eq!(rt; first_other(rt.alloc(), LINES), None);
+fn reads_lines(rt: HostRuntime) -> Result<(), Fail> {
+    assert_eq!(rt; first_other(rt.alloc(), LINES)?, None);
+    Ok(())
 }
 
 #[test]
-fn reads_hits(rt: HostRuntime) {
-    assert_eq!(rt; first_other(rt.alloc(), HITS), None);
+fn reads_hits(rt: HostRuntime) -> Result<(), Fail> {
+    assert_eq!(rt; first_other(rt.alloc(), HITS)?, None);
+    Ok(())
 }
 
 // 21 bytes: the reply is whole at the last one, and nothing is answered after it.
@@ -94,13 +96,13 @@ fn answers_where_the_reply_ends(rt: HostRuntime) -> Result<(), Fail> {
     let text = b"VALUE a 0 1\r\n1\r\nEND\r\n".as_slice();
     let mut reader = ReplyReader::new(rt.alloc(), shape(Verb::Get));
     for byte in &text[..20] {
-        assert!(rt; goes_on(&mut reader, &[*byte]));
+        assert!(rt; goes_on(&mut reader, &[*byte])?);
     }
-    assert!(rt; goes_on(&mut reader, b""));
+    assert!(rt; goes_on(&mut reader, b"")?);
     let wanted = Wanted::Hit(0, b"1", None);
-    assert!(rt; answers(&mut reader, b"\n", 1, &wanted) && is_over(&mut reader));
+    assert!(rt; answers(&mut reader, b"\n", 1, &wanted)? && is_over(&mut reader)?);
     let mut reader = ReplyReader::new(rt.alloc(), shape(Verb::Get));
-    assert!(rt; answers(&mut reader, text, 21, &wanted) && is_over(&mut reader));
+    assert!(rt; answers(&mut reader, text, 21, &wanted)? && is_over(&mut reader)?);
     Ok(())
 }
 
@@ -115,16 +117,17 @@ fn leaves_the_next_reply(rt: HostRuntime) -> Result<(), Fail> {
     };
     assert_eq!(rt; used, 3);
     let mut second = ReplyReader::new(rt.alloc(), shape(Verb::Incr));
-    assert!(rt; answers(&mut second, &text[3..], 11, &Wanted::NotFound));
+    assert!(rt; answers(&mut second, &text[3..], 11, &Wanted::NotFound)?);
     Ok(())
 }
 
 // Keys may have bytes from 128 on.
 #[test]
-fn reads_any_key(rt: HostRuntime) {
+fn reads_any_key(rt: HostRuntime) -> Result<(), Fail> {
     let key = b"\xe4\xff-key".as_slice();
     let text = b"VALUE \xe4\xff-key 0 1\r\n1\r\nEND\r\n".as_slice();
     let verb = Verb::Get;
     let mut reader = ReplyReader::new(rt.alloc(), Shape { verb, key });
-    assert!(rt; answers(&mut reader, text, text.len(), &Wanted::Hit(0, b"1", None)));
+    assert!(rt; answers(&mut reader, text, text.len(), &Wanted::Hit(0, b"1", None))?);
+    Ok(())
 }

@@ -1,9 +1,10 @@
 //! Each class of reply to each verb.
 use crate::cuts::{is_read, shape};
 use crate::wanted::Wanted;
-use mc_protocol::Verb;
+use mc_protocol::{OutOfMemory, Verb};
 use mc_reader::{ErrorKind, ReadFault};
 use std::alloc::Global;
+use std::test::Fail;
 
 // A reply of each class, a hit without and with a cas unique, and errors; each with its outcome where the verb may have it.
 static REPLIES: [(&[u8], Wanted); 13] = [
@@ -69,19 +70,20 @@ fn ended_text(text: &'static [u8], wanted: &Wanted) -> &'static [u8] {
     }
 }
 
-fn answers_all(alloc: Global, verb: Verb, legal: &[usize]) -> bool {
+fn answers_all(alloc: Global, verb: Verb, legal: &[usize]) -> Result<bool, OutOfMemory> {
     for (place, (text, reply)) in REPLIES.iter().enumerate() {
         let wanted = outcome(place, reply, legal);
-        if !is_read(alloc, shape(verb), ended_text(text, &wanted), &wanted) {
-            return false;
+        if !is_read(alloc, shape(verb), ended_text(text, &wanted), &wanted)? {
+            return Ok(false);
         }
     }
-    true
+    Ok(true)
 }
 
 #[test]
-fn reads_each_class_for_each_verb(rt: HostRuntime) {
+fn reads_each_class_for_each_verb(rt: HostRuntime) -> Result<(), Fail> {
     for (verb, legal) in LEGAL {
-        assert!(rt; answers_all(rt.alloc(), *verb, legal), "{}", verb.word());
+        assert!(rt; answers_all(rt.alloc(), *verb, legal)?, "{}", verb.word());
     }
+    Ok(())
 }

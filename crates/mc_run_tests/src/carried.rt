@@ -2,9 +2,9 @@
 
 use mc_lane::{Lane, MemoryStream};
 use mc_protocol::Verb::*;
-use mc_protocol::{OutOfMemory, Verb};
+use mc_protocol::{Fault, OutOfMemory, Verb};
 use mc_reader::Shape;
-use std::alloc::Global;
+use std::alloc::{AllocError, Global};
 
 /// What a lane receives, how many bytes it may write, and the requests on the key `a` that it carries.
 #[derive(Clone, Copy)]
@@ -41,13 +41,14 @@ impl Carried {
         let stream = MemoryStream::new(alloc, &[self.got], self.room)?;
         let mut lane = Lane::new(alloc, stream, 1_000);
         'carrying: for (verb, text) in self.requests {
-            let _ = lane.call(
-                text,
-                Shape {
-                    verb: *verb,
-                    key: b"a",
-                },
-            );
+            let shape = Shape {
+                verb: *verb,
+                key: b"a",
+            };
+            // other faults are what the tests want
+            if lane.call(text, shape) == Err(Fault::Memory) {
+                return Err(AllocError);
+            }
         }
         Ok(lane)
     }
