@@ -1,7 +1,8 @@
 //! A book by itself: what it notes, and what it hands back.
 
-use crate::counter::counter;
-use mc_core::{Ending, Event, StepRefusal};
+use crate::counter::Given::{Begin, NotFound, Stored};
+use crate::counter::{Given, counter};
+use mc_core::{Ending, Event, StepRefusal, World};
 use mc_protocol::{Actor, Reply};
 use mc_run::Book;
 use std::test::Fail;
@@ -10,29 +11,39 @@ use std::test::Fail;
 fn notes_events_in_order(rt: HostRuntime) -> Result<(), Fail> {
     let counter = counter(rt.alloc())?;
     let mut book = Book::new(rt.alloc(), &counter)?;
-    assert_eq!(rt;
-        book.note(Actor::A, Event::Begin),
-        Err((StepRefusal::NotYet, Event::Begin))
-    );
-    assert_eq!(rt; book.note(Actor::P, Event::Begin), Ok(()));
-    assert!(rt; book.world().waiting(Actor::P).is_some());
-    let stored = Event::Reply(Reply::Stored);
-    let refused = book.note(Actor::P, stored);
-    assert_eq!(rt;
-        refused,
-        Err((StepRefusal::WrongReply, Event::Reply(Reply::Stored)))
-    );
-    assert_eq!(rt; book.note(Actor::P, Event::Reply(Reply::NotFound)), Ok(()));
-    assert_eq!(rt;
-        book.checked().code().keys().len(),
-        counter.code().keys().len()
-    );
-    let world = book.into_world();
+    assert_eq!(rt; note_some(&mut book), [true; 5]);
+    assert_eq!(rt; book.checked().code().keys().len(), 1);
+    assert_eq!(rt; noted_only_p(&book.into_world()), [true; 2]);
+    Ok(())
+}
+
+/// Whether the book takes or hands back each of these events as it should, and P's first call waits then.
+fn note_some(book: &mut Book<'_>) -> [bool; 5] {
+    [
+        hands_back(book, Actor::A, Begin, StepRefusal::NotYet),
+        takes(book, Actor::P, Begin),
+        book.world().waiting(Actor::P).is_some(),
+        hands_back(book, Actor::P, Stored, StepRefusal::WrongReply),
+        takes(book, Actor::P, NotFound),
+    ]
+}
+
+/// Whether P's first call and its reply were noted, and nothing else, and P goes on.
+fn noted_only_p(world: &World) -> [bool; 2] {
     let noted = [
         (Actor::P, Event::Begin),
         (Actor::P, Event::Reply(Reply::NotFound)),
     ];
-    assert_eq!(rt; world.notes(), noted.as_slice());
-    assert_eq!(rt; world.ending(Actor::P), Ending::Running);
-    Ok(())
+    [
+        world.notes() == noted.as_slice(),
+        world.ending(Actor::P) == Ending::Running,
+    ]
+}
+
+fn takes(book: &mut Book<'_>, actor: Actor, given: Given) -> bool {
+    book.note(actor, given.event()) == Ok(())
+}
+
+fn hands_back(book: &mut Book<'_>, actor: Actor, given: Given, refusal: StepRefusal) -> bool {
+    book.note(actor, given.event()) == Err((refusal, given.event()))
 }

@@ -23,7 +23,8 @@ pub(crate) enum Given {
 }
 
 impl Given {
-    fn event(self) -> Event {
+    /// The event itself.
+    pub(crate) fn event(self) -> Event {
         Event::Reply(match self {
             Given::Begin => return Event::Begin,
             Given::Fail(fault) => return Event::Fail(fault),

@@ -1,14 +1,18 @@
 //! Runs of two increments of one counter, over streams in memory: what they note, what their lanes record, and the verdict.
 
+ghost use Rattle.mc_core.specs.Held.{IsHeldBy};
+
 use crate::counter::counter;
 use crate::lanes::{BothBegin, NEVER, Served, lanes, run};
 use crate::verdict::text;
 use Ending::{Done, Failed, NotBegun};
 use mc_core::Ending;
 use mc_lane::{Lane, MemoryStream};
-use mc_protocol::{Actor, Fault, Verb};
+use mc_protocol::{Actor, Fault, OutOfMemory, Verb};
 use mc_reader::Shape;
 use mc_run::{FreeGate, Lanes, Run, RunError, agrees, run_lanes_with};
+use mc_verify::Checked;
+use std::alloc::Global;
 use std::test::Fail;
 use std::thread::Builder;
 
@@ -160,55 +164,113 @@ fn comes_to_what_its_streams_answer(rt: HostRuntime) -> Result<(), Fail> {
     let counter = counter(rt.alloc())?;
     for (number, row) in ROWS.iter().enumerate() {
         let given = lanes(rt.alloc(), [row.p, row.a, row.b])?;
-        let mut run = run(&rt, rt.alloc(), &counter, given, &FreeGate)?;
-        assert_eq!(rt; endings(&run), row.endings, "{number}");
-        assert!(rt; have_sent(&run.lanes, row.sent), "{number}");
-        assert!(rt;
-            agrees(rt.alloc(), &counter, &run.world, &run.lanes)?,
+        let run = run(&rt, rt.alloc(), &counter, given, &FreeGate)?;
+        assert_eq!(rt;
+            fits(rt.alloc(), &counter, run, row)?,
+            [true; 5],
             "{number}"
         );
-        let (_, verdict) = run.judge(rt.alloc(), &counter, 1_000_000)?;
-        let found = text(rt.alloc(), &verdict)?;
-        assert_eq!(rt; found.as_slice(), row.verdict.as_bytes(), "{number}");
-        assert!(rt; !sends_when_closed(&mut run.lanes.p), "{number}");
-        assert!(rt; !sends_when_closed(&mut run.lanes.a), "{number}");
-        assert!(rt; !sends_when_closed(&mut run.lanes.b), "{number}");
     }
     Ok(())
+}
+
+/// Whether the sections end as in the row, this was sent over the lanes, they agree, the verdict is that of the row, and nothing is
+/// sent in one more call.
+fn fits(
+    alloc: Global,
+    counter: &Checked,
+    run: Run<MemoryStream>,
+    row: &Row,
+) -> Result<[bool; 5], Fail>
+    requires { IsHeldBy counter.now.code run.world }
+{
+    let agrees = agrees(alloc, counter, &run.world, &run.lanes)?;
+    let is_judged = is_judged_as(alloc, counter, &run, 1_000_000, row.verdict.as_bytes())?;
+    Ok([
+        endings(&run) == row.endings,
+        have_sent(&run.lanes, row.sent),
+        agrees,
+        is_judged,
+        send_nothing_when_closed(run.lanes),
+    ])
+}
+
+/// Whether this is the verdict on the run after at most this many turns: the lines of an explanation, or a word.
+fn is_judged_as(
+    alloc: Global,
+    counter: &Checked,
+    run: &Run<MemoryStream>,
+    limit: u64,
+    verdict: &[u8],
+) -> Result<bool, Fail>
+    requires { IsHeldBy counter.now.code run.now.world }
+{
+    let (_, found) = run.judge(alloc, counter, limit)?;
+    Ok(text(alloc, &found)?.as_slice() == verdict)
 }
 
 #[test]
 fn notes_both_increments(rt: HostRuntime) -> Result<(), Fail> {
     let counter = counter(rt.alloc())?;
     let gate = BothBegin::new();
-    let given = [(TO_PREFIX, NEVER), SIX, (&[b"7\r\n8\r\n"], NEVER)];
-    let run = run(&rt, rt.alloc(), &counter, lanes(rt.alloc(), given)?, &gate)?;
+    let given = lanes(
+        rt.alloc(),
+        [(TO_PREFIX, NEVER), SIX, (&[b"7\r\n8\r\n"], NEVER)],
+    )?;
+    let run = run(&rt, rt.alloc(), &counter, given, &gate)?;
     assert!(rt; !gate.missed.is_raised());
-    assert_eq!(rt; endings(&run), [Done, Done, Done]);
-    assert!(rt; have_sent(&run.lanes, [PREFIX, INCREMENT, INCREMENT]));
-    // what came after B's reply
-    assert_eq!(rt; run.lanes.b.got(), b"7\r\n8\r\n".as_slice());
-    assert_eq!(rt; run.lanes.b.taken(), 3);
-    let (_, verdict) = run.judge(rt.alloc(), &counter, 1_000_000)?;
-    let found = text(rt.alloc(), &verdict)?;
-    assert_eq!(rt; found.as_slice(), b"P 0\nP 1\nA 2\nB 3\n".as_slice());
-    // no turns to search in
-    let (_, verdict) = run.judge(rt.alloc(), &counter, 0)?;
-    let found = text(rt.alloc(), &verdict)?;
-    assert_eq!(rt; found.as_slice(), b"undecided".as_slice());
+    assert_eq!(rt;
+        has_incremented_twice(rt.alloc(), &counter, &run)?,
+        [true; 6]
+    );
     Ok(())
+}
+
+/// Whether all sections are done, all was sent, what came after B's reply wasn't taken, and the verdict is an explanation, where there
+/// are turns to search in.
+fn has_incremented_twice(
+    alloc: Global,
+    counter: &Checked,
+    run: &Run<MemoryStream>,
+) -> Result<[bool; 6], Fail>
+    requires { IsHeldBy counter.now.code run.now.world }
+{
+    let explanation = b"P 0\nP 1\nA 2\nB 3\n".as_slice();
+    let is_explained = is_judged_as(alloc, counter, run, 1_000_000, explanation)?;
+    let is_undecided = is_judged_as(alloc, counter, run, 0, b"undecided")?;
+    Ok([
+        endings(run) == [Done, Done, Done],
+        have_sent(&run.lanes, [PREFIX, INCREMENT, INCREMENT]),
+        run.lanes.b.got() == b"7\r\n8\r\n".as_slice(),
+        run.lanes.b.taken() == 3,
+        is_explained,
+        is_undecided,
+    ])
 }
 
 #[test]
 fn agrees_with_its_own_lanes_alone(rt: HostRuntime) -> Result<(), Fail> {
     let counter = counter(rt.alloc())?;
     let given = lanes(rt.alloc(), [(TO_PREFIX, NEVER), SIX, SEVEN])?;
-    let Run { world, lanes } = run(&rt, rt.alloc(), &counter, given, &FreeGate)?;
-    assert!(rt; agrees(rt.alloc(), &counter, &world, &lanes)?);
+    let run = run(&rt, rt.alloc(), &counter, given, &FreeGate)?;
+    assert_eq!(rt;
+        agree_in_both_orders(rt.alloc(), &counter, run)?,
+        (true, false)
+    );
+    Ok(())
+}
+
+/// Whether the lanes of a run agree with its world, and whether they do so with A's and B's exchanged.
+fn agree_in_both_orders(
+    alloc: Global,
+    counter: &Checked,
+    run: Run<MemoryStream>,
+) -> Result<(bool, bool), OutOfMemory> {
+    let Run { world, lanes } = run;
+    let in_order = agrees(alloc, counter, &world, &lanes)?;
     let Lanes { p, a, b } = lanes;
     let exchanged = Lanes { p, a: b, b: a };
-    assert!(rt; !agrees(rt.alloc(), &counter, &world, &exchanged)?);
-    Ok(())
+    Ok((in_order, agrees(alloc, counter, &world, &exchanged)?))
 }
 
 #[test]
@@ -231,6 +293,16 @@ fn endings(run: &Run<MemoryStream>) -> [Ending; 3] {
 fn have_sent(lanes: &Lanes<MemoryStream>, sent: [&[u8]; 3]) -> bool {
     let [p, a, b] = sent;
     lanes.p.sent() == p && lanes.a.sent() == a && lanes.b.sent() == b
+}
+
+/// Whether no lane that is closed sends anything in one more call.
+fn send_nothing_when_closed(lanes: Lanes<MemoryStream>) -> bool {
+    let Lanes {
+        mut p,
+        mut a,
+        mut b,
+    } = lanes;
+    !sends_when_closed(&mut p) && !sends_when_closed(&mut a) && !sends_when_closed(&mut b)
 }
 
 /// Whether a lane that is closed sends anything in one more call.

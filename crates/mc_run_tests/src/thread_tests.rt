@@ -1,7 +1,7 @@
 //! That the branches of a run go on at once, in threads of their own, and that their calls are noted when they are made.
 
 ghost use Rattle.std.specs.Prelude.{IfOk};
-ghost use Rattle.mc_run.specs.Running.{IsNew};
+ghost use Rattle.mc_run.specs.Running.{AreNew, IsNew};
 
 use crate::counter::counter;
 use crate::lanes::{NEVER, Served, lanes, run, stream};
@@ -83,29 +83,7 @@ fn goes_on_while_the_other_branch_is_read(rt: HostRuntime) -> Result<(), Fail> {
     let counter = counter(rt.alloc())?;
     let signals = Signals::new();
     // each branch's stream is read once the other's was written to
-    let given = Lanes {
-        p: lane(
-            rt.alloc(),
-            TO_PREFIX,
-            &signals.p_written,
-            &signals.p_written,
-            &signals,
-        )?,
-        a: lane(
-            rt.alloc(),
-            SIX,
-            &signals.a_written,
-            &signals.b_written,
-            &signals,
-        )?,
-        b: lane(
-            rt.alloc(),
-            SEVEN,
-            &signals.b_written,
-            &signals.a_written,
-            &signals,
-        )?,
-    };
+    let given = waiting_lanes(rt.alloc(), &signals, &signals.b_written)?;
     let run = run(&rt, rt.alloc(), &counter, given, &FreeGate)?;
     assert!(rt; are_done(&run.world), "{:?}", run.world);
     assert!(rt; !signals.missed.is_raised());
@@ -131,48 +109,40 @@ fn notes_that_a_call_begins_before_its_reply_is_read(rt: HostRuntime) -> Result<
     let counter = counter(rt.alloc())?;
     let signals = Signals::new();
     // B is read once A was written to, and A once B's reply was noted
-    let given = Lanes {
-        p: lane(
-            rt.alloc(),
-            TO_PREFIX,
-            &signals.p_written,
-            &signals.p_written,
-            &signals,
-        )?,
-        a: lane(
-            rt.alloc(),
-            SIX,
-            &signals.a_written,
-            &signals.b_passed,
-            &signals,
-        )?,
-        b: lane(
-            rt.alloc(),
-            SEVEN,
-            &signals.b_written,
-            &signals.a_written,
-            &signals,
-        )?,
-    };
-    let run = run(
-        &rt,
-        rt.alloc(),
-        &counter,
-        given,
-        &TellsOfB(&signals.b_passed),
-    )?;
+    let given = waiting_lanes(rt.alloc(), &signals, &signals.b_passed)?;
+    let gate = TellsOfB(&signals.b_passed);
+    let run = run(&rt, rt.alloc(), &counter, given, &gate)?;
     assert!(rt; are_done(&run.world), "{:?}", run.world);
     assert!(rt; !signals.missed.is_raised());
-    let begun = run
-        .world
+    assert!(rt; begins_before(&run.world), "{:?}", run.world.notes());
+    Ok(())
+}
+
+/// Whether it was noted that A's call begins before B's reply was.
+fn begins_before(world: &World) -> bool {
+    let begun = world
         .notes()
         .iter()
         .position(|noted| *noted == (Actor::A, Event::Begin));
-    let replied = run.world.notes().iter().position(|noted| *noted
+    let replied = world.notes().iter().position(|noted| *noted
         == (Actor::B, Event::Reply(Reply::Number(7))));
-    assert!(rt; begun.is_some());
-    assert!(rt; begun < replied, "{:?}", run.world.notes());
-    Ok(())
+    begun.is_some() && begun < replied
+}
+
+/// New lanes, over streams that tell when they are written to. B's is read once A's was written to, and A's after the signal.
+fn waiting_lanes<'s>(
+    alloc: Global,
+    signals: &'s Signals,
+    until: &'s Signal,
+) -> Result<Lanes<WaitingStream<'s>>, OutOfMemory>
+    ensures { IfOk result AreNew }
+{
+    let (to_p, to_a, to_b) = (&signals.p_written, &signals.a_written, &signals.b_written);
+    Ok(Lanes {
+        p: lane(alloc, TO_PREFIX, to_p, to_p, signals)?,
+        a: lane(alloc, SIX, to_a, until, signals)?,
+        b: lane(alloc, SEVEN, to_b, to_a, signals)?,
+    })
 }
 
 /// A new lane over a stream that tells when it is written to, and is read only after a signal.
