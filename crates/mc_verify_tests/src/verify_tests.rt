@@ -1,33 +1,34 @@
 //! What `verify` hands out: sound code with its greatest costs, or the refusal with the code as it was.
 
 use crate::short_tables::COUNTER;
-use mc_code::{ImageFault, decode, encode};
+use mc_code::{Code, decode, encode};
 use mc_protocol::Actor;
-use mc_verify::{Cost, Refusal, RefusalKind, verify};
+use mc_verify::{Refusal, RefusalKind, verify};
+use std::alloc::Global;
 use std::test::Fail;
+
+/// What the sections of the counter cost, P, A and B, each with its requests and its bytes.
+const COSTS: [(u32, u32); 3] = [(2, 26), (1, 10), (1, 10)];
 
 #[test]
 fn hands_out_the_counter(rt: HostRuntime) -> Result<(), Fail> {
-    let code = decode(rt.alloc(), COUNTER)?;
-    match verify(rt.alloc(), code).map_err(|(refusal, _)| refusal) {
-        Ok(checked) => {
-            let costs = [Actor::P, Actor::A, Actor::B].map(|actor| checked.maxima(actor));
-            let counted = Cost {
-                requests: 1,
-                bytes: 10,
-            };
-            let of_prefix = Cost {
-                requests: 2,
-                bytes: 26,
-            };
-            assert_eq!(rt; costs, [of_prefix, counted, counted]);
-            let mut image = Vec::new(rt.alloc());
-            encode(checked.code(), &mut image)?;
-            assert_eq!(rt; image.as_slice(), COUNTER);
-        }
-        Err(refusal) => assert_eq!(rt; Some(refusal), None),
-    }
+    let found = checked_counter(rt.alloc())?;
+    assert_eq!(rt; found, Some((COSTS, true)));
     Ok(())
+}
+
+/// What the sections of the counter's code cost, and whether the sound code has the same image, where it is sound.
+fn checked_counter(alloc: Global) -> Result<Option<([(u32, u32); 3], bool)>, Fail> {
+    match verify(alloc, decode(alloc, COUNTER)?) {
+        Ok(checked) => {
+            let costs = [Actor::P, Actor::A, Actor::B].map(|actor| {
+                let cost = checked.maxima(actor);
+                (cost.requests, cost.bytes)
+            });
+            Ok(Some((costs, has_image(alloc, checked.code(), COUNTER)?)))
+        }
+        Err(_) => Ok(None),
+    }
 }
 
 #[test]
@@ -36,22 +37,32 @@ fn hands_back_what_it_refuses(rt: HostRuntime) -> Result<(), Fail> {
     let mut bytes = Vec::new(rt.alloc());
     bytes.extend_from_slice(COUNTER)?;
     bytes[11] = 25;
-    match verify(rt.alloc(), decode(rt.alloc(), bytes.as_slice())?) {
-        Ok(_) => assert_eq!(rt; "accepted", "refused"),
-        Err(refused) => {
-            let (refusal, code) = refused;
-            let expected = Refusal {
-                kind: RefusalKind::TooManyBytes,
-                actor: Actor::P,
-                place: 1,
-            };
-            assert_eq!(rt; refusal, expected);
-            assert_eq!(rt; refusal.kind.number(), 11);
-            assert_eq!(rt; refusal.kind.name(), "TooManyBytes");
-            let mut image = Vec::new(rt.alloc());
-            encode(&code, &mut image)?;
-            assert_eq!(rt; image.as_slice(), bytes.as_slice());
-        }
-    }
+    let expected = Refusal {
+        kind: RefusalKind::TooManyBytes,
+        actor: Actor::P,
+        place: 1,
+    };
+    let found = refusal_of(rt.alloc(), bytes.as_slice())?;
+    assert_eq!(rt; found, Some((expected, true)));
     Ok(())
+}
+
+#[test]
+fn names_its_refusals(rt: HostRuntime) {
+    assert_eq!(rt; RefusalKind::TooManyBytes.number(), 11);
+    assert_eq!(rt; RefusalKind::TooManyBytes.name(), "TooManyBytes");
+}
+
+/// What is wrong with the code of the image, and whether the code that is handed back has the same image; nothing where it is sound.
+fn refusal_of(alloc: Global, image: &[u8]) -> Result<Option<(Refusal, bool)>, Fail> {
+    match verify(alloc, decode(alloc, image)?) {
+        Ok(_) => Ok(None),
+        Err((refusal, code)) => Ok(Some((refusal, has_image(alloc, &code, image)?))),
+    }
+}
+
+fn has_image(alloc: Global, code: &Code, image: &[u8]) -> Result<bool, Fail> {
+    let mut found = Vec::new(alloc);
+    encode(code, &mut found)?;
+    Ok(found.as_slice() == image)
 }
