@@ -9,7 +9,7 @@ use std::test::Fail;
 // The lengths of pieces in which the texts are fed.
 static LENGTHS: [usize; 5] = [1, 7, 2_047, 4_096, 70_000];
 
-/// `front`, the byte so many times, and `back`.
+/// `front`, then `byte`, repeated `count` times, and `back`.
 fn text_of(
     alloc: Global,
     front: &[u8],

@@ -69,6 +69,8 @@ impl<S: Stream> Run<S> {
         ensures history { IfOk result (λ judged. judged.0 ≡ history_of checked.now.code self.now.world.world) }
         ensures states { IfOk result (λ judged. IsStated (history_of checked.now.code self.now.world.world) judged.1) }
     {
+        // These three calls are here for what they promise, and the headline rests on: folds are safe, the code is sound, and the
+        // notes are small.
         folds_are_safe();
         let _code = checked.code();
         let _notes = self.world.notes();
