@@ -19,14 +19,18 @@ def copy_with_bodies_of(functions, crate, found, sources, folder):
     if folder.exists():
         shutil.rmtree(folder)
     shutil.copytree(sources, folder)
-    taken = [it for it in found if it.kind == "fn" and it.has_body and it not in functions]
-    for file in {it.file for it in taken}:
+    others = [it for it in found if it not in functions]
+    for file in {it.file for it in others}:
         lines = (folder / file).read_text(encoding="utf-8").split("\n")
-        of_file = [it for it in taken if it.file == file and can_be_taken(it, lines)]
-        for item in of_file:
+        for item in takeable(others, file, lines):
             take_body(item, lines)
             write_hole(item, crate, folder)
         (folder / file).write_text("\n".join(lines), encoding="utf-8")
+
+
+def takeable(found, file, lines):
+    """The functions among these items that stand in this file of these lines and whose bodies can be taken."""
+    return [it for it in found if it.file == file and it.kind == "fn" and it.has_body and can_be_taken(it, lines)]
 
 
 def can_be_taken(item, lines):
@@ -47,15 +51,22 @@ def take_body(item, lines):
             lines[inner[0]] = " " * (indent + 4) + "unreachable!()"
 
 
+def places_of_proof(item):
+    """Where something may be written of a function's proof, in its crate's folder: the files, and the folders of its closures, each
+    with a slash at its end."""
+    home = "/".join(("proofs", *item.path))
+    closures = ["/".join(("proofs", *item.path[:at], "fn", *item.path[at:], "")) for at in range(len(item.path))]
+    return [f"{home}/{it}.antt" for it in ("Proof", "Invariants", "Answers")], closures
+
+
 def write_hole(item, crate, folder):
     """Puts a hole in place of what is written of the function's proof, that of its closures included."""
-    for at in range(len(item.path)):
-        of_closures = folder.joinpath("proofs", *item.path[:at], "fn", *item.path[at:])
-        if of_closures.is_dir():
-            shutil.rmtree(of_closures)
-    home = folder.joinpath("proofs", *item.path)
-    home.mkdir(parents=True, exist_ok=True)
-    for name in ("Invariants", "Answers"):
-        (home / f"{name}.antt").unlink(missing_ok=True)
+    files, closures = places_of_proof(item)
+    for it in closures:
+        shutil.rmtree(folder / it, ignore_errors=True)
+    for it in files:
+        (folder / it).unlink(missing_ok=True)
+    proof = folder / files[0]
+    proof.parent.mkdir(parents=True, exist_ok=True)
     place = ".".join((crate.name, "proofs", *item.path))
-    (home / "Proof.antt").write_text(HOLE.format(place=place, name=item.name), encoding="utf-8")
+    proof.write_text(HOLE.format(place=place, name=item.name), encoding="utf-8")

@@ -13,6 +13,9 @@ ROOT = pathlib.Path(__file__).resolve().parents[1]
 # How a line of input or output begins: `-` for no LF at its end, `x` for hexadecimal, `*N` for N times.
 BYTES = re.compile(r"([<>])(-|x)?(?:\*(\d+))?(?: (.*))?\Z", re.S)
 
+# The most bytes of an input of which each front is read.
+MOST_FAILING = 4096
+
 
 class BadFile(Exception):
     """A file that is not in the form of cases/README.md."""
@@ -26,8 +29,10 @@ class Lines:
     before: list = field(default_factory=list)
     after: list | None = None
     output: list | None = None
-    has_faults: bool = False
+    parts: list = field(default_factory=list)
+    faults: str | None = None
     status: int | None = None
+    fails: set = field(default_factory=set)
 
 
 @dataclass
@@ -36,8 +41,14 @@ class Case:
     words: list
     input: bytes
     output: bytes
-    has_faults: bool
+    # Texts that stand in the output, where it isn't compared whole.
+    parts: list
+    # The first line of standard error, empty where it may be any; or None, where nothing is written there.
+    faults: str | None
     status: int
+    # Whether reading and writing are to fail too.
+    input_fails: bool
+    output_fails: bool
 
 
 def bytes_of(line, where):
@@ -62,8 +73,12 @@ def add_line(lines, line, where):
         lines.after = []
     elif line.startswith("$"):
         lines.words = shlex.split(line[1:])
-    elif line == "!":
-        lines.has_faults = True
+    elif line == "!" or line.startswith("! "):
+        lines.faults = line[2:]
+    elif line.startswith("~ "):
+        lines.parts.append(line[2:].replace("\\n", "\n").encode())
+    elif line in ("<!", ">!"):
+        lines.fails.add(line)
     elif re.fullmatch(r"= \d{1,3}", line):
         lines.status = int(line[2:])
     elif line.startswith("<"):
@@ -83,8 +98,13 @@ def case_of(name, own, frame, where):
     if words is None or status is None:
         raise BadFile(f"{where}: a case needs a line `$` and a line `=`, of its own or of its frame")
     given = b"".join([*frame.before, *own.before, *(frame.after or [])])
-    faults = own.has_faults or frame.has_faults
-    return Case(name, words, given, b"".join(output or []), faults, status)
+    faults = frame.faults if own.faults is None else own.faults
+    parts, fails = [*frame.parts, *own.parts], frame.fails | own.fails
+    if parts and (output is not None or fails):
+        raise BadFile(f"{where}: a case with lines `~` has no line of output, and no line `<!` or `>!`")
+    if fails and len(given) > MOST_FAILING:
+        raise BadFile(f"{where}: a case with a line `<!` or `>!` has at most {MOST_FAILING} bytes of input")
+    return Case(name, words, given, b"".join(output or []), parts, faults, status, "<!" in fails, ">!" in fails)
 
 
 def cases_in(path):

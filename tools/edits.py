@@ -3,7 +3,8 @@
 A line `file: src/x.rt` names a file of the crate, and pairs of lines `old: TEXT` and `new: TEXT` say what is changed there.
 A TEXT is part of one line. The old one stands exactly once in what the pairs above it have made of the file. A line
 `test: NAME` names a test that refuses the edit where no contract does, as `test: mc_model_tests::acts`; without a crate it
-is one of the edited crate's own.
+is one of the edited crate's own. A line `named: PLAIN WORDS` is in those that this project names (`named.py`): it says what the
+wrong body does.
 """
 
 import re
@@ -25,6 +26,8 @@ class Edit:
     changed: dict = field(default_factory=dict)
     # The crate and the name of the test that refuses it.
     test: tuple | None = None
+    # What the wrong body does, where this project names it.
+    named: str = ""
     # The items that it changes, and the functions that are to refuse it. Where it changes more than bodies, it is tried alone.
     items: list = field(default_factory=list)
     functions: list = field(default_factory=list)
@@ -69,6 +72,10 @@ def read(path, crate):
             if not named:
                 raise BadEdit(f"line {number}: it names no test")
             edit.test = named[1] or crate.name, named[2]
+        elif line.startswith("named:"):
+            edit.named = text_after(line, "named:").strip()
+            if not edit.named:
+                raise BadEdit(f"line {number}: it doesn't say what the wrong body does")
         elif line.strip():
             raise BadEdit(f"line {number}: no line of an edit begins so: {line[:40]}")
     if old is not None:

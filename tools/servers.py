@@ -37,10 +37,10 @@ class Play:
         return self.verdict.decode().partition("\n")[0]
 
 
-def play(program, port, script, prepare=None):
-    """Plays a script against the server on this port of 127.0.0.1."""
-    words = [program, "run", f"127.0.0.1:{port}"]
-    ran = subprocess.run(words, input=script, capture_output=True, timeout=SECONDS, preexec_fn=prepare)
+def play(program, port, script, prepare=None, environment=None, options=()):
+    """Plays a script against the server on this port of 127.0.0.1, with these options of `run`."""
+    words = [program, "run", f"127.0.0.1:{port}", *options]
+    ran = subprocess.run(words, input=script, capture_output=True, timeout=SECONDS, preexec_fn=prepare, env=environment)
     endings = ENDINGS.match(ran.stdout)
     told = ran.stdout[endings.end() :] if endings else b""
     begin = HISTORY.search(told)
@@ -109,6 +109,13 @@ class Step(enum.Enum):
     RESET = "end it by a reset"
 
 
+@dataclass(frozen=True)
+class Request:
+    """A step that takes a request of just these bytes. Where others come, it ends the connection."""
+
+    text: bytes
+
+
 def answers(*texts):
     """The steps in which each of these texts answers a request."""
     return [step for text in texts for step in (Step.READ, text)]
@@ -152,6 +159,9 @@ class Scripted:
             for step in talk:
                 if step is Step.READ:
                     read_request(reader)
+                elif isinstance(step, Request):
+                    if reader.read(len(step.text)) != step.text:
+                        return
                 elif step is Step.MEET:
                     self.meeting.wait(SECONDS)
                 elif step is Step.RESET:

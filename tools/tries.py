@@ -35,8 +35,8 @@ class Check:
         """The answer, and the processor seconds that it took."""
         crate, home = self.tries.crate, room / f"check-{id(self)}"
         copy, kept = home / crate.name, home / "kept"
-        # It begins with what `rt ci` kept.
-        checks.copy_kept(crate, kept)
+        # It keeps nothing for another, and takes nothing from one: a check that begins with what others kept takes as long.
+        kept.mkdir(parents=True)
         sources = room / "copy/crates" / crate.name
         if self.has_bodies:
             shutil.copytree(sources, copy)
@@ -61,7 +61,7 @@ class Check:
 
     def __str__(self):
         which = "all bodies" if self.has_bodies else "no other bodies"
-        mine = self.tries.of_contracts
+        mine = self.tries.of_contracts()
         settled = sum(str(it) in self.tries.refused or str(it) in self.tries.failed for it in mine)
         return f"{self.tries.crate.name}: a check with {which}, of {len(self.batch)} edits; {settled} of {len(mine)} are settled"
 
@@ -70,12 +70,14 @@ class Tries:
     """The edits of a crate, and what came of each: how it was refused and by what."""
 
     def __init__(self, crate, is_whole, paths, say):
-        self.crate, self.say, self.refused, self.failed = crate, say, {}, {}
+        self.crate, self.is_whole, self.say, self.refused, self.failed = crate, is_whole, say, {}, {}
         self.checks, self.seconds = 0, 0.0
         self.items = items.items_of(crate.folder)
         self.edits = [it for it in map(self.read, paths) if it]
-        # Those that no test is named for.
-        self.of_contracts = [it for it in self.edits if it.test is None]
+        # Those that are tried. Of the others it is kept that they are refused.
+        self.tried = self.edits
+        # Those that only a check with all bodies refused.
+        self.with_bodies = set()
         # What the checks without other bodies leave to those with all, and how many of the former are still to end.
         self.unsettled, self.first_checks = [], 0
         if is_whole:
@@ -91,6 +93,10 @@ class Tries:
             self.fail(f"{self.crate.name}/{path.stem}", f"bad edit: {fault}")
             return None
 
+    def of_contracts(self):
+        """The edits to try that no test is named for."""
+        return [it for it in self.tried if it.test is None]
+
     def look_at_public_functions(self):
         """Fails for each public function in which no edit stands, of those that are tried here or by `rt ci`."""
         by_gate = map(self.read, sorted((self.crate.folder / "must-fail").glob("*.edit")))
@@ -104,9 +110,18 @@ class Tries:
         self.failed[str(what)] = why
         self.say(f"failed: {what}: {why}")
 
+    def crates(self):
+        """The crates that must be proved before anything is tried."""
+        return [self.crate]
+
+    def leave(self, why):
+        """Reports the edits to try as failed, since they aren't tried."""
+        for it in self.of_contracts():
+            self.fail(it, why)
+
     def begin(self):
         """The checks to begin with: batches without the other bodies. What these don't refuse is tried with them, and then alone."""
-        found = [Check(self, it, False) for it in batches_of(self.of_contracts)]
+        found = [Check(self, it, False) for it in batches_of(self.of_contracts())]
         self.first_checks = len(found)
         return found
 
@@ -137,6 +152,7 @@ class Tries:
             how = attribution.refusal(it, answer)
             if how:
                 self.refused[str(it)] = how
+                self.with_bodies.add(str(it))
             elif len(batch) > 1 and not attribution.is_proved(it, answer):
                 again.append([it])
             else:

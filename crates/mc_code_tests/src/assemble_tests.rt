@@ -1,10 +1,10 @@
 //! `assemble`: the parts of a script's code, and why a script has none.
 
-use crate::images::{COUNTER_IMAGE, LAST_FLAG_IMAGE, image_after};
-use crate::parts::{COUNTER, are_equal, has_parts};
-use mc_code::{AsmFault, assemble, decode};
+use crate::images::{COUNTER_IMAGE, LAST_FLAG_IMAGE, image_after, is_image_of};
+use crate::parts::{COUNTER, has_parts};
+use mc_code::{AsmFault, Code, assemble};
 use mc_protocol::{Actor, OutOfMemory};
-use mc_script::{parse, print};
+use mc_script::{Script, parse, print};
 use std::alloc::Global;
 use std::test::Fail;
 
@@ -81,54 +81,79 @@ static VERSIONS: [([usize; 4], &[u8]); 7] = [
 
 #[test]
 fn assembles(rt: HostRuntime) -> Result<(), Fail> {
-    let alloc = rt.alloc();
-    let code = assemble(alloc, &parse(alloc, COUNTER_SCRIPT)?)?;
-    assert!(rt; has_parts(&code, &COUNTER));
+    assert!(rt; has_parts(&code_of(rt.alloc(), COUNTER_SCRIPT)?, &COUNTER));
     Ok(())
 }
 
 // What is there already stays.
 #[test]
 fn writes_an_image_after_what_is_there(rt: HostRuntime) -> Result<(), Fail> {
-    let alloc = rt.alloc();
-    let code = assemble(alloc, &parse(alloc, COUNTER_SCRIPT)?)?;
-    let out = image_after(alloc, b"before", &code)?;
-    assert!(rt; is_joined(&out, b"before", COUNTER_IMAGE));
+    assert!(rt; is_written_after(rt.alloc(), b"before", COUNTER_SCRIPT, COUNTER_IMAGE)?);
     Ok(())
 }
 
 #[test]
 fn takes_the_last_flag(rt: HostRuntime) -> Result<(), Fail> {
-    let alloc = rt.alloc();
-    let script = parse(alloc, LAST_FLAG_SCRIPT)?;
-    let mut printed = Vec::new(alloc);
-    print(alloc, &script, &mut printed)?;
-    assert!(rt; printed.as_slice() == LAST_FLAG_SCRIPT);
-    let image = image_after(alloc, b"", &assemble(alloc, &script)?)?;
-    assert!(rt; image.as_slice() == LAST_FLAG_IMAGE);
+    assert!(rt; is_printed_as_it_stands(rt.alloc(), LAST_FLAG_SCRIPT)?);
+    assert!(rt; is_written_after(rt.alloc(), b"", LAST_FLAG_SCRIPT, LAST_FLAG_IMAGE)?);
     Ok(())
 }
 
 #[test]
 fn writes_the_version_that_has_room(rt: HostRuntime) -> Result<(), Fail> {
-    let alloc = rt.alloc();
     for (counts, start) in VERSIONS {
-        let code = assemble(alloc, &parse(alloc, &script_of(alloc, counts)?)?)?;
-        let image = image_after(alloc, b"", &code)?;
-        assert!(rt; image.starts_with(start));
-        assert!(rt; are_equal(&decode(alloc, &image)?, &code));
+        assert!(rt; is_written_as(rt.alloc(), counts, start)?);
     }
     Ok(())
 }
 
 #[test]
 fn refuses_what_exceeds_a_limit(rt: HostRuntime) -> Result<(), Fail> {
-    let alloc = rt.alloc();
     for (counts, fault) in SIZES {
-        let script = parse(alloc, &script_of(alloc, counts)?)?;
-        assert_eq!(rt; assemble(alloc, &script).err(), fault);
+        assert_eq!(rt; fault_of(rt.alloc(), counts)?, fault);
     }
     Ok(())
+}
+
+fn code_of(alloc: Global, text: &[u8]) -> Result<Code, Fail> {
+    let script = parse(alloc, text)?;
+    Ok(assemble(alloc, &script)?)
+}
+
+// Whether the image of the text's script stands after the bytes that were there first.
+fn is_written_after(alloc: Global, front: &[u8], text: &[u8], image: &[u8]) -> Result<bool, Fail> {
+    let code = code_of(alloc, text)?;
+    Ok(is_joined(&image_after(alloc, front, &code)?, front, image))
+}
+
+fn is_printed_as_it_stands(alloc: Global, text: &[u8]) -> Result<bool, Fail> {
+    let script = parse(alloc, text)?;
+    Ok(is_printed_as(alloc, &script, text)?)
+}
+
+fn is_printed_as(alloc: Global, script: &Script, text: &[u8]) -> Result<bool, OutOfMemory> {
+    let mut printed = Vec::new(alloc);
+    print(alloc, script, &mut printed)?;
+    Ok(printed.as_slice() == text)
+}
+
+// Whether the image of a script with these numbers of lines begins so, and is read as the script's code.
+fn is_written_as(alloc: Global, counts: [usize; 4], start: &[u8]) -> Result<bool, Fail> {
+    let text = script_of(alloc, counts)?;
+    let code = code_of(alloc, &text)?;
+    has_image(alloc, &code, start)
+}
+
+fn has_image(alloc: Global, code: &Code, start: &[u8]) -> Result<bool, Fail> {
+    let image = image_after(alloc, b"", code)?;
+    Ok(image.starts_with(start) && is_image_of(alloc, &image, code)?)
+}
+
+// Why a script with these numbers of lines is refused, if it is.
+fn fault_of(alloc: Global, counts: [usize; 4]) -> Result<Option<AsmFault>, Fail> {
+    let text = script_of(alloc, counts)?;
+    let script = parse(alloc, &text)?;
+    Ok(assemble(alloc, &script).err())
 }
 
 fn is_joined(bytes: &[u8], front: &[u8], rest: &[u8]) -> bool {

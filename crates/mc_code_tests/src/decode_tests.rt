@@ -2,8 +2,9 @@
 
 use crate::images::{
     COUNTER_IMAGE, COUNTER_IMAGE_2, EVERYTHING_IMAGE, LAST_FLAG_IMAGE, LONGEST_BODY, image_after,
+    is_image_of, with_changes,
 };
-use crate::parts::{COUNTER, EVERYTHING, LAST_FLAG, are_equal, has_parts};
+use crate::parts::{COUNTER, EVERYTHING, LAST_FLAG, Parts, has_parts};
 use mc_code::{Call, Code, ImageFault, ImageKind, decode};
 use mc_protocol::{OutOfMemory, Verb};
 use std::alloc::Global;
@@ -22,21 +23,21 @@ fn reads_two_images(rt: HostRuntime) -> Result<(), Fail> {
 // Of a code that version 1 can spell, the image of version 1 is written.
 #[test]
 fn reads_both_versions_of_an_image(rt: HostRuntime) -> Result<(), Fail> {
-    let alloc = rt.alloc();
-    let code = decode(alloc, COUNTER_IMAGE_2)?;
-    assert!(rt; has_parts(&code, &COUNTER));
     assert_eq!(rt; COUNTER_IMAGE_2.len(), 266);
-    assert!(rt; image_after(alloc, b"", &code)?.as_slice() == COUNTER_IMAGE);
+    assert!(rt; is_read_as(rt.alloc(), COUNTER_IMAGE_2, &COUNTER, COUNTER_IMAGE)?);
     Ok(())
 }
 
 #[test]
 fn reads_the_last_flag(rt: HostRuntime) -> Result<(), Fail> {
-    let alloc = rt.alloc();
-    let code = decode(alloc, LAST_FLAG_IMAGE)?;
-    assert!(rt; has_parts(&code, &LAST_FLAG));
-    assert!(rt; image_after(alloc, b"", &code)?.as_slice() == LAST_FLAG_IMAGE);
+    assert!(rt; is_read_as(rt.alloc(), LAST_FLAG_IMAGE, &LAST_FLAG, LAST_FLAG_IMAGE)?);
     Ok(())
+}
+
+// Whether the code of the first image has these parts, and the second one is written of it.
+fn is_read_as(alloc: Global, image: &[u8], parts: &Parts, written: &[u8]) -> Result<bool, Fail> {
+    let code = decode(alloc, image)?;
+    Ok(has_parts(&code, parts) && is_written(alloc, &code, written, Again::Bytes)?)
 }
 
 // Each byte of an image of version 1 takes each value in turn. What is read is written again, byte for byte. The numbers are
@@ -44,8 +45,14 @@ fn reads_the_last_flag(rt: HostRuntime) -> Result<(), Fail> {
 #[test]
 fn writes_what_it_reads(rt: HostRuntime) -> Result<(), Fail> {
     let alloc = rt.alloc();
-    assert_eq!(rt; count_written(alloc, COUNTER_IMAGE)?, Some(17_613));
-    assert_eq!(rt; count_written(alloc, EVERYTHING_IMAGE)?, Some(31_815));
+    assert_eq!(rt;
+        count_read(alloc, COUNTER_IMAGE, Again::Bytes)?,
+        Some(17_613)
+    );
+    assert_eq!(rt;
+        count_read(alloc, EVERYTHING_IMAGE, Again::Bytes)?,
+        Some(31_815)
+    );
     Ok(())
 }
 
@@ -53,51 +60,60 @@ fn writes_what_it_reads(rt: HostRuntime) -> Result<(), Fail> {
 #[test]
 fn writes_the_code_that_it_reads(rt: HostRuntime) -> Result<(), Fail> {
     let alloc = rt.alloc();
-    assert_eq!(rt; count_read_again(alloc, COUNTER_IMAGE_2)?, Some(17_709));
-    assert_eq!(rt; count_read_again(alloc, LAST_FLAG_IMAGE)?, Some(33_596));
+    assert_eq!(rt;
+        count_read(alloc, COUNTER_IMAGE_2, Again::Code)?,
+        Some(17_709)
+    );
+    assert_eq!(rt;
+        count_read(alloc, LAST_FLAG_IMAGE, Again::Code)?,
+        Some(33_596)
+    );
     Ok(())
 }
 
-// How many of the images with another value at one offset are read, or `None` if one of them isn't written as it was read.
-fn count_written(alloc: Global, image: &[u8]) -> Result<Option<usize>, ImageFault> {
+// How what was read of an image is written again: byte for byte, or as an image of the same code.
+#[derive(Clone, Copy)]
+enum Again {
+    Bytes,
+    Code,
+}
+
+// How many of the images with another value at one offset are read, or `None` if one of them isn't written again so.
+fn count_read(alloc: Global, image: &[u8], again: Again) -> Result<Option<usize>, ImageFault> {
     let mut count = 0usize;
     for offset in 0..image.len() {
         for value in 0..=u8::MAX {
-            let mut bytes = Vec::from_slice(alloc, image)?;
-            bytes[offset] = value;
-            match decode(alloc, &bytes) {
-                Ok(code) if image_after(alloc, b"", &code)? == bytes => count =
-                    count.saturating_add(1),
-                Ok(_) => return Ok(None),
-                Err(fault) if fault.kind == ImageKind::OutOfMemory => return Err(fault),
-                Err(_) => {}
+            match is_written_again(alloc, image, (offset, value), again)? {
+                Some(true) => count = count.saturating_add(1),
+                Some(false) => return Ok(None),
+                None => {}
             }
         }
     }
     Ok(Some(count))
 }
 
-// How many of them are read, or `None` if the image that is written of one isn't read as the same code.
-fn count_read_again(alloc: Global, image: &[u8]) -> Result<Option<usize>, ImageFault> {
-    let mut count = 0usize;
-    for offset in 0..image.len() {
-        for value in 0..=u8::MAX {
-            let mut bytes = Vec::from_slice(alloc, image)?;
-            bytes[offset] = value;
-            match decode(alloc, &bytes) {
-                Ok(code) if is_read_again(alloc, &code)? => count = count.saturating_add(1),
-                Ok(_) => return Ok(None),
-                Err(fault) if fault.kind == ImageKind::OutOfMemory => return Err(fault),
-                Err(_) => {}
-            }
-        }
+// Whether the code of the image with this change is written again so, where it has code. Want of memory is an error.
+fn is_written_again(
+    alloc: Global,
+    image: &[u8],
+    change: (usize, u8),
+    again: Again,
+) -> Result<Option<bool>, ImageFault> {
+    let bytes = with_changes(alloc, image, &[change])?;
+    match decode(alloc, &bytes) {
+        Ok(code) => Ok(Some(is_written(alloc, &code, &bytes, again)?)),
+        Err(fault) if fault.kind == ImageKind::OutOfMemory => Err(fault),
+        Err(_) => Ok(None),
     }
-    Ok(Some(count))
 }
 
-fn is_read_again(alloc: Global, code: &Code) -> Result<bool, ImageFault> {
-    let image = image_after(alloc, b"", code)?;
-    Ok(are_equal(&decode(alloc, &image)?, code))
+fn is_written(alloc: Global, code: &Code, image: &[u8], again: Again) -> Result<bool, ImageFault> {
+    let written = image_after(alloc, b"", code)?;
+    match again {
+        Again::Bytes => Ok(written.as_slice() == image),
+        Again::Code => is_image_of(alloc, &written, code),
+    }
 }
 
 // A call of a template, and the request that it makes.
@@ -151,15 +167,19 @@ static MADE: [Made; 3] = [
 
 #[test]
 fn makes_requests(rt: HostRuntime) -> Result<(), Fail> {
-    let code = decode(rt.alloc(), EVERYTHING_IMAGE)?;
     for made in &MADE {
         assert!(rt;
-            makes(rt.alloc(), &code, made)?,
+            is_made(rt.alloc(), made)?,
             "template {}",
             made.call.template
         );
     }
     Ok(())
+}
+
+fn is_made(alloc: Global, made: &Made) -> Result<bool, Fail> {
+    let code = decode(alloc, EVERYTHING_IMAGE)?;
+    Ok(makes(alloc, &code, made)?)
 }
 
 fn makes(alloc: Global, code: &Code, made: &Made) -> Result<bool, OutOfMemory> {

@@ -1,13 +1,18 @@
 //! Bytes that are no image: the kind and the offset of the first fault.
 
-use crate::images::{COUNTER_IMAGE, COUNTER_IMAGE_2, EVERYTHING_IMAGE, LAST_FLAG_IMAGE};
+use crate::images::{
+    COUNTER_IMAGE, COUNTER_IMAGE_2, EVERYTHING_IMAGE, LAST_FLAG_IMAGE, with_changes,
+};
 use mc_code::ImageKind::*;
 use mc_code::{ImageFault, ImageKind, decode};
 use std::alloc::Global;
 use std::test::Fail;
 
-// The counter's image with one byte changed: its offset, what it becomes, the kind of the fault, and its offset.
-static FAULTY_COUNTER: [(usize, u8, ImageKind, usize); 52] = [
+// A byte of an image that is changed: its offset, what it becomes, the kind of the fault, and its offset.
+type Row = (usize, u8, ImageKind, usize);
+
+// The counter's image with one byte changed.
+static FAULTY_COUNTER: [Row; 52] = [
     (0, b'm', Magic, 0),
     (1, b'c', Magic, 0),
     (2, 0, Magic, 0),
@@ -71,7 +76,7 @@ static FAULTY_COUNTER: [(usize, u8, ImageKind, usize); 52] = [
 ];
 
 // The same of the image with everything.
-static FAULTY_EVERYTHING: [(usize, u8, ImageKind, usize); 21] = [
+static FAULTY_EVERYTHING: [Row; 21] = [
     // the second key has a byte more, a byte that no key has, or is cut
     (7, 4, Range, 8),
     (9, b'B', Range, 8),
@@ -104,7 +109,7 @@ static FAULTY_EVERYTHING: [(usize, u8, ImageKind, usize); 21] = [
 ];
 
 // The same of the counter's image of version 2.
-static FAULTY_COUNTER_2: [(usize, u8, ImageKind, usize); 17] = [
+static FAULTY_COUNTER_2: [Row; 17] = [
     (3, b'3', Magic, 0),
     // as version 1: the second template is zeros, and its last mask has the length of the next one's body
     (3, b'1', Template, 51),
@@ -130,7 +135,7 @@ static FAULTY_COUNTER_2: [(usize, u8, ImageKind, usize); 17] = [
 ];
 
 // The same of the image with the last flag.
-static FAULTY_LAST_FLAG: [(usize, u8, ImageKind, usize); 5] = [
+static FAULTY_LAST_FLAG: [Row; 5] = [
     // a flag fewer, and one more than there may be
     (7, 63, Template, 67),
     (7, 65, Range, 7),
@@ -233,35 +238,39 @@ static EVERYTHING_FIELDS: [usize; 79] = [
 
 #[test]
 fn reports_the_first_fault(rt: HostRuntime) -> Result<(), Fail> {
-    let alloc = rt.alloc();
-    assert_eq!(rt;
-        first_unreported(alloc, COUNTER_IMAGE, &FAULTY_COUNTER)?,
-        None
-    );
-    assert_eq!(rt;
-        first_unreported(alloc, EVERYTHING_IMAGE, &FAULTY_EVERYTHING)?,
-        None
-    );
-    assert_eq!(rt;
-        first_unreported(alloc, COUNTER_IMAGE_2, &FAULTY_COUNTER_2)?,
-        None
-    );
-    assert_eq!(rt;
-        first_unreported(alloc, LAST_FLAG_IMAGE, &FAULTY_LAST_FLAG)?,
-        None
-    );
+    let faulty: [(&[u8], &[Row]); 4] = [
+        (COUNTER_IMAGE, &FAULTY_COUNTER),
+        (EVERYTHING_IMAGE, &FAULTY_EVERYTHING),
+        (COUNTER_IMAGE_2, &FAULTY_COUNTER_2),
+        (LAST_FLAG_IMAGE, &FAULTY_LAST_FLAG),
+    ];
+    for (image, rows) in faulty {
+        assert_eq!(rt; first_unreported(rt.alloc(), image, rows)?, None);
+    }
     Ok(())
 }
 
 #[test]
 fn reports_fields_before_their_template(rt: HostRuntime) -> Result<(), Fail> {
-    let alloc = rt.alloc();
     for (changes, end, kind, at) in INSIDE {
-        let bytes = with_changes(alloc, EVERYTHING_IMAGE, changes)?;
-        let cut = bytes.get(..end).unwrap_or_default();
-        assert!(rt; has_fault(alloc, cut, kind, at)?, "offset {at}");
+        assert!(rt;
+            is_fault_inside(rt.alloc(), changes, end, kind, at)?,
+            "offset {at}"
+        );
     }
     Ok(())
+}
+
+// Whether the image with everything has this fault, with these changes and cut at this length.
+fn is_fault_inside(
+    alloc: Global,
+    changes: &[(usize, u8)],
+    end: usize,
+    kind: ImageKind,
+    at: usize,
+) -> Result<bool, ImageFault> {
+    let bytes = with_changes(alloc, EVERYTHING_IMAGE, changes)?;
+    has_fault(alloc, bytes.get(..end).unwrap_or_default(), kind, at)
 }
 
 #[test]
@@ -274,16 +283,14 @@ fn reports_faults_of_other_bytes(rt: HostRuntime) -> Result<(), Fail> {
 
 #[test]
 fn reports_the_cut_field(rt: HostRuntime) -> Result<(), Fail> {
-    let alloc = rt.alloc();
-    assert_eq!(rt; first_miscut(alloc, COUNTER_IMAGE, &COUNTER_FIELDS)?, None);
-    assert_eq!(rt;
-        first_miscut(alloc, COUNTER_IMAGE_2, &COUNTER_2_FIELDS)?,
-        None
-    );
-    assert_eq!(rt;
-        first_miscut(alloc, EVERYTHING_IMAGE, &EVERYTHING_FIELDS)?,
-        None
-    );
+    let fields: [(&[u8], &[usize]); 3] = [
+        (COUNTER_IMAGE, &COUNTER_FIELDS),
+        (COUNTER_IMAGE_2, &COUNTER_2_FIELDS),
+        (EVERYTHING_IMAGE, &EVERYTHING_FIELDS),
+    ];
+    for (image, fields) in fields {
+        assert_eq!(rt; first_miscut(rt.alloc(), image, fields)?, None);
+    }
     Ok(())
 }
 
@@ -299,7 +306,7 @@ fn reports_a_byte_too_many(rt: HostRuntime) -> Result<(), Fail> {
 fn first_unreported(
     alloc: Global,
     image: &[u8],
-    rows: &[(usize, u8, ImageKind, usize)],
+    rows: &[Row],
 ) -> Result<Option<usize>, ImageFault> {
     for (row, (offset, value, kind, at)) in rows.iter().enumerate() {
         let bytes = with_changes(alloc, image, &[(*offset, *value)])?;
@@ -334,20 +341,6 @@ fn field_at(fields: &[usize], end: usize) -> usize {
         }
     }
     start
-}
-
-fn with_changes(
-    alloc: Global,
-    image: &[u8],
-    changes: &[(usize, u8)],
-) -> Result<Vec<u8>, ImageFault> {
-    let mut bytes = Vec::from_slice(alloc, image)?;
-    for (offset, value) in changes {
-        if let Some(byte) = bytes.get_mut(*offset) {
-            *byte = *value;
-        }
-    }
-    Ok(bytes)
 }
 
 fn has_fault(

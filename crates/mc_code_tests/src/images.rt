@@ -1,6 +1,7 @@
 //! Images that were written by hand, and images that are written by `encode`.
 
-use mc_code::{Code, encode};
+use crate::parts::are_equal;
+use mc_code::{Code, ImageFault, decode, encode};
 use mc_protocol::OutOfMemory;
 use std::alloc::Global;
 
@@ -119,4 +120,24 @@ pub(crate) fn image_after(
     let mut out = Vec::from_slice(alloc, front)?;
     encode(code, &mut out)?;
     Ok(out)
+}
+
+/// The image with these values at these offsets.
+pub(crate) fn with_changes(
+    alloc: Global,
+    image: &[u8],
+    changes: &[(usize, u8)],
+) -> Result<Vec<u8>, ImageFault> {
+    let mut bytes = Vec::from_slice(alloc, image)?;
+    for (offset, value) in changes {
+        if let Some(byte) = bytes.get_mut(*offset) {
+            *byte = *value;
+        }
+    }
+    Ok(bytes)
+}
+
+/// Whether the image is read as this code.
+pub(crate) fn is_image_of(alloc: Global, image: &[u8], code: &Code) -> Result<bool, ImageFault> {
+    Ok(are_equal(&decode(alloc, image)?, code))
 }

@@ -27,4 +27,5 @@ pub mod HistorySteps
 pub mod LongerFolds
 pub mod Stepping
 pub mod Recording
+pub mod Upcoming
 pub mod SameWorlds

@@ -43,7 +43,7 @@ abbrev AreNamed : Code → List Call → Type 0
 AreNamed c [] = Unit {0}
 AreNamed c (made ∷ calls) = (made.template < length c.templates) × AreNamed c calls
 
-calling_named : (c : Code) (who : Actor) (variables : List Tagged) (exchanges : List Exchange) (made : Call)
+pub calling_named : (c : Code) (who : Actor) (variables : List Tagged) (exchanges : List Exchange) (made : Call)
     → IsCalling c who variables exchanges made → made.template < length c.templates
 calling_named c who variables exchanges made calling =
     let opens = calls_open c who variables exchanges made calling in slice_get_within c.templates made.template opens.1 opens.2

@@ -184,7 +184,7 @@ step_right c w actor.B e new right step =
 
 -- ---- one world
 
-next_once : (c : Code) (w : World) (who : Actor) (made other : Call) → IsNext c w who made → IsNext c w who other → made ≡ other
+pub next_once : (c : Code) (w : World) (who : Actor) (made other : Call) → IsNext c w who made → IsNext c w who other → made ≡ other
 next_once c w who made other (variables, begins, calling) (others, begins', calling') =
     let same = begins_once c (exchanges_of c w actor.P) who variables others begins begins' in
     calls_once c who others (exchanges_of c w who) made other

@@ -9,7 +9,7 @@ use Rattle.mc_protocol.specs.declared.fault.Fault.{Fault}
 use Rattle.mc_protocol.specs.declared.limits.TheConstants.{REQUESTS_LIMIT}
 use Rattle.mc_protocol.specs.declared.reply.Reply.{Reply}
 use Rattle.mc_protocol.specs.declared.sections.Sections.{Sections}
-use Rattle.mc_code.specs.Calls.{template_of}
+use Rattle.mc_code.specs.Calls.{IsCalling, template_of}
 use Rattle.mc_code.specs.Code.{Code}
 use Rattle.mc_code.specs.Runs.{Exchange}
 use Rattle.mc_code.specs.Standing.{ComesTo}
@@ -152,6 +152,12 @@ MayTake c s event.Begin = (m : Machine) × (s.machine ≡ Some m) × (machines.o
 MayTake c s (event.Reply reply) = (m : Machine) × (s.machine ≡ Some m) × machines.Stands c m × machines.MayBeAnswered c m reply
     × (vec_len s.answered < vec_capacity s.answered)
 MayTake c s (event.Fail fault) = Unit {0}
+
+-- there is a call that the machine is about to make, and it is this one
+abbrev pub IsUpcoming : Code → Section → Option Call → Type 0
+IsUpcoming c s upcoming = (m : Machine) × (made : Call) × (s.machine ≡ Some m) × (upcoming ≡ Some made)
+    × ((variables : List Tagged) (exchanges : List Exchange) (st : State) → machines.IsAt c m variables exchanges st
+    → IsCalling c (machines.actor_of m) variables exchanges made)
 
 -- the calls that have replies stay as they are, and so does the room
 abbrev pub SameCalls : Section → Section → Type 0

@@ -55,6 +55,12 @@ pub record IsRefused (c : Code) (w : World) (who : Actor) (e : Event) (r : StepR
 abbrev pub IsNext : Code → World → Actor → Call → Type 0
 IsNext c w who made = (variables : List Tagged) × BeginsIn c w who variables × IsCalling c who variables (exchanges_of c w who) made
 
+-- the section may begin this call: nothing is against it, and it is the call that the section is about to make
+pub record MayBegin (c : Code) (w : World) (who : Actor) (made : Call) : Type 0 where
+  pub begun : IsBegun c w who
+  pub free : (r : StepRefusal) → IsAgainst c w who event.Begin r → ⊥
+  pub next : IsNext c w who made
+
 -- the world after an event that is taken: the section's next call waits; its call that waits has the reply; the section has failed,
 -- and a call that waits goes on waiting
 abbrev pub Follows : Code → World → Actor → Event → World → Type 0

@@ -97,6 +97,17 @@ impl Section {
         }
     }
 
+    /// The call that the next [`Event::Begin`] begins, where nothing is against that.
+    pub(crate) fn upcoming(&self, checked: &Checked) -> Option<Call>
+        requires { fields.MayTake checked.now.code self.now Event.Begin }
+        ensures { fields.IsUpcoming checked.now.code self.now result }
+    {
+        match &self.machine {
+            Some(machine) => machine.upcoming(checked),
+            None => unreachable!(),
+        }
+    }
+
     /// Takes an event that nothing is against. Its reply stays with the caller.
     pub(crate) fn take(&mut self, checked: &Checked, event: &Event)
         requires { fields.MayTake checked.now.code self.old event.now }

@@ -1,9 +1,9 @@
 //! What happens in three sections of sound code, event by event.
-ghost use Rattle.std.specs.Prelude.{◌≡◌, ◌<◌, ◌≤◌, ◌∷◌, [], ◌++◌, length, OnOk, OnErr, IfOk, IfErr, IfSome, vec_len, vec_capacity};
+ghost use Rattle.std.specs.Prelude.{◌≡◌, ◌↔◌, ◌<◌, ◌≤◌, Some, None, ◌∷◌, [], ◌++◌, length, OnOk, OnErr, IfOk, IfErr, IfSome, vec_len, vec_capacity};
 ghost use Rattle.mc_code.specs.Code.{Code, IsCode};
 ghost use Rattle.mc_core.specs.Held.{IsHeldBy};
 ghost use Rattle.mc_core.specs.Safety.{AreSmall, IsSmallEvent};
-ghost use Rattle.mc_core.specs.Steps.{IsStep, IsRefused};
+ghost use Rattle.mc_core.specs.Steps.{IsStep, IsRefused, MayBegin};
 ghost use Rattle.mc_core.specs.Worlds as worlds;
 ghost use Rattle.mc_protocol.specs.Sections as sections;
 ghost use Rattle.mc_verify.specs.Faults.{IsSound};
@@ -102,6 +102,22 @@ impl World {
         ensures template { (c : Code) → IsHeldBy c self.now → IfSome result (λ call. call.template < length c.templates) }
     {
         self.sections.get(actor).waiting()
+    }
+
+    /// The call that the section may begin: the one that waits after [`Event::Begin`]. `None` where that event is refused. It names
+    /// a template of the code.
+    pub fn upcoming(&self, checked: &Checked, actor: Actor) -> Option<Call>
+        requires held { IsHeldBy checked.now.code self.now }
+        ensures call { (made : Call) → (result ≡ Some made) ↔ MayBegin checked.now.code self.now.world actor made }
+        ensures none { result ≡ None → (r : StepRefusal) × IsRefused checked.now.code self.now.world actor Event.Begin r }
+        ensures template { IfSome result (λ call. call.template < length checked.now.code.templates) }
+    {
+        know_code(checked);
+        let section = self.sections.get(actor);
+        match section.refusal(checked.code(), &Event::Begin) {
+            Some(_) => None,
+            None => section.upcoming(checked),
+        }
     }
 
     /// What ended the section before its code did.

@@ -1,8 +1,8 @@
-//! Which events are refused, and for what.
+//! Which events are refused, and for what; and the call that a section may begin.
 
 use crate::given::Given::*;
 use crate::given::{Given, Step, checked, events};
-use crate::scripts::COUNTER;
+use crate::scripts::{COUNTER, LONE_BRANCH};
 use mc_core::StepRefusal::*;
 use mc_core::{Event, StepRefusal, World, drive};
 use mc_protocol::Actor::*;
@@ -101,5 +101,76 @@ fn hands_back_what_it_refuses(rt: HostRuntime) -> Result<(), Fail> {
     let found = world.step(&code, B, event).map_err(|(_, event)| event);
     assert_eq!(rt; found, Err(Event::Reply(Reply::Number(6))));
     assert!(rt; world.notes().is_empty());
+    Ok(())
+}
+
+/// The steps that lead to a world, and the call that P, A and B may begin there: the index of its template, and its number.
+type UpcomingRow = (&'static [Step], [Option<(u8, u64)>; 3]);
+
+static UPCOMING: &[UpcomingRow] = &[
+    (&[], [Some((0, 0)), None, None]),
+    (&[(P, Begin)], [None, None, None]),
+    (&[(P, Begin), (P, NotFound)], [Some((1, 0)), None, None]),
+    (&[(P, Fail(Fault::Ended))], [None, None, None]),
+    (DONE, [None, Some((2, 1)), Some((3, 1))]),
+    (A_WAITS, [None, None, Some((3, 1))]),
+    (A_IS_DONE, [None, None, Some((3, 1))]),
+    (A_FAILED, [None, None, Some((3, 1))]),
+];
+
+/// The counter after P is done: A's call waits, A is done, and A failed before its call began.
+const A_WAITS: &[Step] = &[
+    (P, Begin),
+    (P, NotFound),
+    (P, Begin),
+    (P, Stored),
+    (A, Begin),
+];
+
+const A_IS_DONE: &[Step] = &[
+    (P, Begin),
+    (P, NotFound),
+    (P, Begin),
+    (P, Stored),
+    (A, Begin),
+    (A, Number(6)),
+];
+
+const A_FAILED: &[Step] = &[
+    (P, Begin),
+    (P, NotFound),
+    (P, Begin),
+    (P, Stored),
+    (A, Fail(Fault::Memory)),
+];
+
+/// The calls that P, A and B may begin after these steps.
+fn upcoming_after(
+    alloc: Global,
+    code: &Checked,
+    steps: &[Step],
+) -> Result<[Option<(u8, u64)>; 3], OutOfMemory> {
+    let (world, _) = drive(alloc, code, events(alloc, steps)?)?;
+    Ok([P, A, B].map(|actor| {
+        let call = world.upcoming(code, actor)?;
+        Some((call.template, call.number))
+    }))
+}
+
+#[test]
+fn tells_the_call_that_may_begin(rt: HostRuntime) -> Result<(), Fail> {
+    let code = checked(rt.alloc(), COUNTER)?;
+    for (steps, expected) in UPCOMING {
+        let found = upcoming_after(rt.alloc(), &code, steps)?;
+        assert_eq!(rt; found, *expected);
+    }
+    Ok(())
+}
+
+#[test]
+fn tells_no_call_of_a_branch_without_any(rt: HostRuntime) -> Result<(), Fail> {
+    let code = checked(rt.alloc(), LONE_BRANCH)?;
+    let found = upcoming_after(rt.alloc(), &code, DONE)?;
+    assert_eq!(rt; found, [None, Some((2, 1)), None]);
     Ok(())
 }

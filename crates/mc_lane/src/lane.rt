@@ -6,7 +6,7 @@ ghost use Rattle.mc_lane.specs.Streams.{CanFail};
 
 use crate::Stream;
 use crate::traffic::Traffic;
-use mc_protocol::{Fault, Reply};
+use mc_protocol::{Fault, OutOfMemory, Reply};
 use mc_reader::Shape;
 use std::alloc::Global;
 use std::marker::Model;
@@ -90,6 +90,18 @@ impl<S: Stream> Lane<S> {
                 Err(reason)
             }
         }
+    }
+
+    /// Makes room in the record for a request of this length, so that a call with it takes no memory before it has written.
+    ///
+    /// # Errors
+    ///
+    /// That memory ran out.
+    pub fn reserve(&mut self, count: usize) -> Result<(), OutOfMemory>
+        ensures { self.new ≡ self.old }
+    {
+        self.traffic.sent.reserve(count)?;
+        Ok(())
     }
 
     /// What was sent.

@@ -205,6 +205,18 @@ fn keeps_its_record_when_closed(rt: HostRuntime) -> Result<(), Fail> {
     Ok(())
 }
 
+#[test]
+fn makes_room_and_stays_as_it_is(rt: HostRuntime) -> Result<(), Fail> {
+    let stream = MemoryStream::new(rt.alloc(), &[b"DELETED\r\nDELETED\r\nDELETED\r\n"], 64)?;
+    let mut lane = Lane::new(rt.alloc(), stream, 64);
+    for (calls, count) in [0, 10, 100_000].into_iter().enumerate() {
+        assert_eq!(rt; lane.reserve(count), Ok(()));
+        assert_eq!(rt; (lane.sent().len(), lane.taken()), (10 * calls, 9 * calls));
+        assert_eq!(rt; delete(&mut lane)?, Ok(Class::Deleted));
+    }
+    Ok(())
+}
+
 // The data of the longest reply.
 const BODY_BYTES: usize = 65_536;
 

@@ -1,5 +1,5 @@
 -- Where a machine starts, the call that it makes, and its end.
-use Rattle.std.proofs.Common.{◌≡◌, ◌≢◌, ◌↔◌, ◌⊎◌, inl, inr, ℕ, zero, suc, ◌<◌, Bool, true, false, Option, Some, None, List, [], length, replicate, slice_get, slice_index, slice_index_or, refl, ap, sym, subst, ◌∙◌, arith, if◌then◌else◌}
+use Rattle.std.proofs.Common.{◌≡◌, ◌≢◌, ◌↔◌, ◌⊎◌, inl, inr, ℕ, zero, suc, ◌<◌, Bool, true, false, Option, Some, None, IfSome, List, [], length, replicate, slice_get, slice_index, slice_index_or, refl, ap, sym, subst, ◌∙◌, arith, if◌then◌else◌}
 use Rattle.std.proofs.lemmas.List.{get_or-replicate, length-replicate}
 use Rattle.std.proofs.lemmas.Option.{get_or_from_slice_get, slice_get-get_or}
 use Rattle.mc_protocol.specs.declared.actor.Actor.{Actor}
@@ -108,34 +108,31 @@ calls_there c m variables exchanges st made next t sound kept way at named is =
       meets = met ∙ ap Some (sent ∙ ap (call t) (sym is));
     }
 
--- the same machine, with this outstanding
-abbrev pub with_outstanding : Machine → Option Call → Machine
-with_outstanding m out = record m { outstanding = out }
-
-pub rests_on : (c : Code) (m : Machine) (variables : List Tagged) (exchanges : List Exchange) (st : State) → IsAt c m variables exchanges st
-    → IsAt c (with_outstanding m None) variables exchanges st
-rests_on c m variables exchanges st at = record {
-  way = record { begins = at.way.begins; stands = at.way.stands; numbers = at.way.numbers; shown = at.way.shown };
-  waits = at.waits;
-  outstanding = λ made e. absurd (let clash : None ≡ Some made = e in cc);
-}
-
--- it stands on with the call of its send outstanding
-pub calls_on : (c : Code) (m : Machine) (variables : List Tagged) (exchanges : List Exchange) (st : State) (n : ℕ) (next : List ℕ) (made : Call)
+-- the same, where the call is made of the send's index and of the number of its template
+pub calls_at : (c : Code) (m : Machine) (variables : List Tagged) (exchanges : List Exchange) (st : State) (n : ℕ) (next : List ℕ) (made : Call)
     → IsSound c → IsCode c → IsAt c m variables exchanges st → slice_get (instructions_in c m.actor) m.place ≡ Some (instr.Send n next)
     → made.template ≡ n → ((t : Template) → slice_get c.templates n ≡ Some t → made.number ≡ plain_number t.argument m.numbers)
-    → IsAt c (with_outstanding m (Some made)) variables exchanges st
-calls_on c m variables exchanges st n next made sound kept at sends is number =
+    → IsCalling c m.actor variables exchanges made
+calls_at c m variables exchanges st n next made sound kept at sends is number =
     let t = slice_index_or c.templates n no_template in
     let named : slice_get c.templates n ≡ Some t = slice_get-get_or c.templates n no_template (template_there c m n next sound sends) in
     let here = subst (λ n. slice_get (instructions_in c m.actor) m.place ≡ Some (instr.Send n next)) (sym is) sends in
     let there = subst (λ n. slice_get c.templates n ≡ Some t) (sym is) named in
-    let calling = calls_there c m variables exchanges st made next t sound kept at.way here there (number t named) in
-    record {
-      way = record { begins = at.way.begins; stands = at.way.stands; numbers = at.way.numbers; shown = at.way.shown };
-      waits = at.waits;
-      outstanding = λ other e. subst (λ made. IsCalling c m.actor variables exchanges made) (some_is made other e) calling;
-    }
+    calls_there c m variables exchanges st made next t sound kept at.way here there (number t named)
+
+-- the same machine, with this outstanding
+abbrev pub with_outstanding : Machine → Option Call → Machine
+with_outstanding m out = record m { outstanding = out }
+
+-- it stands on where nothing is outstanding, or the call that its section is about to make
+pub waits_on : (c : Code) (m : Machine) (variables : List Tagged) (exchanges : List Exchange) (st : State) (out : Option Call)
+    → IsAt c m variables exchanges st → IfSome out (IsCalling c m.actor variables exchanges)
+    → IsAt c (with_outstanding m out) variables exchanges st
+waits_on c m variables exchanges st out at calls = record {
+  way = record { begins = at.way.begins; stands = at.way.stands; numbers = at.way.numbers; shown = at.way.shown };
+  waits = at.waits;
+  outstanding = λ made e. subst (λ out. IfSome out (IsCalling c m.actor variables exchanges)) e calls;
+}
 
 -- ---- the end
 

@@ -1,8 +1,9 @@
 //! A machine that goes along one section of sound code.
-ghost use Rattle.std.specs.Prelude.{◌≡◌, ◌↔◌, ℕ, ◌<◌, true, false, Some, None, List, [], length, slice_get, slice_set};
+ghost use Rattle.std.specs.Prelude.{◌≡◌, ◌↔◌, ℕ, ◌<◌, true, false, Some, None, IfSome, List, [], length, slice_get, slice_set};
 ghost use Rattle.mc_protocol.specs.Legal.{class_of};
 ghost use Rattle.mc_script.specs.declared.step.Template.{Template};
 ghost use Rattle.mc_script.specs.declared.step.Argument.TheVariants as argument_of;
+ghost use Rattle.mc_code.specs.Calls.{IsCalling};
 ghost use Rattle.mc_code.specs.Code as codes;
 ghost use Rattle.mc_code.specs.Code.{Code};
 ghost use Rattle.mc_code.specs.Paths.{entry_of};
@@ -67,12 +68,26 @@ impl Machine {
         ensures outstanding { spec.outstanding_of self.new ≡ result }
         ensures actor { spec.actor_of self.new ≡ spec.actor_of self.old }
     {
+        self.outstanding = self.upcoming(checked);
+        self.waiting()
+    }
+
+    /// The call of the send at which it stands, outstanding or not; `None` at the end of the section. Where none is outstanding,
+    /// it is the one that [`next`](Machine::next) makes.
+    pub fn upcoming(&self, checked: &Checked) -> Option<Call>
+        requires stands { spec.Stands checked.now.code self.now }
+        ensures call { (variables : List Tagged) (exchanges : List Exchange) (st : State)
+            → spec.IsAt checked.now.code self.now variables exchanges st
+            → IfSome result (IsCalling checked.now.code (spec.actor_of self.now) variables exchanges) }
+        ensures end { (variables : List Tagged) (exchanges : List Exchange) (st : State)
+            → spec.IsAt checked.now.code self.now variables exchanges st
+            → (result ≡ None) ↔ ComesTo checked.now.code (spec.actor_of self.now) variables exchanges st ended }
+    {
         let code = checked.code();
-        self.outstanding = match code.instruction(self.actor, usize::from(self.place)) {
+        match code.instruction(self.actor, usize::from(self.place)) {
             Instr::Send { template, .. } => Some(self.call(code, template)),
             Instr::Bind(_) | Instr::Goto(_) | Instr::Halt => None,
-        };
-        self.waiting()
+        }
     }
 
     /// Takes the reply to the outstanding call, and goes on to the next one or to the end.

@@ -3,7 +3,7 @@ ghost use Rattle.std.specs.Prelude.{◌≡◌, true, None, IfOk};
 ghost use Rattle.mc_machine.specs.Machine as machines;
 
 use crate::given::Given;
-use mc_code::assemble;
+use mc_code::{Call, assemble};
 use mc_machine::Machine;
 use mc_protocol::{Actor, OutOfMemory, may_answer};
 use mc_script::{VARIABLES_LIMIT, parse};
@@ -11,11 +11,17 @@ use mc_verify::{Checked, verify};
 use std::alloc::Global;
 use std::test::Fail;
 
-/// What came of a section: its calls, each with the index of its template and its number; whether it is done; and the numbers of
-/// its first two variables.
+/// Calls of a section, each with the index of its template and its number: those that it made, and before each the upcoming one.
+#[derive(Debug, Drop)]
+pub(crate) struct Calls {
+    pub(crate) made: Vec<(u8, u64)>,
+    pub(crate) upcoming: Vec<(u8, u64)>,
+}
+
+/// What came of a section: its calls; whether it is done; and the numbers of its first two variables.
 #[derive(Debug, Drop)]
 pub(crate) struct Played {
-    pub(crate) calls: Vec<(u8, u64)>,
+    pub(crate) calls: Calls,
     pub(crate) is_done: bool,
     pub(crate) numbers: [u64; 2],
 }
@@ -51,22 +57,45 @@ fn follow(
     checked: &Checked,
     machine: &mut Machine,
     replies: &[Given],
-) -> Result<Vec<(u8, u64)>, OutOfMemory>
+) -> Result<Calls, OutOfMemory>
     requires stands { machines.Stands checked.now.code machine.old }
     requires idle { machines.outstanding_of machine.old ≡ None }
     ensures stands { machines.Stands checked.now.code machine.new }
     ensures actor { machines.actor_of machine.new ≡ machines.actor_of machine.old }
 {
-    let mut calls = Vec::new(alloc);
+    let mut calls = Calls {
+        made: Vec::new(alloc),
+        upcoming: Vec::new(alloc),
+    };
     'replies: for given in replies {
         if !exchange(alloc, checked, machine, *given, &mut calls)? {
             return Ok(calls);
         }
     }
-    if let Some(call) = machine.next(checked) {
-        calls.push((call.template, call.number))?;
-    }
+    make_call(checked, machine, &mut calls)?;
     Ok(calls)
+}
+
+/// Makes the next call, if there is one, and adds it to the calls.
+fn make_call(
+    checked: &Checked,
+    machine: &mut Machine,
+    calls: &mut Calls,
+) -> Result<Option<Call>, OutOfMemory>
+    requires stands { machines.Stands checked.now.code machine.old }
+    requires idle { machines.outstanding_of machine.old ≡ None }
+    ensures stands { machines.Stands checked.now.code machine.new }
+    ensures actor { machines.actor_of machine.new ≡ machines.actor_of machine.old }
+    ensures made { IfOk result (λ made. machines.outstanding_of machine.new ≡ made) }
+{
+    if let Some(call) = machine.upcoming(checked) {
+        calls.upcoming.push((call.template, call.number))?;
+    }
+    let made = machine.next(checked);
+    if let Some(call) = made {
+        calls.made.push((call.template, call.number))?;
+    }
+    Ok(made)
 }
 
 /// Makes the next call and answers it. False where there is no call, or where the reply doesn't fit it.
@@ -75,7 +104,7 @@ fn exchange(
     checked: &Checked,
     machine: &mut Machine,
     given: Given,
-    calls: &mut Vec<(u8, u64)>,
+    calls: &mut Calls,
 ) -> Result<bool, OutOfMemory>
     requires stands { machines.Stands checked.now.code machine.old }
     requires idle { machines.outstanding_of machine.old ≡ None }
@@ -83,10 +112,9 @@ fn exchange(
     ensures actor { machines.actor_of machine.new ≡ machines.actor_of machine.old }
     ensures idle { IfOk result (λ is_answered. is_answered ≡ true → machines.outstanding_of machine.new ≡ None) }
 {
-    let Some(call) = machine.next(checked) else {
+    let Some(call) = make_call(checked, machine, calls)? else {
         return Ok(false);
     };
-    calls.push((call.template, call.number))?;
     let reply = given.reply(alloc);
     if !may_answer(checked.code().template(call.template).verb, &reply) {
         return Ok(false);
@@ -95,7 +123,7 @@ fn exchange(
     Ok(true)
 }
 
-fn seen(calls: Vec<(u8, u64)>, machine: &Machine, checked: &Checked) -> Played
+fn seen(calls: Calls, machine: &Machine, checked: &Checked) -> Played
     requires { machines.Stands checked.now.code machine.now }
 {
     let numbers = machine.numbers();
@@ -122,7 +150,8 @@ pub(crate) fn first_odd(alloc: Global, script: &[u8], rows: &[Row]) -> Result<Op
     for index in 0..rows.len() {
         let (prefix, section, replies, calls, is_done, numbers) = rows[index];
         let played = play(alloc, script, prefix, section, replies)?;
-        if played.calls.as_slice() != calls
+        if played.calls.made.as_slice() != calls
+            || played.calls.upcoming.as_slice() != calls
             || played.is_done != is_done
             || played.numbers != numbers
         {

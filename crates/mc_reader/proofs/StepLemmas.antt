@@ -2,6 +2,7 @@
 use Rattle.std.proofs.Common.{◌≡◌, ℕ, ◌+◌, Some, Result, Ok, Err, List, [], ◌∷◌, ◌++◌, length, take, drop, refl, sym, ap, ◌∙◌, subst, append_assoc, Vec}
 use Rattle.std.specs.declared.alloc.Global.{Global}
 use Rattle.mc_protocol.specs.Lines.{Word}
+use Rattle.mc_protocol.specs.declared.reply.Reply.{Reply}
 use Rattle.mc_protocol.specs.declared.request.Verb.{Verb}
 use Rattle.mc_reader.specs.Block.{IsBlockOf, block_read}
 use Rattle.mc_reader.specs.Gathered.{IsGathered, Gathers}
@@ -15,6 +16,7 @@ use Rattle.mc_reader.specs.declared.fault.ReadFault.TheVariants.{LineTooLong, Ou
 use Rattle.mc_reader.specs.declared.said.HitLine.{HitLine}
 use Rattle.mc_reader.specs.declared.said.Said.{Said}
 use Rattle.mc_reader.specs.declared.said.Said.TheVariants.{Hit}
+use Rattle.mc_reader.specs.declared.stage.Stage.{Stage}
 use Rattle.mc_reader.specs.declared.stage.Stage.TheVariants as stage
 use Rattle.mc_reader.specs.declared.step.Step.{Step}
 use Rattle.mc_reader.specs.declared.step.Step.TheVariants.{More, Done}
@@ -107,21 +109,35 @@ fault_step E After text piece fault p w = w
 
 module _ (verb : Verb) (key start after piece : List ℕ) (at : ℕ) (hit : HitLine) (g : IsGathered start after piece at)
     (says : line_says verb key (start ++ take at piece) ≡ Ok (Hit hit)) where
-  pub hit_step : (kept : Vec ℕ Global) (step : Step Block) → kept.items ≡ start ++ take at piece
-      → IsStep (BlockEnds hit) (IsBlockOf hit) [] (drop (at + 1) piece) (Ok step)
-      → IsStep (Ends verb key) (IsStageAt verb key) start piece (Ok (after_block kept step))
-  hit_step kept step e p =
+  -- from the block after the line to the piece with the line
+  with_first_line : (result : Result (Step Stage) ReadFault)
+      → IsStep (Ends verb key) (IsStageAt verb key) ((start ++ take at piece) ++ LF ∷ []) (drop (at + 1) piece) result
+      → IsStep (Ends verb key) (IsStageAt verb key) start piece result
+  with_first_line result p =
       step_after (Ends verb key) (IsStageAt verb key) start (take at piece ++ LF ∷ []) (drop (at + 1) piece)
-      ((start ++ take at piece) ++ LF ∷ []) piece (Ok (after_block kept step))
-      (append_assoc start (take at piece) (LF ∷ [])) (sym (line_in piece at g.end_at))
-      (step_with_line verb key (start ++ take at piece) hit g.line says kept [] (drop (at + 1) piece) step e p)
+      ((start ++ take at piece) ++ LF ∷ []) piece result
+      (append_assoc start (take at piece) (LF ∷ [])) (sym (line_in piece at g.end_at)) p
+
+  -- more of the block is to come, and the line was kept
+  pub hit_more : (kept : Vec ℕ Global) (block : Block) → kept.items ≡ start ++ take at piece
+      → IsStep (BlockEnds hit) (IsBlockOf hit) [] (drop (at + 1) piece) (Ok (More block))
+      → IsStep (Ends verb key) (IsStageAt verb key) start piece (Ok (More (stage.Block kept block)))
+  hit_more kept block e p =
+      with_first_line (Ok (More (stage.Block kept block)))
+      (step_with_line verb key (start ++ take at piece) hit g.line says kept [] (drop (at + 1) piece) (More block) e p)
+
+  -- the hit is whole
+  pub hit_done : (reply : Reply) (unread : ℕ)
+      → IsStep (BlockEnds hit) (IsBlockOf hit) [] (drop (at + 1) piece) (Ok (Done reply unread))
+      → IsStep (Ends verb key) (IsStageAt verb key) start piece (Ok (Done reply unread))
+  hit_done reply unread p =
+      with_first_line (Ok (Done reply unread))
+      (ends_with_line verb key (start ++ take at piece) hit g.line says [] (drop (at + 1) piece) (Ok reply) unread p)
 
   pub hit_fault : (fault : ReadFault) → IsStep (BlockEnds hit) (IsBlockOf hit) [] (drop (at + 1) piece) (Err fault)
       → IsStep (Ends verb key) (IsStageAt verb key) start piece (Err fault)
   hit_fault fault p =
-      step_after (Ends verb key) (IsStageAt verb key) start (take at piece ++ LF ∷ []) (drop (at + 1) piece)
-      ((start ++ take at piece) ++ LF ∷ []) piece (Err fault)
-      (append_assoc start (take at piece) (LF ∷ [])) (sym (line_in piece at g.end_at))
+      with_first_line (Err fault)
       (fault_with_line verb key (start ++ take at piece) hit g.line says (IsBlockOf hit) (IsStageAt verb key) [] (drop (at + 1) piece)
       fault p)
 

@@ -44,7 +44,7 @@ pub(crate) fn read_on(
     }
 }
 
-/// Reads a piece in the first line.
+/// Reads a piece in the first line. The line of a hit is kept only where the hit isn't whole yet.
 fn read_first_line(
     alloc: Global,
     shape: Shape<'_>,
@@ -64,8 +64,13 @@ fn read_first_line(
         }),
         Said::Hit(hit) => {
             let step = Block::new(alloc, hit)?.read(alloc, &piece[at + 1..])?;
-            let line = owned(start, &piece[..at])?;
-            Ok(after_block(line, step))
+            match step {
+                Step::More(block) => Ok(Step::More(Stage::Block {
+                    line: owned(start, &piece[..at])?,
+                    block,
+                })),
+                Step::Done { reply, unread } => Ok(Step::Done { reply, unread }),
+            }
         }
     }
 }

@@ -63,11 +63,26 @@ fn is_read_at_cut(
     }
     let (front, back) = text.split_at(cut);
     let mut reader = ReplyReader::new(alloc, shape);
-    Ok(
-        goes_on(&mut reader, front)?
-            && answers(&mut reader, back, back.len(), wanted)?
-            && is_over(&mut reader)?,
-    )
+    is_read_after(&mut reader, front, back, wanted)
+}
+
+/// Whether the reader goes on at the front, and then answers so at the end of the other bytes and not before.
+fn is_read_after(
+    reader: &mut ReplyReader<'_>,
+    front: &[u8],
+    back: &[u8],
+    wanted: &Wanted,
+) -> Result<bool, OutOfMemory> {
+    Ok(goes_on(reader, front)? && ends(reader, back, wanted)?)
+}
+
+/// Whether the reader answers so at the end of the piece, and nothing after it.
+pub(crate) fn ends(
+    reader: &mut ReplyReader<'_>,
+    piece: &[u8],
+    wanted: &Wanted,
+) -> Result<bool, OutOfMemory> {
+    Ok(answers(reader, piece, piece.len(), wanted)? && is_over(reader)?)
 }
 
 /// Feeds all but the last piece of `len` bytes, and answers that one, where the reader goes on at each of them.
@@ -97,9 +112,7 @@ pub(crate) fn is_read_in_pieces(
 ) -> Result<bool, OutOfMemory> {
     let mut reader = ReplyReader::new(alloc, shape);
     match last_piece(&mut reader, text, len)? {
-        Some(last) => {
-            Ok(answers(&mut reader, last, last.len(), wanted)? && is_over(&mut reader)?)
-        }
+        Some(last) => ends(&mut reader, last, wanted),
         None => Ok(false),
     }
 }

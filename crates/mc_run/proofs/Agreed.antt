@@ -1,5 +1,5 @@
 -- Agreement, by what a world that its notes lead to holds.
-use Rattle.std.specs.Prelude.{◌≡◌, ◌≢◌, ◌↔◌, true, false, Bool, Option, Some, None, is_some, Result, Ok, Err, IfOk, List}
+use Rattle.std.specs.Prelude.{◌≡◌, ◌↔◌, true, false, Bool, Option, Some, None, is_some, Result, Ok, Err, IfOk, List}
 use Rattle.std.proofs.Common.{refl, sym, ap, subst, ◌∙◌}
 use Rattle.mc_protocol.specs.Sections.{section_of}
 use Rattle.mc_protocol.specs.declared.actor.Actor.{Actor}

@@ -1,6 +1,6 @@
 -- What a lane recorded, part by part.
 use Rattle.std.specs.Prelude.{◌≡◌, ◌↔◌, ℕ, true, Bool, Option, Some, Result, Ok, Err, IfOk, List}
-use Rattle.std.proofs.Common.{sym, subst, ◌∙◌}
+use Rattle.std.proofs.Common.{sym, subst}
 use Rattle.mc_protocol.specs.declared.fault.Fault.{Fault}
 use Rattle.mc_model.specs.declared.sent.Sent.{Sent}
 use Rattle.mc_lane.specs.Lanes.{LaneRecord}

@@ -1,5 +1,6 @@
 -- What these proofs alone cite.
 pub mod Agreed
+pub mod Begins
 mod FromReader
 pub mod Fronts
 pub mod InOrder

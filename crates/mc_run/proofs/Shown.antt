@@ -1,6 +1,6 @@
 -- Which faults bytes show.
-use Rattle.std.specs.Prelude.{◌≡◌, ◌↔◌, ℕ, true, false, Option, Some, None, Bool, Result, Ok, Err, IfOk, List, take, drop}
-use Rattle.std.proofs.Common.{refl, sym, ap, subst, ◌∙◌}
+use Rattle.std.specs.Prelude.{◌≡◌, ◌↔◌, ℕ, true, false, Option, Some, None, Ok, Err, List, take, drop}
+use Rattle.std.proofs.Common.{refl, sym, subst, ◌∙◌}
 use Rattle.std.proofs.lemmas.List.{take-append-drop}
 use Rattle.mc_protocol.specs.Lines.{Word}
 use Rattle.mc_protocol.specs.declared.fault.Fault.{Fault}
@@ -9,7 +9,7 @@ use Rattle.mc_protocol.specs.declared.reply.Reply.{Reply}
 use Rattle.mc_protocol.specs.declared.request.Verb.{Verb}
 use Rattle.mc_model.specs.declared.sent.Sent.{Sent}
 use Rattle.mc_lane.specs.Receiving.{IsMalformed}
-use Rattle.mc_reader.specs.Replies.{Spells, IsUnfinished, HasFailed}
+use Rattle.mc_reader.specs.Replies.{Spells, HasFailed}
 use Rattle.mc_reader.specs.declared.fault.ReadFault.{ReadFault}
 use Rattle.mc_reader.specs.declared.fault.ReadFault.TheVariants as read_fault
 use Rattle.mc_run.specs.Fronts.{BeginsWith, BeginsForWaiting, shows}

@@ -1,8 +1,7 @@
 -- What running threads ask for, and what comes of a call.
-use Rattle.std.specs.Prelude.{◌≡◌, ◌⊎◌, false, Result, Ok, Err, []}
+use Rattle.std.specs.Prelude.{◌≡◌, false, Result, Ok, Err, []}
 use Rattle.mc_protocol.specs.Texts.{request_text}
 use Rattle.mc_protocol.specs.declared.fault.Fault.{Fault}
-use Rattle.mc_protocol.specs.declared.fault.Fault.TheVariants as fault
 use Rattle.mc_protocol.specs.declared.reply.Reply.{Reply}
 use Rattle.mc_protocol.specs.declared.request.Request.{Request}
 use Rattle.mc_core.specs.declared.event.Event.{Event}
@@ -26,8 +25,7 @@ abbrev pub event_for : Result Reply Fault → Event
 event_for (Ok reply) = event.Reply reply
 event_for (Err f) = event.Fail f
 
--- what the lane of this request comes to is the event; or there was no memory for the request, and the lane is untouched
+-- what the lane of this request comes to is the event
 abbrev pub ComesOver : Request → LaneRecord → LaneRecord → Event → Type 0
 ComesOver request old new e =
-    ((result : Result Reply Fault) × (e ≡ event_for result) × Calls request.verb request.key (request_text request) old new result)
-    ⊎ ((e ≡ event.Fail fault.Memory) × (new ≡ old))
+    (result : Result Reply Fault) × (e ≡ event_for result) × Calls request.verb request.key (request_text request) old new result

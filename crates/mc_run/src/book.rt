@@ -1,8 +1,8 @@
 //! The book of a run: what its threads note, one event after the other.
-ghost use Rattle.std.specs.Prelude.{◌≡◌, ◌<◌, Some, length, OnOk, OnErr, IfOk, IfErr, IfSome};
+ghost use Rattle.std.specs.Prelude.{◌≡◌, ◌↔◌, ◌<◌, true, false, Some, None, length, OnOk, OnErr, IfOk, IfErr, IfSome};
 ghost use Rattle.mc_core.specs.Held.{IsHeldBy};
-ghost use Rattle.mc_core.specs.Steps.{IsStep, IsRefused};
-ghost use Rattle.mc_core.specs.Worlds.{log_of, new_world};
+ghost use Rattle.mc_core.specs.Steps.{IsStep, IsRefused, MayBegin};
+ghost use Rattle.mc_core.specs.Worlds.{new_world};
 
 use mc_code::{Call, Code};
 use mc_core::{Event, StepRefusal, World};
@@ -63,17 +63,35 @@ impl<'c> Book<'c> {
         self.world.step(self.checked, actor, event)
     }
 
-    /// Notes that the section's next call begins. The result is the code with that call, or nothing where the section has no
-    /// more calls to make: it is over, or is a branch that doesn't begin.
-    pub(crate) fn begin(&mut self, actor: Actor) -> Option<(&'c Code, Call)>
-        ensures checked { self.new.checked ≡ self.old.checked }
-        ensures code { IfSome result (λ begun. begun.0.now ≡ self.old.checked.code) }
-        ensures waits { IfSome result (λ begun. (log_of self.new.world.world actor).waiting ≡ Some begun.1) }
-        ensures template { IfSome result (λ begun. begun.1.template < length begun.0.now.templates) }
+    /// The code with the call that the section may begin, or nothing where it may begin none: it is over, it waits for a reply, or
+    /// it is a branch that doesn't begin yet.
+    pub(crate) fn upcoming(&self, actor: Actor) -> Option<(&'c Code, Call)>
+        ensures code { IfSome result (λ upcoming. upcoming.0.now ≡ self.now.checked.code) }
+        ensures call { IfSome result (λ upcoming. MayBegin self.now.checked.code self.now.world.world actor upcoming.1) }
+        ensures none { result ≡ None
+            → (r : StepRefusal) × IsRefused self.now.checked.code self.now.world.world actor Event.Begin r }
+        ensures template { IfSome result (λ upcoming. upcoming.1.template < length upcoming.0.now.templates) }
     {
-        self.note(actor, Event::Begin).ok()?;
-        let call = self.world.waiting(actor)?;
+        let call = self.world.upcoming(self.checked, actor)?;
         Some((self.checked.code(), call))
+    }
+
+    /// Notes that this call begins, where the section may begin it, and answers whether it may. Otherwise nothing changes.
+    pub(crate) fn begin(&mut self, actor: Actor, call: Call) -> bool
+        ensures may { (result ≡ true) ↔ MayBegin self.old.checked.code self.old.world.world actor call }
+        ensures noted { result ≡ true
+            → IsStep self.old.checked.code self.old.world.world actor Event.Begin self.new.world.world }
+        ensures same { result ≡ false → self.new ≡ self.old }
+        ensures checked { self.new.checked ≡ self.old.checked }
+    {
+        self.may_begin(actor, call) && self.note(actor, Event::Begin).is_ok()
+    }
+
+    /// Whether the section may begin this call.
+    fn may_begin(&self, actor: Actor, call: Call) -> bool
+        ensures { (result ≡ true) ↔ MayBegin self.now.checked.code self.now.world.world actor call }
+    {
+        is_that_call(self.world.upcoming(self.checked, actor), call)
     }
 
     /// The code that it borrows.
@@ -99,4 +117,11 @@ impl<'c> Book<'c> {
         let Book { world, .. } = self;
         world
     }
+}
+
+/// Whether there is a call, and it is that one.
+fn is_that_call(call: Option<Call>, other: Call) -> bool
+    ensures { (result ≡ true) ↔ (call ≡ Some other) }
+{
+    call == Some(other)
 }

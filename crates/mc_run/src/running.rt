@@ -5,20 +5,26 @@ ghost use Rattle.mc_run.specs.Agreement.{Agree};
 ghost use Rattle.mc_run.specs.Running.{AreNew};
 
 use crate::agreement::find_agreed;
-use crate::carrying::carry;
-use crate::{Book, Gate, Lanes, Run, RunError};
+use crate::meeting::Meeting;
+use crate::section::{Part, run_section};
+use crate::{Book, Branch, Gate, Lanes, Manner, Meet, Run, RunError};
 use mc_lane::{Lane, Stream};
-use mc_protocol::{Actor, REQUESTS_LIMIT};
+use mc_protocol::Actor;
 use mc_verify::Checked;
 use std::alloc::Global;
 use std::sync::{Mutex, Wait};
 use std::thread::{self, Builder, Threads};
 
-/// Runs sound code over three new lanes: P first, and when it is done A and B on two threads. All that happens is noted in one
-/// book: that a call begins before its first byte is written, and its reply, or the fault that ends its section, after the last
-/// one was read. `gate` is passed on the way.
+/// Runs sound code over three new lanes: P first, and when it is done A, on a thread of its own, beside B. All that happens is
+/// noted in one book: that a call begins before its first byte is written, and its reply, or the fault that ends its section, after
+/// the last one was read. The text of a request is made before its call is noted to begin. `gate` is passed on the way.
 ///
-/// A section for which memory runs out fails with [`Fault::Memory`]. It waits for the streams, for the gate and for the threads.
+/// A branch waits with its first request until the other one's first is ready, and with each later one for some 50 microseconds at
+/// most; it doesn't wait for a branch that has no more to send. No thread is made where P isn't done or a branch has nothing to
+/// send.
+///
+/// A section for which memory runs out fails with [`Fault::Memory`](mc_protocol::Fault::Memory). It waits for the streams, for the
+/// gate and for the threads.
 ///
 /// # Errors
 ///
@@ -34,10 +40,15 @@ pub fn run_lanes<S: Stream + Send, G: Gate, R: Threads + Wait + Sync>(
     ensures agrees { IfOk result (λ run. Agree checked.now.code run.world.world run.lanes) }
     ensures held { IfOk result (λ run. IsHeldBy checked.now.code run.world) }
 {
-    run_lanes_with(rt, alloc, checked, lanes, gate, Builder::new())
+    let meet = Meet {
+        manner: Manner::Each,
+        apart: Branch::A,
+    };
+    run_lanes_with(rt, alloc, checked, lanes, gate, Builder::new(), meet)
 }
 
-/// The same, where `builder` makes the thread for a branch, as with a stack of a size of its own.
+/// The same, where `builder` makes the thread for a branch, as with a stack of a size of its own, and `meet` says which branch that
+/// is and how the branches wait for each other.
 pub fn run_lanes_with<S: Stream + Send, G: Gate, R: Threads + Wait + Sync>(
     rt: &R,
     alloc: Global,
@@ -45,6 +56,7 @@ pub fn run_lanes_with<S: Stream + Send, G: Gate, R: Threads + Wait + Sync>(
     lanes: Lanes<S>,
     gate: &G,
     builder: Builder,
+    meet: Meet,
 ) -> Result<Run<S>, RunError>
     requires new { AreNew lanes }
     ensures agrees { IfOk result (λ run. Agree checked.now.code run.world.world run.lanes) }
@@ -52,8 +64,8 @@ pub fn run_lanes_with<S: Stream + Send, G: Gate, R: Threads + Wait + Sync>(
 {
     let book = Mutex::new(Book::new(alloc, checked)?);
     let Lanes { p, a, b } = lanes;
-    let p = run_section(rt, alloc, &book, gate, Actor::P, p);
-    let Some((a, b)) = run_branches(rt, alloc, &book, gate, (a, b), builder) else {
+    let p = run_section(rt, alloc, &book, gate, Part::new(Actor::P, p));
+    let Some((a, b)) = run_branches(rt, alloc, &book, gate, (a, b), builder, meet) else {
         return Err(RunError::NoThread);
     };
     let noted = book.into_inner().into_world();
@@ -64,7 +76,8 @@ pub fn run_lanes_with<S: Stream + Send, G: Gate, R: Threads + Wait + Sync>(
     }
 }
 
-/// Runs both branches, B on this thread, and answers their lanes; or nothing where no thread can be made for A.
+/// Runs both branches, and answers their lanes; or nothing where no thread can be made. None is made where not both have a call to
+/// make.
 fn run_branches<S: Stream + Send, G: Gate, R: Threads + Wait + Sync>(
     rt: &R,
     alloc: Global,
@@ -72,40 +85,48 @@ fn run_branches<S: Stream + Send, G: Gate, R: Threads + Wait + Sync>(
     gate: &G,
     lanes: (Lane<S>, Lane<S>),
     builder: Builder,
+    meet: Meet,
 ) -> Option<(Lane<S>, Lane<S>)> {
     let (a, b) = lanes;
-    thread::scope(thread::scope_env(), rt, move |scope| {
-        let of_a = move || run_section(rt, alloc, book, gate, Actor::A, a);
-        let Ok(started) = builder.spawn_scoped(scope, of_a) else {
-            return None;
-        };
-        let b = run_section(rt, alloc, book, gate, Actor::B, b);
-        Some((started.join(rt), b))
-    })
+    if !(has_calls(rt, book, Actor::A) && has_calls(rt, book, Actor::B)) {
+        let a = run_section(rt, alloc, book, gate, Part::new(Actor::A, a));
+        let b = run_section(rt, alloc, book, gate, Part::new(Actor::B, b));
+        return Some((a, b));
+    }
+    let meeting = Meeting::new(meet.manner);
+    let a = Part::new(Actor::A, a).with_seat(meeting.seat(Branch::A));
+    let b = Part::new(Actor::B, b).with_seat(meeting.seat(Branch::B));
+    match meet.apart {
+        Branch::A => run_both(rt, alloc, book, gate, a, b, builder),
+        Branch::B => {
+            let (b, a) = run_both(rt, alloc, book, gate, b, a, builder)?;
+            Some((a, b))
+        }
+    }
 }
 
-/// Runs a section to its end, and answers its lane. The book is locked for one note at a time, and never while the lane or the
-/// gate is called.
-fn run_section<S: Stream, G: Gate, R: Wait>(
+/// Whether the section has a call to make.
+fn has_calls<R: Wait>(rt: &R, book: &Mutex<Book<'_>>, actor: Actor) -> bool {
+    book.lock(rt).upcoming(actor).is_some()
+}
+
+/// Runs both branches, `apart` on a thread of its own and `here` on this one, and answers their lanes in this order; or nothing
+/// where no thread can be made.
+fn run_both<S: Stream + Send, G: Gate, R: Threads + Wait + Sync>(
     rt: &R,
     alloc: Global,
     book: &Mutex<Book<'_>>,
     gate: &G,
-    actor: Actor,
-    mut lane: Lane<S>,
-) -> Lane<S> {
-    'calls: for index in 0..REQUESTS_LIMIT as u32 {
-        let begun = book.lock(rt).begin(actor);
-        let Some((code, call)) = begun else {
-            break;
+    apart: Part<'_, S>,
+    here: Part<'_, S>,
+    builder: Builder,
+) -> Option<(Lane<S>, Lane<S>)> {
+    thread::scope(thread::scope_env(), rt, move |scope| {
+        let run_apart = move || run_section(rt, alloc, book, gate, apart);
+        let Ok(started) = builder.spawn_scoped(scope, run_apart) else {
+            return None;
         };
-        gate.before(actor, index);
-        let event = carry(alloc, code, call, &mut lane);
-        let noted = book.lock(rt).note(actor, event);
-        gate.after(actor, index);
-        if noted.is_err() {
-            break;
-        }
-    }
-    lane
+        let here = run_section(rt, alloc, book, gate, here);
+        Some((started.join(rt), here))
+    })
 }

@@ -10,12 +10,12 @@ use crate::signal::Signal;
 use mc_core::Ending;
 use mc_lane::{Lane, MemoryStream, Stream};
 use mc_protocol::{Actor, Fault, OutOfMemory};
-use mc_run::{Gate, Lanes, Run, RunError, run_lanes};
+use mc_run::{Gate, Lanes, Meet, Run, RunError, run_lanes, run_lanes_with};
 use mc_verify::Checked;
 use std::alloc::{AllocError, Global};
 use std::sync::Wait;
 use std::test::Fail;
-use std::thread::Threads;
+use std::thread::{Builder, Threads};
 
 /// What a server answers over one lane, in pieces, and the call of its stream that fails, where reads and writes are counted
 /// together from 1.
@@ -67,12 +67,38 @@ pub(crate) fn run<S: Stream + Send, G: Gate, R: Threads + Wait + Sync>(
         Err(RunError::NoThread) => return Err(AllocError)?,
         other => other?,
     };
+    has_memory(&run)?;
+    Ok(run)
+}
+
+/// The same, where the branches meet in this way.
+pub(crate) fn run_meeting<S: Stream + Send, G: Gate, R: Threads + Wait + Sync>(
+    rt: &R,
+    alloc: Global,
+    checked: &Checked,
+    lanes: Lanes<S>,
+    gate: &G,
+    meet: Meet,
+) -> Result<Run<S>, Fail>
+    requires { AreNew lanes }
+    ensures { IfOk result (λ run. IsHeldBy checked.now.code run.world) }
+{
+    let run = match run_lanes_with(rt, alloc, checked, lanes, gate, Builder::new(), meet) {
+        Err(RunError::NoThread) => return Err(AllocError)?,
+        other => other?,
+    };
+    has_memory(&run)?;
+    Ok(run)
+}
+
+/// An error where memory ran out in a section.
+fn has_memory<S: Stream>(run: &Run<S>) -> Result<(), AllocError> {
     for actor in [Actor::P, Actor::A, Actor::B] {
         if run.world.ending(actor) == Ending::Failed(Fault::Memory) {
-            return Err(AllocError)?;
+            return Err(AllocError);
         }
     }
-    Ok(run)
+    Ok(())
 }
 
 /// A gate that holds the first call of each branch until both have come to it.

@@ -15,6 +15,8 @@ mod counter;
 #[cfg(test)]
 mod lanes;
 #[cfg(test)]
+mod meet_tests;
+#[cfg(test)]
 mod prefix_rows;
 #[cfg(test)]
 mod run_tests;

@@ -10,11 +10,10 @@ use mc_core::Ending;
 use mc_lane::{Lane, MemoryStream};
 use mc_protocol::{Actor, Fault, OutOfMemory, Verb};
 use mc_reader::Shape;
-use mc_run::{FreeGate, Lanes, Run, RunError, agrees, run_lanes_with};
+use mc_run::{FreeGate, Lanes, Run, agrees};
 use mc_verify::Checked;
 use std::alloc::Global;
 use std::test::Fail;
-use std::thread::Builder;
 
 /// What P sends, and what each branch sends.
 const PREFIX: &[u8] = b"delete a\r\nset a 0 0 1\r\n5\r\n";
@@ -271,17 +270,6 @@ fn agree_in_both_orders(
     let Lanes { p, a, b } = lanes;
     let exchanged = Lanes { p, a: b, b: a };
     Ok((in_order, agrees(alloc, counter, &world, &exchanged)?))
-}
-
-#[test]
-fn has_no_run_without_a_thread(rt: HostRuntime) -> Result<(), Fail> {
-    let counter = counter(rt.alloc())?;
-    let given = lanes(rt.alloc(), [(TO_PREFIX, NEVER), SIX, SEVEN])?;
-    // no thread has such a stack
-    let builder = Builder::new().stack_size(usize::MAX);
-    let run = run_lanes_with(&rt, rt.alloc(), &counter, given, &FreeGate, builder);
-    assert_eq!(rt; run.err(), Some(RunError::NoThread));
-    Ok(())
 }
 
 /// How the sections of a run stand.

@@ -1,7 +1,8 @@
 //! A script that something may follow: how far it goes, and which fault another text has.
 
+use crate::printed::text_of;
 use mc_script::ScriptKind::{Header, Line, Unended, UnknownLabel};
-use mc_script::{ScriptKind, parse_front, print};
+use mc_script::{ScriptKind, parse_front};
 use std::alloc::Global;
 use std::test::Fail;
 
@@ -58,29 +59,51 @@ fn fault_of(alloc: Global, text: &str) -> Option<(ScriptKind, u32)> {
     }
 }
 
+// Whether the script that ends the text's front has this length and is printed so.
+fn is_front(alloc: Global, text: &str, size: usize, wanted: &str) -> Result<bool, Fail> {
+    let (read, found) = parse_front(alloc, text.as_bytes())?;
+    Ok(found == size && text_of(alloc, &read, b"")?.as_slice() == wanted.as_bytes())
+}
+
+// Whether a script with this end is read up to there, where the others follow.
+fn is_read_to_its_end(alloc: Global, end: &str, others: &str) -> Result<bool, Fail> {
+    let wanted = format!(in alloc; "{HEAD}{SECTIONS}end\n")?;
+    let text = format!(in alloc; "{HEAD}{SECTIONS}{end}{others}")?;
+    let size = text.len().saturating_sub(others.len());
+    is_front(alloc, &text, size, &wanted)
+}
+
 #[test]
 fn reads_up_to_the_end(rt: HostRuntime) -> Result<(), Fail> {
-    let wanted = format!(in rt.alloc(); "{HEAD}{SECTIONS}end\n")?;
     for (end, others) in ENDS {
-        let script = format!(in rt.alloc(); "{HEAD}{SECTIONS}{end}")?;
-        let text = format!(in rt.alloc(); "{script}{others}")?;
-        let (read, size) = parse_front(rt.alloc(), text.as_bytes())?;
-        let mut printed = Vec::new(rt.alloc());
-        print(rt.alloc(), &read, &mut printed)?;
-        assert_eq!(rt; size, script.len(), "{text}");
-        assert!(rt; printed.as_slice() == wanted.as_bytes(), "{text}");
+        assert!(rt;
+            is_read_to_its_end(rt.alloc(), end, others)?,
+            "{end}{others}"
+        );
     }
     Ok(())
 }
 
 #[test]
-fn tells_the_fault_of_a_front(rt: HostRuntime) -> Result<(), Fail> {
+fn tells_the_fault_of_a_front(rt: HostRuntime) {
     for (text, kind, line) in FAULTS {
         assert_eq!(rt; fault_of(rt.alloc(), text), Some((*kind, *line)), "{text}");
     }
+}
+
+fn fault_after_head(alloc: Global, others: &str) -> Result<Option<(ScriptKind, u32)>, Fail> {
+    let text = format!(in alloc; "{HEAD}{others}")?;
+    Ok(fault_of(alloc, &text))
+}
+
+#[test]
+fn tells_the_fault_after_a_head(rt: HostRuntime) -> Result<(), Fail> {
     for (others, kind, line) in FAULTS_AFTER_HEAD {
-        let text = format!(in rt.alloc(); "{HEAD}{others}")?;
-        assert_eq!(rt; fault_of(rt.alloc(), &text), Some((*kind, *line)), "{text}");
+        assert_eq!(rt;
+            fault_after_head(rt.alloc(), others)?,
+            Some((*kind, *line)),
+            "{others}"
+        );
     }
     Ok(())
 }

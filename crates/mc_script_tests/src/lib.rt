@@ -9,4 +9,6 @@ mod part_tests;
 #[cfg(test)]
 mod print_tests;
 #[cfg(test)]
+mod printed;
+#[cfg(test)]
 mod version_tests;

@@ -2,7 +2,8 @@
 
 use mc_protocol::{Actor, Bytes, Class, Verb};
 use mc_script::ScriptKind::Header;
-use mc_script::{Argument, Budget, Jumps, Label, Mask, Script, Step, Template, parse};
+use mc_script::{Argument, Budget, Jumps, Label, Mask, Script, ScriptKind, Step, Template, parse};
+use std::alloc::Global;
 use std::test::Fail;
 
 // Each kind of step and of mark, a label above all steps, and some at the end of a section.
@@ -39,30 +40,20 @@ fn are_two(names: &[Bytes], first: &str, second: &str) -> bool {
     }
 }
 
-#[test]
-fn gives_the_names(rt: HostRuntime) -> Result<(), Fail> {
-    let script = parse(rt.alloc(), TEXT.as_bytes())?;
-    assert!(rt;
-        are_two(script.keys(), "a", "b-1")
-            && are_two(script.flags(), "f", "g")
-            && are_two(script.vars(), "v", "w")
-    );
-    Ok(())
+fn has_names(script: &Script) -> bool {
+    are_two(script.keys(), "a", "b-1")
+        && are_two(script.flags(), "f", "g")
+        && are_two(script.vars(), "v", "w")
 }
 
 fn has_budget(script: &Script, actor: Actor, requests: u32, bytes: u32) -> bool {
     script.budget(actor) == Budget { requests, bytes }
 }
 
-#[test]
-fn gives_the_budgets(rt: HostRuntime) -> Result<(), Fail> {
-    let script = parse(rt.alloc(), TEXT.as_bytes())?;
-    assert!(rt;
-        has_budget(&script, Actor::P, 24, 8192)
-            && has_budget(&script, Actor::A, 5, 200)
-            && has_budget(&script, Actor::B, 0, 0)
-    );
-    Ok(())
+fn has_budgets(script: &Script) -> bool {
+    has_budget(script, Actor::P, 24, 8192)
+        && has_budget(script, Actor::A, 5, 200)
+        && has_budget(script, Actor::B, 0, 0)
 }
 
 fn is_label(label: &Label, name: &str, place: usize) -> bool {
@@ -86,15 +77,10 @@ fn is_label_of_b(labels: &[Label]) -> bool {
     }
 }
 
-#[test]
-fn gives_the_labels(rt: HostRuntime) -> Result<(), Fail> {
-    let script = parse(rt.alloc(), TEXT.as_bytes())?;
-    assert!(rt;
-        script.labels(Actor::P).is_empty()
-            && are_labels_of_a(script.labels(Actor::A))
-            && is_label_of_b(script.labels(Actor::B))
-    );
-    Ok(())
+fn has_labels(script: &Script) -> bool {
+    script.labels(Actor::P).is_empty()
+        && are_labels_of_a(script.labels(Actor::A))
+        && is_label_of_b(script.labels(Actor::B))
 }
 
 // Whether the request is this one, with these masks: what must be set, must be clear, is set and is cleared.
@@ -221,25 +207,54 @@ fn has_steps_of_b(steps: &[Step]) -> bool {
     }
 }
 
-#[test]
-fn gives_the_steps(rt: HostRuntime) -> Result<(), Fail> {
-    let script = parse(rt.alloc(), TEXT.as_bytes())?;
-    assert!(rt;
-        has_steps_of_p(script.steps(Actor::P))
-            && has_steps_of_a(script.steps(Actor::A))
-            && has_steps_of_b(script.steps(Actor::B))
-    );
-    Ok(())
+fn has_steps(script: &Script) -> bool {
+    has_steps_of_p(script.steps(Actor::P))
+        && has_steps_of_a(script.steps(Actor::A))
+        && has_steps_of_b(script.steps(Actor::B))
+}
+
+// What the script above has.
+#[derive(Clone, Copy, Debug)]
+enum Part {
+    Names,
+    Budgets,
+    Labels,
+    Steps,
+}
+
+fn has(script: &Script, part: Part) -> bool {
+    match part {
+        Part::Names => has_names(script),
+        Part::Budgets => has_budgets(script),
+        Part::Labels => has_labels(script),
+        Part::Steps => has_steps(script),
+    }
+}
+
+fn reads(alloc: Global, part: Part) -> Result<bool, Fail> {
+    let script = parse(alloc, TEXT.as_bytes())?;
+    Ok(has(&script, part))
 }
 
 #[test]
-fn gives_the_fault(rt: HostRuntime) -> Result<(), Fail> {
-    let found = match parse(rt.alloc(), b"script 1\nkeys a\nkeys b\n") {
+fn gives_each_part(rt: HostRuntime) -> Result<(), Fail> {
+    for part in [Part::Names, Part::Budgets, Part::Labels, Part::Steps] {
+        assert!(rt; reads(rt.alloc(), part)?, "{part:?}");
+    }
+    Ok(())
+}
+
+fn fault_of(alloc: Global, text: &[u8]) -> Option<(ScriptKind, u32)> {
+    match parse(alloc, text) {
         Ok(_) => None,
         Err(fault) => Some((fault.kind, fault.line)),
-    };
+    }
+}
+
+#[test]
+fn gives_the_fault(rt: HostRuntime) {
+    let found = fault_of(rt.alloc(), b"script 1\nkeys a\nkeys b\n");
     assert_eq!(rt; found, Some((Header, 3)));
-    Ok(())
 }
 
 #[test]

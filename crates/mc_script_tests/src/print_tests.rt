@@ -1,7 +1,6 @@
 //! The text that is printed of a script.
 
-use mc_script::{parse, print};
-use std::alloc::Global;
+use crate::printed::printed;
 use std::test::Fail;
 
 // Two increments of one counter.
@@ -148,14 +147,6 @@ static PRINTED: [(&str, &str); 5] = [
     (UNTIDY, TIDY),
     (TIDY, TIDY),
 ];
-
-// What is printed of the script that the text spells, after these bytes.
-fn printed(alloc: Global, text: &str, before: &[u8]) -> Result<Vec<u8>, Fail> {
-    let script = parse(alloc, text.as_bytes())?;
-    let mut out = Vec::from_slice(alloc, before)?;
-    print(alloc, &script, &mut out)?;
-    Ok(out)
-}
 
 #[test]
 fn prints_in_one_order(rt: HostRuntime) -> Result<(), Fail> {

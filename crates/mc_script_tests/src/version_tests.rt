@@ -1,7 +1,8 @@
 //! The version that is printed of a script, and what the versions have room for.
 
-use mc_protocol::Actor;
-use mc_script::{Mask, Step, Version, parse, print};
+use crate::printed::printed;
+use mc_protocol::{Actor, OutOfMemory};
+use mc_script::{Mask, Step, Version, parse};
 use std::alloc::Global;
 use std::test::Fail;
 
@@ -23,14 +24,6 @@ static PRINTED: [(usize, [usize; 3], Version); 11] = [
     (64, [128, 128, 128], Version::Two),
 ];
 
-fn halts(alloc: Global, count: usize) -> Result<String, Fail> {
-    let mut lines = String::new(alloc);
-    for _ in 0..count {
-        lines.push_str("halt\n")?;
-    }
-    Ok(lines)
-}
-
 fn flag_line(alloc: Global, count: usize) -> Result<String, Fail> {
     let mut line = String::new(alloc);
     if count == 0 {
@@ -48,20 +41,26 @@ fn flag_line(alloc: Global, count: usize) -> Result<String, Fail> {
 // A text of this version, with this number of flags, and these numbers of steps in P, A and B.
 fn text_of(alloc: Global, version: &str, flags: usize, steps: &[usize; 3]) -> Result<String, Fail> {
     let flags = flag_line(alloc, flags)?;
-    let p = halts(alloc, steps[0])?;
-    let a = halts(alloc, steps[1])?;
-    let b = halts(alloc, steps[2])?;
-    let text = format!(in alloc;
-        "script {version}\nkeys a\n{flags}budget P 1 10\nbudget A 0 0\nbudget B 0 0\nP\n{p}A\n{a}B\n{b}end\n"
+    let mut text = format!(in alloc;
+        "script {version}\nkeys a\n{flags}budget P 1 10\nbudget A 0 0\nbudget B 0 0\n"
     )?;
+    push_sections(&mut text, steps)?;
     Ok(text)
 }
 
-fn printed(alloc: Global, text: &str) -> Result<Vec<u8>, Fail> {
-    let script = parse(alloc, text.as_bytes())?;
-    let mut out = Vec::new(alloc);
-    print(alloc, &script, &mut out)?;
-    Ok(out)
+fn push_sections(text: &mut String, steps: &[usize; 3]) -> Result<(), OutOfMemory> {
+    for (name, count) in ["P\n", "A\n", "B\n"].iter().zip(steps) {
+        text.push_str(name)?;
+        push_halts(text, *count)?;
+    }
+    text.push_str("end\n")
+}
+
+fn push_halts(text: &mut String, count: usize) -> Result<(), OutOfMemory> {
+    for _ in 0..count {
+        text.push_str("halt\n")?;
+    }
+    Ok(())
 }
 
 #[test]
@@ -69,7 +68,7 @@ fn prints_the_least_version(rt: HostRuntime) -> Result<(), Fail> {
     for (flags, steps, version) in &PRINTED {
         let text = text_of(rt.alloc(), "2", *flags, steps)?;
         let wanted = text_of(rt.alloc(), version.word(), *flags, steps)?;
-        let out = printed(rt.alloc(), &text)?;
+        let out = printed(rt.alloc(), &text, b"")?;
         assert!(rt; out.as_slice() == wanted.as_bytes(), "{text}");
     }
     Ok(())
@@ -79,7 +78,7 @@ fn prints_the_least_version(rt: HostRuntime) -> Result<(), Fail> {
 fn reads_what_it_printed(rt: HostRuntime) -> Result<(), Fail> {
     for (flags, steps, version) in &PRINTED {
         let text = text_of(rt.alloc(), version.word(), *flags, steps)?;
-        let out = printed(rt.alloc(), &text)?;
+        let out = printed(rt.alloc(), &text, b"")?;
         assert!(rt; out.as_slice() == text.as_bytes(), "{text}");
     }
     Ok(())
@@ -94,7 +93,7 @@ fn prints_each_flag(rt: HostRuntime) -> Result<(), Fail> {
          get a ?f0 ?f31 ?f32 ?f63\nget a !f0 !f31 !f32 !f63\nget a +f0 +f31 +f32 +f63\nget a -f0 -f31 -f32 -f63\n\
          get a ?f63 !f31 +f0 -f32\nB\nend\n"
     )?;
-    let out = printed(rt.alloc(), &text)?;
+    let out = printed(rt.alloc(), &text, b"")?;
     assert!(rt; out.as_slice() == text.as_bytes(), "{text}");
     Ok(())
 }
@@ -111,6 +110,26 @@ fn has_masks(step: &Step, masks: [Mask; 4]) -> bool {
     }
 }
 
+const HIGHEST: Mask = 0x8000_0000_0000_0000;
+
+static MASKS: [[Mask; 4]; 3] = [
+    [HIGHEST, 0x8000_0000, 1, 0x1_0000_0000],
+    [0x4000_0000_0000_0000, HIGHEST, HIGHEST, 0],
+    [0, 0, 0, HIGHEST],
+];
+
+fn has_steps_with_masks(alloc: Global, text: &str) -> Result<bool, Fail> {
+    let script = parse(alloc, text.as_bytes())?;
+    let steps = script.steps(Actor::A);
+    Ok(
+        steps.len() == MASKS.len()
+            && steps
+                .iter()
+                .zip(&MASKS)
+                .all(|(step, masks)| has_masks(step, *masks)),
+    )
+}
+
 #[test]
 fn gives_the_masks_of_flags(rt: HostRuntime) -> Result<(), Fail> {
     let flags = flag_line(rt.alloc(), 64)?;
@@ -118,15 +137,7 @@ fn gives_the_masks_of_flags(rt: HostRuntime) -> Result<(), Fail> {
         "script 2\nkeys a\n{flags}budget P 1 10\nbudget A 9 99\nbudget B 0 0\nP\nA\n\
          get a ?f63 !f31 +f0 -f32\nget a !f63 +f63 ?f62\nget a -f63\nB\nend\n"
     )?;
-    let script = parse(rt.alloc(), text.as_bytes())?;
-    let steps = script.steps(Actor::A);
-    let highest: Mask = 0x8000_0000_0000_0000;
-    assert!(rt;
-        steps.len() == 3
-            && has_masks(&steps[0], [highest, 0x8000_0000, 1, 0x1_0000_0000])
-            && has_masks(&steps[1], [0x4000_0000_0000_0000, highest, highest, 0])
-            && has_masks(&steps[2], [0, 0, 0, highest])
-    );
+    assert!(rt; has_steps_with_masks(rt.alloc(), &text)?);
     Ok(())
 }
 

@@ -2,45 +2,22 @@
 #![tactic(auto)]
 
 ghost use Rattle.std.specs.Prelude.{◌≡◌, false, true};
-ghost use Rattle.mcrace.specs.Command.{Answers};
-ghost use Rattle.mcrace.specs.Statuses.{status_number};
-ghost use Rattle.mcrace.specs.Streams.{TakesAtMost};
+ghost use Rattle.mc_command.specs.Command.{Answers};
+ghost use Rattle.mc_command.specs.Statuses.{status_number};
+ghost use Rattle.mc_command.specs.Streams.{TakesAtMost};
 
-mod answer;
-mod arguments;
-mod asm;
-mod check;
-mod command;
-mod dial;
-mod drive;
-mod endings;
-mod input;
-mod judge;
-mod limit;
-mod line_laws;
-mod loading;
-mod refusal;
-mod run;
-mod run_command;
-mod run_status;
-mod status;
-mod streams;
-mod verdicts;
-mod verifying;
-
-use arguments::{Asked, Target, read_run};
-use input::InputFault;
-use run_command::run_script;
-use status::Status;
+use mc_command::{
+    Asked, InputFault, Reader, Sink, Source, Status, Target, Writer, command, read_run, run_script,
+    unread_line, write_fault,
+};
 use std::alloc::Global;
 use std::io::Eprint;
 use std::net::{Net, TcpStream};
 use std::process::ExitCode;
-use std::rt::Env;
+use std::rt::{Clock, Env};
 use std::sync::Wait;
 use std::thread::Threads;
 use std::{env, io};
-use streams::{Reader, Sink, Source, Writer};
 
 fn main(rt: HostRuntime) -> ExitCode {
     let mut input = Reader::new(rt.reader());
@@ -49,16 +26,16 @@ fn main(rt: HostRuntime) -> ExitCode {
     let status = match line_of(&rt) {
         Ok(line) => match read_run(rt.alloc(), line.as_slice()) {
             Ok(Some(target)) => play(&rt, rt.alloc(), target, &mut input, &mut output),
-            Ok(None) => command::command(
+            Ok(None) => command(
                 rt.alloc(),
                 line.as_slice(),
                 &mut input,
                 &mut output,
                 &mut faults,
             ),
-            Err(_) => command::write_fault(InputFault::OutOfMemory, &mut output).number(),
+            Err(_) => write_fault(InputFault::OutOfMemory, &mut output).number(),
         },
-        Err(error) => command::unread_line(&error, &mut output, &mut faults),
+        Err(error) => unread_line(&error, &mut output, &mut faults),
     };
     ExitCode::from(status)
 }
@@ -72,7 +49,7 @@ fn play<R, I: Source, O: Sink>(
     output: &mut O,
 ) -> u8
 where
-    R: Net<Stream = TcpStream> + Threads + Wait + Sync + Eprint,
+    R: Net<Stream = TcpStream> + Threads + Wait + Clock + Sync + Eprint,
     ensures answered { I.has_failed input.old ≡ false → I.has_failed input.new ≡ false
         → O.has_failed output.old ≡ false → O.has_failed output.new ≡ false
         → (ended : Status) × (result ≡ status_number ended)
@@ -82,8 +59,8 @@ where
     ensures broken_output { O.has_failed output.old ≡ false → O.has_failed output.new ≡ true → result ≡ 4 }
     ensures taken { TakesAtMost 1048577 (I.left input.old) (I.left input.new) }
 {
-    let Target { server, limit } = target;
-    let (status, reason) = run_script(rt, alloc, server, limit, input, output);
+    let server = target.server;
+    let (status, reason) = run_script(rt, alloc, target, input, output);
     if let Some(error) = reason {
         // There is nowhere else to say that this could not be said.
         let _ = eprintln!(rt; "mcrace: {server}: {error}");
@@ -95,14 +72,3 @@ where
 fn line_of<R: Env + AllocGlobal>(rt: &R) -> io::Result<Vec<String>> {
     Ok(env::args(rt)?.collect(rt.alloc())?)
 }
-
-#[cfg(test)]
-mod asm_tests;
-#[cfg(test)]
-mod check_tests;
-#[cfg(test)]
-mod drive_tests;
-#[cfg(test)]
-mod run_tests;
-#[cfg(test)]
-mod tests;

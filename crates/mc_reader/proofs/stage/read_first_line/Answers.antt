@@ -8,7 +8,7 @@ use Rattle.mc_reader.specs.Steps.{EndsAt, IsStep}
 use Rattle.mc_reader.specs.declared.said.Said.TheVariants.{Hit, Whole}
 use Rattle.mc_reader.proofs.FirstLines.{first_ends}
 use Rattle.mc_reader.proofs.Gathers.{line_is}
-use Rattle.mc_reader.proofs.StepLemmas.{first_gather_fault, first_line_fault, hit_step, hit_fault, block_step, says_at}
+use Rattle.mc_reader.proofs.StepLemmas.{first_gather_fault, first_line_fault, hit_more, hit_done, hit_fault, block_step, says_at}
 use Rattle.mc_reader.proofs.stage.read_first_line.Goals as goal
 
 pub returns-in_err-at : goal.returns-in_err-at
@@ -60,8 +60,8 @@ returns-in-Whole c =
     let count : length (drop (at + 1) piece) ≡ length piece - at - 1 = omega arith in
     subst (λ n. EndsAt (Ends verb key) start piece (Ok c.in-Whole.reply) n) count ends
 
-pub returns-in_ok-line-in-Hit : goal.returns-in_ok-line-in-Hit
-returns-in_ok-line-in-Hit c =
+pub returns-in_ok-owned-in-More : goal.returns-in_ok-owned-in-More
+returns-in_ok-owned-in-More c =
     let verb = c.args.shape.verb in
     let key = c.args.shape.key.now in
     let start = c.args.start.items in
@@ -71,12 +71,30 @@ returns-in_ok-line-in-Hit c =
     let line = line_is start c.gather.new.start.items (take at piece) c.joined.result.now g.kept c.joined.ensures in
     let says = says_at verb key c.joined.result.now (start ++ take at piece) c.in_ok-reply.field-0 (Hit c.in-Hit.hit) line
     c.in_ok-reply.ensures c.in-Hit.is in
-    let kept = line_is start c.gather.new.start.items (take at piece) c.in_ok-line-in-Hit.line.items g.kept c.in_ok-line-in-Hit.ensures in
+    let kept = line_is start c.gather.new.start.items (take at piece) c.in_ok-owned-in-More.field-0.items g.kept c.in_ok-owned-in-More.ensures in
     let step = block_step c.in-Hit.hit c.in_ok-new-in-Hit.field-0 [] (take (length piece - (at + 1)) (drop (at + 1) piece))
     (Ok c.in_ok-step-in-Hit.step)
     c.in_ok-new-in-Hit.ensures c.in_ok-step-in-Hit.ensures in
     let after = subst (λ u. IsStep (BlockEnds c.in-Hit.hit) (IsBlockOf c.in-Hit.hit) [] u (Ok c.in_ok-step-in-Hit.step))
     (take_rest piece (at + 1)) step in
-    rw c.after_block.ensures
-    (hit_step verb key start c.gather.new.start.items piece at c.in-Hit.hit g says c.in_ok-line-in-Hit.line c.in_ok-step-in-Hit.step kept
-    after)
+    let known = rw c.in-More.is at after in
+    hit_more verb key start c.gather.new.start.items piece at c.in-Hit.hit g says c.in_ok-owned-in-More.field-0 c.in-More.block kept known
+
+pub returns-in-Done : goal.returns-in-Done
+returns-in-Done c =
+    let verb = c.args.shape.verb in
+    let key = c.args.shape.key.now in
+    let start = c.args.start.items in
+    let piece = c.args.piece.now in
+    let at = c.in-Some.at in
+    let g : IsGathered start c.gather.new.start.items piece at = rw c.in-Some.is at c.in_ok-at.ensures in
+    let line = line_is start c.gather.new.start.items (take at piece) c.joined.result.now g.kept c.joined.ensures in
+    let says = says_at verb key c.joined.result.now (start ++ take at piece) c.in_ok-reply.field-0 (Hit c.in-Hit.hit) line
+    c.in_ok-reply.ensures c.in-Hit.is in
+    let step = block_step c.in-Hit.hit c.in_ok-new-in-Hit.field-0 [] (take (length piece - (at + 1)) (drop (at + 1) piece))
+    (Ok c.in_ok-step-in-Hit.step)
+    c.in_ok-new-in-Hit.ensures c.in_ok-step-in-Hit.ensures in
+    let after = subst (λ u. IsStep (BlockEnds c.in-Hit.hit) (IsBlockOf c.in-Hit.hit) [] u (Ok c.in_ok-step-in-Hit.step))
+    (take_rest piece (at + 1)) step in
+    let known = rw c.in-Done.is at after in
+    hit_done verb key start c.gather.new.start.items piece at c.in-Hit.hit g says c.in-Done.reply c.in-Done.unread known

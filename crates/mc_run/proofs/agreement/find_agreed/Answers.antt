@@ -1,4 +1,4 @@
-use Rattle.std.proofs.Common.{◌≡◌, sym, subst, ◌∙◌}
+use Rattle.std.proofs.Common.{sym, subst, ◌∙◌}
 use Rattle.mc_core.specs.Held.{FindsFold}
 use Rattle.mc_run.proofs.Agreed.{agreed, in_sections}
 use Rattle.mc_run.proofs.agreement.find_agreed.Goals as goal

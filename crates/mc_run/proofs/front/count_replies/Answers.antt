@@ -1,4 +1,4 @@
-use Rattle.std.proofs.Common.{List, ◌+◌, suc, ◌≡◌, ◌∷◌, ◌++◌, [], ap, sym, subst, ◌∙◌, take, drop, arith}
+use Rattle.std.proofs.Common.{List, ◌+◌, suc, ◌≡◌, ◌∷◌, ◌++◌, [], ap, sym, subst, ◌∙◌, take, drop}
 use Rattle.std.specs.Prelude.{Some, None}
 use Rattle.std.proofs.Math.Seq.{drop-cons}
 use Rattle.std.proofs.lemmas.List.{take_more, take-append-drop}

@@ -1,4 +1,4 @@
-use Rattle.std.proofs.Common.{List, subst, sym, ℕ}
+use Rattle.std.proofs.Common.{subst, sym}
 use Rattle.mc_run.specs.Fronts.{CountsReplies}
 use Rattle.mc_run.specs.Recorded.{StandAtFront}
 use Rattle.mc_run.proofs.IsRecorded.{all_answered}

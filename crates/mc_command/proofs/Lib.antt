@@ -1,0 +1,13 @@
+pub mod Fronts
+pub mod HelpLines
+pub mod LimitFirst
+pub mod LimitLines
+pub mod Line
+pub mod Maxima
+pub mod MeetLines
+pub mod NamedServers
+pub mod OptionValue
+pub mod PlainLines
+pub mod Right
+pub mod RunLines
+pub mod Taken

@@ -1,0 +1,177 @@
+-- The lines that are mostly written: what clap finds in them.
+use Rattle.std.proofs.Common.{refl, sym, arith, ap, inl, inr, codes, true, false, ℕ, List, [], ◌∷◌, ◌++◌, ◌≡◌, ◌∙◌, ◌==◌, Option, Some, None}
+use Rattle.clap.proofs.OnLiterals.{clap_on_literals}
+use Rattle.mc_protocol.specs.Decimals.{SpellsNumber, are_digits, is_digit}
+use Rattle.mc_command.proofs.Line.{asm_is_not_drive, asm_is_not_run, check_is_not_asm, check_is_not_drive, check_is_not_run, drive_is_not_run}
+use Rattle.mc_command.proofs.Line.{judge_is_not_asm, judge_is_not_check, judge_is_not_drive, judge_is_not_run}
+use Rattle.mc_command.proofs.RunLines as run
+use Rattle.mc_command.proofs.LimitLines.{TakesLimit, drive_takes_limit, judge_takes_limit}
+use Rattle.mc_command.proofs.OptionValue.{IsNoFlag, no_flag}
+use Rattle.mc_command.specs.declared.arguments.Asked.{Asked}
+use Rattle.mc_command.specs.declared.arguments.Asked.TheVariants as asked
+use Rattle.mc_command.specs.declared.meeting.Meeting.TheVariants as meeting
+use Rattle.mc_command.specs.Command.{AsksFor, IsLimit, NamesMeeting}
+use Rattle.mc_command.specs.CommandLine.{GREATEST_LIMIT, line_command, line_faults, line_limit}
+use Rattle.mc_command.specs.LineLaws.{IsName, NamesLimit, LinesAskOnce, PlainLinesAsk, SignedLimitsAreFaulty}
+use Rattle.std.proofs.lemmas.Bool.{ne_eqb}
+use Rattle.std.proofs.lemmas.Grind.{common_steps}
+
+-- ---- `check`
+
+check_has_no_faults : (program : List ℕ) → line_faults (program ∷ codes "check" ∷ []) ≡ []
+unfolding line_faults clap_on_literals
+check_has_no_faults program = refl
+
+check_is_named : (program : List ℕ) → line_command (program ∷ codes "check" ∷ []) ≡ Some (codes "check")
+unfolding line_command clap_on_literals
+check_is_named program = refl
+
+-- ---- `asm`
+
+asm_has_no_faults : (program : List ℕ) → line_faults (program ∷ codes "asm" ∷ []) ≡ []
+unfolding line_faults clap_on_literals
+asm_has_no_faults program = refl
+
+asm_is_named : (program : List ℕ) → line_command (program ∷ codes "asm" ∷ []) ≡ Some (codes "asm")
+unfolding line_command clap_on_literals
+asm_is_named program = refl
+
+-- ---- the laws
+
+-- a digit is no hyphen
+no_hyphen : (d : ℕ) → is_digit d ≡ true → (d == 45) ≡ false
+no_hyphen d digit = ne_eqb _ _ (λ e. absurd (cc (ap is_digit e)))
+
+first_digit : (d : ℕ) (ds : List ℕ) → are_digits (d ∷ ds) ≡ true → is_digit d ≡ true
+first_digit d ds digits = grind (arith, common_steps)
+
+pub decimal_is_no_flag : (number : List ℕ) (limit : ℕ) → SpellsNumber GREATEST_LIMIT number limit → IsNoFlag number
+decimal_is_no_flag [] limit spells = absurd (cc (spells.some))
+decimal_is_no_flag (d ∷ ds) limit spells = no_flag d ds (no_hyphen d (first_digit d ds spells.digits))
+
+-- the subcommand and the limit that the words name
+names_limit : (name : List ℕ) → TakesLimit name → (program : List ℕ) (others : List (List ℕ)) (limit : ℕ) → NamesLimit others limit
+    → (line_faults (program ∷ name ∷ others) ≡ []) × (line_command (program ∷ name ∷ others) ≡ Some name)
+    × IsLimit (line_limit (program ∷ name ∷ others)) limit
+names_limit name takes program others limit (inl none) =
+    rw none.0 (takes.alone_is_right program, takes.alone_is_named program, rw (takes.alone_has_no_limit program) none.1)
+names_limit name takes program others limit (inr (number, spells, inl apart)) =
+    let plain = decimal_is_no_flag number limit spells in
+    rw apart (
+      takes.apart_is_right program number plain,
+      takes.apart_is_named program number plain,
+      rw (takes.apart_has_limit program number plain) spells,
+    )
+names_limit name takes program others limit (inr (number, spells, inr joined)) =
+    rw joined (
+      takes.joined_is_right program number,
+      takes.joined_is_named program number,
+      rw (takes.joined_has_limit program number) spells,
+    )
+
+pub name_is_no_flag : (server : List ℕ) → IsName server → IsNoFlag server
+name_is_no_flag server (first, others, is, other) = rw is (no_flag first others other)
+
+pub no_word_is_drawn : {word : Option (List ℕ)} → word ≡ None → NamesMeeting word
+no_word_is_drawn is = rw is (meeting.Drawn, refl)
+
+pub run_asks : (program : List ℕ) (server : List ℕ) (others : List (List ℕ)) (limit : ℕ) → IsNoFlag server → NamesLimit others limit
+    → AsksFor (program ∷ codes "run" ∷ server ∷ others) (asked.Run limit)
+run_asks program server others limit plain (inl none) =
+    rw none.0 (
+      run.alone_is_right program server plain,
+      (
+        run.alone_is_named program server plain,
+        rw (run.alone_has_no_limit program server plain) none.1,
+        no_word_is_drawn (run.alone_has_no_meeting program server plain),
+      ),
+    )
+run_asks program server others limit plain (inr (number, spells, inl apart)) =
+    let value = decimal_is_no_flag number limit spells in
+    rw apart (
+      run.apart_is_right program server plain number value,
+      (
+        run.apart_is_named program server plain number value,
+        rw (run.apart_has_limit program server plain number value) spells,
+        no_word_is_drawn (run.apart_has_no_meeting program server plain number value),
+      ),
+    )
+run_asks program server others limit plain (inr (number, spells, inr joined)) =
+    rw joined (
+      run.joined_is_right program server plain number,
+      (
+        run.joined_is_named program server plain number,
+        rw (run.joined_has_limit program server plain number) spells,
+        no_word_is_drawn (run.joined_has_no_meeting program server plain number),
+      ),
+    )
+
+pub plain_lines_ask : PlainLinesAsk
+plain_lines_ask words (asked.Judge limit) (program, others, is, names) =
+    let found = names_limit (codes "judge") judge_takes_limit program others limit names in
+    rw is (found.0, (found.1, found.2))
+plain_lines_ask words asked.Check (program, is) = rw is (check_has_no_faults program, check_is_named program)
+plain_lines_ask words asked.Asm (program, is) = rw is (asm_has_no_faults program, asm_is_named program)
+plain_lines_ask words (asked.Drive limit) (program, others, is, names) =
+    let found = names_limit (codes "drive") drive_takes_limit program others limit names in
+    rw is (found.0, (found.1, found.2))
+plain_lines_ask words (asked.Run limit) (program, server, others, is, names, limited) =
+    rw is (run_asks program server others limit (name_is_no_flag server names) limited)
+
+-- a word that begins with no digit is no limit
+signed_is_none : (sign : ℕ) (number : List ℕ) (limit : ℕ) → is_digit sign ≡ false → SpellsNumber GREATEST_LIMIT (sign ∷ number) limit → ⊥
+signed_is_none sign number limit other spells = absurd (cc (first_digit sign number spells.digits, other))
+
+pub signed_limits_are_faulty : SignedLimitsAreFaulty
+signed_limits_are_faulty program name sign number (inl judge) other wanted asks = signed_judge wanted (rw judge at asks)
+  where
+    signed_judge : (wanted : Asked) → AsksFor (program ∷ codes "judge" ∷ (codes "--limit=" ++ sign ∷ number) ∷ []) wanted → ⊥
+    signed_judge (asked.Judge limit) asks =
+        signed_is_none sign number limit other (rw (judge_takes_limit.joined_has_limit program (sign ∷ number)) at asks.1.1)
+    signed_judge asked.Check asks = judge_is_not_check (sym (judge_takes_limit.joined_is_named program (sign ∷ number)) ∙ asks.1)
+    signed_judge asked.Asm asks = judge_is_not_asm (sym (judge_takes_limit.joined_is_named program (sign ∷ number)) ∙ asks.1)
+    signed_judge (asked.Drive limit) asks =
+        judge_is_not_drive (sym (judge_takes_limit.joined_is_named program (sign ∷ number)) ∙ asks.1.0)
+    signed_judge (asked.Run limit) asks = judge_is_not_run (sym (judge_takes_limit.joined_is_named program (sign ∷ number)) ∙ asks.1.0)
+signed_limits_are_faulty program name sign number (inr drive) other wanted asks = signed_drive wanted (rw drive at asks)
+  where
+    signed_drive : (wanted : Asked) → AsksFor (program ∷ codes "drive" ∷ (codes "--limit=" ++ sign ∷ number) ∷ []) wanted → ⊥
+    signed_drive (asked.Judge limit) asks =
+        judge_is_not_drive (sym asks.1.0 ∙ drive_takes_limit.joined_is_named program (sign ∷ number))
+    signed_drive asked.Check asks = check_is_not_drive (sym asks.1 ∙ drive_takes_limit.joined_is_named program (sign ∷ number))
+    signed_drive asked.Asm asks = asm_is_not_drive (sym asks.1 ∙ drive_takes_limit.joined_is_named program (sign ∷ number))
+    signed_drive (asked.Drive limit) asks =
+        signed_is_none sign number limit other (rw (drive_takes_limit.joined_has_limit program (sign ∷ number)) at asks.1.1)
+    signed_drive (asked.Run limit) asks = drive_is_not_run (sym (drive_takes_limit.joined_is_named program (sign ∷ number)) ∙ asks.1.0)
+
+-- a word names one limit at most
+one_limit : (word : _) (one : ℕ) (other : ℕ) → IsLimit word one → IsLimit word other → one ≡ other
+one_limit None one other is also = is ∙ sym also
+one_limit (Some word) one other is also = sym is.value ∙ also.value
+
+pub lines_ask_once : LinesAskOnce
+lines_ask_once words (asked.Judge one) (asked.Judge other) is also = ap asked.Judge (one_limit _ one other is.1.1 also.1.1)
+lines_ask_once words (asked.Judge one) asked.Check is also = absurd (judge_is_not_check (sym is.1.0 ∙ also.1))
+lines_ask_once words (asked.Judge one) asked.Asm is also = absurd (judge_is_not_asm (sym is.1.0 ∙ also.1))
+lines_ask_once words (asked.Judge one) (asked.Drive other) is also = absurd (judge_is_not_drive (sym is.1.0 ∙ also.1.0))
+lines_ask_once words asked.Check (asked.Judge other) is also = absurd (judge_is_not_check (sym also.1.0 ∙ is.1))
+lines_ask_once words asked.Check asked.Check is also = refl
+lines_ask_once words asked.Check asked.Asm is also = absurd (check_is_not_asm (sym is.1 ∙ also.1))
+lines_ask_once words asked.Check (asked.Drive other) is also = absurd (check_is_not_drive (sym is.1 ∙ also.1.0))
+lines_ask_once words asked.Asm (asked.Judge other) is also = absurd (judge_is_not_asm (sym also.1.0 ∙ is.1))
+lines_ask_once words asked.Asm asked.Check is also = absurd (check_is_not_asm (sym also.1 ∙ is.1))
+lines_ask_once words asked.Asm asked.Asm is also = refl
+lines_ask_once words asked.Asm (asked.Drive other) is also = absurd (asm_is_not_drive (sym is.1 ∙ also.1.0))
+lines_ask_once words (asked.Drive one) (asked.Judge other) is also = absurd (judge_is_not_drive (sym also.1.0 ∙ is.1.0))
+lines_ask_once words (asked.Drive one) asked.Check is also = absurd (check_is_not_drive (sym also.1 ∙ is.1.0))
+lines_ask_once words (asked.Drive one) asked.Asm is also = absurd (asm_is_not_drive (sym also.1 ∙ is.1.0))
+lines_ask_once words (asked.Drive one) (asked.Drive other) is also = ap asked.Drive (one_limit _ one other is.1.1 also.1.1)
+lines_ask_once words (asked.Judge one) (asked.Run other) is also = absurd (judge_is_not_run (sym is.1.0 ∙ also.1.0))
+lines_ask_once words asked.Check (asked.Run other) is also = absurd (check_is_not_run (sym is.1 ∙ also.1.0))
+lines_ask_once words asked.Asm (asked.Run other) is also = absurd (asm_is_not_run (sym is.1 ∙ also.1.0))
+lines_ask_once words (asked.Drive one) (asked.Run other) is also = absurd (drive_is_not_run (sym is.1.0 ∙ also.1.0))
+lines_ask_once words (asked.Run one) (asked.Judge other) is also = absurd (judge_is_not_run (sym also.1.0 ∙ is.1.0))
+lines_ask_once words (asked.Run one) asked.Check is also = absurd (check_is_not_run (sym also.1 ∙ is.1.0))
+lines_ask_once words (asked.Run one) asked.Asm is also = absurd (asm_is_not_run (sym also.1 ∙ is.1.0))
+lines_ask_once words (asked.Run one) (asked.Drive other) is also = absurd (drive_is_not_run (sym also.1.0 ∙ is.1.0))
+lines_ask_once words (asked.Run one) (asked.Run other) is also = ap asked.Run (one_limit _ one other is.1.1 also.1.1)

@@ -1,0 +1,55 @@
+use Rattle.std.proofs.Common.{map, rules, string_bytes, sym, Some, ◌≡◌, ◌∙◌}
+use Rattle.std.proofs.lemmas.Option.{IfSome_then}
+use Rattle.mc_command.proofs.Line.{asking_lacks_memory, command_is, fault_by_clap, limit_is, line_faults-is, meeting_is, program_is_simple, target_is}
+use Rattle.mc_command.specs.declared.arguments.Asked.TheVariants as asked
+use Rattle.mc_command.proofs.arguments.read_run.Goals as goal
+
+pub returns-in-Err-clause-other : goal.returns-in-Err-clause-other
+returns-in-Err-clause-other c none limit asks =
+    let words = map string_bytes c.args.line.now in
+    let fault = fault_by_clap words c.in-Err.error (rw (line_faults-is _ words c.in_ok-program.ensures)
+    at (c.in-Err.ensures.kinds (program_is_simple _ c.in_ok-program.ensures))) in
+    absurd (c.in_ok-pass_fault-in-Err.ensures (asking_lacks_memory words (asked.Run limit) _ asks fault))
+
+pub returns-in-run-clause-asked : goal.returns-in-run-clause-asked
+returns-in-run-clause-asked c =
+    let words = map string_bytes c.args.line.now in
+    let program = c.in_ok-program.ensures in
+    let matches = c.in-Ok.ensures.matches in
+    let clear = sym (line_faults-is _ words program) ∙ c.in-Ok.ensures.kinds (program_is_simple _ program) in
+    let command = command_is _ words _ program matches _ c.in-Some.ensures.name in
+    let limit = limit_is _ words _ program matches _ c.in-Some.ensures.rows in
+    let meeting = meeting_is _ words _ program matches _ c.in-Some.ensures.rows in
+    IfSome_then c.read_run_options.result c.read_run_options.ensures.found
+    (λ target found. (clear, (command ∙ search rules, rw limit found.0, (target.meeting, rw meeting found.2))))
+
+pub returns-in-run-clause-server : goal.returns-in-run-clause-server
+returns-in-run-clause-server c =
+    let words = map string_bytes c.args.line.now in
+    let target = target_is _ words _ c.in_ok-program.ensures c.in-Ok.ensures.matches _ c.in-Some.ensures.rows in
+    IfSome_then c.read_run_options.result c.read_run_options.ensures.found (λ found is. target ∙ is.1)
+
+pub returns-in-run-clause-meeting : goal.returns-in-run-clause-meeting
+returns-in-run-clause-meeting c =
+    let words = map string_bytes c.args.line.now in
+    let meeting = meeting_is _ words _ c.in_ok-program.ensures c.in-Ok.ensures.matches _ c.in-Some.ensures.rows in
+    IfSome_then c.read_run_options.result c.read_run_options.ensures.found (λ found is. rw meeting is.2)
+
+pub returns-in-run-clause-other : goal.returns-in-run-clause-other
+returns-in-run-clause-other c none limit asks =
+    let words = map string_bytes c.args.line.now in
+    let program = c.in_ok-program.ensures in
+    let matches = c.in-Ok.ensures.matches in
+    let limited = limit_is _ words _ program matches _ c.in-Some.ensures.rows in
+    let target = target_is _ words _ program matches _ c.in-Some.ensures.rows in
+    let meeting = meeting_is _ words _ program matches _ c.in-Some.ensures.rows in
+    target ∙ c.read_run_options.ensures.none none limit (rw limited at asks.1.1) asks.1.2.0 (rw meeting at asks.1.2.1)
+
+pub returns-clause-other : goal.returns-clause-other
+returns-clause-other c none limit asks =
+    let words = map string_bytes c.args.line.now in
+    let command = command_is _ words _ c.in_ok-program.ensures c.in-Ok.ensures.matches _ c.in-Some.ensures.name in
+    absurd (c.in_default-name.not-run (other (sym command ∙ asks.1.0)))
+  where
+    other : {X : Type 0} {x y : X} → Some x ≡ Some y → x ≡ y
+    other is = cc

@@ -1,0 +1,5 @@
+use Rattle.mc_command.proofs.PlainLines.{lines_ask_once}
+use Rattle.mc_command.proofs.line_laws.lines_ask_once.Goals as goal
+
+pub returns : goal.returns
+returns c = lines_ask_once

@@ -1,0 +1,38 @@
+-- What is answered to a text, whatever the line asks for.
+use Rattle.std.specs.Prelude.{◌≡◌, ◌⊎◌, ℕ, ◌<◌, ◌≤◌, List, length, codes}
+use Rattle.mc_command.specs.declared.arguments.Asked.{Asked}
+use Rattle.mc_command.specs.declared.arguments.Asked.TheVariants as asked
+use Rattle.mc_command.specs.declared.status.Status.{Status}
+use Rattle.mc_command.specs.declared.status.Status.TheVariants as status
+use Rattle.mc_command.specs.AsmAnswers.{Assembles}
+use Rattle.mc_command.specs.CheckAnswers.{Checks}
+use Rattle.mc_command.specs.DriveAnswers.{Drives}
+use Rattle.mc_command.specs.JudgeAnswers.{Judges}
+use Rattle.mc_command.specs.RunAnswers.{Plays}
+
+-- the most bytes of an input
+abbrev pub INPUT_LIMIT : ℕ
+INPUT_LIMIT = 1048576
+
+-- doing what is asked for with the text, these bytes may be written, and this is the exit status with them
+abbrev pub Does : Asked → List ℕ → List ℕ → Status → Type 0
+Does (asked.Judge limit) text output ended = Judges limit text output ended
+Does asked.Check text output ended = Checks text output ended
+Does asked.Asm text output ended = Assembles text output ended
+Does (asked.Drive limit) text output ended = Drives text output ended
+Does (asked.Run limit) text output ended = Plays text output ended
+
+abbrev pub too_long_text : List ℕ
+too_long_text = codes "refused input too long\n"
+
+abbrev pub out_of_memory_text : List ℕ
+out_of_memory_text = codes "out of memory\n"
+
+abbrev pub not_utf8_text : List ℕ
+not_utf8_text = codes "error: the command line is not UTF-8\n"
+
+-- the same; or the text is too long, and that is written; or that memory ran out, which it may over any text
+abbrev pub IsAnswer : Asked → List ℕ → List ℕ → Status → Type 0
+IsAnswer asked text output ended = ((length text ≤ INPUT_LIMIT) × Does asked text output ended)
+    ⊎ (((INPUT_LIMIT < length text) × (output ≡ too_long_text) × (ended ≡ status.Refused))
+    ⊎ ((output ≡ out_of_memory_text) × (ended ≡ status.NoAnswer)))

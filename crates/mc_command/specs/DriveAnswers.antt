@@ -1,0 +1,90 @@
+-- What `drive` answers to a text: a script, and after it a step list.
+use Rattle.std.specs.Prelude.{◌≡◌, ◌≢◌, ℕ, ◌+◌, ◌≤◌, List, ◌++◌, codes, decimal, drop, min, take}
+use Rattle.mc_protocol.specs.Lines.{LAST_NUMBER, line_count, lines_of_text}
+use Rattle.mc_protocol.specs.declared.lines.Separator.TheVariants.{Space}
+use Rattle.mc_code.specs.Code.{Code}
+use Rattle.mc_verify.specs.Faults.{IsSound}
+use Rattle.mc_verify.specs.Refusals.{IsLeast}
+use Rattle.mc_core.specs.Held.{Held, IsHeldBy}
+use Rattle.mc_core.specs.Histories.{history_of}
+use Rattle.mc_core.specs.StepKinds.{kind_name, kind_number}
+use Rattle.mc_core.specs.StepText.{SpellsSteps}
+use Rattle.mc_core.specs.Worlds.{Noted}
+use Rattle.mc_core.specs.declared.steps_fault.StepsFault.{StepsFault}
+use Rattle.mc_core.specs.declared.steps_fault.StepsKind.TheVariants as steps_kind
+use Rattle.mc_explain.specs.Verdicts.{IsStated}
+use Rattle.mc_explain.specs.declared.verdict.Verdict.{Verdict}
+use Rattle.mc_run.specs.Headline.{IsTrial}
+use Rattle.mc_command.specs.Endings.{endings_text, run_status}
+use Rattle.mc_command.specs.Loading.{IsFrontCode, IsFrontFault, load_refusal}
+use Rattle.mc_command.specs.Refusals.{refusal_text}
+use Rattle.mc_command.specs.Soundness.{unsound_text}
+use Rattle.mc_command.specs.Verdicts.{verdict_text}
+use Rattle.mc_command.specs.declared.drive.Driven.{Driven}
+use Rattle.mc_command.specs.declared.drive.Driven.TheVariants as driven
+use Rattle.mc_command.specs.declared.refusal.Place.TheVariants as place
+use Rattle.mc_command.specs.declared.status.Status.{Status}
+use Rattle.mc_command.specs.declared.status.Status.TheVariants as status
+
+-- the text begins with a script of this many bytes, whose code is sound
+pub record BeginsWith (text : List ℕ) (code : Code) (size : ℕ) : Type 0 where
+  pub code_of_front : IsFrontCode text code size
+  pub sound : IsSound code
+
+-- the code and the steps of the text, and what the steps came to in a trial
+pub record IsDriven (text : List ℕ) (held : Held) (skipped : ℕ) (found : Verdict) : Type 0 where
+  pub code : Code
+  pub size : ℕ
+  pub steps : List Noted
+  pub begins : BeginsWith text code size
+  pub spelled : SpellsSteps (drop size text) steps
+  pub trial : IsTrial code steps held.world skipped found
+  pub held_by : IsHeldBy code held
+  pub stated : IsStated (history_of code held.world) found
+
+-- the number of the first line after these
+abbrev pub line_after : List ℕ → ℕ
+line_after front = min (line_count (lines_of_text Space front) + 1) LAST_NUMBER
+
+-- no step list follows the script; the fault is in a line after those of the script
+pub record LacksSteps (text : List ℕ) (fault : StepsFault) : Type 0 where
+  pub code : Code
+  pub size : ℕ
+  pub begins : BeginsWith text code size
+  pub kind : fault.kind ≢ steps_kind.OutOfMemory
+  pub none : (steps : List Noted) → SpellsSteps (drop size text) steps → ⊥
+  pub after : line_after (take size text) ≤ fault.line
+
+-- the answer is right for the text
+abbrev pub IsRight : List ℕ → Driven → Type 0
+IsRight text (driven.Ended held skipped found) = IsDriven text held skipped found
+IsRight text (driven.NoCode fault) = IsFrontFault text fault
+IsRight text (driven.Unsound refusal) = (code : Code) × (size : ℕ) × IsFrontCode text code size × IsLeast code refusal
+IsRight text (driven.NoSteps fault) = LacksSteps text fault
+
+-- what is written for a text whose script no step list follows
+abbrev pub steps_refusal : StepsFault → List ℕ
+steps_refusal fault = refusal_text (codes "steps") (kind_number fault.kind) (kind_name fault.kind) (place.Line fault.line)
+
+-- what is written for steps: how many were refused and skipped, how the sections ended, and the verdict
+abbrev pub ended_text : Held → ℕ → Verdict → List ℕ
+ended_text held skipped found =
+    codes "skipped " ++ (decimal skipped ++ (codes "\n" ++ (endings_text held.endings ++ verdict_text found)))
+
+-- what is written for an answer
+abbrev pub text_of : Driven → List ℕ
+text_of (driven.Ended held skipped found) = ended_text held skipped found
+text_of (driven.NoCode fault) = load_refusal fault
+text_of (driven.Unsound refusal) = unsound_text refusal
+text_of (driven.NoSteps fault) = steps_refusal fault
+
+-- the exit status of an answer
+abbrev pub status_of : Driven → Status
+status_of (driven.Ended held skipped found) = run_status held.endings found
+status_of (driven.NoCode fault) = status.Refused
+status_of (driven.Unsound refusal) = status.Refused
+status_of (driven.NoSteps fault) = status.Refused
+
+-- an answer that is right for the text is what is written, with its status
+abbrev pub Drives : List ℕ → List ℕ → Status → Type 0
+Drives text output ended = (given : Driven) × IsRight text given × (output ≡ text_of given) × (ended ≡ status_of given)

@@ -1,0 +1,77 @@
+-- What the definition of a line says of the lines that are mostly written, and of any line.
+use Rattle.std.specs.Prelude.{◌≡◌, ◌⊎◌, ◌==◌, ℕ, false, Some, List, [], ◌∷◌, ◌++◌, codes}
+use Rattle.mc_protocol.specs.Decimals.{SpellsNumber, is_digit}
+use Rattle.mc_command.specs.Command.{AsksFor, IsFaulty, IsMeeting, MayTell, NamesMeeting, meeting_word}
+use Rattle.mc_command.specs.CommandLine.{DEFAULT_LIMIT, GREATEST_LIMIT, line_meeting, line_target}
+use Rattle.mc_command.specs.declared.arguments.Asked.{Asked}
+use Rattle.mc_command.specs.declared.arguments.Asked.TheVariants as asked
+use Rattle.mc_command.specs.declared.meeting.Meeting.{Meeting}
+
+-- the words after a subcommand name its limit: there are none, or `--limit` and a decimal, as two words or joined by `=`
+abbrev pub NamesLimit : List (List ℕ) → ℕ → Type 0
+NamesLimit words limit = ((words ≡ []) × (limit ≡ DEFAULT_LIMIT))
+    ⊎ ((number : List ℕ) × SpellsNumber GREATEST_LIMIT number limit
+    × ((words ≡ codes "--limit" ∷ number ∷ []) ⊎ (words ≡ (codes "--limit=" ++ number) ∷ [])))
+
+-- the word is no option, and not empty
+abbrev pub IsName : List ℕ → Type 0
+IsName word = (first : ℕ) × (others : List ℕ) × (word ≡ first ∷ others) × ((first == 45) ≡ false)
+
+-- the words are the program's name, a subcommand, the name of a server after `run`, and words that name the limit of `judge`, of `drive`
+-- and of `run`
+abbrev pub IsPlainLine : List (List ℕ) → Asked → Type 0
+IsPlainLine words (asked.Judge limit) =
+    (program : List ℕ) × (others : List (List ℕ)) × (words ≡ program ∷ codes "judge" ∷ others) × NamesLimit others limit
+IsPlainLine words asked.Check = (program : List ℕ) × (words ≡ program ∷ codes "check" ∷ [])
+IsPlainLine words asked.Asm = (program : List ℕ) × (words ≡ program ∷ codes "asm" ∷ [])
+IsPlainLine words (asked.Drive limit) =
+    (program : List ℕ) × (others : List (List ℕ)) × (words ≡ program ∷ codes "drive" ∷ others) × NamesLimit others limit
+IsPlainLine words (asked.Run limit) = (program : List ℕ) × (server : List ℕ) × (others : List (List ℕ))
+    × (words ≡ program ∷ codes "run" ∷ server ∷ others) × IsName server × NamesLimit others limit
+
+abbrev pub PlainLinesAsk : Type 0
+PlainLinesAsk = (words : List (List ℕ)) (wanted : Asked) → IsPlainLine words wanted → AsksFor words wanted
+
+-- the words are the program's name, `run`, the name of a server and words that name a limit, in one of the two orders
+abbrev pub IsRunLine : List (List ℕ) → List ℕ → ℕ → Type 0
+IsRunLine words server limit = (program : List ℕ) × (others : List (List ℕ)) × IsName server × NamesLimit others limit
+    × ((words ≡ program ∷ codes "run" ∷ server ∷ others) ⊎ (words ≡ program ∷ codes "run" ∷ (others ++ server ∷ [])))
+
+abbrev pub RunLinesNameServers : Type 0
+RunLinesNameServers = (words : List (List ℕ)) (server : List ℕ) (limit : ℕ) → IsRunLine words server limit
+    → AsksFor words (asked.Run limit) × (line_target words ≡ Some server)
+
+-- the words are the program's name, `run`, the name of a server, and `--meet` with a word that is no option, as two words or joined by `=`
+abbrev pub IsMeetLine : List (List ℕ) → List ℕ → List ℕ → Type 0
+IsMeetLine words server word = (program : List ℕ) × IsName server
+    × (((words ≡ program ∷ codes "run" ∷ server ∷ codes "--meet" ∷ word ∷ []) × IsName word)
+    ⊎ (words ≡ program ∷ codes "run" ∷ server ∷ (codes "--meet=" ++ word) ∷ []))
+
+-- such a line asks for a run by that meeting, and has a fault where the word names none
+abbrev pub RunLinesMeet : Type 0
+RunLinesMeet = (words : List (List ℕ)) (server : List ℕ) (word : List ℕ) → IsMeetLine words server word
+    → ((wanted : Meeting) → word ≡ meeting_word wanted
+    → AsksFor words (asked.Run DEFAULT_LIMIT) × (line_target words ≡ Some server) × IsMeeting (line_meeting words) wanted)
+    × ((NamesMeeting (Some word) → ⊥) → IsFaulty words)
+
+-- a subcommand that has a limit
+abbrev pub HasLimit : List ℕ → Type 0
+HasLimit name = (name ≡ codes "judge") ⊎ (name ≡ codes "drive")
+
+abbrev pub SignedLimitsAreFaulty : Type 0
+SignedLimitsAreFaulty = (program : List ℕ) (name : List ℕ) (sign : ℕ) (number : List ℕ) → HasLimit name → is_digit sign ≡ false
+    → IsFaulty (program ∷ name ∷ (codes "--limit=" ++ sign ∷ number) ∷ [])
+
+-- the words are the program's name, and `--help`, perhaps after a subcommand, or `--version`
+abbrev pub IsHelpLine : List (List ℕ) → Type 0
+IsHelpLine words = (program : List ℕ)
+    × ((words ≡ program ∷ codes "--help" ∷ []) ⊎ ((words ≡ program ∷ codes "judge" ∷ codes "--help" ∷ [])
+    ⊎ ((words ≡ program ∷ codes "asm" ∷ codes "--help" ∷ []) ⊎ ((words ≡ program ∷ codes "check" ∷ codes "--help" ∷ [])
+    ⊎ ((words ≡ program ∷ codes "drive" ∷ codes "--help" ∷ [])
+    ⊎ ((words ≡ program ∷ codes "run" ∷ codes "--help" ∷ []) ⊎ (words ≡ program ∷ codes "--version" ∷ [])))))))
+
+abbrev pub HelpIsShown : Type 0
+HelpIsShown = (words : List (List ℕ)) → IsHelpLine words → IsFaulty words × (MayTell words → ⊥)
+
+abbrev pub LinesAskOnce : Type 0
+LinesAskOnce = (words : List (List ℕ)) (one : Asked) (other : Asked) → AsksFor words one → AsksFor words other → one ≡ other

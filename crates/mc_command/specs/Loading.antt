@@ -1,0 +1,127 @@
+-- The code of an input: that of the script which it spells, or that whose image it is; or why it has none.
+use Rattle.std.specs.Prelude.{◌≡◌, ◌≢◌, ◌⊎◌, ◌==◌, ℕ, Bool, true, false, List, Result, MatchResult, codes}
+use Rattle.std.specs.List.{starts_with}
+use Rattle.mc_script.specs.Kinds as script_kinds
+use Rattle.mc_script.specs.declared.fault.ScriptFault.{ScriptFault}
+use Rattle.mc_script.specs.declared.fault.ScriptKind.TheVariants as script_kind
+use Rattle.mc_script.specs.Script.{Script}
+use Rattle.mc_script.specs.FrontText.{SpellsFront}
+use Rattle.mc_script.specs.ScriptText.{SpellsScript}
+use Rattle.mc_code.specs.AsmKinds as asm_kinds
+use Rattle.mc_code.specs.ImageKinds as image_kinds
+use Rattle.mc_code.specs.declared.fault.AsmFault.{AsmFault}
+use Rattle.mc_code.specs.declared.fault.AsmFault.TheVariants as asm_fault
+use Rattle.mc_code.specs.declared.fault.ImageFault.{ImageFault}
+use Rattle.mc_code.specs.declared.fault.ImageKind.TheVariants as image_kind
+use Rattle.mc_code.specs.Agreement.{Agrees}
+use Rattle.mc_code.specs.Code.{Code, IsCode}
+use Rattle.mc_code.specs.Image.{IsImageOf}
+use Rattle.mc_code.specs.Layout.{IsExceeded, IsFirst, code_of}
+use Rattle.mc_command.specs.Refusals.{refusal_text}
+use Rattle.mc_command.specs.declared.loading.LoadFault.{LoadFault}
+use Rattle.mc_command.specs.declared.loading.LoadFault.TheVariants as load_fault
+use Rattle.mc_command.specs.declared.refusal.Place.{Place}
+use Rattle.mc_command.specs.declared.refusal.Place.TheVariants as place
+
+-- ---- scripts
+
+-- no script is spelled by the text
+abbrev pub SpellsNoScript : List ℕ → Type 0
+SpellsNoScript text = (s : Script) → SpellsScript text s → ⊥
+
+-- the code is that of the script, and does the same
+abbrev pub IsAssembled : Script → Code → Type 0
+IsAssembled s code = Agrees s code × (code ≡ code_of s)
+
+-- the script exceeds this limit, and none before it
+abbrev pub IsTooLarge : Script → AsmFault → Type 0
+IsTooLarge s limit = (limit ≢ asm_fault.OutOfMemory) × IsExceeded s limit × IsFirst s limit
+
+-- the code of the script that the text spells
+abbrev pub IsScriptCode : List ℕ → Code → Type 0
+IsScriptCode text code = (s : Script) × SpellsScript text s × IsAssembled s code
+
+-- why the text has no code: it spells no script, or one that is too large
+abbrev pub IsScriptFault : List ℕ → LoadFault → Type 0
+IsScriptFault text (load_fault.NoScript found) = (found.kind ≢ script_kind.OutOfMemory) × SpellsNoScript text
+IsScriptFault text (load_fault.TooLarge limit) = (s : Script) × SpellsScript text s × IsTooLarge s limit
+IsScriptFault text (load_fault.NoImage found) = ⊥
+
+abbrev pub LoadsScript : List ℕ → Result Code LoadFault → Type 0
+LoadsScript text loaded = MatchResult loaded (IsScriptCode text) (IsScriptFault text)
+
+-- ---- scripts that something follows
+
+-- the code of the script that the first size bytes of the text spell
+abbrev pub IsFrontCode : List ℕ → Code → ℕ → Type 0
+IsFrontCode text code size = (s : Script) × SpellsFront text s size × IsAssembled s code
+
+-- why the text begins with no code: it begins with no script, or with one that is too large
+abbrev pub IsFrontFault : List ℕ → LoadFault → Type 0
+IsFrontFault text (load_fault.NoScript found) =
+    (found.kind ≢ script_kind.OutOfMemory) × ((s : Script) (size : ℕ) → SpellsFront text s size → ⊥)
+IsFrontFault text (load_fault.TooLarge limit) = (s : Script) × (size : ℕ) × SpellsFront text s size × IsTooLarge s limit
+IsFrontFault text (load_fault.NoImage found) = ⊥
+
+-- ---- images
+
+-- the code whose image the bytes are
+abbrev pub IsImageCode : List ℕ → Code → Type 0
+IsImageCode bytes code = IsCode code × IsImageOf bytes code
+
+-- why the bytes have no code: they are the image of none
+abbrev pub IsImageFault : List ℕ → LoadFault → Type 0
+IsImageFault bytes (load_fault.NoScript found) = ⊥
+IsImageFault bytes (load_fault.TooLarge limit) = ⊥
+IsImageFault bytes (load_fault.NoImage found) =
+    (found.kind ≢ image_kind.OutOfMemory) × ((code : Code) → IsCode code → IsImageOf bytes code → ⊥)
+
+abbrev pub LoadsImage : List ℕ → Result Code LoadFault → Type 0
+LoadsImage bytes loaded = MatchResult loaded (IsImageCode bytes) (IsImageFault bytes)
+
+-- ---- either
+
+-- the input begins as each image does, whatever its version
+abbrev pub begins_as_image : List ℕ → Bool
+begins_as_image input = starts_with (◌==◌) input (codes "MCR")
+
+-- what begins as an image is read as one, and any other input as a script
+abbrev pub Loads : List ℕ → Result Code LoadFault → Type 0
+Loads input loaded =
+    ((begins_as_image input ≡ true) × LoadsImage input loaded) ⊎ ((begins_as_image input ≡ false) × LoadsScript input loaded)
+
+-- ---- what is written where there is no code
+
+-- what is written for a text that is no script
+abbrev pub script_refusal : ScriptFault → List ℕ
+script_refusal found = refusal_text (codes "script") (script_kinds.kind_number found.kind) (script_kinds.kind_name found.kind)
+    (place.Line found.line)
+
+-- a section that is too large is named
+abbrev pub place_of : AsmFault → Place
+place_of asm_fault.TooManyTemplates = place.Whole
+place_of (asm_fault.TooManyInstructions actor) = place.Section actor
+place_of asm_fault.OutOfMemory = place.Whole
+
+-- what is written for a script that is too large
+abbrev pub size_refusal : AsmFault → List ℕ
+size_refusal limit = refusal_text (codes "asm") (asm_kinds.kind_number limit) (asm_kinds.kind_name limit) (place_of limit)
+
+-- what is written for bytes that are no image
+abbrev pub image_refusal : ImageFault → List ℕ
+image_refusal found = refusal_text (codes "image") (image_kinds.kind_number found.kind) (image_kinds.kind_name found.kind)
+    (place.Byte found.offset)
+
+-- what is written for each of them
+abbrev pub load_refusal : LoadFault → List ℕ
+load_refusal (load_fault.NoScript found) = script_refusal found
+load_refusal (load_fault.TooLarge limit) = size_refusal limit
+load_refusal (load_fault.NoImage found) = image_refusal found
+
+-- ---- a part that a private clause cites
+
+-- why a script has no code
+abbrev pub IsSizeFault : Script → LoadFault → Type 0
+IsSizeFault s (load_fault.NoScript found) = ⊥
+IsSizeFault s (load_fault.TooLarge limit) = IsTooLarge s limit
+IsSizeFault s (load_fault.NoImage found) = ⊥

@@ -1,0 +1,102 @@
+//! What is answered to a text, whatever the line asks for.
+ghost use Rattle.std.specs.Prelude.{◌≡◌, IfOk};
+ghost use Rattle.mc_command.specs.Answers as answers;
+ghost use Rattle.mc_command.specs.AsmAnswers.{Assembles};
+ghost use Rattle.mc_command.specs.CheckAnswers.{Checks};
+ghost use Rattle.mc_command.specs.DriveAnswers.{Drives};
+ghost use Rattle.mc_command.specs.JudgeAnswers.{Judges};
+ghost use Rattle.mc_command.specs.RunAnswers.{Plays};
+
+use crate::arguments::Asked;
+use crate::loading::load_script;
+use crate::status::Status;
+use crate::{asm, check, drive, judge, run};
+use std::alloc::{AllocError, Global};
+
+/// The most bytes of an input.
+pub const INPUT_LIMIT: usize = 1_048_576;
+
+/// What is written where memory runs out.
+pub const OUT_OF_MEMORY: &[u8] = b"out of memory\n";
+
+const TOO_LONG: &[u8] = b"refused input too long\n";
+
+/// What is written for a text, and the exit status with it.
+#[derive(Debug, Drop)]
+pub struct Answer {
+    pub output: Vec<u8>,
+    pub status: Status,
+}
+
+/// Does what is asked for with the text, which has been read to its end or to one byte more than the limit.
+pub fn answer_to(alloc: Global, asked: Asked, text: &[u8]) -> Result<Answer, AllocError>
+    ensures { IfOk result (λ answer. answers.IsAnswer asked text.now answer.output.items answer.status) }
+{
+    if text.len() > INPUT_LIMIT {
+        return too_long(alloc);
+    }
+    match asked {
+        Asked::Judge(limit) => judge_answer(alloc, text, limit),
+        Asked::Check => check_answer(alloc, text),
+        Asked::Asm => asm_answer(alloc, text),
+        Asked::Drive(limit) => drive_answer(alloc, text, limit),
+        // Whoever can reach a server answers by `run_command`.
+        Asked::Run(_) => unplayed_answer(alloc, text),
+    }
+}
+
+/// What is answered to a text that is too long.
+pub fn too_long(alloc: Global) -> Result<Answer, AllocError>
+    ensures { IfOk result (λ answer. (answer.output.items ≡ answers.too_long_text) × (answer.status ≡ Status.Refused)) }
+{
+    let output = Vec::from_slice(alloc, TOO_LONG)?;
+    Ok(Answer {
+        output,
+        status: Status::Refused,
+    })
+}
+
+fn judge_answer(alloc: Global, text: &[u8], limit: u64) -> Result<Answer, AllocError>
+    ensures { IfOk result (λ answer. Judges limit text.now answer.output.items answer.status) }
+{
+    let judgement = judge::judge_text(alloc, text, limit)?;
+    let output = judge::text_of(alloc, &judgement)?;
+    let status = judge::status_of(&judgement);
+    Ok(Answer { output, status })
+}
+
+fn check_answer(alloc: Global, input: &[u8]) -> Result<Answer, AllocError>
+    ensures { IfOk result (λ answer. Checks input.now answer.output.items answer.status) }
+{
+    let verification = check::check_input(alloc, input)?;
+    let output = check::text_of(alloc, &verification)?;
+    let status = check::status_of(&verification);
+    Ok(Answer { output, status })
+}
+
+fn asm_answer(alloc: Global, text: &[u8]) -> Result<Answer, AllocError>
+    ensures { IfOk result (λ answer. Assembles text.now answer.output.items answer.status) }
+{
+    let loaded = load_script(alloc, text)?;
+    let output = asm::text_of(alloc, &loaded)?;
+    let status = asm::status_of(&loaded);
+    Ok(Answer { output, status })
+}
+
+fn drive_answer(alloc: Global, text: &[u8], limit: u64) -> Result<Answer, AllocError>
+    ensures { IfOk result (λ answer. Drives text.now answer.output.items answer.status) }
+{
+    let driven = drive::drive_text(alloc, text, limit)?;
+    let output = drive::text_of(alloc, &driven)?;
+    let status = drive::status_of(&driven);
+    Ok(Answer { output, status })
+}
+
+fn unplayed_answer(alloc: Global, text: &[u8]) -> Result<Answer, AllocError>
+    ensures { IfOk result (λ answer. Plays text.now answer.output.items answer.status) }
+{
+    let played = run::check_text(alloc, text)?;
+    let output = run::text_of(alloc, &played)?;
+    let status = run::status_of(&played);
+    Ok(Answer { output, status })
+}

@@ -1,0 +1,237 @@
+//! What `judge` answers to a text.
+ghost use Rattle.std.specs.Prelude.{◌≡◌, IfOk};
+ghost use Rattle.clap.specs.Words.{app_of};
+ghost use Rattle.mc_command.specs.CommandLine.{judge_app};
+ghost use Rattle.mc_command.specs.JudgeAnswers as answers;
+ghost use Rattle.mc_command.specs.Refusals as refusals;
+
+use crate::limit;
+use crate::refusal::{Place, Refusal, refusal_text};
+use crate::status::Status;
+use crate::verdicts::{verdict_status, verdict_text};
+use clap::Command;
+use mc_explain::{Explanation, HistoryFault, Verdict, confirms, judge, parse_history};
+use mc_model::{History, HistoryKind};
+use std::alloc::{AllocError, Global};
+
+/// What is answered to a text.
+#[derive(Debug, Drop)]
+pub enum Judgement {
+    /// The explanation in the text explains the history.
+    Confirmed,
+    /// The explanation in the text does not explain the history.
+    NotConfirmed,
+    /// The text has no explanation. This is the verdict of the search for one, and how many turns it took.
+    Judged(Verdict, u64),
+    /// The text is no history.
+    Refused(HistoryFault),
+}
+
+/// Reads the text, and confirms its explanation, or searches for one in at most `limit` turns.
+pub fn judge_text(alloc: Global, text: &[u8], limit: u64) -> Result<Judgement, AllocError>
+    ensures { IfOk result (answers.IsRight limit text.now) }
+{
+    match parse_history(alloc, text) {
+        Ok(parsed) => {
+            let (history, explanation) = parsed;
+            match explanation {
+                Some(explanation) => check_explanation(alloc, &history, &explanation),
+                None => find_verdict(alloc, &history, limit),
+            }
+        }
+        // Want of memory is no fault of the text.
+        Err(fault) => match fault.kind {
+            HistoryKind::OutOfMemory => Err(AllocError),
+            _ => Ok(Judgement::Refused(fault)),
+        },
+    }
+}
+
+fn check_explanation(
+    alloc: Global,
+    history: &History,
+    explanation: &Explanation,
+) -> Result<Judgement, AllocError>
+    ensures { IfOk result (answers.ConfirmsRightly history.now explanation.now) }
+{
+    if confirms(alloc, history, explanation)? {
+        Ok(Judgement::Confirmed)
+    } else {
+        Ok(Judgement::NotConfirmed)
+    }
+}
+
+fn find_verdict(alloc: Global, history: &History, limit: u64) -> Result<Judgement, AllocError>
+    ensures { IfOk result (answers.JudgesRightly limit history.now) }
+{
+    let (verdict, turns) = judge(alloc, history, limit)?;
+    Ok(Judgement::Judged(verdict, turns))
+}
+
+/// The text that is written for an answer.
+pub fn text_of(alloc: Global, answer: &Judgement) -> Result<Vec<u8>, AllocError>
+    ensures { IfOk result (λ text. text.items ≡ answers.text_of answer.now) }
+{
+    match answer {
+        Judgement::Confirmed => Vec::from_slice(alloc, b"confirmed\n"),
+        Judgement::NotConfirmed => Vec::from_slice(alloc, b"not confirmed\n"),
+        Judgement::Judged(verdict, _) => verdict_text(alloc, verdict),
+        Judgement::Refused(fault) => refusal_text(alloc, refusal_of(*fault)),
+    }
+}
+
+fn refusal_of(fault: HistoryFault) -> Refusal
+    ensures { refusals.text_of result ≡ answers.history_refusal fault }
+{
+    Refusal {
+        what: "history",
+        number: fault.kind.number(),
+        name: fault.kind.name(),
+        place: Place::Line(fault.line),
+    }
+}
+
+/// The exit status of an answer.
+pub fn status_of(answer: &Judgement) -> Status
+    ensures { result ≡ answers.status_of answer.now }
+{
+    match answer {
+        Judgement::Confirmed => Status::Success,
+        Judgement::NotConfirmed => Status::Unexplained,
+        Judgement::Judged(verdict, _) => verdict_status(verdict),
+        Judgement::Refused(_) => Status::Refused,
+    }
+}
+
+const ABOUT: &str = "Judges the history on standard input";
+
+const USAGE: &str = "mcrace judge [--limit N] < FILE";
+
+const LONG_ABOUT: &str =
+    "Judges the history on standard input: whether one cache can have given every
+reply in it.
+
+A history is what three clients of one server sent and received: P, which ran
+alone first, and then A and B, which ran side by side. P comes before A and B,
+and the requests of each client keep their order. In `history 1` no order in
+time between A and B counts: what is judged is sequential consistency of one
+cache. `history 2` keeps the recorded order: a request that was answered before
+another one began comes before it, and what is judged is linearizability.
+
+An example, in which A stores only because nobody else did after its `gets`:
+
+  history 1
+  P delete a -> NOT_FOUND
+  P set a 0 =5 -> STORED
+  A gets a -> HIT 0 =5 7
+  A cas a 0 =two%20words 7 -> STORED
+  B get a -> HIT 0 =two%20words
+  end
+
+The first line is `history 1`, and the last one `end`. Between them stands a
+line for each request: the client, the request, `->`, and the reply; or `?` for
+a reply that was lost or was an error line, after which the client sent nothing
+more. P's lines come first, and those of A and B may be mixed. Blank lines are
+skipped, and so are lines that begin with `#`.
+
+In a `history 2` stands a line for each request that began and a line for each
+reply that came, in the order in which that was recorded:
+
+  history 2
+  P begin delete a
+  P reply NOT_FOUND
+  A begin set a 0 =1
+  A reply STORED
+  B begin get a
+  B reply HIT 0 =1
+  end
+
+  request                     replies
+  set KEY FLAGS BODY          STORED, NOT_STORED, EXISTS, NOT_FOUND
+  add KEY FLAGS BODY          the same
+  replace KEY FLAGS BODY      the same
+  append KEY FLAGS BODY       the same
+  prepend KEY FLAGS BODY      the same
+  cas KEY FLAGS BODY NUMBER   the same
+  get KEY                     HIT FLAGS BODY, MISS
+  gets KEY                    HIT FLAGS BODY CAS, MISS
+  incr KEY NUMBER             NUMBER N, NOT_FOUND, NOT_A_NUMBER
+  decr KEY NUMBER             the same
+  delete KEY                  DELETED, NOT_FOUND
+  touch KEY                   TOUCHED, NOT_FOUND; its time of expiry is 0
+
+  KEY     1 to 40 of a-z, 0-9 and `-`; a history has at most 8 keys
+  FLAGS   a decimal below 2^32
+  BODY    `=` and the bytes, at most 65,536; `%` and two hexadecimal digits
+          stand for any byte: `=` is empty, `%20` a space, `%25` a `%`
+  NUMBER  a decimal below 2^64, and so are N and CAS; that of `cas` is a CAS
+          that a `gets` of the key showed before, to the same client or to P
+
+P deletes each key before any other request of it, so that it is known what the
+key held. A client sends at most 24 requests.
+
+An explanation is an order in which the server may have acted. It explains the
+history where a cache that acts in that order gives every reply that was
+received. A line names the client whose next request acts, and the number of the
+version of the item that the request makes, or any number where it makes none.
+The number of a version is its cas unique, as `gets` shows it. This one explains
+the history above:
+
+  explained
+  P 0
+  P 7
+  A 0
+  A 1
+  B 0
+  end
+
+Before the order may stand lines `start KEY NUMBER`, each for a key that held
+something before the run, and the number of that version. After a number may
+stand `pad`, and then `refuse`: what the server chose where the protocol leaves
+it a choice. With `pad` an `incr` or a `decr` fills up the new body with spaces
+to the length of the old one; with `refuse` it answers NOT_A_NUMBER to a body
+that another server may read as a number.
+
+What is answered:
+  explained    an explanation was found; its lines follow, and `end`
+  unexplained  there is none: the search came to its end
+  undecided    the turns of the search were used up before either was known
+A turn tries one request at one place of the order. The search keeps in memory
+from where it found no way on, up to 256 MiB; past that it keeps no more, and
+may take more turns.
+
+Where a line `explain` and the lines of an explanation stand before `end`, that
+one is judged, and none is searched for:
+  confirmed      it explains the history
+  not confirmed  it does not
+
+A text that is no history is refused, as `refused history 5 WrongReply line 4`:
+  1 Header        the first line is neither `history 1` nor `history 2`
+  2 Line          the line or one of its words may not stand there
+  3 Number        a number is too large, or has more than 20 digits
+  4 Order         a line of P after one of A or B, a request before the reply
+                  that its client waits for, or a reply that answers none
+  5 WrongReply    the protocol has no such reply to the request
+  6 NotCleared    the key's first request is not a `delete` of P
+  7 UnseenNumber  no `gets` of the key showed the number of this `cas` before
+  8 TooMany       more than 24 requests of a client, or more than 8 keys
+  9 Unended       the line `end` is missing";
+
+const STATUSES: &str = "Exit status:
+  0  explained, or confirmed
+  1  unexplained, or not confirmed
+  2  the command line is wrong
+  3  refused: the input is no history, or has more than 1,048,576 bytes
+  4  undecided; or out of memory; or input or output failed";
+
+/// The subcommand.
+pub fn subcommand<'a>(alloc: Global) -> Result<Command<'a>, AllocError>
+    ensures { IfOk result (λ command. app_of command ≡ judge_app) }
+{
+    Command::new(alloc, "judge")
+        .about(ABOUT)
+        .long_about(LONG_ABOUT)
+        .override_usage(USAGE)
+        .after_help(STATUSES)
+        .arg(limit::option(alloc))
+}

@@ -1,0 +1,146 @@
+//! Reading code: a script's, which is assembled, or an image's.
+ghost use Rattle.std.specs.Prelude.{◌≡◌, ◌≢◌, IfErr, IfOk};
+ghost use Rattle.mc_command.specs.Loading as loading;
+ghost use Rattle.mc_command.specs.Refusals as refusals;
+
+use crate::refusal::{Place, Refusal};
+use mc_code::{AsmFault, Code, ImageFault, ImageKind, assemble, decode};
+use mc_script::{Script, ScriptFault, ScriptKind, parse, parse_front};
+use std::alloc::{AllocError, Global};
+
+// The first bytes of an image, whatever its version.
+const IMAGE_START: &[u8] = b"MCR";
+
+/// Why an input has no code.
+#[derive(Clone, Copy, Debug, Drop, PartialEq, Eq)]
+pub enum LoadFault {
+    /// The text is no script.
+    NoScript(ScriptFault),
+    /// The script is too large, by this limit.
+    TooLarge(AsmFault),
+    /// The bytes are no image.
+    NoImage(ImageFault),
+}
+
+/// The code of an image, where the input begins as one, or else that of a script.
+pub fn load(alloc: Global, input: &[u8]) -> Result<Result<Code, LoadFault>, AllocError>
+    ensures { IfOk result (loading.Loads input.now) }
+{
+    if input.starts_with(IMAGE_START) {
+        load_image(alloc, input)
+    } else {
+        load_script(alloc, input)
+    }
+}
+
+/// The code of the script that the text spells.
+pub fn load_script(alloc: Global, text: &[u8]) -> Result<Result<Code, LoadFault>, AllocError>
+    ensures { IfOk result (loading.LoadsScript text.now) }
+{
+    match parse(alloc, text) {
+        Ok(script) => assemble_script(alloc, &script),
+        Err(fault) => Ok(Err(no_script(fault)?)),
+    }
+}
+
+/// The code of the script that the text begins with, and how many bytes that script has; whatever follows it.
+pub fn load_front(
+    alloc: Global,
+    text: &[u8],
+) -> Result<Result<(Code, usize), LoadFault>, AllocError>
+    ensures code { IfOk result (λ loaded. IfOk loaded (λ front. loading.IsFrontCode text.now front.0 front.1)) }
+    ensures fault { IfOk result (λ loaded. IfErr loaded (loading.IsFrontFault text.now)) }
+{
+    match parse_front(alloc, text) {
+        Ok((script, size)) => match assemble_script(alloc, &script)? {
+            Ok(code) => Ok(Ok((code, size))),
+            Err(fault) => Ok(Err(fault)),
+        },
+        Err(fault) => Ok(Err(no_script(fault)?)),
+    }
+}
+
+// Want of memory is no fault of the text.
+fn no_script(fault: ScriptFault) -> Result<LoadFault, AllocError>
+    ensures { IfOk result (λ found. (found ≡ LoadFault.NoScript fault) × (fault.kind ≢ ScriptKind.OutOfMemory)) }
+{
+    match fault.kind {
+        ScriptKind::OutOfMemory => Err(AllocError),
+        _ => Ok(LoadFault::NoScript(fault)),
+    }
+}
+
+fn assemble_script(alloc: Global, script: &Script) -> Result<Result<Code, LoadFault>, AllocError>
+    ensures code { IfOk result (λ loaded. IfOk loaded (loading.IsAssembled script.now)) }
+    ensures fault { IfOk result (λ loaded. IfErr loaded (loading.IsSizeFault script.now)) }
+{
+    match assemble(alloc, script) {
+        Ok(code) => Ok(Ok(code)),
+        // Want of memory is no fault of the script.
+        Err(fault) => match fault {
+            AsmFault::OutOfMemory => Err(AllocError),
+            _ => Ok(Err(LoadFault::TooLarge(fault))),
+        },
+    }
+}
+
+fn load_image(alloc: Global, bytes: &[u8]) -> Result<Result<Code, LoadFault>, AllocError>
+    ensures { IfOk result (loading.LoadsImage bytes.now) }
+{
+    match decode(alloc, bytes) {
+        Ok(code) => Ok(Ok(code)),
+        // Want of memory is no fault of the bytes.
+        Err(fault) => match fault.kind {
+            ImageKind::OutOfMemory => Err(AllocError),
+            _ => Ok(Err(LoadFault::NoImage(fault))),
+        },
+    }
+}
+
+/// What is written for an input that has no code.
+pub fn refusal_of(fault: LoadFault) -> Refusal
+    ensures { refusals.text_of result ≡ loading.load_refusal fault }
+{
+    match fault {
+        LoadFault::NoScript(fault) => refusal_of_script(fault),
+        LoadFault::TooLarge(fault) => refusal_of_size(fault),
+        LoadFault::NoImage(fault) => refusal_of_image(fault),
+    }
+}
+
+fn refusal_of_script(fault: ScriptFault) -> Refusal
+    ensures { refusals.text_of result ≡ loading.script_refusal fault }
+{
+    Refusal {
+        what: "script",
+        number: fault.kind.number(),
+        name: fault.kind.name(),
+        place: Place::Line(fault.line),
+    }
+}
+
+fn refusal_of_size(fault: AsmFault) -> Refusal
+    ensures { refusals.text_of result ≡ loading.size_refusal fault }
+{
+    let place = match fault {
+        AsmFault::TooManyInstructions(actor) => Place::Section(actor),
+        _ => Place::Whole,
+    };
+    Refusal {
+        what: "asm",
+        number: fault.number(),
+        name: fault.name(),
+        place,
+    }
+}
+
+fn refusal_of_image(fault: ImageFault) -> Refusal
+    ensures { refusals.text_of result ≡ loading.image_refusal fault }
+{
+    Refusal {
+        what: "image",
+        number: fault.kind.number(),
+        name: fault.kind.name(),
+        place: Place::Byte(fault.offset),
+    }
+}

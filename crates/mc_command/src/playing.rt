@@ -1,0 +1,121 @@
+//! The command `run`, over any streams for input and output.
+ghost use Rattle.std.specs.Prelude.{◌≡◌, ℕ, List, true, false, IfOk};
+ghost use Rattle.mc_command.specs.Answers.{IsAnswer};
+ghost use Rattle.mc_command.specs.Command.{Answers, IsWhole};
+ghost use Rattle.mc_command.specs.Input as input_rule;
+ghost use Rattle.mc_command.specs.Statuses.{status_number};
+ghost use Rattle.mc_command.specs.Streams.{TakesAtMost};
+
+use crate::answer::{Answer, INPUT_LIMIT, too_long};
+use crate::arguments::{Asked, Target};
+use crate::input::{InputFault, read_input};
+use crate::meeting::Meeting;
+use crate::program::{write_fault, write_text};
+use crate::run::{play_text, status_of, text_of};
+use crate::status::Status;
+use crate::streams::{Sink, Source};
+use std::alloc::{AllocError, Global};
+use std::io;
+use std::net::{Net, TcpStream};
+use std::rt::Clock;
+use std::sync::Wait;
+use std::thread::Threads;
+
+/// Runs the script on the input against the server that `target` names as HOST:PORT, and answers the exit status. The search for
+/// an explanation takes at most `limit` turns, and how the branches meet is drawn.
+///
+/// At most 1,048,577 bytes of the input are read, and they are read whole before anything is connected. It waits for the
+/// server.
+pub fn run_command<R, I: Source, O: Sink>(
+    rt: &R,
+    alloc: Global,
+    target: &str,
+    limit: u64,
+    input: &mut I,
+    output: &mut O,
+) -> u8
+where
+    R: Net<Stream = TcpStream> + Threads + Wait + Clock + Sync,
+    ensures answered { I.has_failed input.old ≡ false → I.has_failed input.new ≡ false
+        → O.has_failed output.old ≡ false → O.has_failed output.new ≡ false
+        → (ended : Status) × (result ≡ status_number ended)
+        × Answers (Asked.Run limit) (I.left input.old) (O.written output.old) (O.written output.new) ended }
+    ensures broken_input { I.has_failed input.old ≡ false → I.has_failed input.new ≡ true
+        → (result ≡ 4) × (output.new ≡ output.old) }
+    ensures broken_output { O.has_failed output.old ≡ false → O.has_failed output.new ≡ true → result ≡ 4 }
+    ensures taken { TakesAtMost 1048577 (I.left input.old) (I.left input.new) }
+{
+    let target = Target {
+        server: target,
+        limit,
+        meeting: Meeting::Drawn,
+    };
+    let (status, _) = run_script(rt, alloc, target, input, output);
+    status.number()
+}
+
+/// The same for a run whose branches may meet otherwise, with the status as it stands, and why a section got no connection, where
+/// one didn't.
+pub fn run_script<R, I: Source, O: Sink>(
+    rt: &R,
+    alloc: Global,
+    target: Target<'_>,
+    input: &mut I,
+    output: &mut O,
+) -> (Status, Option<io::Error>)
+where
+    R: Net<Stream = TcpStream> + Threads + Wait + Clock + Sync,
+    ensures answered { I.has_failed input.old ≡ false → I.has_failed input.new ≡ false
+        → O.has_failed output.old ≡ false → O.has_failed output.new ≡ false
+        → Answers (Asked.Run target.entry.limit) (I.left input.old) (O.written output.old) (O.written output.new) result.0 }
+    ensures broken_input { I.has_failed input.old ≡ false → I.has_failed input.new ≡ true
+        → (result.0 ≡ Status.NoAnswer) × (output.new ≡ output.old) }
+    ensures broken_output { O.has_failed output.old ≡ false → O.has_failed output.new ≡ true → result.0 ≡ Status.NoAnswer }
+    ensures taken { TakesAtMost 1048577 (I.left input.old) (I.left input.new) }
+{
+    match read_and_run(rt, alloc, target, input) {
+        Ok((answer, reason)) => {
+            let status = write_text(answer.output.as_slice(), answer.status, output);
+            (status, reason)
+        }
+        Err(fault) => (write_fault(fault, output), None),
+    }
+}
+
+// Reads the input whole, and finds the answer to it.
+fn read_and_run<R, I: Source>(
+    rt: &R,
+    alloc: Global,
+    target: Target<'_>,
+    input: &mut I,
+) -> Result<(Answer, Option<io::Error>), InputFault>
+where
+    R: Net<Stream = TcpStream> + Threads + Wait + Clock + Sync,
+    ensures right { IfOk result (λ found. (text : List ℕ) × IsWhole (I.left input.old) text
+        × IsAnswer (Asked.Run target.entry.limit) text found.0.output.items found.0.status) }
+    ensures fails { input_rule.Fails (I.has_failed input.old) (I.has_failed input.new) result }
+    ensures taken { TakesAtMost 1048577 (I.left input.old) (I.left input.new) }
+{
+    let text = read_input(alloc, input, INPUT_LIMIT)?;
+    Ok(answer_to(rt, alloc, target, text.as_slice())?)
+}
+
+// The answer to a text, which has been read to its end or to one byte more than the limit.
+fn answer_to<R>(
+    rt: &R,
+    alloc: Global,
+    target: Target<'_>,
+    text: &[u8],
+) -> Result<(Answer, Option<io::Error>), AllocError>
+where
+    R: Net<Stream = TcpStream> + Threads + Wait + Clock + Sync,
+    ensures { IfOk result (λ found. IsAnswer (Asked.Run target.entry.limit) text.now found.0.output.items found.0.status) }
+{
+    if text.len() > INPUT_LIMIT {
+        return Ok((too_long(alloc)?, None));
+    }
+    let (played, reason) = play_text(rt, alloc, target, text)?;
+    let output = text_of(alloc, &played)?;
+    let status = status_of(&played);
+    Ok((Answer { output, status }, reason))
+}

@@ -1,0 +1,166 @@
+//! The whole program, over any streams.
+ghost use Rattle.std.specs.Prelude.{◌≡◌, ◌≢◌, ◌⊎◌, ℕ, List, [], ◌+◌, ◌<◌, ◌≤◌, true, false, map, string_bytes, length, IfOk, IfErr};
+ghost use Rattle.mc_command.specs.Answers.{IsAnswer, not_utf8_text, out_of_memory_text};
+ghost use Rattle.mc_command.specs.Command.{AsksFor, Answers, IsFaulty, IsShown, IsWhole, MayShow, MayTell};
+ghost use Rattle.mc_command.specs.Input as input_rule;
+ghost use Rattle.mc_command.specs.Statuses.{status_number};
+ghost use Rattle.mc_command.specs.Streams.{Grows, TakesAtMost};
+ghost use Rattle.clap.specs.Words.{kind_of};
+ghost use Rattle.std.specs.IoError.{error_kind};
+ghost use Rattle.std.specs.declared.io.ErrorKind.TheVariants as io_kind;
+
+use crate::answer::{Answer, INPUT_LIMIT, OUT_OF_MEMORY, answer_to};
+use crate::arguments::{Asked, read_line};
+use crate::input::{InputFault, read_input};
+use crate::status::Status;
+use crate::streams::{Sink, Source};
+use clap::Error;
+use clap::error::ErrorKind;
+use std::alloc::Global;
+use std::io;
+
+const NOT_UTF8: &[u8] = b"error: the command line is not UTF-8\n";
+
+/// Does what the line asks for, and answers the exit status. The line's first word is the program's name.
+///
+/// At most 1,048,577 bytes of the input are read, and they are read whole before a byte is written. Of a line with a fault
+/// nothing is read. The fault goes to the faults, and help, the version and want of memory go to the output.
+#[tactic(auto, using(crate::proofs::PlainLines::lines_ask_once))]
+pub fn command<I: Source, O: Sink, F: Sink>(
+    alloc: Global,
+    line: &[String],
+    input: &mut I,
+    output: &mut O,
+    faults: &mut F,
+) -> u8
+    ensures answered { (asked : Asked) → AsksFor (map string_bytes line.now) asked
+        → I.has_failed input.old ≡ false → I.has_failed input.new ≡ false
+        → O.has_failed output.old ≡ false → O.has_failed output.new ≡ false
+        → (ended : Status) × (result ≡ status_number ended)
+        × Answers asked (I.left input.old) (O.written output.old) (O.written output.new) ended }
+    ensures no_fault { (asked : Asked) → AsksFor (map string_bytes line.now) asked → faults.new ≡ faults.old }
+
+    ensures fault { IsFaulty (map string_bytes line.now)
+        → O.has_failed output.old ≡ false → O.has_failed output.new ≡ false
+        → F.has_failed faults.old ≡ false → F.has_failed faults.new ≡ false
+        → ((result ≡ 2) × (output.new ≡ output.old) × MayTell (map string_bytes line.now))
+        ⊎ (((result ≡ 0) × (faults.new ≡ faults.old) × MayShow (map string_bytes line.now))
+        ⊎ ((result ≡ 4) × (faults.new ≡ faults.old)
+        × Grows (O.written output.old) (O.written output.new) out_of_memory_text)) }
+    ensures apart { IsFaulty (map string_bytes line.now) → (output.new ≡ output.old) ⊎ (faults.new ≡ faults.old) }
+    ensures unread { IsFaulty (map string_bytes line.now) → input.new ≡ input.old }
+
+    ensures broken_input { I.has_failed input.old ≡ false → I.has_failed input.new ≡ true
+        → (result ≡ 4) × (output.new ≡ output.old) }
+    ensures broken_output { O.has_failed output.old ≡ false → O.has_failed output.new ≡ true → result ≡ 4 }
+    ensures broken_faults { F.has_failed faults.old ≡ false → F.has_failed faults.new ≡ true → result ≡ 4 }
+    ensures taken { TakesAtMost 1048577 (I.left input.old) (I.left input.new) }
+{
+    match read_line(alloc, line) {
+        Ok(asked) => answer(alloc, asked, input, output).number(),
+        Err(error) => explain(alloc, &error, output, faults).number(),
+    }
+}
+
+/// The exit status where the line could not be read: memory ran out, which goes to the output, or a word of it is not UTF-8, which
+/// goes to the faults.
+pub fn unread_line<O: Sink, F: Sink>(error: &io::Error, output: &mut O, faults: &mut F) -> u8
+    ensures memory { error_kind error.now ≡ io_kind.OutOfMemory → (faults.new ≡ faults.old)
+        × (O.has_failed output.old ≡ false → O.has_failed output.new ≡ false
+        → (result ≡ 4) × Grows (O.written output.old) (O.written output.new) out_of_memory_text) }
+    ensures word { error_kind error.now ≢ io_kind.OutOfMemory → (output.new ≡ output.old)
+        × (F.has_failed faults.old ≡ false → F.has_failed faults.new ≡ false
+        → (result ≡ 2) × Grows (F.written faults.old) (F.written faults.new) not_utf8_text) }
+    ensures broken_output { O.has_failed output.old ≡ false → O.has_failed output.new ≡ true → result ≡ 4 }
+    ensures broken_faults { F.has_failed faults.old ≡ false → F.has_failed faults.new ≡ true → result ≡ 4 }
+    ensures fails { (result ≡ 2) ⊎ (result ≡ 4) }
+{
+    let status = match error.kind() {
+        io::ErrorKind::OutOfMemory => write_text(OUT_OF_MEMORY, Status::NoAnswer, output),
+        _ => write_text(NOT_UTF8, Status::WrongLine, faults),
+    };
+    status.number()
+}
+
+// Reads the input, and writes what is answered to it.
+fn answer<I: Source, O: Sink>(alloc: Global, asked: Asked, input: &mut I, output: &mut O) -> Status
+    ensures answered { I.has_failed input.old ≡ false → I.has_failed input.new ≡ false
+        → O.has_failed output.old ≡ false → O.has_failed output.new ≡ false
+        → Answers asked (I.left input.old) (O.written output.old) (O.written output.new) result }
+    ensures broken_input { I.has_failed input.old ≡ false → I.has_failed input.new ≡ true
+        → (result ≡ Status.NoAnswer) × (output.new ≡ output.old) }
+    ensures broken_output { O.has_failed output.old ≡ false → O.has_failed output.new ≡ true → result ≡ Status.NoAnswer }
+    ensures taken { TakesAtMost 1048577 (I.left input.old) (I.left input.new) }
+{
+    match read_answer(alloc, asked, input) {
+        Ok(answer) => write_text(answer.output.as_slice(), answer.status, output),
+        Err(fault) => write_fault(fault, output),
+    }
+}
+
+/// What is written where the input was not read or not answered, and its status.
+pub fn write_fault<O: Sink>(fault: InputFault, output: &mut O) -> Status
+    ensures broken { fault ≡ InputFault.Broken → output.new ≡ output.old }
+    ensures memory { fault ≡ InputFault.OutOfMemory → O.has_failed output.old ≡ false → O.has_failed output.new ≡ false
+        → Grows (O.written output.old) (O.written output.new) out_of_memory_text }
+    ensures status { result ≡ Status.NoAnswer }
+{
+    match fault {
+        InputFault::Broken => Status::NoAnswer,
+        InputFault::OutOfMemory => write_text(OUT_OF_MEMORY, Status::NoAnswer, output),
+    }
+}
+
+// Reads the input whole, and finds the answer to it.
+fn read_answer<I: Source>(alloc: Global, asked: Asked, input: &mut I) -> Result<Answer, InputFault>
+    ensures right { IfOk result (λ answer. (text : List ℕ) × IsWhole (I.left input.old) text
+        × IsAnswer asked text answer.output.items answer.status) }
+    ensures fails { input_rule.Fails (I.has_failed input.old) (I.has_failed input.new) result }
+    ensures taken { TakesAtMost 1048577 (I.left input.old) (I.left input.new) }
+{
+    let text = read_input(alloc, input, INPUT_LIMIT)?;
+    Ok(answer_to(alloc, asked, text.as_slice())?)
+}
+
+// Writes clap's text: help and the version to the output, and a fault of the line to the faults.
+fn explain<O: Sink, F: Sink>(alloc: Global, error: &Error, output: &mut O, faults: &mut F) -> Status
+    ensures memory { kind_of error.now ≡ ErrorKind.OutOfMemory
+        → O.has_failed output.old ≡ false → O.has_failed output.new ≡ false
+        → Grows (O.written output.old) (O.written output.new) out_of_memory_text × (result ≡ Status.NoAnswer) }
+    ensures no_fault { kind_of error.now ≡ ErrorKind.OutOfMemory → faults.new ≡ faults.old }
+    ensures fault { O.has_failed output.old ≡ false → O.has_failed output.new ≡ false
+        → F.has_failed faults.old ≡ false → F.has_failed faults.new ≡ false
+        → ((result ≡ Status.WrongLine) × (output.new ≡ output.old) × (IsShown (kind_of error.now) → ⊥))
+        ⊎ (((result ≡ Status.Success) × (faults.new ≡ faults.old) × IsShown (kind_of error.now))
+        ⊎ ((result ≡ Status.NoAnswer) × (faults.new ≡ faults.old)
+        × Grows (O.written output.old) (O.written output.new) out_of_memory_text)) }
+    ensures apart { (output.new ≡ output.old) ⊎ (faults.new ≡ faults.old) }
+    ensures broken_output { O.has_failed output.old ≡ false → O.has_failed output.new ≡ true → result ≡ Status.NoAnswer }
+    ensures broken_faults { F.has_failed faults.old ≡ false → F.has_failed faults.new ≡ true → result ≡ Status.NoAnswer }
+{
+    if error.kind() == ErrorKind::OutOfMemory {
+        return write_text(OUT_OF_MEMORY, Status::NoAnswer, output);
+    }
+    let Ok(text) = error.to_string(alloc) else {
+        return write_text(OUT_OF_MEMORY, Status::NoAnswer, output);
+    };
+    match error.kind() {
+        ErrorKind::DisplayHelp | ErrorKind::DisplayVersion => {
+            write_text(text.as_bytes(), Status::Success, output)
+        }
+        _ => write_text(text.as_bytes(), Status::WrongLine, faults),
+    }
+}
+
+/// Writes the text by one call, and answers the status, or that of a failure.
+pub fn write_text<S: Sink>(text: &[u8], status: Status, sink: &mut S) -> Status
+    ensures written { S.has_failed sink.old ≡ false → S.has_failed sink.new ≡ false
+        → Grows (S.written sink.old) (S.written sink.new) text.now × (result ≡ status) }
+    ensures broken { S.has_failed sink.old ≡ false → S.has_failed sink.new ≡ true → result ≡ Status.NoAnswer }
+    ensures status { (result ≡ status) ⊎ (result ≡ Status.NoAnswer) }
+{
+    match sink.write_all(text) {
+        Ok(()) => status,
+        Err(_) => Status::NoAnswer,
+    }
+}

@@ -1,0 +1,287 @@
+//! What `run` answers to a script: it runs it against a server.
+ghost use Rattle.std.specs.Prelude.{◌≡◌, false, IfOk};
+ghost use Rattle.clap.specs.Words.{app_of, rule_of};
+ghost use Rattle.mc_run.specs.Running.{AreNew};
+ghost use Rattle.mc_command.specs.CommandLine.{run_app, target_rule};
+ghost use Rattle.mc_command.specs.RunAnswers as answers;
+
+use crate::arguments::Target;
+use crate::dial::connect_lanes;
+use crate::drawing::draw_meet;
+use crate::endings::endings_text;
+use crate::loading::{LoadFault, load_script};
+use crate::outcome::status_of_run;
+use crate::refusal::refusal_text;
+use crate::status::Status;
+use crate::verdicts::verdict_text;
+use crate::verifying::verify_code;
+use crate::{limit, loading, meeting, verifying};
+use clap::{Arg, Command};
+use mc_core::World;
+use mc_explain::{Verdict, print_history};
+use mc_lane::Stream;
+use mc_model::History;
+use mc_protocol::Actor;
+use mc_run::{FreeGate, Lanes, Meet, Run, RunError, run_lanes_with};
+use mc_verify::Checked;
+use std::alloc::{AllocError, Global};
+use std::io;
+use std::net::{Net, TcpStream};
+use std::rt::Clock;
+use std::sync::Wait;
+use std::thread::{Builder, Threads};
+
+/// What is answered to a text.
+#[derive(Debug, Drop)]
+pub enum Played {
+    /// The world of the run, its history and the verdict on it.
+    Ended(World, History, Verdict),
+    /// This section got no connection to the server.
+    NoConnection(Actor),
+    /// No thread could be made for a branch, or what was noted isn't what the connections recorded.
+    NotRun,
+    /// The text has no code.
+    NoCode(LoadFault),
+    /// The script's code isn't sound, and this is its least fault.
+    Unsound(mc_verify::Refusal),
+}
+
+/// Reads the script, runs it over three connections to the server, and judges what came of it in at most `limit` turns. How its
+/// branches meet is drawn where the target says so. Nothing is connected for a script that is refused. Where a section got no
+/// connection, the error says why.
+pub fn play_text<R: Net<Stream = TcpStream> + Threads + Wait + Clock + Sync>(
+    rt: &R,
+    alloc: Global,
+    target: Target<'_>,
+    text: &[u8],
+) -> Result<(Played, Option<io::Error>), AllocError>
+    ensures { IfOk result (λ played. answers.IsRight text.now played.0) }
+{
+    match load_script(alloc, text)? {
+        Ok(code) => match verify_code(alloc, code)? {
+            Ok(checked) => play_code(rt, alloc, target, &checked),
+            Err(refusal) => Ok((Played::Unsound(refusal), None)),
+        },
+        Err(fault) => Ok((Played::NoCode(fault), None)),
+    }
+}
+
+fn play_code<R: Net<Stream = TcpStream> + Threads + Wait + Clock + Sync>(
+    rt: &R,
+    alloc: Global,
+    target: Target<'_>,
+    checked: &Checked,
+) -> Result<(Played, Option<io::Error>), AllocError>
+    ensures { IfOk result (λ played. answers.IsRightFor checked.now.code played.0) }
+{
+    match connect_lanes(rt, alloc, target.server) {
+        Ok(lanes) => {
+            let meet = draw_meet(rt, target.meeting);
+            let played = play_lanes(rt, alloc, checked, lanes, meet, target.limit)?;
+            Ok((played, None))
+        }
+        Err((section, error)) => Ok((Played::NoConnection(section), Some(error))),
+    }
+}
+
+fn play_lanes<S: Stream + Send, R: Threads + Wait + Sync>(
+    rt: &R,
+    alloc: Global,
+    checked: &Checked,
+    lanes: Lanes<S>,
+    meet: Meet,
+    limit: u64,
+) -> Result<Played, AllocError>
+    requires { AreNew lanes }
+    ensures { IfOk result (answers.IsRightFor checked.now.code) }
+{
+    match run_lanes_with(rt, alloc, checked, lanes, &FreeGate, Builder::new(), meet) {
+        Ok(run) => {
+            let (history, verdict) = run.judge(alloc, checked, limit)?;
+            let Run { world, .. } = run;
+            Ok(Played::Ended(world, history, verdict))
+        }
+        Err(RunError::OutOfMemory) => Err(AllocError),
+        Err(RunError::BookMismatch | RunError::NoThread) => Ok(Played::NotRun),
+    }
+}
+
+/// What is answered to a text where no server can be reached.
+pub fn check_text(alloc: Global, text: &[u8]) -> Result<Played, AllocError>
+    ensures { IfOk result (answers.IsRight text.now) }
+{
+    match load_script(alloc, text)? {
+        Ok(code) => match verify_code(alloc, code)? {
+            Ok(_) => Ok(Played::NotRun),
+            Err(refusal) => Ok(Played::Unsound(refusal)),
+        },
+        Err(fault) => Ok(Played::NoCode(fault)),
+    }
+}
+
+/// The text that is written for an answer.
+pub fn text_of(alloc: Global, answer: &Played) -> Result<Vec<u8>, AllocError>
+    ensures { IfOk result (λ text. text.items ≡ answers.text_of answer.now) }
+{
+    match answer {
+        Played::Ended(world, history, verdict) => ended_text(alloc, world, history, verdict),
+        Played::NoConnection(section) => no_connection_text(alloc, *section),
+        Played::NotRun => Vec::from_slice(alloc, b"not run\n"),
+        Played::NoCode(fault) => refusal_text(alloc, loading::refusal_of(*fault)),
+        Played::Unsound(refusal) => refusal_text(alloc, verifying::refusal_of(*refusal)),
+    }
+}
+
+fn ended_text(
+    alloc: Global,
+    world: &World,
+    history: &History,
+    verdict: &Verdict,
+) -> Result<Vec<u8>, AllocError>
+    ensures { IfOk result (λ text. text.items ≡ answers.ended_text world.now history.now verdict.now) }
+{
+    let verdict = verdict_text(alloc, verdict)?;
+    let mut text = endings_text(alloc, world)?.into_bytes();
+    text.extend_from_slice(verdict.as_slice())?;
+    print_history(history, &mut text)?;
+    Ok(text)
+}
+
+fn no_connection_text(alloc: Global, section: Actor) -> Result<Vec<u8>, AllocError>
+    ensures { IfOk result (λ text. text.items ≡ answers.text_of (Played.NoConnection section)) }
+{
+    let text = format!(in alloc; "no connection {}\n", section.word())?;
+    Ok(text.into_bytes())
+}
+
+/// The exit status of an answer.
+pub fn status_of(answer: &Played) -> Status
+    ensures { result ≡ answers.status_of answer.now }
+{
+    match answer {
+        Played::Ended(world, _, verdict) => status_of_run(world, verdict),
+        Played::NoConnection(_) | Played::NotRun => Status::NoAnswer,
+        Played::NoCode(_) | Played::Unsound(_) => Status::Refused,
+    }
+}
+
+const ABOUT: &str = "Runs the script on standard input against a server, and looks for a race";
+
+const USAGE: &str = "mcrace run HOST:PORT [--limit N] [--meet WORD] < FILE";
+
+const LONG_ABOUT: &str =
+    "Runs the script on standard input against a server that speaks memcached's text
+protocol, over three connections, and answers whether one cache can have given
+every reply, whichever of A and B was faster.
+
+The script is checked first, as by `mcrace check`, and nothing is connected for
+one that is refused. `mcrace asm --help` says what a script is. Then P, A and B
+connect, in this order. P runs first. When it is done, A and B run at once, each
+on its connection, one request after another.
+
+A race shows where requests of A and B come at once. So the branches may meet:
+one that is ready to send waits for the other. `--meet` says when they do:
+  each   before the first request until both are ready, and before each later one
+         for some 50 microseconds at most
+  first  before the first request alone
+  never  at no request: one branch goes ahead
+  drawn  by lot, three times of four as by `each`, else as by `never`, since a
+         meeting hides some faults in the order of replies; this is the default
+One run proves little about a server: repeat it.
+
+Give the server keys of its own to such a run: other clients must not use them,
+and P deletes them at the start. An example:
+
+  script 1
+  keys a
+  budget P 2 26
+  budget A 1 10
+  budget B 1 10
+  P
+  set a 0 =5
+  A
+  incr a 1
+  B
+  incr a 1
+  end
+
+A server that loses one of the two updates answers 6 to both. Then this is
+written:
+
+  P done
+  A done
+  B done
+  unexplained
+  history 2
+  P begin delete a
+  P reply NOT_FOUND
+  P begin set a 0 =5
+  P reply STORED
+  A begin incr a 1
+  B begin incr a 1
+  A reply NUMBER 6
+  B reply NUMBER 6
+  end
+
+First stands a line for each section:
+  done       its code has ended, and each of its requests has a reply
+  failed     with the number and the name of the fault
+  not begun  P isn't done
+The faults:
+  1 WriteFailed  a request could not be sent
+  2 ReadFailed   a reply could not be received
+  3 Ended        the server ended the connection where a reply was due
+  4 BadReply     what came is no reply that the request may have
+  5 ErrorLine    the server answered with a line that reports an error
+  6 TooMuch      more came than 262,144 bytes
+  8 Memory       there was no memory
+
+Then the verdict stands, and after it the history of the run, in the order in
+which requests began and were answered. `mcrace judge --help` says what both
+mean, and `mcrace judge` finds the same verdict on the history.
+  explained    an explanation was found; its lines follow, and `end`
+  unexplained  the search came to its end, and found none
+  undecided    the turns of the search were used up before either was known
+
+Where a section gets no connection, that is all that is written, and standard
+error says why:
+
+  no connection A
+
+Where there is no thread for a branch it is `not run`.
+
+A run waits for the server as long as it takes. Ctrl-C ends it.";
+
+const STATUSES: &str = "Exit status:
+  0  explained, and all sections are done
+  1  unexplained; or a section failed by BadReply
+  2  the command line is wrong
+  3  refused: the input is no script, a script that is too large, or one with a
+     fault; or has more than 1,048,576 bytes
+  4  otherwise: a section isn't done; no connection; not run; undecided; out of
+     memory; or input or output failed";
+
+/// The subcommand.
+pub fn subcommand<'a>(alloc: Global) -> Result<Command<'a>, AllocError>
+    ensures { IfOk result (λ command. app_of command ≡ run_app) }
+{
+    Command::new(alloc, "run")
+        .about(ABOUT)
+        .long_about(LONG_ABOUT)
+        .override_usage(USAGE)
+        .after_help(STATUSES)
+        .arg(target(alloc))?
+        .arg(limit::option(alloc))?
+        .arg(meeting::option(alloc))
+}
+
+// The argument that names the server.
+fn target<'a>(alloc: Global) -> Arg<'a>
+    ensures rule { rule_of result ≡ target_rule }
+    ensures local { result.global ≡ false }
+{
+    Arg::new(alloc, "target")
+        .value_name("HOST:PORT")
+        .required(true)
+        .help("Run against the server at this address")
+}

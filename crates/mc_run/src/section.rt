@@ -1,0 +1,114 @@
+//! One section of a run, call by call.
+ghost use Rattle.std.specs.Prelude.{◌≡◌};
+
+use crate::carrying::{Prepared, carry, prepare};
+use crate::meeting::Seat;
+use crate::{Book, Gate};
+use mc_core::Event;
+use mc_lane::{Lane, Stream};
+use mc_protocol::{Actor, Fault, REQUESTS_LIMIT};
+use std::alloc::Global;
+use std::sync::{Mutex, Wait};
+
+/// A section that is to run over its lane.
+#[derive(Drop)]
+pub(crate) struct Part<'m, S: Stream> {
+    actor: Actor,
+    lane: Lane<S>,
+    /// Where a branch waits for the other one.
+    seat: Option<Seat<'m>>,
+}
+
+impl<'m, S: Stream> Part<'m, S> {
+    /// A section that waits for no other.
+    pub(crate) fn new(actor: Actor, lane: Lane<S>) -> Part<'m, S> {
+        Part {
+            actor,
+            lane,
+            seat: None,
+        }
+    }
+
+    /// The same, where it comes to a meeting before each of its calls.
+    pub(crate) fn with_seat(self, seat: Seat<'m>) -> Part<'m, S> {
+        let Part { actor, lane, .. } = self;
+        Part {
+            actor,
+            lane,
+            seat: Some(seat),
+        }
+    }
+}
+
+/// Runs a section to its end, and answers its lane.
+pub(crate) fn run_section<S: Stream, G: Gate, R: Wait>(
+    rt: &R,
+    alloc: Global,
+    book: &Mutex<Book<'_>>,
+    gate: &G,
+    part: Part<'_, S>,
+) -> Lane<S> {
+    let Part {
+        actor,
+        mut lane,
+        seat,
+    } = part;
+    'calls: for index in 0..REQUESTS_LIMIT as u32 {
+        let Some(prepared) = prepare_next(rt, alloc, book, actor, &mut lane) else {
+            break;
+        };
+        if let Some(seat) = &seat {
+            seat.come(rt, index);
+        }
+        if !run_call(rt, book, gate, (actor, index), &prepared, &mut lane) {
+            break;
+        }
+    }
+    if let Some(seat) = &seat {
+        seat.leave(rt);
+    }
+    lane
+}
+
+/// The section's next call, made ready; or nothing where it has no more to make. Want of memory ends the section.
+fn prepare_next<S: Stream, R: Wait>(
+    rt: &R,
+    alloc: Global,
+    book: &Mutex<Book<'_>>,
+    actor: Actor,
+    lane: &mut Lane<S>,
+) -> Option<Prepared>
+    ensures { lane.new ≡ lane.old }
+{
+    let upcoming = book.lock(rt).upcoming(actor);
+    let (code, call) = upcoming?;
+    match prepare(alloc, code, call, lane) {
+        Ok(prepared) => Some(prepared),
+        Err(_) => {
+            let _ = book.lock(rt).note(actor, Event::Fail(Fault::Memory));
+            None
+        }
+    }
+}
+
+/// Makes a call that is ready, and answers whether the section may go on. The book is locked for one note at a time, and never
+/// while the lane or the gate is called. What the call was made of is freed by the caller, after the reply is noted.
+fn run_call<S: Stream, G: Gate, R: Wait>(
+    rt: &R,
+    book: &Mutex<Book<'_>>,
+    gate: &G,
+    place: (Actor, u32),
+    prepared: &Prepared,
+    lane: &mut Lane<S>,
+) -> bool {
+    let (actor, index) = place;
+    let begins = book.lock(rt).begin(actor, prepared.call);
+    if !begins {
+        return false;
+    }
+    gate.before(actor, index);
+    let event = carry(prepared, lane);
+    let noted = book.lock(rt).note(actor, event);
+    gate.after(actor, index);
+    noted.is_ok()
+}

@@ -1,0 +1,180 @@
+//! How the branches of a run meet: whichever of them has the thread, and before whichever requests they wait for each other.
+
+use crate::counter::{checked, counter};
+use crate::lanes::{BothBegin, NEVER, Served, lanes, run_meeting};
+use Ending::{Done, Failed, NotBegun};
+use mc_core::{Ending, Event};
+use mc_lane::MemoryStream;
+use mc_protocol::{Actor, Fault};
+use mc_run::{Branch, FreeGate, Manner, Meet, Run, RunError, run_lanes_with};
+use mc_verify::Checked;
+use std::alloc::Global;
+use std::sync::Wait;
+use std::test::Fail;
+use std::thread::{Builder, Threads};
+
+/// Each way to meet.
+static MEETS: [Meet; 6] = [
+    Meet {
+        manner: Manner::Each,
+        apart: Branch::A,
+    },
+    Meet {
+        manner: Manner::Each,
+        apart: Branch::B,
+    },
+    Meet {
+        manner: Manner::First,
+        apart: Branch::A,
+    },
+    Meet {
+        manner: Manner::First,
+        apart: Branch::B,
+    },
+    Meet {
+        manner: Manner::Never,
+        apart: Branch::A,
+    },
+    Meet {
+        manner: Manner::Never,
+        apart: Branch::B,
+    },
+];
+
+const INCREMENT: &[u8] = b"incr a 1\r\n";
+
+/// What the server answers to P.
+const TO_PREFIX: Served = (&[b"NOT_FOUND\r\n", b"STORED\r\n"], NEVER);
+
+const SIX: Served = (&[b"6\r\n"], NEVER);
+
+const SEVEN: Served = (&[b"7\r\n"], NEVER);
+
+/// P stores 5, A adds 1, and B has nothing to send.
+const ALONE: &[u8] = b"script 1\nkeys a\nbudget P 2 26\nbudget A 1 10\nbudget B 0 0\n\
+    P\nset a 0 =5\nA\nincr a 1\nB\nend\n";
+
+/// P stores 5, A adds 1 three times, and B once.
+const UNEQUAL: &[u8] = b"script 1\nkeys a\nbudget P 2 26\nbudget A 3 30\nbudget B 1 10\n\
+    P\nset a 0 =5\nA\nincr a 1\nincr a 1\nincr a 1\nB\nincr a 1\nend\n";
+
+#[test]
+fn notes_both_begins_before_any_reply(rt: HostRuntime) -> Result<(), Fail> {
+    let counter = counter(rt.alloc())?;
+    for meet in MEETS {
+        assert!(rt; begin_both(&rt, rt.alloc(), &counter, meet)?, "{meet:?}");
+    }
+    Ok(())
+}
+
+/// Whether both calls are noted to begin before either has its reply, where a gate holds each until both have begun, and the run
+/// comes to its end.
+fn begin_both<R: Threads + Wait + Sync>(
+    rt: &R,
+    alloc: Global,
+    counter: &Checked,
+    meet: Meet,
+) -> Result<bool, Fail> {
+    let gate = BothBegin::new();
+    let given = lanes(alloc, [TO_PREFIX, SIX, SEVEN])?;
+    let run = run_meeting(rt, alloc, counter, given, &gate, meet)?;
+    let begun = run
+        .world
+        .notes()
+        .iter()
+        .skip(4)
+        .take(2)
+        .all(|(_, event)| *event == Event::Begin);
+    Ok(begun && !gate.missed.is_raised() && endings(&run) == [Done, Done, Done])
+}
+
+#[test]
+fn runs_whichever_branch_has_the_thread(rt: HostRuntime) -> Result<(), Fail> {
+    let counter = counter(rt.alloc())?;
+    for meet in MEETS {
+        let given = lanes(rt.alloc(), [TO_PREFIX, SIX, SEVEN])?;
+        let run = run_meeting(&rt, rt.alloc(), &counter, given, &FreeGate, meet)?;
+        assert_eq!(rt; endings(&run), [Done, Done, Done], "{meet:?}");
+        assert_eq!(rt; run.lanes.a.sent(), INCREMENT);
+        assert_eq!(rt; run.lanes.b.sent(), INCREMENT);
+        assert_eq!(rt; run.lanes.a.got(), b"6\r\n".as_slice());
+    }
+    Ok(())
+}
+
+#[test]
+fn waits_for_no_branch_that_is_over(rt: HostRuntime) -> Result<(), Fail> {
+    let unequal = checked(rt.alloc(), UNEQUAL)?;
+    for meet in MEETS {
+        assert!(rt; go_on_alone(&rt, rt.alloc(), &unequal, meet)?, "{meet:?}");
+    }
+    Ok(())
+}
+
+/// Whether A makes its three calls beside B's one, and beside a B whose first write fails.
+fn go_on_alone<R: Threads + Wait + Sync>(
+    rt: &R,
+    alloc: Global,
+    unequal: &Checked,
+    meet: Meet,
+) -> Result<bool, Fail> {
+    let to_a: Served = (&[b"6\r\n", b"7\r\n", b"8\r\n"], NEVER);
+    let given = lanes(alloc, [TO_PREFIX, to_a, (&[b"9\r\n"], NEVER)])?;
+    let both = run_meeting(rt, alloc, unequal, given, &FreeGate, meet)?;
+    let given = lanes(alloc, [TO_PREFIX, to_a, (&[], 1)])?;
+    let one = run_meeting(rt, alloc, unequal, given, &FreeGate, meet)?;
+    Ok(
+        endings(&both) == [Done, Done, Done]
+            && endings(&one) == [Done, Done, Failed(Fault::WriteFailed)],
+    )
+}
+
+#[test]
+fn has_no_run_without_a_thread(rt: HostRuntime) -> Result<(), Fail> {
+    let counter = counter(rt.alloc())?;
+    for meet in MEETS {
+        let given = lanes(rt.alloc(), [TO_PREFIX, SIX, SEVEN])?;
+        // no thread has such a stack
+        let builder = Builder::new().stack_size(usize::MAX);
+        let run = run_lanes_with(&rt, rt.alloc(), &counter, given, &FreeGate, builder, meet);
+        assert_eq!(rt; run.err(), Some(RunError::NoThread));
+    }
+    Ok(())
+}
+
+#[test]
+fn makes_no_thread_where_a_branch_has_nothing_to_send(rt: HostRuntime) -> Result<(), Fail> {
+    let alone = checked(rt.alloc(), ALONE)?;
+    for meet in MEETS {
+        let given = lanes(rt.alloc(), [TO_PREFIX, SIX, (&[], NEVER)])?;
+        let builder = Builder::new().stack_size(usize::MAX);
+        let run = run_lanes_with(&rt, rt.alloc(), &alone, given, &FreeGate, builder, meet);
+        assert_eq!(rt;
+            run.map(|run| endings(&run)),
+            Ok([Done, Done, Done]),
+            "{meet:?}"
+        );
+    }
+    Ok(())
+}
+
+#[test]
+fn makes_no_thread_where_the_prefix_fails(rt: HostRuntime) -> Result<(), Fail> {
+    let counter = counter(rt.alloc())?;
+    for meet in MEETS {
+        let given = lanes(rt.alloc(), [(&[], NEVER), SIX, SEVEN])?;
+        let builder = Builder::new().stack_size(usize::MAX);
+        let run = run_lanes_with(&rt, rt.alloc(), &counter, given, &FreeGate, builder, meet);
+        assert_eq!(rt;
+            run.map(|run| endings(&run)),
+            Ok([Failed(Fault::Ended), NotBegun, NotBegun]),
+            "{meet:?}"
+        );
+    }
+    Ok(())
+}
+
+/// How the sections of a run stand.
+fn endings(run: &Run<MemoryStream>) -> [Ending; 3] {
+    [Actor::P, Actor::A, Actor::B].map(|actor| run.world.ending(actor))
+}

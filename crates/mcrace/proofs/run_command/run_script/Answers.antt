@@ -1,8 +1,0 @@
-use Rattle.mcrace.proofs.Right.{only_memory, out_of_memory_answers}
-use Rattle.mcrace.specs.declared.arguments.Asked.TheVariants as asked
-use Rattle.mcrace.proofs.run_command.run_script.Goals as goal
-
-pub returns-in-Err-clause-answered : goal.returns-in-Err-clause-answered
-returns-in-Err-clause-answered g c input_old input_new output_old output_new =
-    let memory = only_memory _ _ c.in-Err.fault c.in-Err.ensures.fails input_new in
-    out_of_memory_answers (asked.Run c.args.limit) _ _ _ _ (c.write_fault.ensures.memory memory output_old output_new) c.write_fault.ensures.status

@@ -1,0 +1,62 @@
+"""What tools/run-wrong-bodies does beside `rt ci`, whose output is made up here, on the small repository once that is proved."""
+
+import pathlib
+import subprocess
+import time
+
+# A run that takes longer has no end.
+SECONDS = 1200
+PROVED = "rt: low proved\n", "== small\nrt: small proved\n"
+REFUSED = "rt: low proved\n", "rt: small NOT PROVED\n"
+
+
+def run(root, lines, status):
+    """What the runner says of one edit where `rt ci` says these lines one after another and ends with this status; and whether a check
+    began before the last of these and after it."""
+    edit, begins = root / "crates/small/wrong-bodies/caps_above.edit", []
+    log, said = root / "proofs.log", root / "said.log"
+    began = min((root / f"crates/{it}/out/rlib/{it}.rlib/format").stat().st_mtime for it in ("low", "small"))
+    log.write_text(f"rt ci began at {int(began)}\n", encoding="utf-8")
+    words = [root / "tools/run-wrong-bodies", "--beside", log, "--jobs", "1", "--whole", edit]
+    with open(said, "wb") as to, subprocess.Popen(words, stdout=to, stderr=subprocess.STDOUT) as runner:
+        for line in lines:
+            begins.append(begins_after(line, root, runner, 300 if line == PROVED[-1] else 10))
+        add(log, f"rt ci ended with status {status}\n")
+        try:
+            runner.wait(SECONDS)
+        except subprocess.TimeoutExpired:
+            runner.terminate()
+    return said.read_text(encoding="utf-8"), begins
+
+
+def add(log, line):
+    with open(log, "a", encoding="utf-8") as file:
+        file.write(line)
+
+
+def begins_after(line, root, runner, seconds):
+    """Has `rt ci` say this line, and answers whether a check begins within these seconds."""
+    add(root / "proofs.log", line)
+    until = time.monotonic() + seconds
+    while time.monotonic() < until and runner.poll() is None:
+        if ": a check with " in (root / "said.log").read_text(encoding="utf-8"):
+            return True
+        time.sleep(0.5)
+    return False
+
+
+def faults(root: pathlib.Path):
+    """All that isn't as it is to be, and how many cases there are."""
+    found = []
+    said, begins = run(root, PROVED, 0)
+    if begins != [False, True]:
+        found.append(f"beside: a check began {begins} after each line, and not after that of its crate alone")
+    if "\nrefused now 1," not in said or "\n1 passed, " not in said:
+        found.append(f"beside: it ends with {said.splitlines()[-2:]} where `rt ci` passed")
+    said, _ = run(root, PROVED, 1)
+    if "\nfailed: rt ci: " not in said or "\n0 passed, " not in said:
+        found.append(f"beside: it ends with {said.splitlines()[-2:]} where `rt ci` failed")
+    said, begins = run(root, REFUSED, 1)
+    if any(begins) or "\nfailed: small/caps_above: not tried: " not in said or "\n0 passed, " not in said:
+        found.append(f"beside: it ends with {said.splitlines()[-2:]} where its crate isn't proved")
+    return found, 4
