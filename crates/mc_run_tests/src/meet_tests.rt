@@ -6,7 +6,7 @@ use Ending::{Done, Failed, NotBegun};
 use mc_core::{Ending, Event};
 use mc_lane::MemoryStream;
 use mc_protocol::{Actor, Fault};
-use mc_run::{Branch, FreeGate, Manner, Meet, Run, RunError, run_lanes_with};
+use mc_run::{Branch, FreeGate, Lanes, Manner, Meet, Run, RunError, run_lanes_with};
 use mc_verify::Checked;
 use std::alloc::Global;
 use std::sync::Wait;
@@ -50,6 +50,9 @@ const SIX: Served = (&[b"6\r\n"], NEVER);
 
 const SEVEN: Served = (&[b"7\r\n"], NEVER);
 
+/// The server ends the connection.
+const NOTHING: Served = (&[], NEVER);
+
 /// P stores 5, A adds 1, and B has nothing to send.
 const ALONE: &[u8] = b"script 1\nkeys a\nbudget P 2 26\nbudget A 1 10\nbudget B 0 0\n\
     P\nset a 0 =5\nA\nincr a 1\nB\nend\n";
@@ -92,14 +95,24 @@ fn begin_both<R: Threads + Wait + Sync>(
 fn runs_whichever_branch_has_the_thread(rt: HostRuntime) -> Result<(), Fail> {
     let counter = counter(rt.alloc())?;
     for meet in MEETS {
-        let given = lanes(rt.alloc(), [TO_PREFIX, SIX, SEVEN])?;
-        let run = run_meeting(&rt, rt.alloc(), &counter, given, &FreeGate, meet)?;
-        assert_eq!(rt; endings(&run), [Done, Done, Done], "{meet:?}");
-        assert_eq!(rt; run.lanes.a.sent(), INCREMENT);
-        assert_eq!(rt; run.lanes.b.sent(), INCREMENT);
-        assert_eq!(rt; run.lanes.a.got(), b"6\r\n".as_slice());
+        assert!(rt; count_both(&rt, rt.alloc(), &counter, meet)?, "{meet:?}");
     }
     Ok(())
+}
+
+/// Whether both branches send their increments, and each gets what its server answers.
+fn count_both<R: Threads + Wait + Sync>(
+    rt: &R,
+    alloc: Global,
+    counter: &Checked,
+    meet: Meet,
+) -> Result<bool, Fail> {
+    let given = lanes(alloc, [TO_PREFIX, SIX, SEVEN])?;
+    let run = run_meeting(rt, alloc, counter, given, &FreeGate, meet)?;
+    let Lanes { a, b, .. } = &run.lanes;
+    let is_sent = a.sent() == INCREMENT && b.sent() == INCREMENT;
+    let is_got = a.got() == b"6\r\n".as_slice() && b.got() == b"7\r\n".as_slice();
+    Ok(is_sent && is_got && endings(&run) == [Done, Done, Done])
 }
 
 #[test]
@@ -132,12 +145,10 @@ fn go_on_alone<R: Threads + Wait + Sync>(
 #[test]
 fn has_no_run_without_a_thread(rt: HostRuntime) -> Result<(), Fail> {
     let counter = counter(rt.alloc())?;
+    let served = [TO_PREFIX, SIX, SEVEN];
     for meet in MEETS {
-        let given = lanes(rt.alloc(), [TO_PREFIX, SIX, SEVEN])?;
-        // no thread has such a stack
-        let builder = Builder::new().stack_size(usize::MAX);
-        let run = run_lanes_with(&rt, rt.alloc(), &counter, given, &FreeGate, builder, meet);
-        assert_eq!(rt; run.err(), Some(RunError::NoThread));
+        let run = run_threadless(&rt, rt.alloc(), &counter, served, meet)?;
+        assert_eq!(rt; run, Err(RunError::NoThread), "{meet:?}");
     }
     Ok(())
 }
@@ -145,15 +156,10 @@ fn has_no_run_without_a_thread(rt: HostRuntime) -> Result<(), Fail> {
 #[test]
 fn makes_no_thread_where_a_branch_has_nothing_to_send(rt: HostRuntime) -> Result<(), Fail> {
     let alone = checked(rt.alloc(), ALONE)?;
+    let served = [TO_PREFIX, SIX, NOTHING];
     for meet in MEETS {
-        let given = lanes(rt.alloc(), [TO_PREFIX, SIX, (&[], NEVER)])?;
-        let builder = Builder::new().stack_size(usize::MAX);
-        let run = run_lanes_with(&rt, rt.alloc(), &alone, given, &FreeGate, builder, meet);
-        assert_eq!(rt;
-            run.map(|run| endings(&run)),
-            Ok([Done, Done, Done]),
-            "{meet:?}"
-        );
+        let run = run_threadless(&rt, rt.alloc(), &alone, served, meet)?;
+        assert_eq!(rt; run, Ok([Done, Done, Done]), "{meet:?}");
     }
     Ok(())
 }
@@ -161,17 +167,28 @@ fn makes_no_thread_where_a_branch_has_nothing_to_send(rt: HostRuntime) -> Result
 #[test]
 fn makes_no_thread_where_the_prefix_fails(rt: HostRuntime) -> Result<(), Fail> {
     let counter = counter(rt.alloc())?;
+    let served = [NOTHING, SIX, SEVEN];
+    let ended = [Failed(Fault::Ended), NotBegun, NotBegun];
     for meet in MEETS {
-        let given = lanes(rt.alloc(), [(&[], NEVER), SIX, SEVEN])?;
-        let builder = Builder::new().stack_size(usize::MAX);
-        let run = run_lanes_with(&rt, rt.alloc(), &counter, given, &FreeGate, builder, meet);
-        assert_eq!(rt;
-            run.map(|run| endings(&run)),
-            Ok([Failed(Fault::Ended), NotBegun, NotBegun]),
-            "{meet:?}"
-        );
+        let run = run_threadless(&rt, rt.alloc(), &counter, served, meet)?;
+        assert_eq!(rt; run, Ok(ended), "{meet:?}");
     }
     Ok(())
+}
+
+/// How the sections end where no thread can be made, or why there is no run.
+fn run_threadless<R: Threads + Wait + Sync>(
+    rt: &R,
+    alloc: Global,
+    checked: &Checked,
+    served: [Served; 3],
+    meet: Meet,
+) -> Result<Result<[Ending; 3], RunError>, Fail> {
+    let given = lanes(alloc, served)?;
+    // no thread has such a stack
+    let builder = Builder::new().stack_size(usize::MAX);
+    let run = run_lanes_with(rt, alloc, checked, given, &FreeGate, builder, meet);
+    Ok(run.map(|run| endings(&run)))
 }
 
 /// How the sections of a run stand.
