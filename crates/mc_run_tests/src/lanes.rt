@@ -92,7 +92,7 @@ pub(crate) fn run_meeting<S: Stream + Send, G: Gate, R: Threads + Wait + Sync>(
 }
 
 /// An error where memory ran out in a section.
-fn has_memory<S: Stream>(run: &Run<S>) -> Result<(), AllocError> {
+pub(crate) fn has_memory<S: Stream>(run: &Run<S>) -> Result<(), AllocError> {
     for actor in [Actor::P, Actor::A, Actor::B] {
         if run.world.ending(actor) == Ending::Failed(Fault::Memory) {
             return Err(AllocError);

@@ -1,14 +1,14 @@
 //! How the branches of a run meet: whichever of them has the thread, and before whichever requests they wait for each other.
 
 use crate::counter::{checked, counter};
-use crate::lanes::{BothBegin, NEVER, Served, lanes, run_meeting};
+use crate::lanes::{BothBegin, NEVER, Served, has_memory, lanes, run_meeting};
 use Ending::{Done, Failed, NotBegun};
 use mc_core::{Ending, Event};
 use mc_lane::MemoryStream;
 use mc_protocol::{Actor, Fault};
 use mc_run::{Branch, FreeGate, Lanes, Manner, Meet, Run, RunError, run_lanes_with};
 use mc_verify::Checked;
-use std::alloc::Global;
+use std::alloc::{AllocError, Global};
 use std::sync::Wait;
 use std::test::Fail;
 use std::thread::{Builder, Threads};
@@ -176,7 +176,7 @@ fn makes_no_thread_where_the_prefix_fails(rt: HostRuntime) -> Result<(), Fail> {
     Ok(())
 }
 
-/// How the sections end where no thread can be made, or why there is no run.
+/// How the sections end where no thread can be made, or why there is no run. Want of memory is an error here.
 fn run_threadless<R: Threads + Wait + Sync>(
     rt: &R,
     alloc: Global,
@@ -187,8 +187,14 @@ fn run_threadless<R: Threads + Wait + Sync>(
     let given = lanes(alloc, served)?;
     // no thread has such a stack
     let builder = Builder::new().stack_size(usize::MAX);
-    let run = run_lanes_with(rt, alloc, checked, given, &FreeGate, builder, meet);
-    Ok(run.map(|run| endings(&run)))
+    match run_lanes_with(rt, alloc, checked, given, &FreeGate, builder, meet) {
+        Ok(run) => {
+            has_memory(&run)?;
+            Ok(Ok(endings(&run)))
+        }
+        Err(RunError::OutOfMemory) => Err(AllocError)?,
+        Err(error) => Ok(Err(error)),
+    }
 }
 
 /// How the sections of a run stand.
