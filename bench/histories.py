@@ -94,11 +94,19 @@ def words_of(words):
     return " ".join(body_word(word) if isinstance(word, bytes) else str(word) for word in words)
 
 
+class Notes(list):
+    """What was noted in order: section, `begin` or `reply`, and the request or the reply."""
+
+
 def text_of(history):
-    """The text of a history: a list of section, request and reply, where None is a reply that never came."""
-    lines = ["history 1"]
-    for actor, request, reply in history:
-        lines.append(f"{actor} {words_of(request)} -> {words_of(reply) if reply else '?'}")
+    """The text of a history: a list of section, request and reply, where None is a reply that never came; or notes."""
+    if isinstance(history, Notes):
+        lines = ["history 2"]
+        lines += [f"{actor} {word} {words_of(words)}" for actor, word, words in history]
+    else:
+        lines = ["history 1"]
+        for actor, request, reply in history:
+            lines.append(f"{actor} {words_of(request)} -> {words_of(reply) if reply else '?'}")
     lines.append("end")
     return "".join(line + "\n" for line in lines).encode()
 
@@ -289,6 +297,42 @@ def appended(actor):
     return ("append", "a", 0, actor.encode()), ("STORED",)
 
 
+def alike(verb):
+    """23 requests in each branch, A's join one byte and B's two; then a hit that no order gives. Many orders make one body."""
+
+    def make(rng):
+        joined = [(actor, (verb, "a", 0, word), ("STORED",)) for actor, word in (("A", b"x"), ("B", b"xx")) for _ in range(23)]
+        return [("P", *CLEARED), ("P", ("set", "a", 0, b""), ("STORED",)), *joined, ("A", *never("a"))]
+
+    return make
+
+
+def alike_pairs(rng):
+    """The same appends in pairs that overlap, and a last hit of A that is one byte short."""
+    notes = Notes()
+
+    def note(actors, request, reply):
+        for actor in actors:
+            notes.append((actor, "begin", request(actor)))
+        for actor in actors:
+            notes.append((actor, "reply", reply))
+
+    note("P", lambda actor: CLEARED[0], CLEARED[1])
+    note("P", lambda actor: ("set", "a", 0, b""), ("STORED",))
+    for _ in range(23):
+        note("AB", lambda actor: ("append", "a", 0, b"x" if actor == "A" else b"xx"), ("STORED",))
+    note("A", lambda actor: ("get", "a"), ("HIT", 0, b"x" * (3 * 23 - 1)))
+    return notes
+
+
+def alike_pads(rng):
+    """Six spaces that A appends to a number, and six decrements of B by 0, which keep the spaces or drop them."""
+    prefix = [("P", *CLEARED), ("P", ("set", "a", 0, b"9"), ("STORED",))]
+    spaces = [("A", ("append", "a", 0, b" "), ("STORED",))] * 6
+    counts = [("B", ("decr", "a", 0), ("NUMBER", 9))] * 6
+    return prefix + spaces + [("A", *never("a"))] + counts
+
+
 class Kind:
     """A kind of histories."""
 
@@ -324,6 +368,10 @@ KINDS = [
     *(hopeless(f"stores-{count}", hopeless_stores(count)) for count in (8, 16, 24)),
     hopeless("appends-6", hopeless_appends(7, 6)),
     hopeless("appends-60000", hopeless_appends(7, 60_000)),
+    hopeless("alike-appends", alike("append")),
+    hopeless("alike-prepends", alike("prepend")),
+    hopeless("alike-pairs", alike_pairs),
+    hopeless("alike-pads", alike_pads),
     hopeless("grown-touched", grown(touched)),
     hopeless("grown-appended", grown(appended)),
 ]

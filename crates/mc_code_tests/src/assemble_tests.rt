@@ -1,7 +1,7 @@
 //! `assemble`: the parts of a script's code, and why a script has none.
 
 use crate::images::{COUNTER_IMAGE, LAST_FLAG_IMAGE, image_after, is_image_of};
-use crate::parts::{COUNTER, has_parts};
+use crate::parts::{COUNTER, Parts, has_parts};
 use mc_code::{AsmFault, Code, assemble};
 use mc_protocol::{Actor, OutOfMemory};
 use mc_script::{Script, parse, print};
@@ -81,8 +81,13 @@ static VERSIONS: [([usize; 4], &[u8]); 7] = [
 
 #[test]
 fn assembles(rt: HostRuntime) -> Result<(), Fail> {
-    assert!(rt; has_parts(&code_of(rt.alloc(), COUNTER_SCRIPT)?, &COUNTER));
+    assert!(rt; is_code_of(rt.alloc(), COUNTER_SCRIPT, &COUNTER)?);
     Ok(())
+}
+
+fn is_code_of(alloc: Global, text: &[u8], parts: &Parts) -> Result<bool, Fail> {
+    let code = code_of(alloc, text)?;
+    Ok(has_parts(&code, parts))
 }
 
 // What is there already stays.
@@ -101,37 +106,46 @@ fn takes_the_last_flag(rt: HostRuntime) -> Result<(), Fail> {
 
 #[test]
 fn writes_the_version_that_has_room(rt: HostRuntime) -> Result<(), Fail> {
-    for (counts, start) in VERSIONS {
-        assert!(rt; is_written_as(rt.alloc(), counts, start)?);
+    for (counts, start) in &VERSIONS {
+        assert!(rt; is_written_as(rt.alloc(), *counts, start)?);
     }
     Ok(())
 }
 
 #[test]
 fn refuses_what_exceeds_a_limit(rt: HostRuntime) -> Result<(), Fail> {
-    for (counts, fault) in SIZES {
-        assert_eq!(rt; fault_of(rt.alloc(), counts)?, fault);
+    for (counts, fault) in &SIZES {
+        assert_eq!(rt; fault_of_sizes(rt.alloc(), *counts)?, *fault);
     }
     Ok(())
 }
 
 fn code_of(alloc: Global, text: &[u8]) -> Result<Code, Fail> {
     let script = parse(alloc, text)?;
-    Ok(assemble(alloc, &script)?)
+    assembled(alloc, &script)
+}
+
+fn assembled(alloc: Global, script: &Script) -> Result<Code, Fail> {
+    Ok(assemble(alloc, script)?)
 }
 
 // Whether the image of the text's script stands after the bytes that were there first.
 fn is_written_after(alloc: Global, front: &[u8], text: &[u8], image: &[u8]) -> Result<bool, Fail> {
     let code = code_of(alloc, text)?;
-    Ok(is_joined(&image_after(alloc, front, &code)?, front, image))
+    has_image_after(alloc, &code, front, image)
+}
+
+fn has_image_after(alloc: Global, code: &Code, front: &[u8], image: &[u8]) -> Result<bool, Fail> {
+    let written = image_after(alloc, front, code)?;
+    Ok(is_joined(&written, front, image))
 }
 
 fn is_printed_as_it_stands(alloc: Global, text: &[u8]) -> Result<bool, Fail> {
     let script = parse(alloc, text)?;
-    Ok(is_printed_as(alloc, &script, text)?)
+    is_printed_as(alloc, &script, text)
 }
 
-fn is_printed_as(alloc: Global, script: &Script, text: &[u8]) -> Result<bool, OutOfMemory> {
+fn is_printed_as(alloc: Global, script: &Script, text: &[u8]) -> Result<bool, Fail> {
     let mut printed = Vec::new(alloc);
     print(alloc, script, &mut printed)?;
     Ok(printed.as_slice() == text)
@@ -150,9 +164,13 @@ fn has_image(alloc: Global, code: &Code, start: &[u8]) -> Result<bool, Fail> {
 }
 
 // Why a script with these numbers of lines is refused, if it is.
-fn fault_of(alloc: Global, counts: [usize; 4]) -> Result<Option<AsmFault>, Fail> {
+fn fault_of_sizes(alloc: Global, counts: [usize; 4]) -> Result<Option<AsmFault>, Fail> {
     let text = script_of(alloc, counts)?;
-    let script = parse(alloc, &text)?;
+    fault_of(alloc, &text)
+}
+
+fn fault_of(alloc: Global, text: &[u8]) -> Result<Option<AsmFault>, Fail> {
+    let script = parse(alloc, text)?;
     Ok(assemble(alloc, &script).err())
 }
 

@@ -6,18 +6,26 @@ use crate::images::{
 };
 use crate::parts::{COUNTER, EVERYTHING, LAST_FLAG, Parts, has_parts};
 use mc_code::{Call, Code, ImageFault, ImageKind, decode};
-use mc_protocol::{OutOfMemory, Verb};
+use mc_protocol::{Request, Verb};
 use std::alloc::Global;
 use std::test::Fail;
 
 #[test]
 fn reads_two_images(rt: HostRuntime) -> Result<(), Fail> {
-    let counter = decode(rt.alloc(), COUNTER_IMAGE)?;
-    let everything = decode(rt.alloc(), EVERYTHING_IMAGE)?;
-    assert!(rt; has_parts(&counter, &COUNTER));
-    assert!(rt; has_parts(&everything, &EVERYTHING));
-    assert!(rt; !has_parts(&counter, &EVERYTHING));
+    let rows = [
+        (COUNTER_IMAGE, &COUNTER, true),
+        (EVERYTHING_IMAGE, &EVERYTHING, true),
+        (COUNTER_IMAGE, &EVERYTHING, false),
+    ];
+    for (image, parts, is_its_code) in &rows {
+        assert!(rt; is_code_of(rt.alloc(), image, parts)? == *is_its_code);
+    }
     Ok(())
+}
+
+fn is_code_of(alloc: Global, image: &[u8], parts: &Parts) -> Result<bool, ImageFault> {
+    let code = decode(alloc, image)?;
+    Ok(has_parts(&code, parts))
 }
 
 // Of a code that version 1 can spell, the image of version 1 is written.
@@ -35,39 +43,43 @@ fn reads_the_last_flag(rt: HostRuntime) -> Result<(), Fail> {
 }
 
 // Whether the code of the first image has these parts, and the second one is written of it.
-fn is_read_as(alloc: Global, image: &[u8], parts: &Parts, written: &[u8]) -> Result<bool, Fail> {
+fn is_read_as(
+    alloc: Global,
+    image: &[u8],
+    parts: &Parts,
+    written: &[u8],
+) -> Result<bool, ImageFault> {
     let code = decode(alloc, image)?;
-    Ok(has_parts(&code, parts) && is_written(alloc, &code, written, Again::Bytes)?)
+    is_written_with(alloc, &code, parts, written)
+}
+
+fn is_written_with(
+    alloc: Global,
+    code: &Code,
+    parts: &Parts,
+    written: &[u8],
+) -> Result<bool, ImageFault> {
+    Ok(has_parts(code, parts) && is_written(alloc, code, written, Again::Bytes)?)
 }
 
 // Each byte of an image of version 1 takes each value in turn. What is read is written again, byte for byte. The numbers are
 // how many of these images `docs/FORMATS.md` allows; the image itself is among them once for each of its bytes.
 #[test]
 fn writes_what_it_reads(rt: HostRuntime) -> Result<(), Fail> {
-    let alloc = rt.alloc();
-    assert_eq!(rt;
-        count_read(alloc, COUNTER_IMAGE, Again::Bytes)?,
-        Some(17_613)
-    );
-    assert_eq!(rt;
-        count_read(alloc, EVERYTHING_IMAGE, Again::Bytes)?,
-        Some(31_815)
-    );
+    let images = [(COUNTER_IMAGE, 17_613), (EVERYTHING_IMAGE, 31_815)];
+    for (image, count) in &images {
+        assert_eq!(rt; count_read(rt.alloc(), image, Again::Bytes)?, Some(*count));
+    }
     Ok(())
 }
 
 // The same of images of version 2: what is written is an image of the same code, in either version.
 #[test]
 fn writes_the_code_that_it_reads(rt: HostRuntime) -> Result<(), Fail> {
-    let alloc = rt.alloc();
-    assert_eq!(rt;
-        count_read(alloc, COUNTER_IMAGE_2, Again::Code)?,
-        Some(17_709)
-    );
-    assert_eq!(rt;
-        count_read(alloc, LAST_FLAG_IMAGE, Again::Code)?,
-        Some(33_596)
-    );
+    let images = [(COUNTER_IMAGE_2, 17_709), (LAST_FLAG_IMAGE, 33_596)];
+    for (image, count) in &images {
+        assert_eq!(rt; count_read(rt.alloc(), image, Again::Code)?, Some(*count));
+    }
     Ok(())
 }
 
@@ -101,9 +113,27 @@ fn is_written_again(
     again: Again,
 ) -> Result<Option<bool>, ImageFault> {
     let bytes = with_changes(alloc, image, &[change])?;
-    match decode(alloc, &bytes) {
-        Ok(code) => Ok(Some(is_written(alloc, &code, &bytes, again)?)),
-        Err(fault) if fault.kind == ImageKind::OutOfMemory => Err(fault),
+    is_image_written_again(alloc, &bytes, again)
+}
+
+fn is_image_written_again(
+    alloc: Global,
+    image: &[u8],
+    again: Again,
+) -> Result<Option<bool>, ImageFault> {
+    let read = decode(alloc, image);
+    is_written_where_read(alloc, &read, image, again)
+}
+
+fn is_written_where_read(
+    alloc: Global,
+    read: &Result<Code, ImageFault>,
+    image: &[u8],
+    again: Again,
+) -> Result<Option<bool>, ImageFault> {
+    match read {
+        Ok(code) => Ok(Some(is_written(alloc, code, image, again)?)),
+        Err(fault) if fault.kind == ImageKind::OutOfMemory => Err(*fault),
         Err(_) => Ok(None),
     }
 }
@@ -179,19 +209,21 @@ fn makes_requests(rt: HostRuntime) -> Result<(), Fail> {
 
 fn is_made(alloc: Global, made: &Made) -> Result<bool, Fail> {
     let code = decode(alloc, EVERYTHING_IMAGE)?;
-    Ok(makes(alloc, &code, made)?)
+    makes(alloc, &code, made)
 }
 
-fn makes(alloc: Global, code: &Code, made: &Made) -> Result<bool, OutOfMemory> {
+fn makes(alloc: Global, code: &Code, made: &Made) -> Result<bool, Fail> {
     if usize::from(made.call.template) >= code.templates().len() {
         return Ok(false);
     }
     let request = code.request(alloc, made.call)?;
-    Ok(
-        request.verb == made.verb
-            && request.key.as_slice() == made.key
-            && request.flags == made.flags
-            && request.body.as_slice() == made.body
-            && request.number == made.number,
-    )
+    Ok(is_request(&request, made))
+}
+
+fn is_request(request: &Request, made: &Made) -> bool {
+    request.verb == made.verb
+        && request.key.as_slice() == made.key
+        && request.flags == made.flags
+        && request.body.as_slice() == made.body
+        && request.number == made.number
 }

@@ -4,7 +4,7 @@ use crate::images::{
     COUNTER_IMAGE, COUNTER_IMAGE_2, EVERYTHING_IMAGE, LAST_FLAG_IMAGE, with_changes,
 };
 use mc_code::ImageKind::*;
-use mc_code::{ImageFault, ImageKind, decode};
+use mc_code::{Code, ImageFault, ImageKind, decode};
 use std::alloc::Global;
 use std::test::Fail;
 
@@ -244,7 +244,7 @@ fn reports_the_first_fault(rt: HostRuntime) -> Result<(), Fail> {
         (COUNTER_IMAGE_2, &FAULTY_COUNTER_2),
         (LAST_FLAG_IMAGE, &FAULTY_LAST_FLAG),
     ];
-    for (image, rows) in faulty {
+    for (image, rows) in &faulty {
         assert_eq!(rt; first_unreported(rt.alloc(), image, rows)?, None);
     }
     Ok(())
@@ -252,9 +252,9 @@ fn reports_the_first_fault(rt: HostRuntime) -> Result<(), Fail> {
 
 #[test]
 fn reports_fields_before_their_template(rt: HostRuntime) -> Result<(), Fail> {
-    for (changes, end, kind, at) in INSIDE {
+    for (changes, end, kind, at) in &INSIDE {
         assert!(rt;
-            is_fault_inside(rt.alloc(), changes, end, kind, at)?,
+            is_fault_inside(rt.alloc(), changes, *end, *kind, *at)?,
             "offset {at}"
         );
     }
@@ -275,8 +275,8 @@ fn is_fault_inside(
 
 #[test]
 fn reports_faults_of_other_bytes(rt: HostRuntime) -> Result<(), Fail> {
-    for (bytes, kind, at) in OTHERS {
-        assert!(rt; has_fault(rt.alloc(), bytes, kind, at)?, "offset {at}");
+    for (bytes, kind, at) in &OTHERS {
+        assert!(rt; has_fault(rt.alloc(), bytes, *kind, *at)?, "offset {at}");
     }
     Ok(())
 }
@@ -288,7 +288,7 @@ fn reports_the_cut_field(rt: HostRuntime) -> Result<(), Fail> {
         (COUNTER_IMAGE_2, &COUNTER_2_FIELDS),
         (EVERYTHING_IMAGE, &EVERYTHING_FIELDS),
     ];
-    for (image, fields) in fields {
+    for (image, fields) in &fields {
         assert_eq!(rt; first_miscut(rt.alloc(), image, fields)?, None);
     }
     Ok(())
@@ -349,9 +349,14 @@ fn has_fault(
     kind: ImageKind,
     offset: usize,
 ) -> Result<bool, ImageFault> {
-    match decode(alloc, bytes) {
+    let read = decode(alloc, bytes);
+    is_fault_of(&read, ImageFault { kind, offset })
+}
+
+fn is_fault_of(read: &Result<Code, ImageFault>, expected: ImageFault) -> Result<bool, ImageFault> {
+    match read {
         Ok(_) => Ok(false),
-        Err(fault) if fault.kind == OutOfMemory => Err(fault),
-        Err(fault) => Ok(fault == ImageFault { kind, offset }),
+        Err(fault) if fault.kind == OutOfMemory => Err(*fault),
+        Err(fault) => Ok(*fault == expected),
     }
 }

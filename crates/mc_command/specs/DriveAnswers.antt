@@ -7,11 +7,11 @@ use Rattle.mc_verify.specs.Faults.{IsSound}
 use Rattle.mc_verify.specs.Refusals.{IsLeast}
 use Rattle.mc_core.specs.Held.{Held, IsHeldBy}
 use Rattle.mc_core.specs.Histories.{history_of}
-use Rattle.mc_core.specs.StepKinds.{kind_name, kind_number}
-use Rattle.mc_core.specs.StepText.{SpellsSteps}
+use Rattle.mc_history.specs.StepKinds.{kind_name, kind_number}
+use Rattle.mc_history.specs.StepText.{SpellsSteps}
 use Rattle.mc_core.specs.Worlds.{Noted}
-use Rattle.mc_core.specs.declared.steps_fault.StepsFault.{StepsFault}
-use Rattle.mc_core.specs.declared.steps_fault.StepsKind.TheVariants as steps_kind
+use Rattle.mc_history.specs.declared.steps_fault.StepsFault.{StepsFault}
+use Rattle.mc_history.specs.declared.steps_fault.StepsKind.TheVariants as steps_kind
 use Rattle.mc_explain.specs.Verdicts.{IsStated}
 use Rattle.mc_explain.specs.declared.verdict.Verdict.{Verdict}
 use Rattle.mc_run.specs.Headline.{IsTrial}

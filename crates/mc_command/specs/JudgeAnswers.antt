@@ -3,10 +3,10 @@ use Rattle.std.specs.Prelude.{◌≡◌, ◌≢◌, ℕ, Option, Some, None, Lis
 use Rattle.mc_model.specs.Notes.{History}
 use Rattle.mc_model.specs.Kinds.{kind_name, kind_number}
 use Rattle.mc_model.specs.declared.rules.HistoryKind.TheVariants as kind
-use Rattle.mc_explain.specs.declared.fault.HistoryFault.{HistoryFault}
-use Rattle.mc_explain.specs.Claim.{Claim}
-use Rattle.mc_explain.specs.HistoryText.{SpellsHistory}
-use Rattle.mc_explain.specs.Explains.{Explains}
+use Rattle.mc_history.specs.declared.fault.HistoryFault.{HistoryFault}
+use Rattle.mc_history.specs.Claim.{Claim}
+use Rattle.mc_history.specs.HistoryText.{SpellsHistory}
+use Rattle.mc_claims.specs.Explains.{Explains}
 use Rattle.mc_explain.specs.Verdicts.{IsStated, IsTrueOf, IsWithin}
 use Rattle.mc_command.specs.Refusals.{refusal_text}
 use Rattle.mc_command.specs.Verdicts.{verdict_status, verdict_text}

@@ -7,7 +7,7 @@ use Rattle.mc_verify.specs.Faults.{IsSound}
 use Rattle.mc_verify.specs.Refusals.{IsLeast}
 use Rattle.mc_core.specs.Held.{Held, IsHeldBy}
 use Rattle.mc_core.specs.Histories.{history_of}
-use Rattle.mc_explain.specs.PrintedHistory.{history_text}
+use Rattle.mc_history.specs.PrintedHistory.{history_text}
 use Rattle.mc_explain.specs.Verdicts.{IsStated}
 use Rattle.mc_explain.specs.declared.verdict.Verdict.{Verdict}
 use Rattle.mc_run.specs.Agreement.{Agree, LaneRecords}

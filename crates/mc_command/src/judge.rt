@@ -10,7 +10,9 @@ use crate::refusal::{Place, Refusal, refusal_text};
 use crate::status::Status;
 use crate::verdicts::{verdict_status, verdict_text};
 use clap::Command;
-use mc_explain::{Explanation, HistoryFault, Verdict, confirms, judge, parse_history};
+use mc_claims::confirms;
+use mc_explain::{Verdict, judge};
+use mc_history::{Explanation, HistoryFault, parse_history};
 use mc_model::{History, HistoryKind};
 use std::alloc::{AllocError, Global};
 

@@ -3,7 +3,8 @@ ghost use Rattle.std.specs.Prelude.{◌≡◌, IfOk};
 ghost use Rattle.mc_command.specs.Verdicts as verdicts;
 
 use crate::status::Status;
-use mc_explain::{Explanation, Verdict, print_explanation};
+use mc_explain::Verdict;
+use mc_history::{Explanation, print_explanation};
 use std::alloc::{AllocError, Global};
 
 /// The text of a verdict. That of an explanation is its lines and `end` after `explained`.

@@ -4,7 +4,7 @@ use Rattle.mc_protocol.specs.declared.actor.Actor.{Actor}
 use Rattle.mc_protocol.specs.declared.actor.Actor.TheVariants as actor
 use Rattle.mc_code.specs.Code.{Code}
 use Rattle.mc_core.specs.declared.ending.Ending.TheVariants as ending
-use Rattle.mc_core.specs.declared.event.Event.{Event}
+use Rattle.mc_history.specs.declared.event.Event.{Event}
 use Rattle.mc_core.specs.declared.step_refusal.StepRefusal.{StepRefusal}
 use Rattle.mc_core.specs.Laws.{FoldsRepeat, FoldsOnce, EndsOnce}
 use Rattle.mc_core.specs.Steps.{IsRefused, IsStep, IsFold, ends, steps, skips, IsWorldOf}

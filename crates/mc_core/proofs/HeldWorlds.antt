@@ -6,7 +6,7 @@ use Rattle.mc_protocol.specs.declared.sections.Sections.{Sections}
 use Rattle.mc_code.specs.Code.{Code}
 use Rattle.mc_machine.specs.declared.machine.Machine.{Machine}
 use Rattle.mc_core.specs.declared.ending.Ending.{Ending}
-use Rattle.mc_core.specs.declared.event.Event.{Event}
+use Rattle.mc_history.specs.declared.event.Event.{Event}
 use Rattle.mc_core.specs.declared.section.Section.{Section}
 use Rattle.mc_core.specs.Fields.{held_in, IsKept}
 use Rattle.mc_core.specs.Held.{Held, HasMachine, IsHeldBy}

@@ -21,8 +21,8 @@ use Rattle.mc_model.specs.declared.note.Note.TheVariants as note
 use Rattle.mc_model.proofs.Answering.{last_of-push}
 use Rattle.mc_model.proofs.NoteFaults.{fault_by_sections, record_push, record_parts, nothing_noted}
 use Rattle.mc_verify.specs.Faults.{IsSound}
-use Rattle.mc_core.specs.declared.event.Event.{Event}
-use Rattle.mc_core.specs.declared.event.Event.TheVariants as event
+use Rattle.mc_history.specs.declared.event.Event.{Event}
+use Rattle.mc_history.specs.declared.event.Event.TheVariants as event
 use Rattle.mc_core.specs.declared.step_refusal.StepRefusal.TheVariants as refusal
 use Rattle.mc_core.specs.Histories.{begin_count, call_after, no_call, record_of, sent_of, unanswered, sent_in, sections_of}
 use Rattle.mc_core.specs.Laws.{FoldsAreRecorded}

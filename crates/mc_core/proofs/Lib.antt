@@ -1,5 +1,3 @@
-pub mod StepLines
-pub mod StepLists
 mod LogLemmas
 mod StepLemmas
 mod FoldLemmas

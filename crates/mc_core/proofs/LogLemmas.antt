@@ -13,8 +13,8 @@ use Rattle.mc_code.specs.Code.{Code}
 use Rattle.mc_code.specs.Runs.{Exchange}
 use Rattle.mc_code.specs.States.{Tagged}
 use Rattle.mc_code.specs.declared.instr.Call.{Call}
-use Rattle.mc_core.specs.declared.event.Event.{Event}
-use Rattle.mc_core.specs.declared.event.Event.TheVariants as event
+use Rattle.mc_history.specs.declared.event.Event.{Event}
+use Rattle.mc_history.specs.declared.event.Event.TheVariants as event
 use Rattle.mc_core.specs.Logs.{Log, new_log, events_of_pair, begin_of, events_in, exchanges_in, with_call, with_reply, with_fault, IsNextCall, IsRightLog}
 
 -- ---- right logs

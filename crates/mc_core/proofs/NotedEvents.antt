@@ -11,8 +11,8 @@ use Rattle.mc_protocol.specs.declared.reply.Reply.{Reply}
 use Rattle.mc_protocol.proofs.FirstItems.{rest_is}
 use Rattle.mc_code.specs.Code.{Code}
 use Rattle.mc_code.specs.declared.instr.Call.{Call}
-use Rattle.mc_core.specs.declared.event.Event.{Event}
-use Rattle.mc_core.specs.declared.event.Event.TheVariants as event
+use Rattle.mc_history.specs.declared.event.Event.{Event}
+use Rattle.mc_history.specs.declared.event.Event.TheVariants as event
 use Rattle.mc_core.specs.Logs.{Log, events_of_pair, begin_of, call_of, calls_in, events_in}
 use Rattle.mc_core.specs.Safety.{IsSilentAfterFault}
 use Rattle.mc_core.specs.Steps.{IsStep, IsFold}

@@ -21,8 +21,8 @@ use Rattle.mc_code.proofs.Stopping.{StopsAt, one_stop}
 use Rattle.mc_machine.specs.Machine.{IsAt, actor_of, waits_at}
 use Rattle.mc_machine.specs.declared.machine.Machine.{Machine}
 use Rattle.mc_core.specs.declared.ending.Ending.TheVariants as ending
-use Rattle.mc_core.specs.declared.event.Event.{Event}
-use Rattle.mc_core.specs.declared.event.Event.TheVariants as event
+use Rattle.mc_history.specs.declared.event.Event.{Event}
+use Rattle.mc_history.specs.declared.event.Event.TheVariants as event
 use Rattle.mc_core.specs.declared.section.Section.{Section}
 use Rattle.mc_core.specs.Fields.{reply_in, replies_of, waiting_in, fault_in, log_in, MakesNext, EndsAs, TakesReply, SameCalls}
 use Rattle.mc_core.specs.Held.{Stands, HasMachine}

@@ -10,7 +10,7 @@ use Rattle.mc_machine.specs.Machine.{numbers_of}
 use Rattle.mc_machine.specs.declared.machine.Machine.{Machine}
 use Rattle.mc_core.specs.declared.ending.Ending.{Ending}
 use Rattle.mc_core.specs.declared.ending.Ending.TheVariants as ending
-use Rattle.mc_core.specs.declared.event.Event.{Event}
+use Rattle.mc_history.specs.declared.event.Event.{Event}
 use Rattle.mc_core.specs.declared.section.Section.{Section}
 use Rattle.mc_core.specs.Fields.{replies_of, log_in, world_in, held_in, Takes, BranchesBegin, BranchesFollow}
 use Rattle.mc_core.specs.Held.{Stands, HasMachine}

@@ -15,8 +15,8 @@ use Rattle.mc_model.specs.Notes.{is_same_section, requests_in, replies_in, begun
 use Rattle.mc_model.specs.Sections.{Sections}
 use Rattle.mc_model.specs.declared.note.Note.TheVariants as note
 use Rattle.mc_model.specs.declared.sent.Sent.{Sent}
-use Rattle.mc_core.specs.declared.event.Event.{Event}
-use Rattle.mc_core.specs.declared.event.Event.TheVariants as event
+use Rattle.mc_history.specs.declared.event.Event.{Event}
+use Rattle.mc_history.specs.declared.event.Event.TheVariants as event
 use Rattle.mc_core.specs.Fields.{reply_in, replies_of}
 use Rattle.mc_core.specs.Histories.{begin_count, no_call, call_after, recorded_after, recorded_from, record_of, sent_of, unanswered, sent_in, sections_of}
 use Rattle.mc_core.specs.Logs.{Log, call_of, calls_in, events_of_pair, begin_of, events_in, request_of}

@@ -21,8 +21,8 @@ use Rattle.mc_model.specs.declared.note.Note.TheVariants as note
 use Rattle.mc_model.specs.declared.rules.HistoryKind.{HistoryKind}
 use Rattle.mc_model.specs.declared.rules.HistoryKind.TheVariants as kinds
 use Rattle.mc_verify.specs.Faults.{IsSound}
-use Rattle.mc_core.specs.declared.event.Event.{Event}
-use Rattle.mc_core.specs.declared.event.Event.TheVariants as event
+use Rattle.mc_history.specs.declared.event.Event.{Event}
+use Rattle.mc_history.specs.declared.event.Event.TheVariants as event
 use Rattle.mc_core.specs.declared.section.Section.{Section}
 use Rattle.mc_core.specs.Fields.{replies_of, waiting_in, world_in, calls_of, note_in, noted_by, BeginsNamed, HaveRoom, AreBegun, CountsBegin}
 use Rattle.mc_core.specs.Histories.{begin_count, no_call, recorded_after, recorded_from}

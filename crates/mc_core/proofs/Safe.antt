@@ -23,8 +23,8 @@ use Rattle.mc_verify.specs.Costs.{cost_along}
 use Rattle.mc_verify.specs.Faults.{IsSound}
 use Rattle.mc_verify.specs.declared.measure.Measure.TheVariants as measure
 use Rattle.mc_verify.proofs.Right.{sound_right}
-use Rattle.mc_core.specs.declared.event.Event.{Event}
-use Rattle.mc_core.specs.declared.event.Event.TheVariants as event
+use Rattle.mc_history.specs.declared.event.Event.{Event}
+use Rattle.mc_history.specs.declared.event.Event.TheVariants as event
 use Rattle.mc_core.specs.Laws.{FoldsAreSafe, FoldsAreWithinRoom}
 use Rattle.mc_core.specs.Logs.{Log, call_of, calls_in, events_of_pair, begin_of, exchanges_in, IsNextCall, IsRightLog}
 use Rattle.mc_core.specs.Safety.{IsSmallEvent, IsSmallNote, AreSmall, RanRight, bytes_of_all}

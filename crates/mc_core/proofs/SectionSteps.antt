@@ -8,8 +8,8 @@ use Rattle.mc_machine.specs.Machine.{IsAt}
 use Rattle.mc_machine.specs.declared.machine.Machine.{Machine}
 use Rattle.mc_core.specs.declared.ending.Ending.{Ending}
 use Rattle.mc_core.specs.declared.ending.Ending.TheVariants as ending
-use Rattle.mc_core.specs.declared.event.Event.{Event}
-use Rattle.mc_core.specs.declared.event.Event.TheVariants as event
+use Rattle.mc_history.specs.declared.event.Event.{Event}
+use Rattle.mc_history.specs.declared.event.Event.TheVariants as event
 use Rattle.mc_core.specs.declared.section.Section.{Section}
 use Rattle.mc_core.specs.Fields.{log_in, IsKept, Takes}
 use Rattle.mc_core.specs.Held.{Stands, HasMachine}

@@ -9,7 +9,7 @@ use Rattle.mc_code.specs.Code.{Code, IsCode}
 use Rattle.mc_code.specs.declared.instr.Call.{Call}
 use Rattle.mc_verify.specs.Faults.{IsSound}
 use Rattle.mc_core.specs.declared.ending.Ending.TheVariants as ending
-use Rattle.mc_core.specs.declared.event.Event.{Event}
+use Rattle.mc_history.specs.declared.event.Event.{Event}
 use Rattle.mc_core.specs.declared.section.Section.{Section}
 use Rattle.mc_core.specs.declared.step_refusal.StepRefusal.{StepRefusal}
 use Rattle.mc_core.specs.Fields.{waiting_in, world_in, held_in, AreKept, refusal_in, NamesATemplate, MayTake, LeavesAfter, AllTake}

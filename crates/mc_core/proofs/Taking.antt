@@ -23,8 +23,8 @@ use Rattle.mc_machine.specs.declared.machine.Machine.{Machine}
 use Rattle.mc_verify.specs.Faults.{IsSound}
 use Rattle.mc_core.specs.declared.ending.Ending.{Ending}
 use Rattle.mc_core.specs.declared.ending.Ending.TheVariants as ending
-use Rattle.mc_core.specs.declared.event.Event.{Event}
-use Rattle.mc_core.specs.declared.event.Event.TheVariants as event
+use Rattle.mc_history.specs.declared.event.Event.{Event}
+use Rattle.mc_history.specs.declared.event.Event.TheVariants as event
 use Rattle.mc_core.specs.declared.section.Section.{Section}
 use Rattle.mc_core.specs.declared.step_refusal.StepRefusal.TheVariants as refusal
 use Rattle.mc_core.specs.Fields.{replies_of, waiting_in, log_in, world_in, IsKept, NamesATemplate, MayTake, Takes, SameCalls, Begins, LeavesNumbers, BranchesBegin, BranchesFollow, AllTake}

@@ -13,7 +13,7 @@ use Rattle.mc_code.proofs.LookUps.{some_is}
 use Rattle.mc_machine.specs.Machine as machines
 use Rattle.mc_machine.specs.declared.machine.Machine.{Machine}
 use Rattle.mc_core.specs.declared.ending.Ending.TheVariants as ending
-use Rattle.mc_core.specs.declared.event.Event.TheVariants as event
+use Rattle.mc_history.specs.declared.event.Event.TheVariants as event
 use Rattle.mc_core.specs.declared.section.Section.{Section}
 use Rattle.mc_core.specs.declared.step_refusal.StepRefusal.{StepRefusal}
 use Rattle.mc_core.specs.Fields.{GoesOn, IsUpcoming, MayTake, held_in, world_in}

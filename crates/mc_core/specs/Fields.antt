@@ -22,8 +22,8 @@ use Rattle.mc_model.specs.declared.note.Note.{Note}
 use Rattle.mc_model.specs.declared.note.Note.TheVariants as note
 use Rattle.mc_core.specs.declared.ending.Ending.{Ending}
 use Rattle.mc_core.specs.declared.ending.Ending.TheVariants as ending
-use Rattle.mc_core.specs.declared.event.Event.{Event}
-use Rattle.mc_core.specs.declared.event.Event.TheVariants as event
+use Rattle.mc_history.specs.declared.event.Event.{Event}
+use Rattle.mc_history.specs.declared.event.Event.TheVariants as event
 use Rattle.mc_core.specs.declared.section.Section.{Section}
 use Rattle.mc_core.specs.declared.step_refusal.StepRefusal.{StepRefusal}
 use Rattle.mc_core.specs.declared.step_refusal.StepRefusal.TheVariants as refusal

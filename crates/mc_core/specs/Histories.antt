@@ -8,8 +8,8 @@ use Rattle.mc_model.specs.Notes as recorded
 use Rattle.mc_model.specs.Sections.{Sections}
 use Rattle.mc_model.specs.declared.note.Note.TheVariants as note
 use Rattle.mc_model.specs.declared.sent.Sent.{Sent}
-use Rattle.mc_core.specs.declared.event.Event.{Event}
-use Rattle.mc_core.specs.declared.event.Event.TheVariants as event
+use Rattle.mc_history.specs.declared.event.Event.{Event}
+use Rattle.mc_history.specs.declared.event.Event.TheVariants as event
 use Rattle.mc_core.specs.Logs.{Log, calls_in, request_of}
 use Rattle.mc_core.specs.Worlds.{World, Noted, log_of, events_of}
 

@@ -11,6 +11,8 @@ pub use Rattle.mc_code.specs.Code
 pub use Rattle.mc_code.specs.Standing
 pub use Rattle.mc_verify.specs.Faults as CodeFaults
 pub use Rattle.mc_verify.specs.Flags
+pub use Rattle.mc_history.specs.StepKinds
+pub use Rattle.mc_history.specs.StepText
 pub use Rattle.mc_model.specs.Notes
 pub use Rattle.mc_model.specs.Words
 pub mod Logs
@@ -19,9 +21,6 @@ pub mod Steps
 pub mod Safety
 pub mod Histories
 pub mod Laws
-pub mod StepKinds
-pub mod StepText
 -- What private contracts cite.
-pub mod StepReading
 pub mod Held
 pub mod Fields

@@ -10,8 +10,8 @@ use Rattle.mc_code.specs.Requests.{request_with}
 use Rattle.mc_code.specs.Runs.{Exchange}
 use Rattle.mc_code.specs.States.{Tagged}
 use Rattle.mc_code.specs.declared.instr.Call.{Call}
-use Rattle.mc_core.specs.declared.event.Event.{Event}
-use Rattle.mc_core.specs.declared.event.Event.TheVariants as event
+use Rattle.mc_history.specs.declared.event.Event.{Event}
+use Rattle.mc_history.specs.declared.event.Event.TheVariants as event
 
 pub record Log : Type 0 where
   -- the calls that have replies, with them, in order

@@ -14,8 +14,8 @@ use Rattle.mc_code.specs.Standing.{StandsAt, IsRightAlong}
 use Rattle.mc_code.specs.States.{Tagged, State}
 use Rattle.mc_code.specs.declared.instr.Call.{Call}
 use Rattle.mc_verify.specs.Flags.{IsAdmitted, all_clear}
-use Rattle.mc_core.specs.declared.event.Event.{Event}
-use Rattle.mc_core.specs.declared.event.Event.TheVariants as event
+use Rattle.mc_history.specs.declared.event.Event.{Event}
+use Rattle.mc_history.specs.declared.event.Event.TheVariants as event
 use Rattle.mc_core.specs.Logs.{new_log, calls_in, answered_in, events_in, request_of, IsRightLog}
 use Rattle.mc_core.specs.Worlds.{World, Noted, log_of, events_of, exchanges_of, BeginsIn}
 

@@ -9,7 +9,7 @@ use Rattle.mc_code.specs.Runs.{Exchange}
 use Rattle.mc_code.specs.Standing.{BeginsAfter, ComesTo}
 use Rattle.mc_code.specs.States.{Tagged, State, ended}
 use Rattle.mc_model.specs.Notes.{is_same_section}
-use Rattle.mc_core.specs.declared.event.Event.{Event}
+use Rattle.mc_history.specs.declared.event.Event.{Event}
 use Rattle.mc_core.specs.declared.ending.Ending.{Ending}
 use Rattle.mc_core.specs.declared.ending.Ending.TheVariants as ending
 use Rattle.mc_core.specs.Logs.{Log, new_log, exchanges_in}

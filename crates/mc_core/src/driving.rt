@@ -5,8 +5,9 @@ ghost use Rattle.mc_core.specs.Safety.{IsSafe};
 ghost use Rattle.mc_core.specs.Steps.{IsFold};
 ghost use Rattle.mc_core.specs.Worlds.{new_world};
 
+use crate::World;
 use crate::world::know_code;
-use crate::{Event, World};
+use mc_history::Event;
 use mc_protocol::{Actor, OutOfMemory};
 use mc_verify::Checked;
 use std::alloc::Global;

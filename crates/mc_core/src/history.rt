@@ -5,10 +5,11 @@ ghost use Rattle.mc_core.specs.Histories as histories;
 ghost use Rattle.mc_core.specs.Held.{IsHeldBy};
 ghost use Rattle.mc_model.specs.Notes.{IsHistory};
 
+use crate::World;
 use crate::section::Section;
 use crate::world::know_code;
-use crate::{Event, World};
 use mc_code::Code;
+use mc_history::Event;
 use mc_model::{History, HistoryKind, Note, copy_reply};
 use mc_protocol::{Actor, OutOfMemory, Sections};
 use mc_verify::Checked;

@@ -1,35 +1,29 @@
-//! What happens in three sections of sound code: the world that follows it, event by event; and the text of a list of events.
+//! What happens in three sections of sound code: the world that follows it, event by event.
 //!
-//! Below it stand `mc_protocol`, `mc_script`, `mc_code`, `mc_verify`, `mc_machine` and `mc_model`. A section's log is its calls with
-//! their replies (`specs/Logs.antt`); a world has the log of each section, and the notes of all events that it took, in order
-//! (`specs/Worlds.antt`). Which events it takes, what each does, and what the fold of a list of events is, stands in
-//! `specs/Steps.antt`; that each fold is safe, whatever the events are, in `specs/Safety.antt`; and the history of a world in
-//! `specs/Histories.antt`. The crate above uses `World::step` and `drive`, whose worlds are such folds, `World::replay`, which leads
-//! a world by its notes once more, and `parse_steps`, which answers the list of events that a text spells (`specs/StepText.antt`).
+//! Below it stand `mc_protocol`, `mc_script`, `mc_code`, `mc_verify`, `mc_machine`, `mc_model`, and `mc_history`, which has the events
+//! and the text of a list of them; their names are here too. A section's log is its calls with their replies (`specs/Logs.antt`); a
+//! world has the log of each section, and the notes of all events that it took, in order (`specs/Worlds.antt`). Which events it takes,
+//! what each does, and what the fold of a list of events is, stands in `specs/Steps.antt`; that each fold is safe, whatever the events
+//! are, in `specs/Safety.antt`; and the history of a world in `specs/Histories.antt`. The crate above uses `World::step` and `drive`,
+//! whose worlds are such folds, and `World::replay`, which leads a world by its notes once more.
 #![tactic(auto)]
 
 mod driving;
 mod ending;
-mod event;
 mod history;
 mod laws;
 mod replaying;
 mod section;
-mod step_lines;
 mod step_refusal;
-mod step_text;
-mod steps_fault;
-mod text_laws;
 mod world;
 
 pub use driving::drive;
 pub use ending::Ending;
-pub use event::Event;
 pub use laws::{
     ends_once, folds_are_recorded, folds_are_safe, folds_are_within_room, folds_once, folds_repeat,
 };
+pub use mc_history::{
+    Event, STEP_LIST_LIMIT, StepsFault, StepsKind, parse_steps, texts_spell_one_step_list,
+};
 pub use step_refusal::StepRefusal;
-pub use step_text::{STEP_LIST_LIMIT, parse_steps};
-pub use steps_fault::{StepsFault, StepsKind};
-pub use text_laws::texts_spell_one_step_list;
 pub use world::World;

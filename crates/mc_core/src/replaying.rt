@@ -4,8 +4,9 @@ ghost use Rattle.mc_core.specs.Fields as fields;
 ghost use Rattle.mc_core.specs.Held.{FindsFold};
 
 use crate::section::Section;
-use crate::{Event, World, drive};
+use crate::{World, drive};
 use mc_code::Call;
+use mc_history::Event;
 use mc_model::copy_reply;
 use mc_protocol::{Actor, Fault, OutOfMemory, Sections};
 use mc_verify::Checked;

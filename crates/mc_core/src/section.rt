@@ -6,8 +6,9 @@ ghost use Rattle.mc_machine.specs.Machine as machines;
 ghost use Rattle.mc_protocol.specs.Sections as of_sections;
 ghost use Rattle.mc_code.specs.States.{Tagged};
 
-use crate::{Ending, Event, StepRefusal};
+use crate::{Ending, StepRefusal};
 use mc_code::{Call, Code};
+use mc_history::Event;
 use mc_machine::Machine;
 use mc_protocol::{Actor, Fault, OutOfMemory, REQUESTS_LIMIT, Reply, Sections, may_answer};
 use mc_script::VARIABLES_LIMIT;

@@ -9,8 +9,9 @@ ghost use Rattle.mc_protocol.specs.Sections as sections;
 ghost use Rattle.mc_verify.specs.Faults.{IsSound};
 
 use crate::section::{Section, begin_branches, take_event};
-use crate::{Ending, Event, StepRefusal};
+use crate::{Ending, StepRefusal};
 use mc_code::Call;
+use mc_history::Event;
 use mc_protocol::{Actor, Fault, OutOfMemory, REQUESTS_LIMIT, Reply, Sections};
 use mc_script::VARIABLES_LIMIT;
 use mc_verify::Checked;

@@ -1,7 +1,10 @@
 //! Events as the tests' tables write them, and worlds that are led by them.
 
+ghost use Rattle.std.specs.Prelude.{IfOk};
+ghost use Rattle.mc_core.specs.Held.{IsHeldBy};
+
 use mc_code::{Code, assemble};
-use mc_core::Event;
+use mc_core::{Ending, Event, World, drive};
 use mc_protocol::{Actor, Fault, OutOfMemory, Reply};
 use mc_script::parse;
 use mc_verify::{Checked, verify};
@@ -36,7 +39,7 @@ impl Given {
 }
 
 /// The events of a table.
-pub(crate) fn events(alloc: Global, steps: &[Step]) -> Result<Vec<(Actor, Event)>, OutOfMemory> {
+fn events(alloc: Global, steps: &[Step]) -> Result<Vec<(Actor, Event)>, OutOfMemory> {
     let mut events = Vec::new(alloc);
     'steps: for (actor, given) in steps {
         events.push((*actor, given.event()))?;
@@ -44,9 +47,34 @@ pub(crate) fn events(alloc: Global, steps: &[Step]) -> Result<Vec<(Actor, Event)
     Ok(events)
 }
 
+/// The world after the steps of a table, and how many of them it refused.
+pub(crate) fn driven(
+    alloc: Global,
+    code: &Checked,
+    steps: &[Step],
+) -> Result<(World, u64), OutOfMemory>
+    ensures held { IfOk result (λ driven. IsHeldBy code.now.code driven.0) }
+{
+    drive(alloc, code, events(alloc, steps)?)
+}
+
+/// How P, A and B stand.
+pub(crate) fn endings(world: &World) -> [Ending; 3] {
+    [
+        world.ending(Actor::P),
+        world.ending(Actor::A),
+        world.ending(Actor::B),
+    ]
+}
+
 /// The code of a script, which is sound.
 pub(crate) fn checked(alloc: Global, script: &[u8]) -> Result<Checked, Fail> {
-    sound(alloc, assemble(alloc, &parse(alloc, script)?)?)
+    sound(alloc, code(alloc, script)?)
+}
+
+fn code(alloc: Global, script: &[u8]) -> Result<Code, Fail> {
+    let script = parse(alloc, script)?;
+    Ok(assemble(alloc, &script)?)
 }
 
 /// The same of code.

@@ -1,13 +1,15 @@
 //! What worlds come to, and what their histories are judged to be.
 
+ghost use Rattle.mc_core.specs.Held.{IsHeldBy};
+
 use crate::given::Given::*;
-use crate::given::{Step, checked, events};
+use crate::given::{Step, checked, driven, endings};
 use crate::scripts::{COUNTER, LONE_BRANCH};
-use mc_core::{Ending, drive};
+use mc_core::{Ending, World};
 use mc_explain::{Verdict, judge, print_explanation};
-use mc_model::History;
 use mc_protocol::Actor::*;
 use mc_protocol::{Fault, OutOfMemory};
+use mc_verify::Checked;
 use std::alloc::Global;
 use std::test::Fail;
 
@@ -125,34 +127,47 @@ static ROWS: [Row; 7] = [
     ),
 ];
 
-/// What came of the steps: how many were refused, how the sections stand, and what the history is judged to be.
-fn seen(alloc: Global, script: &[u8], steps: &[Step]) -> Result<(u64, [Ending; 3], Vec<u8>), Fail> {
-    let code = checked(alloc, script)?;
-    let (world, skipped) = drive(alloc, &code, events(alloc, steps)?)?;
-    let endings = [world.ending(P), world.ending(A), world.ending(B)];
-    let history = world.history(alloc, &code)?;
-    Ok((skipped, endings, judged(alloc, &history)?))
+/// Whether the row says what came of its steps: how many were refused, how the sections stand, and what the history is judged to be.
+fn is_met(alloc: Global, row: &Row) -> Result<bool, Fail> {
+    let code = checked(alloc, row.0)?;
+    Ok(is_met_in(alloc, &code, row)?)
 }
 
-/// The lines of the explanation, or the verdict.
-fn judged(alloc: Global, history: &History) -> Result<Vec<u8>, OutOfMemory> {
-    let (verdict, _) = judge(alloc, history, 1_000_000)?;
-    let mut lines = Vec::new(alloc);
-    match verdict {
-        Verdict::Explained(explanation) => print_explanation(&explanation, &mut lines)?,
-        Verdict::Unexplained => lines.extend_from_slice(b"unexplained\n")?,
-        Verdict::Undecided => lines.extend_from_slice(b"undecided\n")?,
+fn is_met_in(alloc: Global, code: &Checked, row: &Row) -> Result<bool, OutOfMemory> {
+    let (world, skipped) = driven(alloc, code, row.1)?;
+    if skipped != row.2 || endings(&world) != row.3 {
+        return Ok(false);
     }
-    Ok(lines)
+    is_judged(alloc, code, &world, row.4)
+}
+
+/// Whether these are the lines of the explanation of the world's history, or its verdict.
+fn is_judged(alloc: Global, code: &Checked, world: &World, lines: &str) -> Result<bool, OutOfMemory>
+    requires held { IsHeldBy code.now.code world.now }
+{
+    let history = world.history(alloc, code)?;
+    let (verdict, _) = judge(alloc, &history, 1_000_000)?;
+    is_printed(alloc, &verdict, lines)
+}
+
+fn is_printed(alloc: Global, verdict: &Verdict, lines: &str) -> Result<bool, OutOfMemory> {
+    let mut out = Vec::new(alloc);
+    print_verdict(verdict, &mut out)?;
+    Ok(out.as_slice() == lines.as_bytes())
+}
+
+fn print_verdict(verdict: &Verdict, out: &mut Vec<u8>) -> Result<(), OutOfMemory> {
+    match verdict {
+        Verdict::Explained(explanation) => print_explanation(explanation, out),
+        Verdict::Unexplained => out.extend_from_slice(b"unexplained\n"),
+        Verdict::Undecided => out.extend_from_slice(b"undecided\n"),
+    }
 }
 
 #[test]
 fn comes_to(rt: HostRuntime) -> Result<(), Fail> {
-    for (script, steps, skipped, endings, lines) in &ROWS {
-        let found = seen(rt.alloc(), script, steps)?;
-        assert_eq!(rt; found.0, *skipped);
-        assert_eq!(rt; found.1, *endings);
-        assert_eq!(rt; found.2.as_slice(), lines.as_bytes());
+    for (index, row) in ROWS.iter().enumerate() {
+        assert!(rt; is_met(rt.alloc(), row)?, "row {index}");
     }
     Ok(())
 }

@@ -1,5 +1,5 @@
-//! Tests of `mc_core` by its public calls, with answers that were worked out by hand: events that worlds take and refuse, the
-//! histories of what they took, and the texts of step lists.
+//! Tests of `mc_core` by its public calls, with answers that were worked out by hand: events that worlds take and refuse, and
+//! the histories of what they took.
 //!
 //! A table of events is a text: a section, and `begin`, a reply, or a fault's number, each after a space.
 #![tactic(auto)]
@@ -16,5 +16,3 @@ mod refusal_tests;
 mod replay_tests;
 #[cfg(test)]
 mod scripts;
-#[cfg(test)]
-mod steps_tests;

@@ -2,14 +2,10 @@
 //! worked out by hand.
 //!
 //! What `mcrace judge` answers to a text stands in `cases/judge`. Here is what only a call shows: how many turns a search
-//! took, the parts of what was read, claims that no text states, orders that notes allow, and what is printed of a history.
+//! took, and orders that notes allow.
 #![tactic(auto)]
 
-#[cfg(test)]
-mod claim_tests;
 #[cfg(test)]
 mod order_tests;
 #[cfg(test)]
 mod search_tests;
-#[cfg(test)]
-mod text_tests;

@@ -2,7 +2,7 @@
 
 use mc_explain::{Explanation, Move, Verdict, confirms, judge, parse_history};
 use mc_model::{Choice, History, Note, WordsFault, read_reply_words, read_request_words};
-use mc_protocol::{Actor, OutOfMemory, Separator, words_in};
+use mc_protocol::{Actor, OutOfMemory, Reply, Request, Separator, words_in};
 use std::alloc::Global;
 use std::test::Fail;
 
@@ -16,24 +16,43 @@ enum Words {
 type Notes = &'static [(Actor, Words)];
 
 fn note(alloc: Global, words: Words) -> Result<Note, WordsFault> {
-    Ok(match words {
-        Words::Begin(line) => {
-            let words = words_in(alloc, Separator::Space, line.as_bytes())?;
-            Note::Begin(read_request_words(alloc, words.as_slice())?)
-        }
-        Words::Reply(line) => {
-            let words = words_in(alloc, Separator::Space, line.as_bytes())?;
-            Note::Reply(read_reply_words(alloc, words.as_slice())?)
-        }
-    })
+    match words {
+        Words::Begin(line) => Ok(Note::Begin(request(alloc, line)?)),
+        Words::Reply(line) => Ok(Note::Reply(reply(alloc, line)?)),
+    }
+}
+
+fn request(alloc: Global, line: &str) -> Result<Request, WordsFault> {
+    let words = words_in(alloc, Separator::Space, line.as_bytes())?;
+    read_request_words(alloc, words.as_slice())
+}
+
+fn reply(alloc: Global, line: &str) -> Result<Reply, WordsFault> {
+    let words = words_in(alloc, Separator::Space, line.as_bytes())?;
+    read_reply_words(alloc, words.as_slice())
 }
 
 fn history(alloc: Global, lines: &[(Actor, Words)]) -> Result<History, Fail> {
+    let notes = notes(alloc, lines)?;
+    Ok(History::noted(alloc, notes).map_err(|(kind, _, _)| kind)?)
+}
+
+fn notes(alloc: Global, lines: &[(Actor, Words)]) -> Result<Vec<(Actor, Note)>, Fail> {
     let mut notes = Vec::new(alloc);
     for (actor, words) in lines {
-        notes.push((*actor, note(alloc, *words)?))?;
+        push_note(alloc, *actor, *words, &mut notes)?;
     }
-    Ok(History::noted(alloc, notes).map_err(|(kind, _, _)| kind)?)
+    Ok(notes)
+}
+
+fn push_note(
+    alloc: Global,
+    actor: Actor,
+    words: Words,
+    notes: &mut Vec<(Actor, Note)>,
+) -> Result<(), Fail> {
+    let note = note(alloc, words)?;
+    Ok(notes.push((actor, note))?)
 }
 
 // The claim that nothing was there, and that these sections acted.
@@ -139,14 +158,21 @@ static RACES: [(Notes, &[Actor], bool); 6] = [
 
 #[test]
 fn confirms_orders_that_keep_the_notes(rt: HostRuntime) -> Result<(), Fail> {
-    let alloc = rt.alloc();
     for (notes, order, wanted) in &RACES {
-        let history = history(alloc, notes)?;
-        let explanation = claim(alloc, order)?;
-        let answer = confirms(alloc, &history, &explanation)?;
-        assert!(rt; answer == *wanted, "{notes:?}");
+        assert!(rt; explains(rt.alloc(), notes, order)? == *wanted, "{notes:?}");
     }
     Ok(())
+}
+
+// Whether the sections' requests, acting in this order, explain what was noted.
+fn explains(alloc: Global, notes: Notes, order: &[Actor]) -> Result<bool, Fail> {
+    let history = history(alloc, notes)?;
+    does_confirm(alloc, &history, order)
+}
+
+fn does_confirm(alloc: Global, history: &History, order: &[Actor]) -> Result<bool, Fail> {
+    let explanation = claim(alloc, order)?;
+    Ok(confirms(alloc, history, &explanation)?)
 }
 
 // How many requests each branch has: as many as it may have.
@@ -157,22 +183,32 @@ const TURNS: u64 = 49;
 
 // A stores 1 and B reads it, again and again, and each request is answered before the next one begins.
 fn alternation(alloc: Global, last_reply: &'static str) -> Result<History, Fail> {
+    let lines = alternating_lines(alloc, last_reply)?;
+    history(alloc, lines.as_slice())
+}
+
+fn alternating_lines(
+    alloc: Global,
+    last_reply: &'static str,
+) -> Result<Vec<(Actor, Words)>, OutOfMemory> {
     let mut lines = vec![in alloc;
         (Actor::P, Words::Begin("delete a")),
         (Actor::P, Words::Reply("NOT_FOUND")),
     ]?;
     for round in 1..=ROUNDS {
-        lines.push((Actor::A, Words::Begin("set a 0 =1")))?;
-        lines.push((Actor::A, Words::Reply("STORED")))?;
-        lines.push((Actor::B, Words::Begin("get a")))?;
         let reply = if round == ROUNDS {
             last_reply
         } else {
             "HIT 0 =1"
         };
-        lines.push((Actor::B, Words::Reply(reply)))?;
+        lines.extend_from_slice(&[
+            (Actor::A, Words::Begin("set a 0 =1")),
+            (Actor::A, Words::Reply("STORED")),
+            (Actor::B, Words::Begin("get a")),
+            (Actor::B, Words::Reply(reply)),
+        ])?;
     }
-    history(alloc, lines.as_slice())
+    Ok(lines)
 }
 
 // Whether the moves are P's, and then A's and B's in turn.
@@ -187,28 +223,48 @@ fn do_alternate(order: &[Move]) -> bool {
         })
 }
 
+// What a search answers, and the turns that it took.
+#[derive(Clone, Copy, Debug, PartialEq, Eq)]
+enum Answer {
+    Alternation,
+    Explained,
+    Unexplained,
+    Undecided,
+}
+
+fn answer_of(verdict: &Verdict) -> Answer {
+    match verdict {
+        Verdict::Explained(explanation) if do_alternate(explanation.order.as_slice()) => {
+            Answer::Alternation
+        }
+        Verdict::Explained(_) => Answer::Explained,
+        Verdict::Unexplained => Answer::Unexplained,
+        Verdict::Undecided => Answer::Undecided,
+    }
+}
+
+fn answer_to(alloc: Global, history: &History, limit: u64) -> Result<(Answer, u64), OutOfMemory> {
+    let judged = judge(alloc, history, limit)?;
+    Ok((answer_of(&judged.0), judged.1))
+}
+
+fn answer_to_alternation(alloc: Global, last_reply: &'static str) -> Result<(Answer, u64), Fail> {
+    let history = alternation(alloc, last_reply)?;
+    Ok(answer_to(alloc, &history, u64::MAX)?)
+}
+
 #[test]
 fn finds_the_one_order_of_branches_that_alternate(rt: HostRuntime) -> Result<(), Fail> {
-    let history = alternation(rt.alloc(), "HIT 0 =1")?;
-    let (verdict, turns) = judge(rt.alloc(), &history, u64::MAX)?;
-    let Verdict::Explained(explanation) = verdict else {
-        return Err(Fail::from("no explanation"));
-    };
-    assert!(rt;
-        do_alternate(explanation.order.as_slice()),
-        "{explanation:?}"
-    );
-    assert_eq!(rt; turns, TURNS);
+    let answer = answer_to_alternation(rt.alloc(), "HIT 0 =1")?;
+    assert_eq!(rt; answer, (Answer::Alternation, TURNS));
     Ok(())
 }
 
 // No other order is tried where the one that is allowed fails.
 #[test]
 fn tries_no_order_that_the_notes_forbid(rt: HostRuntime) -> Result<(), Fail> {
-    let history = alternation(rt.alloc(), "HIT 0 =2")?;
-    let (verdict, turns) = judge(rt.alloc(), &history, u64::MAX)?;
-    assert!(rt; matches!(&verdict, Verdict::Unexplained), "{verdict:?}");
-    assert_eq!(rt; turns, TURNS);
+    let answer = answer_to_alternation(rt.alloc(), "HIT 0 =2")?;
+    assert_eq!(rt; answer, (Answer::Unexplained, TURNS));
     Ok(())
 }
 
@@ -217,18 +273,28 @@ fn tries_no_order_that_the_notes_forbid(rt: HostRuntime) -> Result<(), Fail> {
 // is one, 23 * 24 in all, and B's next hit, 24 * 24 in all.
 #[test]
 fn tries_every_order_where_no_notes_are_kept(rt: HostRuntime) -> Result<(), Fail> {
-    let alloc = rt.alloc();
-    let mut text = format!(in alloc; "history 1\nP delete a -> NOT_FOUND\n")?;
-    for _ in 0..ROUNDS {
-        text.push_str("A set a 0 =1 -> STORED\n")?;
-    }
-    for _ in 1..ROUNDS {
-        text.push_str("B get a -> HIT 0 =1\n")?;
-    }
+    let text = text_without_notes(rt.alloc())?;
+    let answer = answer_to_text(rt.alloc(), &text)?;
+    assert_eq!(rt; answer, (Answer::Unexplained, 1131));
+    Ok(())
+}
+
+fn answer_to_text(alloc: Global, text: &str) -> Result<(Answer, u64), Fail> {
+    let read = parse_history(alloc, text.as_bytes())?;
+    Ok(answer_to(alloc, &read.0, 10000)?)
+}
+
+fn text_without_notes(alloc: Global) -> Result<String, OutOfMemory> {
+    let mut text = String::from_str(alloc, "history 1\nP delete a -> NOT_FOUND\n")?;
+    push_times(&mut text, ROUNDS, "A set a 0 =1 -> STORED\n")?;
+    push_times(&mut text, ROUNDS - 1, "B get a -> HIT 0 =1\n")?;
     text.push_str("B get a -> HIT 0 =2\nend\n")?;
-    let (history, _) = parse_history(alloc, text.as_bytes())?;
-    let (verdict, turns) = judge(alloc, &history, 10000)?;
-    assert!(rt; matches!(&verdict, Verdict::Unexplained), "{verdict:?}");
-    assert_eq!(rt; turns, 1131);
+    Ok(text)
+}
+
+fn push_times(text: &mut String, count: usize, line: &str) -> Result<(), OutOfMemory> {
+    for _ in 0..count {
+        text.push_str(line)?;
+    }
     Ok(())
 }

@@ -1,6 +1,8 @@
 //! What a search finds, and how many turns it takes.
 
-use mc_explain::{Verdict, judge, parse_history, print_explanation};
+use mc_explain::{Explanation, Verdict, judge, parse_history, print_explanation};
+use mc_model::History;
+use mc_protocol::OutOfMemory;
 use std::alloc::Global;
 use std::test::Fail;
 
@@ -86,25 +88,51 @@ static ROWS: [Row; 11] = [
 // What is found of the history of these requests in at most `limit` turns, as its lines, and the turns that were used.
 fn found(alloc: Global, requests: &str, limit: u64) -> Result<(Vec<u8>, u64), Fail> {
     let text = format!(in alloc; "history 1\n{requests}end\n")?;
-    let (history, _) = parse_history(alloc, text.as_bytes())?;
-    let (verdict, turns) = judge(alloc, &history, limit)?;
-    let mut lines = Vec::new(alloc);
-    match &verdict {
-        Verdict::Explained(explanation) => print_explanation(explanation, &mut lines)?,
-        Verdict::Unexplained => lines.extend_from_slice(b"unexplained\n")?,
-        Verdict::Undecided => lines.extend_from_slice(b"undecided\n")?,
+    found_of_text(alloc, &text, limit)
+}
+
+fn found_of_text(alloc: Global, text: &str, limit: u64) -> Result<(Vec<u8>, u64), Fail> {
+    let read = parse_history(alloc, text.as_bytes())?;
+    Ok(found_of(alloc, &read.0, limit)?)
+}
+
+fn found_of(alloc: Global, history: &History, limit: u64) -> Result<(Vec<u8>, u64), OutOfMemory> {
+    let judged = judge(alloc, history, limit)?;
+    Ok((lines_of(alloc, &judged.0)?, judged.1))
+}
+
+fn lines_of(alloc: Global, verdict: &Verdict) -> Result<Vec<u8>, OutOfMemory> {
+    match verdict {
+        Verdict::Explained(explanation) => printed(alloc, explanation),
+        Verdict::Unexplained => Vec::from_slice(alloc, b"unexplained\n"),
+        Verdict::Undecided => Vec::from_slice(alloc, b"undecided\n"),
     }
-    Ok((lines, turns))
+}
+
+fn printed(alloc: Global, explanation: &Explanation) -> Result<Vec<u8>, OutOfMemory> {
+    let mut lines = Vec::new(alloc);
+    print_explanation(explanation, &mut lines)?;
+    Ok(lines)
 }
 
 #[test]
 fn finds_what_explains_each_first_row(rt: HostRuntime) -> Result<(), Fail> {
     for (requests, limit, wanted, turns) in &ROWS {
-        let (lines, used) = found(rt.alloc(), requests, *limit)?;
         assert!(rt;
-            lines.as_slice() == wanted.as_bytes() && used == *turns,
+            is_found(rt.alloc(), requests, *limit, wanted, *turns)?,
             "{requests}"
         );
     }
     Ok(())
+}
+
+fn is_found(
+    alloc: Global,
+    requests: &str,
+    limit: u64,
+    wanted: &str,
+    turns: u64,
+) -> Result<bool, Fail> {
+    let (lines, used) = found(alloc, requests, limit)?;
+    Ok(lines.as_slice() == wanted.as_bytes() && used == turns)
 }

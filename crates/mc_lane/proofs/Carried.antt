@@ -3,7 +3,8 @@ use Rattle.std.specs.Prelude.{◌≡◌, ℕ, ◌+◌, ◌-◌, ◌≤◌, Optio
 use Rattle.std.proofs.Common.{arith, append_assoc, append-nil, subst, sym, ap, ◌∙◌}
 use Rattle.std.proofs.Math.Seq.{take-add}
 use Rattle.std.proofs.lemmas.Grind.{common_steps}
-use Rattle.mc_lane.specs.Streams.{StreamState, Grows, Carries}
+use Rattle.mc_lane.specs.Streams.{StreamState, no_counts, Grows, Carries}
+use Rattle.mc_lane.specs.declared.stream.Counts.{Counts}
 
 -- what is appended in two steps is appended in one
 pub appended_twice : (a b c : List ℕ) (xs ys : List ℕ) → b ≡ a ++ xs → c ≡ b ++ ys → c ≡ a ++ (xs ++ ys)
@@ -18,23 +19,35 @@ Grows-twice (Some a) None c xs ys h k = absurd h
 Grows-twice (Some a) (Some b) None xs ys h k = absurd k
 Grows-twice (Some a) (Some b) (Some c) xs ys h k = appended_twice a b c xs ys h k
 
+-- what is counted in two steps
+abbrev pub sum_of : Counts → Counts → Counts
+sum_of m n = record {
+  failed_reads = m.failed_reads + n.failed_reads;
+  failed_writes = m.failed_writes + n.failed_writes;
+  ends = m.ends + n.ends;
+}
+
 -- what is carried in two steps is carried in one
-pub Carries-twice : (a b c : StreamState) (read read' written written' : List ℕ) (m n : ℕ)
-    → Carries a b read written m → Carries b c read' written' n → Carries a c (read ++ read') (written ++ written') (m + n)
+pub Carries-twice : (a b c : StreamState) (read read' written written' : List ℕ) (m n : Counts)
+    → Carries a b read written m → Carries b c read' written' n → Carries a c (read ++ read') (written ++ written') (sum_of m n)
 Carries-twice a b c read read' written written' m n h k = record {
   reads = Grows-twice a.read b.read c.read read read' h.reads k.reads;
   writes = Grows-twice a.written b.written c.written written written' h.writes k.writes;
-  fails = omega (arith, h.fails, k.fails);
+  failed_reads = omega (arith, h.failed_reads, k.failed_reads);
+  failed_writes = omega (arith, h.failed_writes, k.failed_writes);
+  ends = omega (arith, h.ends, k.ends);
 }
 
 -- a request that was written, and then what was read
-pub Carries-both : (a b c : StreamState) (read written : List ℕ) (failures : ℕ)
-    → Carries a b [] written 0 → Carries b c read [] failures → Carries a c read written failures
-Carries-both a b c read written failures h k = record {
+pub Carries-both : (a b c : StreamState) (read written : List ℕ) (counts : Counts)
+    → Carries a b [] written no_counts → Carries b c read [] counts → Carries a c read written counts
+Carries-both a b c read written counts h k = record {
   reads = Grows-twice a.read b.read c.read [] read h.reads k.reads;
   writes = subst (λ bytes. Grows a.written c.written bytes) (append-nil written)
       (Grows-twice a.written b.written c.written written [] h.writes k.writes);
-  fails = omega (arith, h.fails, k.fails);
+  failed_reads = omega (arith, h.failed_reads, k.failed_reads);
+  failed_writes = omega (arith, h.failed_writes, k.failed_writes);
+  ends = omega (arith, h.ends, k.ends);
 }
 
 -- the rest of a list, as the range from i on names it

@@ -34,3 +34,7 @@ pub read_on : (replies piece rest : List ℕ) (given count : ℕ) → given + co
     → take (given + count) replies ≡ take given replies ++ take count (piece ++ rest)
 read_on replies piece rest given count h is =
     take-add given count replies ∙ ap (λ bs. take given replies ++ bs) (grind (arith, common_steps))
+
+-- nothing more is counted
+pub none_more : (n : ℕ) → n ≡ n + 0
+none_more n = omega arith

@@ -1,9 +1,10 @@
 -- What is received for a reply, piece by piece.
-use Rattle.std.specs.Prelude.{◌≡◌, ℕ, ◌+◌, ◌-◌, ◌≤◌, true, Option, Some, None, Result, Ok, Err}
+use Rattle.std.specs.Prelude.{◌≡◌, ℕ, ◌+◌, ◌-◌, ◌<◌, ◌≤◌, true, Option, Some, None, Result, Ok, Err}
 use Rattle.std.specs.Prelude.{List, [], ◌++◌, length, take, drop, slice_range}
-use Rattle.std.proofs.Common.{arith, rules, refl, sym, ap, subst, ◌∙◌}
+use Rattle.std.proofs.Common.{arith, rules, refl, sym, ap, subst, ◌∙◌, append-nil}
 use Rattle.std.proofs.Math.Seq.{take-add}
 use Rattle.std.proofs.lemmas.List.{drop-drop, drop-append-le, drop_at, take-append-drop, take_at, length-drop}
+use Rattle.std.proofs.lemmas.Grind.{common_steps}
 use Rattle.mc_protocol.specs.Legal.{is_fit_for}
 use Rattle.mc_protocol.specs.Lines.{Word}
 use Rattle.mc_protocol.specs.declared.fault.Fault.{Fault}
@@ -16,9 +17,10 @@ use Rattle.mc_reader.specs.declared.fault.ReadFault.{ReadFault}
 use Rattle.mc_reader.specs.declared.fault.ReadFault.TheVariants as read_fault
 use Rattle.mc_reader.specs.declared.reader.Fed.{Fed}
 use Rattle.mc_reader.specs.declared.reader.Fed.TheVariants.{More, Done}
-use Rattle.mc_lane.specs.Receiving.{Brings, Stops, fault_for}
-use Rattle.mc_lane.specs.Sending.{failures_of}
-use Rattle.mc_lane.specs.Streams.{StreamState, Carries}
+use Rattle.mc_lane.specs.Receiving.{Brings, Adds, Stops, fault_for}
+use Rattle.mc_lane.specs.Sending.{counts_of}
+use Rattle.mc_lane.specs.Streams.{StreamState, no_counts, an_end, counts_of_read, Carries}
+use Rattle.mc_lane.specs.declared.stream.Counts.{Counts}
 use Rattle.mc_lane.proofs.Carried.{Grows-twice, appended_twice, range_from}
 
 -- ---- parts of what was received
@@ -70,12 +72,14 @@ grown_more first old new brought h k =
     ∙ ap (λ ys. first ++ ys) (sym (received_more first old new brought h k))
 
 -- what was read comes after what was read before
-pub Carries-after : (a b c : StreamState) (read more : List ℕ) (failures : ℕ)
-    → Carries a b read [] 0 → Carries b c more [] failures → Carries a c (read ++ more) [] failures
-Carries-after a b c read more failures h k = record {
+pub Carries-after : (a b c : StreamState) (read more : List ℕ) (counts : Counts)
+    → Carries a b read [] no_counts → Carries b c more [] counts → Carries a c (read ++ more) [] counts
+Carries-after a b c read more counts h k = record {
   reads = Grows-twice a.read b.read c.read read more h.reads k.reads;
   writes = Grows-twice a.written b.written c.written [] [] h.writes k.writes;
-  fails = omega (arith, h.fails, k.fails);
+  failed_reads = omega (arith, h.failed_reads, k.failed_reads);
+  failed_writes = omega (arith, h.failed_writes, k.failed_writes);
+  ends = omega (arith, h.ends, k.ends);
 }
 
 -- ---- what the reader answers, where it was fed this text before
@@ -125,17 +129,17 @@ fails verb v key k fed new text piece p got taken limit f v_is k_is fed_is p_is 
     fails_as verb key new text piece got taken limit f all
     (answer_at verb v key k fed new text piece p (Err f) v_is k_is fed_is p_is answer)
 
--- no call of the stream failed then
-pub fault_for-no_failure : (T : Type 0) (f : ReadFault) → failures_of {T = T} (Err (fault_for f)) ≡ 0
-fault_for-no_failure T read_fault.LineTooLong = refl
-fault_for-no_failure T read_fault.NotAReply = refl
-fault_for-no_failure T read_fault.WrongKey = refl
-fault_for-no_failure T read_fault.NumberTooLarge = refl
-fault_for-no_failure T read_fault.DataTooLong = refl
-fault_for-no_failure T read_fault.DataNotEnded = refl
-fault_for-no_failure T (read_fault.ErrorLine kind) = refl
-fault_for-no_failure T read_fault.OutOfMemory = refl
-fault_for-no_failure T read_fault.Failed = refl
+-- the stream counts nothing then
+pub fault_for-no_counts : (T : Type 0) (f : ReadFault) → counts_of {T = T} (Err (fault_for f)) ≡ no_counts
+fault_for-no_counts T read_fault.LineTooLong = refl
+fault_for-no_counts T read_fault.NotAReply = refl
+fault_for-no_counts T read_fault.WrongKey = refl
+fault_for-no_counts T read_fault.NumberTooLarge = refl
+fault_for-no_counts T read_fault.DataTooLong = refl
+fault_for-no_counts T read_fault.DataNotEnded = refl
+fault_for-no_counts T (read_fault.ErrorLine kind) = refl
+fault_for-no_counts T read_fault.OutOfMemory = refl
+fault_for-no_counts T read_fault.Failed = refl
 
 -- ---- where a read brings nothing
 
@@ -155,3 +159,36 @@ Stops-from_Brings verb key old brought new taken limit fault.WriteFailed unfinis
 Stops-from_Brings verb key old brought new taken limit fault.BadReply unfinished is none = absurd none
 Stops-from_Brings verb key old brought new taken limit fault.ErrorLine unfinished is none = absurd none
 Stops-from_Brings verb key old brought new taken limit fault.Closed unfinished is none = absurd none
+
+-- ---- one read
+
+counted_end : (room brought : ℕ) → 0 < room → brought ≡ 0 → counts_of_read room brought ≡ an_end
+counted_end room brought h e = grind (arith, common_steps)
+
+counted_none : (room brought : ℕ) → 0 < brought → counts_of_read room brought ≡ no_counts
+counted_none room brought h = grind (arith, common_steps)
+
+-- it found the end
+pub Adds-end : (limit : ℕ) (old new buffer : List ℕ) (before after : StreamState) (n : ℕ) → n ≡ 0 → 0 < length buffer → new ≡ old
+    → length old ≤ limit → Carries before after (take n buffer) [] (counts_of_read (length buffer) n)
+    → Adds limit old new before after (Err fault.Ended)
+Adds-end limit old new buffer before after n none room same within carries = record {
+  brought = [];
+  recorded = same ∙ sym (append-nil old);
+  within = rw same within;
+  carries = subst (λ c. Carries before after [] [] c) (counted_end (length buffer) n room none)
+      (subst (λ (k : ℕ). Carries before after (take k buffer) [] (counts_of_read (length buffer) n)) none carries);
+  outcome = refl;
+}
+
+-- it brought some bytes
+pub Adds-bytes : (limit : ℕ) (old new buffer : List ℕ) (before after : StreamState) (n : ℕ) → 0 < n → n ≤ length buffer
+    → new ≡ old ++ take n buffer → length new ≤ limit → Carries before after (take n buffer) [] (counts_of_read (length buffer) n)
+    → Adds limit old new before after (Ok tt)
+Adds-bytes limit old new buffer before after n some in_buffer more within carries = record {
+  brought = take n buffer;
+  recorded = more;
+  within = within;
+  carries = subst (λ c. Carries before after (take n buffer) [] c) (counted_none (length buffer) n some) carries;
+  outcome = grind (arith, common_steps);
+}

@@ -7,7 +7,7 @@ use Rattle.mc_protocol.specs.declared.fault.Fault.TheVariants as fault
 use Rattle.mc_protocol.specs.declared.reply.Reply.{Reply}
 use Rattle.mc_protocol.specs.declared.request.Verb.{Verb}
 use Rattle.mc_lane.specs.Receiving.{IsReplyAt, Stops}
-use Rattle.mc_lane.specs.Sending.{IsPrefix, IsProperPrefix, failures_of}
+use Rattle.mc_lane.specs.Sending.{IsPrefix, IsProperPrefix, counts_of}
 use Rattle.mc_lane.specs.Streams.{StreamState, CanFail, Carries}
 
 -- What the lane sent and what it received; how many of the received bytes were the replies that it answered, and how many it
@@ -61,7 +61,7 @@ pub record Exchanges (verb : Verb) (key : Word) (request : List ℕ) (old new : 
   pub written : List ℕ
   pub received : List ℕ
   pub stream : new.stream ≡ Some after
-  pub carries : Carries before after received written (failures_of result)
+  pub carries : Carries before after received written (counts_of result)
   pub sent : new.sent ≡ old.sent ++ written
   pub got : new.got ≡ old.got ++ received
   pub limit : new.limit ≡ old.limit

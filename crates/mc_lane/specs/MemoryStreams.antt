@@ -2,10 +2,12 @@
 use Rattle.std.specs.Prelude.{◌≡◌, ℕ, ◌+◌, ◌-◌, ◌==◌, Bool, true, false, ◌&&◌, ◌||◌, nat_lt, min, Option, Some}
 use Rattle.std.specs.Prelude.{None, unwrap_or, Result, Ok, Err, List, [], ◌∷◌, ◌++◌, length, take, drop, find, if◌then◌else◌}
 use Rattle.std.specs.List.{concat}
-use Rattle.mc_lane.specs.Streams.{StreamState}
+use Rattle.mc_lane.specs.Streams.{StreamState, no_counts, ends_of_read}
+use Rattle.mc_lane.specs.declared.stream.Counts.{Counts}
 
 -- What it gives, where the pieces end in which it gives this, and how many bytes it gave. What it took, how many bytes it may
--- take, and how many in one call. How many calls come before the one that is to fail, and how many failed.
+-- take, and how many in one call. How many calls come before the one that is to fail, and what
+-- was counted.
 pub record Memory : Type 0 where
   pub replies : List ℕ
   pub ends : List ℕ
@@ -14,11 +16,11 @@ pub record Memory : Type 0 where
   pub room : ℕ
   pub longest_write : ℕ
   pub until_failure : Option ℕ
-  pub failures : ℕ
+  pub counts : Counts
 
 -- as a stream it tells its bytes
 abbrev pub state_of : Memory → StreamState
-state_of m = record { read = Some (take m.given m.replies); written = Some m.written; failures = m.failures }
+state_of m = record { read = Some (take m.given m.replies); written = Some m.written; counts = m.counts }
 
 -- ---- a new one
 
@@ -41,7 +43,7 @@ fresh pieces room = record {
   room = room;
   longest_write = room;
   until_failure = None;
-  failures = 0;
+  counts = no_counts;
 }
 
 -- ---- calls that fail
@@ -56,8 +58,13 @@ abbrev pub count_down : Option ℕ → Option ℕ
 count_down None = None
 count_down (Some calls) = if calls == 0 then None else Some (calls - 1)
 
-abbrev pub after_failure : Memory → Memory
-after_failure m = record m { until_failure = count_down m.until_failure; failures = m.failures + 1 }
+abbrev pub after_failed_read : Memory → Memory
+after_failed_read m =
+    record m { until_failure = count_down m.until_failure; counts = record m.counts { failed_reads = m.counts.failed_reads + 1 } }
+
+abbrev pub after_failed_write : Memory → Memory
+after_failed_write m =
+    record m { until_failure = count_down m.until_failure; counts = record m.counts { failed_writes = m.counts.failed_writes + 1 } }
 
 -- ---- reads
 
@@ -69,15 +76,20 @@ end_after given ends len = min (unwrap_or (find (λ end. nat_lt given end) ends)
 abbrev pub count_read : Memory → ℕ → ℕ
 count_read m room = min room (end_after m.given m.ends (length m.replies) - m.given)
 
-abbrev pub after_read : Memory → ℕ → Memory
-after_read m count = record m { given = m.given + count; until_failure = count_down m.until_failure }
+-- it has this much room, and gives this many bytes
+abbrev pub after_read : Memory → ℕ → ℕ → Memory
+after_read m room count = record m {
+  given = m.given + count;
+  until_failure = count_down m.until_failure;
+  counts = record m.counts { ends = m.counts.ends + ends_of_read room count };
+}
 
 -- the next bytes of the piece stand at the front of the buffer, unless the call is the one that is to fail
 abbrev pub ReadsMemory : {E : Type 0} → Memory → Memory → List ℕ → Result ℕ E → Type 0
 ReadsMemory old new buffer (Ok count) =
-    (is_due old.until_failure ≡ false) × (count ≡ count_read old (length buffer)) × (new ≡ after_read old count)
+    (is_due old.until_failure ≡ false) × (count ≡ count_read old (length buffer)) × (new ≡ after_read old (length buffer) count)
     × (take count buffer ≡ take count (drop old.given old.replies))
-ReadsMemory old new buffer (Err e) = (is_due old.until_failure ≡ true) × (new ≡ after_failure old)
+ReadsMemory old new buffer (Err e) = (is_due old.until_failure ≡ true) × (new ≡ after_failed_read old)
 
 -- ---- writes
 
@@ -96,4 +108,4 @@ after_write m bytes = record m { written = m.written ++ bytes; until_failure = c
 abbrev pub WritesMemory : {E : Type 0} → Memory → Memory → List ℕ → Result ℕ E → Type 0
 WritesMemory old new bytes (Ok count) =
     (is_write_broken old (length bytes) ≡ false) × (count ≡ count_written old (length bytes)) × (new ≡ after_write old (take count bytes))
-WritesMemory old new bytes (Err e) = (is_write_broken old (length bytes) ≡ true) × (new ≡ after_failure old)
+WritesMemory old new bytes (Err e) = (is_write_broken old (length bytes) ≡ true) × (new ≡ after_failed_write old)

@@ -10,7 +10,7 @@ use Rattle.mc_reader.specs.Replies.{Spells, IsUnfinished, HasFailed}
 use Rattle.mc_reader.specs.declared.fault.ErrorKind.{ErrorKind}
 use Rattle.mc_reader.specs.declared.fault.ReadFault.{ReadFault}
 use Rattle.mc_reader.specs.declared.fault.ReadFault.TheVariants as read_fault
-use Rattle.mc_lane.specs.Sending.{failures_of}
+use Rattle.mc_lane.specs.Sending.{counts_of}
 use Rattle.mc_lane.specs.Streams.{StreamState, Carries}
 
 -- ---- one read
@@ -29,7 +29,7 @@ pub record Adds (limit : ℕ) (old new : List ℕ) (before after : StreamState) 
   pub brought : List ℕ
   pub recorded : new ≡ old ++ brought
   pub within : length new ≤ limit
-  pub carries : Carries before after brought [] (failures_of result)
+  pub carries : Carries before after brought [] (counts_of result)
   pub outcome : Brings limit old brought result
 
 -- ---- a reply
@@ -70,7 +70,7 @@ pub record Receives (verb : Verb) (key : Word) (taken limit : ℕ) (old new : Li
   pub received : List ℕ
   pub recorded : new ≡ old ++ received
   pub within : length new ≤ limit
-  pub carries : Carries before after received [] (failures_of result)
+  pub carries : Carries before after received [] (counts_of result)
   pub outcome : Finds verb key new taken limit result
 
 -- the fault of a lane where the bytes that it received are no reply

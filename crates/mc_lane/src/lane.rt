@@ -37,7 +37,7 @@ impl<S: Stream> Model for Lane<S> {
 }
 
 impl<S: Stream> Lane<S> {
-    /// A lane over `stream` that may receive `max_bytes`, unbuffered. One more failure of the stream can be counted.
+    /// A lane over `stream` that may receive `max_bytes`, unbuffered. One more failure of the stream, and one more end, can be counted.
     pub fn new(alloc: Global, stream: S, max_bytes: u32) -> Self
         requires { CanFail (S.state stream) }
         ensures { result ≡ record { sent = []; got = []; taken = 0; limit = max_bytes; fault = None; stream = Some (S.state stream) } }
@@ -62,7 +62,7 @@ impl<S: Stream> Lane<S> {
     ///
     /// - [`Fault::WriteFailed`]: a write failed, before all of the request was written;
     /// - [`Fault::ReadFailed`]: a read failed;
-    /// - [`Fault::Ended`]: the stream ended;
+    /// - [`Fault::Ended`]: a read found the end of the stream;
     /// - [`Fault::TooMuch`]: as many bytes as the lane may receive were received;
     /// - [`Fault::BadReply`]: what was received begins with no reply that the request may have;
     /// - [`Fault::ErrorLine`]: it begins with a line that reports an error;

@@ -19,5 +19,5 @@ mod wire;
 pub use lane::Lane;
 pub use laws::whole_reply_is_answered;
 pub use memory_stream::MemoryStream;
-pub use stream::{Broken, Stream};
+pub use stream::{Broken, Counts, Stream};
 pub use wire::Wire;

@@ -4,7 +4,7 @@ ghost use Rattle.std.specs.Prelude.{◌≡◌, ◌-◌, ◌<◌, ◌≤◌, nat_
 ghost use Rattle.mc_lane.specs.MemoryStreams as memory;
 ghost use Rattle.mc_lane.specs.Streams.{CanFail, Reads, Writes};
 
-use crate::{Broken, Stream};
+use crate::{Broken, Counts, Stream};
 use mc_protocol::OutOfMemory;
 use std::alloc::Global;
 use std::marker::Model;
@@ -27,7 +27,7 @@ pub struct MemoryStream {
     room: usize,
     longest_write: usize,
     until_failure: Option<u64>,
-    failures: u64,
+    counts: Counts,
 }
 
 impl Model for MemoryStream {
@@ -45,7 +45,7 @@ impl Model for MemoryStream {
       room = s.room;
       longest_write = s.longest_write;
       until_failure = s.until_failure;
-      failures = s.failures;
+      counts = s.counts;
     } };
 
     ghost invariant = { λ s. (s.given ≤ length s.replies.items) × (vec_len s.written ≤ s.room) × (s.room ≤ vec_capacity s.written) };
@@ -65,7 +65,7 @@ impl MemoryStream {
             room,
             longest_write: room,
             until_failure: None,
-            failures: 0,
+            counts: Counts::none(),
         })
     }
 
@@ -106,13 +106,14 @@ impl Stream for MemoryStream {
         ensures exact { memory.ReadsMemory self.old self.new buffer.new result }
     {
         if is_due(&mut self.until_failure) {
-            self.failures += 1;
+            self.counts.failed_reads += 1;
             return Err(Broken);
         }
         let end = piece_end(self.ends.as_slice(), self.given, self.replies.len());
         let count = buffer.len().min(end - self.given);
         buffer[..count].copy_from_slice(&self.replies[self.given..self.given + count]);
         self.given += count;
+        self.counts = self.counts.after_read(buffer.len(), count);
         Ok(count)
     }
 
@@ -124,7 +125,7 @@ impl Stream for MemoryStream {
         let room = self.room - self.written.len();
         let count = bytes.len().min(self.longest_write).min(room);
         if is_due(&mut self.until_failure) || (count == 0 && !bytes.is_empty()) {
-            self.failures += 1;
+            self.counts.failed_writes += 1;
             return Err(Broken);
         }
         // the room is there

@@ -2,28 +2,31 @@
 
 ghost use Rattle.std.specs.Prelude.{◌≡◌};
 ghost use Rattle.std.specs.Io.KnownBytes.{ReadConsumes, WriteAppends};
-ghost use Rattle.mc_lane.specs.Streams.{silent, CanFail, Reads, Writes};
+ghost use Rattle.mc_lane.specs.Streams.{silent, no_counts, CanFail, Reads, Writes};
 
-use crate::{Broken, Stream};
+use crate::{Broken, Counts, Stream};
 use std::io::{Read, Write};
 
-/// A stream over a reader and writer of std. It tells no bytes and counts its failures. Every error is a failure, also a
+/// A stream over a reader and writer of std. It tells no bytes, and counts its failures and ends. Every error is a failure, also a
 /// call that was interrupted, and so is a write that takes none of its bytes.
 #[derive(Debug, Drop)]
 pub struct Wire<T> {
     inner: T,
-    failures: u64,
+    counts: Counts,
 }
 
 impl<T: Read + Write + Drop> Wire<T> {
     ghost use Rattle.mc_lane.specs.Wires.{wire_inner};
 
-    /// A stream over `inner`, on which no call has failed.
+    /// A stream over `inner`, on which no call has failed and no read has found the end.
     pub fn new(inner: T) -> Self
-        ensures state { ⟦<Wire<T> as Stream>⟧.state result ≡ silent 0 }
+        ensures state { ⟦<Wire<T> as Stream>⟧.state result ≡ silent no_counts }
         ensures inner { wire_inner result ≡ inner }
     {
-        Wire { inner, failures: 0 }
+        Wire {
+            inner,
+            counts: Counts::none(),
+        }
     }
 }
 
@@ -38,9 +41,12 @@ impl<T: Read + Write + Drop> Stream for Wire<T> {
         ensures inner { ReadConsumes (T.remaining (wire_inner self.old)) (T.remaining (wire_inner self.new)) result buffer.new }
     {
         match self.inner.read(buffer) {
-            Ok(count) => Ok(count),
+            Ok(count) => {
+                self.counts = self.counts.after_read(buffer.len(), count);
+                Ok(count)
+            }
             Err(_) => {
-                self.failures += 1;
+                self.counts.failed_reads += 1;
                 Err(Broken)
             }
         }
@@ -54,7 +60,7 @@ impl<T: Read + Write + Drop> Stream for Wire<T> {
         match self.inner.write(bytes) {
             Ok(count) if count > 0 || bytes.is_empty() => Ok(count),
             _ => {
-                self.failures += 1;
+                self.counts.failed_writes += 1;
                 Err(Broken)
             }
         }

@@ -1,7 +1,7 @@
 //! What a lane answers to the bytes that it receives, whole and cut.
 
 use mc_lane::{Lane, MemoryStream};
-use mc_protocol::{Fault, OutOfMemory, Verb, render_reply};
+use mc_protocol::{Fault, OutOfMemory, Reply, Verb, render_reply};
 use mc_reader::Shape;
 use std::alloc::{AllocError, Global};
 use std::test::Fail;
@@ -28,52 +28,89 @@ fn shape(verb: Verb) -> Shape<'static> {
     Shape { verb, key: b"a" }
 }
 
-// The text of what a lane over these pieces answers, or its fault. Want of memory is an error here: no test expects it.
-fn answer(
+// Whether the reply has this text.
+fn is_rendered(alloc: Global, reply: &Reply, text: &[u8]) -> Result<bool, OutOfMemory> {
+    let mut out = Vec::new(alloc);
+    render_reply(b"a", reply, &mut out)?;
+    Ok(out.as_slice() == text)
+}
+
+// Whether the lane answers a reply with this text, or this fault. Want of memory is an error here: no test expects it.
+fn answers(
     alloc: Global,
-    pieces: &[&[u8]],
+    lane: &mut Lane<MemoryStream>,
     verb: Verb,
-) -> Result<(Result<Vec<u8>, Fault>, Lane<MemoryStream>), OutOfMemory> {
+    wanted: Result<&[u8], Fault>,
+) -> Result<bool, OutOfMemory> {
+    match (lane.call(b"request", shape(verb)), wanted) {
+        (Ok(reply), Ok(text)) => is_rendered(alloc, &reply, text),
+        (Err(Fault::Memory), _) => Err(AllocError),
+        (Err(fault), Err(expected)) => Ok(fault == expected),
+        _ => Ok(false),
+    }
+}
+
+// Whether the lane has received these bytes, of which a reply was answered, or it has this fault.
+fn has_received(lane: &Lane<MemoryStream>, got: &[u8], wanted: Result<&[u8], Fault>) -> bool {
+    let taken = if wanted.is_ok() { got.len() } else { 0 };
+    lane.got() == got && lane.taken() == taken && lane.fault() == wanted.err()
+}
+
+// Whether a lane over these pieces, which are those of `got`, answers a reply with this text, or this fault.
+fn is_answered(
+    alloc: Global,
+    verb: Verb,
+    pieces: &[&[u8]],
+    got: &[u8],
+    wanted: Result<&[u8], Fault>,
+) -> Result<bool, OutOfMemory> {
     let stream = MemoryStream::new(alloc, pieces, 8)?.with_longest_write(1);
     let mut lane = Lane::new(alloc, stream, 1_000);
-    let mut text = Vec::new(alloc);
-    match lane.call(b"request", shape(verb)) {
-        Ok(reply) => {
-            render_reply(b"a", &reply, &mut text)?;
-            Ok((Ok(text), lane))
+    Ok(answers(alloc, &mut lane, verb, wanted)? && has_received(&lane, got, wanted))
+}
+
+// The first number of the reply's bytes at which it is answered otherwise than it should be: all of them, or fewer.
+fn first_odd(alloc: Global, verb: Verb, reply: &[u8]) -> Result<Option<usize>, OutOfMemory> {
+    for len in 0..=reply.len() {
+        let front = &reply[..len];
+        let wanted = if len < reply.len() {
+            Err(Fault::Ended)
+        } else {
+            Ok(reply)
+        };
+        if !is_answered(alloc, verb, &[front], front, wanted)? {
+            return Ok(Some(len));
         }
-        Err(Fault::Memory) => Err(AllocError),
-        Err(fault) => Ok((Err(fault), lane)),
     }
+    Ok(None)
 }
 
 #[test]
 fn answers_whole_replies_alone(rt: HostRuntime) -> Result<(), Fail> {
     for (verb, reply) in REPLIES {
-        for len in 0..reply.len() {
-            let front = &reply[..len];
-            let (answered, lane) = answer(rt.alloc(), &[front], *verb)?;
-            assert_eq!(rt; answered.err(), Some(Fault::Ended), "{verb:?} {len}");
-            assert_eq!(rt; lane.got(), front, "{verb:?} {len}");
-            assert_eq!(rt; lane.taken(), 0, "{verb:?} {len}");
-        }
-        let (answered, lane) = answer(rt.alloc(), &[reply], *verb)?;
-        assert_eq!(rt; answered.ok().as_deref(), Some(*reply), "{verb:?}");
-        assert_eq!(rt; lane.taken(), reply.len(), "{verb:?}");
+        assert_eq!(rt; first_odd(rt.alloc(), *verb, reply)?, None, "{verb:?}");
     }
     Ok(())
+}
+
+// The bytes of a text, each for itself.
+fn cut(alloc: Global, text: &[u8]) -> Result<Vec<&[u8]>, OutOfMemory> {
+    let mut bytes = Vec::new(alloc);
+    for at in 0..text.len() {
+        bytes.push(&text[at..at + 1])?;
+    }
+    Ok(bytes)
+}
+
+fn is_joined(alloc: Global, verb: Verb, reply: &[u8]) -> Result<bool, OutOfMemory> {
+    let bytes = cut(alloc, reply)?;
+    is_answered(alloc, verb, bytes.as_slice(), reply, Ok(reply))
 }
 
 #[test]
 fn joins_what_is_cut(rt: HostRuntime) -> Result<(), Fail> {
     for (verb, reply) in REPLIES {
-        let mut bytes: Vec<&[u8]> = Vec::new(rt.alloc());
-        for at in 0..reply.len() {
-            bytes.push(&reply[at..at + 1])?;
-        }
-        let (answered, lane) = answer(rt.alloc(), bytes.as_slice(), *verb)?;
-        assert_eq!(rt; answered.ok().as_deref(), Some(*reply), "{verb:?}");
-        assert_eq!(rt; lane.got(), *reply, "{verb:?}");
+        assert!(rt; is_joined(rt.alloc(), *verb, reply)?, "{verb:?}");
     }
     Ok(())
 }
@@ -100,10 +137,10 @@ static FAULTS: &[(Verb, &[u8], Fault)] = &[
 #[test]
 fn closes_at_what_is_no_reply(rt: HostRuntime) -> Result<(), Fail> {
     for (verb, received, fault) in FAULTS {
-        let (answered, lane) = answer(rt.alloc(), &[received], *verb)?;
-        assert_eq!(rt; answered.err(), Some(*fault), "{verb:?}");
-        assert_eq!(rt; lane.got(), *received, "{verb:?}");
-        assert_eq!(rt; lane.fault(), Some(*fault), "{verb:?}");
+        assert!(rt;
+            is_answered(rt.alloc(), *verb, &[received], received, Err(*fault))?,
+            "{verb:?}"
+        );
     }
     Ok(())
 }

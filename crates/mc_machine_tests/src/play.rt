@@ -3,7 +3,7 @@ ghost use Rattle.std.specs.Prelude.{◌≡◌, true, None, IfOk};
 ghost use Rattle.mc_machine.specs.Machine as machines;
 
 use crate::given::Given;
-use mc_code::{Call, assemble};
+use mc_code::{Call, Code, assemble};
 use mc_machine::Machine;
 use mc_protocol::{Actor, OutOfMemory, may_answer};
 use mc_script::{VARIABLES_LIMIT, parse};
@@ -26,28 +26,38 @@ pub(crate) struct Played {
     pub(crate) numbers: [u64; 2],
 }
 
-/// Plays P of the script with its replies, and then a branch with its own, if P is done; else what came of P.
-pub(crate) fn play(
+/// The code of a script.
+fn code(alloc: Global, script: &[u8]) -> Result<Code, Fail> {
+    let script = parse(alloc, script)?;
+    Ok(assemble(alloc, &script)?)
+}
+
+/// The same, which is sound.
+fn checked(alloc: Global, script: &[u8]) -> Result<Checked, Fail> {
+    let code = code(alloc, script)?;
+    Ok(verify(alloc, code).map_err(|(refusal, _)| refusal)?)
+}
+
+/// Plays P of the code with its replies, and then a branch with its own, if P is done; else what came of P.
+fn play(
     alloc: Global,
-    script: &[u8],
+    checked: &Checked,
     prefix: &[Given],
     branch: Actor,
     replies: &[Given],
-) -> Result<Played, Fail> {
-    let code = assemble(alloc, &parse(alloc, script)?)?;
-    let checked = verify(alloc, code).map_err(|(refusal, _)| refusal)?;
-    let mut p = Machine::start(&checked, Actor::P, [0; VARIABLES_LIMIT]);
-    let calls = follow(alloc, &checked, &mut p, prefix)?;
+) -> Result<Played, OutOfMemory> {
+    let mut p = Machine::start(checked, Actor::P, [0; VARIABLES_LIMIT]);
+    let calls = follow(alloc, checked, &mut p, prefix)?;
     match branch {
-        Actor::P => return Ok(seen(calls, &p, &checked)),
+        Actor::P => return Ok(seen(calls, &p, checked)),
         Actor::A | Actor::B => {}
     }
-    if !p.at_halt(&checked) {
-        return Ok(seen(calls, &p, &checked));
+    if !p.at_halt(checked) {
+        return Ok(seen(calls, &p, checked));
     }
-    let mut machine = Machine::start(&checked, branch, p.numbers());
-    let calls = follow(alloc, &checked, &mut machine, replies)?;
-    Ok(seen(calls, &machine, &checked))
+    let mut machine = Machine::start(checked, branch, p.numbers());
+    let calls = follow(alloc, checked, &mut machine, replies)?;
+    Ok(seen(calls, &machine, checked))
 }
 
 /// Gives the section's calls these replies in turn, until there is no call or the reply doesn't fit it. The call after the last
@@ -145,18 +155,36 @@ pub(crate) type Row = (
     [u64; 2],
 );
 
-/// The index of the first row that the script's sections don't meet.
-pub(crate) fn first_odd(alloc: Global, script: &[u8], rows: &[Row]) -> Result<Option<usize>, Fail> {
-    for index in 0..rows.len() {
-        let (prefix, section, replies, calls, is_done, numbers) = rows[index];
-        let played = play(alloc, script, prefix, section, replies)?;
-        if played.calls.made.as_slice() != calls
-            || played.calls.upcoming.as_slice() != calls
-            || played.is_done != is_done
-            || played.numbers != numbers
-        {
+/// Whether the row says what came of its section.
+fn is_of(played: &Played, row: &Row) -> bool {
+    let (_, _, _, calls, is_done, numbers) = *row;
+    played.calls.made.as_slice() == calls
+        && played.calls.upcoming.as_slice() == calls
+        && played.is_done == is_done
+        && played.numbers == numbers
+}
+
+fn is_met(alloc: Global, checked: &Checked, row: &Row) -> Result<bool, OutOfMemory> {
+    let (prefix, section, replies, _, _, _) = *row;
+    let played = play(alloc, checked, prefix, section, replies)?;
+    Ok(is_of(&played, row))
+}
+
+fn first_odd_in(
+    alloc: Global,
+    checked: &Checked,
+    rows: &[Row],
+) -> Result<Option<usize>, OutOfMemory> {
+    for (index, row) in rows.iter().enumerate() {
+        if !is_met(alloc, checked, row)? {
             return Ok(Some(index));
         }
     }
     Ok(None)
+}
+
+/// The index of the first row that the script's sections don't meet.
+pub(crate) fn first_odd(alloc: Global, script: &[u8], rows: &[Row]) -> Result<Option<usize>, Fail> {
+    let checked = checked(alloc, script)?;
+    Ok(first_odd_in(alloc, &checked, rows)?)
 }

@@ -12,9 +12,9 @@ use Rattle.mc_model.specs.declared.numeral.Numeral.TheVariants.{Is}
 use Rattle.mc_model.specs.declared.act.Choice.{Choice}
 use Rattle.mc_model.specs.Contents.{Contents}
 use Rattle.mc_model.specs.Numeral.{numeral_of}
-use Rattle.mc_model.specs.Act.{Puts, Effect, effect_by, effect_of, act}
+use Rattle.mc_model.specs.Act.{Puts, Effect, effect_by, effect_of, item_after, act}
 use Rattle.mc_model.specs.ActLaws.{OtherKeysStay, RepliesFit, BodiesStayShort, JoinedBodiesAddUp, DeletedIsGone, ReportedVersionIsMade, MadeVersionIsReported, AnsweredNumberIsThere, is_short, body_length, joins, reports_version}
-use Rattle.mc_model.proofs.Changes.{after, get_changed, get_other}
+use Rattle.mc_model.proofs.Changes.{get_changed, get_other}
 use Rattle.mc_model.proofs.Effects.{NewBody, own, joining, counting, Does, answering, removing, putting, does}
 
 -- what is at the request's key
@@ -23,7 +23,7 @@ at contents request = finite_map.get contents request.key
 
 -- what is at it afterwards
 left : (contents : Contents) (request : Request) (choice : Choice) (number : ℕ)
-    → at (act contents request choice number).contents request ≡ after (effect_of contents request choice number).change (at contents request)
+    → at (act contents request choice number).contents request ≡ item_after (effect_of contents request choice number).change (at contents request)
 left contents request choice number = get_changed contents request.key (effect_of contents request choice number).change
 
 -- what the request's effect does
@@ -59,7 +59,7 @@ new_short request found body (counting _ alone few) not_joined given short = no_
 
 -- and so is what is at the key after an effect
 stays_short : (request : Request) (number : ℕ) (found : Option Item) (effect : Effect) → Does request number found effect → joins request.verb ≡ false → leb (length request.body) REPLY_BODY_LIMIT ≡ true → is_short found ≡ true
-    → is_short (after effect.change found) ≡ true
+    → is_short (item_after effect.change found) ≡ true
 stays_short request number found effect (answering r told fit) alone given short = short
 stays_short request number found effect (removing fit) alone given short = refl
 stays_short request number found effect (putting item r numbered told fit says new) alone given short = new_short request found item.body new alone given short
@@ -78,7 +78,7 @@ new_adds_up request found body (counting _ alone few) both = absurd (both_ways (
 
 -- so what is at the key grows by the request's body at most
 adds_up : (request : Request) (number : ℕ) (found : Option Item) (effect : Effect) → Does request number found effect → joins request.verb ≡ true
-    → body_length (after effect.change found) ≤ body_length found + length request.body
+    → body_length (item_after effect.change found) ≤ body_length found + length request.body
 adds_up request number found effect (answering r told fit) both = omega arith
 adds_up request number found effect (removing fit) both = omega arith
 adds_up request number found effect (putting item r numbered told fit says new) both = new_adds_up request found item.body new both
@@ -90,7 +90,7 @@ joined_bodies_add_up contents request choice number both =
     (adds_up request number (at contents request) (effect_of contents request choice number) (does_here contents request choice number) both)
 
 -- a delete leaves nothing
-gone : (request : Request) (choice : Choice) (number : ℕ) (found : Option Item) → after (effect_by verb.Delete request choice number found).change found ≡ None
+gone : (request : Request) (choice : Choice) (number : ℕ) (found : Option Item) → item_after (effect_by verb.Delete request choice number found).change found ≡ None
 gone request choice number None = refl
 gone request choice number (Some item) = refl
 
@@ -98,7 +98,7 @@ gone request choice number (Some item) = refl
 pub deleted_is_gone : DeletedIsGone
 deleted_is_gone contents request choice number is =
     left contents request choice number
-    ∙ ap (λ v. after (effect_by v request choice number (at contents request)).change (at contents request)) is
+    ∙ ap (λ v. item_after (effect_by v request choice number (at contents request)).change (at contents request)) is
     ∙ gone request choice number (at contents request)
 
 -- the version that an effect makes
@@ -121,7 +121,7 @@ reported_version_is_made contents request choice number told =
       item = m.item;
       puts = m.puts;
       numbered = m.numbered;
-      there = left contents request choice number ∙ ap (λ change. after change (at contents request)) m.puts;
+      there = left contents request choice number ∙ ap (λ change. item_after change (at contents request)) m.puts;
     }
 
 -- an effect that makes a version reports it
@@ -137,7 +137,7 @@ made_version_is_reported contents request choice number item is =
 
 -- a number that an effect answers is what its new body says
 says_number : (request : Request) (number n : ℕ) (found : Option Item) (effect : Effect) → Does request number found effect → effect.reply ≡ reply.Number n
-    → (item : Item) × (after effect.change found ≡ Some item) × (numeral_of item.body ≡ Is n)
+    → (item : Item) × (item_after effect.change found ≡ Some item) × (numeral_of item.body ≡ Is n)
 says_number request number n found effect (answering r untold fit) is = absurd (both_ways (reports_version (class_of r)) untold (ap (λ r. reports_version (class_of r)) is))
 says_number request number n found effect (removing fit) is = absurd cc
 says_number request number n found effect (putting item r numbered told_of fit says new) is = (item, refl, says n is)

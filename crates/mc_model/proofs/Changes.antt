@@ -8,7 +8,7 @@ use Rattle.std.specs.FinMap.{get-insert, get-remove}
 use Rattle.std.proofs.lemmas.Slice.Eq.{bytes_eq-Decides}
 use Rattle.mc_model.specs.declared.cache.Item.{Item}
 use Rattle.mc_model.specs.Contents.{Contents}
-use Rattle.mc_model.specs.Act.{Change, Keeps, Puts, Removes, with_change}
+use Rattle.mc_model.specs.Act.{Change, Keeps, Puts, Removes, item_after, with_change}
 
 -- two keys that differ don't tie
 apart : (q key : List ℕ) → q ≢ key → eq_by_cmp (slice_cmp nat_cmp) q key ≡ false
@@ -22,12 +22,7 @@ alike : (key : List ℕ) → eq_by_cmp (slice_cmp nat_cmp) key key ≡ true
 alike key = (eq_by_cmp_equiv nat_list_cmp_total).refl key
 
 -- what is at the key after its change
-abbrev pub after : Change → Option Item → Option Item
-after Keeps found = found
-after (Puts item) found = Some item
-after Removes found = None
-
-pub get_changed : (contents : Contents) (key : List ℕ) (change : Change) → finite_map.get (with_change contents key change) key ≡ after change (finite_map.get contents key)
+pub get_changed : (contents : Contents) (key : List ℕ) (change : Change) → finite_map.get (with_change contents key change) key ≡ item_after change (finite_map.get contents key)
 get_changed contents key Keeps = refl
 get_changed contents key (Puts item) =
     get-insert nat_list_cmp_total contents key item key ∙ ap (λ b. cond b (Some item) (finite_map.get contents key)) (alike key)

@@ -14,18 +14,9 @@ use Rattle.mc_model.specs.ActLaws.{OnlyCountsChoose, OnlyDoubtfulAreChosen, Padd
 
 -- a verb that doesn't count has one effect
 one_effect : (v : Verb) (request : Request) (choice other : Choice) (number : ℕ) (found : Option Item) → counts v ≡ false → effect_by v request choice number found ≡ effect_by v request other number found
-one_effect verb.Set request choice other number found none = refl
-one_effect verb.Add request choice other number found none = refl
-one_effect verb.Replace request choice other number found none = refl
-one_effect verb.Append request choice other number found none = refl
-one_effect verb.Prepend request choice other number found none = refl
-one_effect verb.Cas request choice other number found none = refl
-one_effect verb.Get request choice other number found none = refl
-one_effect verb.Gets request choice other number found none = refl
 one_effect verb.Incr request choice other number found none = absurd cc
 one_effect verb.Decr request choice other number found none = absurd cc
-one_effect verb.Delete request choice other number found none = refl
-one_effect verb.Touch request choice other number found none = refl
+one_effect _ request choice other number found none = refl
 
 -- and so one outcome
 pub only_counts_choose : OnlyCountsChoose
@@ -57,16 +48,7 @@ one_where_plain : (v : Verb) (request : Request) (choice other : Choice) (number
     → effect_by v request choice number found ≡ effect_by v request other number found
 one_where_plain verb.Incr request choice other number found plain same = one_count increment request choice other number found plain same
 one_where_plain verb.Decr request choice other number found plain same = one_count decrement request choice other number found plain same
-one_where_plain verb.Set request choice other number found plain same = refl
-one_where_plain verb.Add request choice other number found plain same = refl
-one_where_plain verb.Replace request choice other number found plain same = refl
-one_where_plain verb.Append request choice other number found plain same = refl
-one_where_plain verb.Prepend request choice other number found plain same = refl
-one_where_plain verb.Cas request choice other number found plain same = refl
-one_where_plain verb.Get request choice other number found plain same = refl
-one_where_plain verb.Gets request choice other number found plain same = refl
-one_where_plain verb.Delete request choice other number found plain same = refl
-one_where_plain verb.Touch request choice other number found plain same = refl
+one_where_plain _ request choice other number found plain same = refl
 
 -- and so every request has one outcome
 pub only_doubtful_are_chosen : OnlyDoubtfulAreChosen
@@ -92,16 +74,7 @@ one_reply : (v : Verb) (request : Request) (choice other : Choice) (number : ℕ
     → (effect_by v request choice number found).reply ≡ (effect_by v request other number found).reply
 one_reply verb.Incr request choice other number found same = unseen_count increment request choice other number found same
 one_reply verb.Decr request choice other number found same = unseen_count decrement request choice other number found same
-one_reply verb.Set request choice other number found same = refl
-one_reply verb.Add request choice other number found same = refl
-one_reply verb.Replace request choice other number found same = refl
-one_reply verb.Append request choice other number found same = refl
-one_reply verb.Prepend request choice other number found same = refl
-one_reply verb.Cas request choice other number found same = refl
-one_reply verb.Get request choice other number found same = refl
-one_reply verb.Gets request choice other number found same = refl
-one_reply verb.Delete request choice other number found same = refl
-one_reply verb.Touch request choice other number found same = refl
+one_reply _ request choice other number found same = refl
 
 -- and every request
 pub padding_is_unseen : PaddingIsUnseen

@@ -27,3 +27,4 @@ pub mod Noting
 pub mod NoteFaults
 pub mod FirstFaults
 pub mod NumeralReadings
+pub mod ReadOn

@@ -27,12 +27,8 @@ passing p [] = refl
 passing p (x ∷ xs) = ap (list_all p) (take_while-cons p x xs) ∙ passing-cons p x (take_while p xs) (p x) refl (passing p xs)
 
 -- a body's front of that many bytes is the digits that lead it
-pub leading_front : (body : List ℕ) → take (length (leading_digits body)) body ≡ leading_digits body
+leading_front : (body : List ℕ) → take (length (leading_digits body)) body ≡ leading_digits body
 leading_front body = ap (λ n. take n body) (length-prefix_len is_digit body)
-
--- and the bytes of the front are digits
-pub front_are_digits : (body front : List ℕ) (n : ℕ) → n ≡ length (leading_digits body) → front ≡ take n body → are_digits front ≡ true
-front_are_digits body front n e is = ap are_digits (is ∙ ap (λ k. take k body) e ∙ leading_front body) ∙ passing is_digit body
 
 -- a body is its leading digits and what comes after them
 front_and_rest : (body : List ℕ) → leading_digits body ++ after_digits body ≡ body

@@ -136,6 +136,12 @@ effect_by verb.Decr request choice number found = count decrement request choice
 effect_by verb.Delete request choice number found = delete found
 effect_by verb.Touch request choice number found = touch found
 
+-- what is at the key after the change
+abbrev pub item_after : Change → Option Item → Option Item
+item_after Keeps found = found
+item_after (Puts item) found = Some item
+item_after Removes found = None
+
 -- the cache after this change at the key
 abbrev pub with_change : Contents → List ℕ → Change → Contents
 with_change contents key Keeps = contents

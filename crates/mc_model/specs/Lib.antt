@@ -9,7 +9,9 @@ pub mod Contents
 pub mod Numeral
 pub mod Act
 pub mod ActLaws
+pub mod Decide
 pub mod NumeralLaws
+pub mod NumeralReading
 pub mod Words
 pub mod Sections
 pub mod History
@@ -21,4 +23,3 @@ pub mod WordLaws
 pub mod Reading
 pub mod Printing
 pub mod Next
-pub mod Counting

@@ -1,10 +1,13 @@
-//! What a server does with each verb, and the verbs that store nothing.
-ghost use Rattle.std.specs.Prelude.{◌≡◌, IfOk, OnErr};
+//! A cache acts on a request: it decides what the request does, and does it.
+ghost use Rattle.std.specs.Prelude.{◌≡◌, ℕ, IfOk, OnErr};
 ghost use Rattle.std.specs.FinMap as finite_map;
-ghost use Rattle.mc_model.specs.Act.{act, outcome_of, read, read_with_number, delete, touch};
+ghost use Rattle.std.specs.Option.{option_copied};
+ghost use Rattle.mc_model.specs.Act.{act, effect_of, with_change};
+ghost use Rattle.mc_model.specs.Decide.{answer_at, change_at, effect_at};
 
-use crate::{Cache, Item};
-use mc_protocol::{OutOfMemory, Reply, Request, Verb};
+use crate::making::make;
+use crate::{Answer, Cache, Change, Decision, Found, Item, decide};
+use mc_protocol::{OutOfMemory, Reply, Request};
 use std::alloc::Global;
 
 /// What `protocol.txt` leaves to the server in one act.
@@ -29,65 +32,59 @@ impl Cache {
         ensures contents { IfOk result (λ _. self.new ≡ (act self.old request.now choice number).contents) }
         ensures err { OnErr result (self.new ≡ self.old) }
     {
-        match request.verb {
-            Verb::Set => self.store(request, number),
-            Verb::Add => self.add(request, number),
-            Verb::Replace => self.replace(request, number),
-            Verb::Append => self.append(request, number),
-            Verb::Prepend => self.prepend(request, number),
-            Verb::Cas => self.swap(request, number),
-            Verb::Get => self.get(request),
-            Verb::Gets => self.gets(request),
-            Verb::Incr => self.incr(request, choice, number),
-            Verb::Decr => self.decr(request, choice, number),
-            Verb::Delete => Ok(self.delete(request)),
-            Verb::Touch => Ok(self.touch(request)),
+        let decision = self.decide(request, choice);
+        self.apply(request, decision, choice.pad, number)
+    }
+
+    /// What the request does here.
+    pub fn decide(&self, request: &Request, choice: Choice) -> Decision
+        ensures { (number : ℕ) → effect_at request.now choice.pad number (finite_map.get self.now request.now.key) result
+            ≡ effect_of self.now request.now choice number }
+    {
+        let found = match self.find(request.key.as_slice()) {
+            Some(item) => Some(Found::of(item, request.number)),
+            None => None,
+        };
+        decide(request.verb, request.number, choice, found)
+    }
+
+    /// Does what was decided of the request, and answers. If a version is made, it has this `number`; `pad` says whether a count
+    /// that is shorter than the old body is padded. Want of memory leaves the cache as it was.
+    pub fn apply(
+        &mut self,
+        request: &Request,
+        decision: Decision,
+        pad: bool,
+        number: u64,
+    ) -> Result<Reply, OutOfMemory>
+        ensures reply { IfOk result (λ reply. reply ≡ answer_at (finite_map.get self.old request.now.key) decision.answer) }
+        ensures contents { IfOk result (λ _. self.new ≡ with_change self.old request.now.key
+            (change_at request.now pad number (finite_map.get self.old request.now.key) decision.change)) }
+        ensures err { OnErr result (self.new ≡ self.old) }
+    {
+        let alloc = self.allocator();
+        let key = request.key.as_slice();
+        let found = self.find(key);
+        let reply = reply_with(alloc, decision.answer, found)?;
+        let made = make(alloc, request, decision.change, pad, number, found)?;
+        if let Some(item) = made {
+            self.put(request.key.copy(alloc)?, item)?;
+        } else if decision.change == Change::Removes {
+            self.remove(key);
         }
+        Ok(reply)
     }
 }
 
-impl Cache {
-    /// Shows the item at the key.
-    fn get(&self, request: &Request) -> Result<Reply, OutOfMemory>
-        ensures { IfOk result (λ reply. reply ≡ (read (finite_map.get self.now request.now.key)).reply) }
-    {
-        match self.find(request.key.as_slice()) {
-            Some(item) => hit(self.allocator(), item, None),
-            None => Ok(Reply::Miss),
-        }
-    }
-
-    /// Shows the item at the key, with its number.
-    fn gets(&self, request: &Request) -> Result<Reply, OutOfMemory>
-        ensures { IfOk result (λ reply. reply ≡ (read_with_number (finite_map.get self.now request.now.key)).reply) }
-    {
-        match self.find(request.key.as_slice()) {
-            Some(item) => hit(self.allocator(), item, Some(item.number)),
-            None => Ok(Reply::Miss),
-        }
-    }
-
-    /// Removes the item at the key.
-    fn delete(&mut self, request: &Request) -> Reply
-        ensures reply { result ≡ (outcome_of self.old request.now (delete (finite_map.get self.old request.now.key))).reply }
-        ensures contents { self.new ≡ (outcome_of self.old request.now (delete (finite_map.get self.old request.now.key))).contents }
-    {
-        let key = request.key.as_slice();
-        if self.find(key).is_none() {
-            return Reply::NotFound;
-        }
-        self.remove(key);
-        Reply::Deleted
-    }
-
-    /// The time of expiry is always 0, so nothing changes.
-    fn touch(&self, request: &Request) -> Reply
-        ensures { result ≡ (touch (finite_map.get self.now request.now.key)).reply }
-    {
-        match self.find(request.key.as_slice()) {
-            Some(_) => Reply::Touched,
-            None => Reply::NotFound,
-        }
+/// The reply where this item is there, or none.
+fn reply_with(alloc: Global, answer: Answer, found: Option<&Item>) -> Result<Reply, OutOfMemory>
+    ensures { IfOk result (λ reply. reply ≡ answer_at (option_copied found.entry) answer) }
+{
+    match (answer, found) {
+        (Answer::Reply(reply), _) => Ok(reply),
+        (Answer::Shows, Some(item)) => hit(alloc, item, None),
+        (Answer::ShowsNumber, Some(item)) => hit(alloc, item, Some(item.number)),
+        (_, None) => Ok(Reply::Miss),
     }
 }
 

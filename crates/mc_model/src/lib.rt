@@ -9,20 +9,21 @@ mod act;
 mod body;
 mod builder;
 mod cache;
-mod counting;
+mod deciding;
 mod history;
 mod history_laws;
 mod laws;
+mod making;
 mod note;
 mod noted_builder;
 mod number;
 mod numeral;
 mod numeral_laws;
 mod print;
+mod reading;
 mod record;
 mod rules;
 mod sent;
-mod storage;
 mod word_laws;
 mod words;
 
@@ -30,6 +31,7 @@ pub use act::Choice;
 pub use body::read_body;
 pub use builder::HistoryBuilder;
 pub use cache::{Cache, Item};
+pub use deciding::{Answer, Change, Decision, Found, decide};
 pub use history::History;
 pub use history_laws::{
     faultless_make_histories, faulty_are_no_histories, first_faults_are_one,
@@ -46,6 +48,7 @@ pub use number::read_number;
 pub use numeral::{Numeral, numeral_of};
 pub use numeral_laws::bodies_say_numbers;
 pub use print::{print_reply_words, print_request_words};
+pub use reading::Reading;
 pub use rules::HistoryKind;
 pub use sent::Sent;
 pub use word_laws::{

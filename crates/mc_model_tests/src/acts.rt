@@ -2,7 +2,7 @@
 //! rows are cases of the program.
 use crate::lines::{bytes, reply_in, request_in};
 use mc_model::{Cache, Choice, Item, Numeral, WordsFault, numeral_of};
-use mc_protocol::OutOfMemory;
+use mc_protocol::{OutOfMemory, Reply, Request};
 use std::alloc::Global;
 use std::test::Fail;
 
@@ -112,41 +112,78 @@ fn cache_of(alloc: Global, body: &str) -> Result<Cache, OutOfMemory> {
     Ok(cache)
 }
 
-/// Whether the cache answers so, and holds this then. Without memory it is as it was.
-fn acts(
+/// Whether a cache answers so, and holds this then.
+fn acts(alloc: Global, row: &Row) -> Result<bool, WordsFault> {
+    let (body, line, choice, reply, after) = row;
+    let request = request_in(alloc, line)?;
+    acts_on(alloc, body, &request, *choice, reply, *after)
+}
+
+fn acts_on(
     alloc: Global,
     body: &str,
-    line: &str,
+    request: &Request,
     choice: Choice,
-    expected: &str,
+    reply: &str,
     after: Option<(u32, &str, u64)>,
 ) -> Result<bool, WordsFault> {
-    let request = request_in(alloc, line)?;
-    let expected = reply_in(alloc, expected)?;
+    let reply = reply_in(alloc, reply)?;
+    acts_so(alloc, body, request, choice, &reply, after)
+}
+
+/// The same of a reply that is read. Without memory the cache is as it was.
+fn acts_so(
+    alloc: Global,
+    body: &str,
+    request: &Request,
+    choice: Choice,
+    reply: &Reply,
+    after: Option<(u32, &str, u64)>,
+) -> Result<bool, WordsFault> {
     let mut cache = cache_of(alloc, body)?;
-    match cache.act(&request, choice, 9) {
-        Ok(reply) => Ok(reply == expected && has(&cache, after)),
+    match replies(&mut cache, request, choice, reply) {
+        Ok(is_reply) => Ok(is_reply && has(&cache, after)),
         Err(fault) if has(&cache, Some((5, body, 4))) => Err(WordsFault::from(fault)),
         Err(_) => Ok(false),
     }
 }
 
+/// Whether the cache answers so, where the number of a version that is made is 9.
+fn replies(
+    cache: &mut Cache,
+    request: &Request,
+    choice: Choice,
+    expected: &Reply,
+) -> Result<bool, OutOfMemory> {
+    let reply = cache.act(request, choice, 9)?;
+    Ok(reply == *expected)
+}
+
 #[test]
 fn acts_as_the_protocol_says(rt: HostRuntime) -> Result<(), Fail> {
-    for (body, line, choice, reply, after) in ACTS {
-        assert!(rt;
-            acts(rt.alloc(), body, line, *choice, reply, *after)?,
-            "{line} {choice:?}"
-        );
+    for row in ACTS {
+        assert!(rt; acts(rt.alloc(), row)?, "{} {:?}", row.1, row.2);
     }
     Ok(())
 }
 
 fn copies(alloc: Global) -> Result<bool, WordsFault> {
     let mut cache = cache_of(alloc, "old")?;
-    let copy = cache.copy()?;
-    cache.act(&request_in(alloc, "set k 7 =new")?, PLAIN, 9)?;
+    let copy = changed(alloc, &mut cache)?;
     Ok(has(&cache, Some((7, "new", 9))) && has(&copy, Some((5, "old", 4))))
+}
+
+/// Changes the cache, and answers a copy that was made before.
+fn changed(alloc: Global, cache: &mut Cache) -> Result<Cache, WordsFault> {
+    let copy = cache.copy()?;
+    store(alloc, cache)?;
+    Ok(copy)
+}
+
+fn store(alloc: Global, cache: &mut Cache) -> Result<(), WordsFault> {
+    let request = request_in(alloc, "set k 7 =new")?;
+    cache.act(&request, PLAIN, 9)?;
+    Ok(())
 }
 
 #[test]

@@ -1,7 +1,7 @@
 //! A cache as a map from keys to items.
 use crate::lines::bytes;
 use mc_model::{Cache, Item};
-use mc_protocol::OutOfMemory;
+use mc_protocol::{Bytes, OutOfMemory};
 use std::alloc::Global;
 use std::test::Fail;
 
@@ -25,9 +25,14 @@ fn number_at(cache: &Cache, key: &str) -> Option<u64> {
 fn cache_of(alloc: Global, held: &[(&str, u64)]) -> Result<Cache, OutOfMemory> {
     let mut entries = Vec::new(alloc);
     for (key, number) in held {
-        entries.push((bytes(alloc, key)?, item(alloc, *number)?))?;
+        entries.push(entry(alloc, key, *number)?)?;
     }
     Ok(Cache::from_entries(entries))
+}
+
+fn entry(alloc: Global, key: &str, number: u64) -> Result<(Bytes, Item), OutOfMemory> {
+    let key = bytes(alloc, key)?;
+    Ok((key, item(alloc, number)?))
 }
 
 static HELD: &[(&str, u64)] = &[("a", 2), ("b", 3), ("a", 4)];
@@ -76,19 +81,16 @@ static PUTS: &[Row] = &[
     ),
 ];
 
+fn put(alloc: Global, cache: &mut Cache, key: &str, number: u64) -> Result<(), OutOfMemory> {
+    let (key, item) = entry(alloc, key, number)?;
+    cache.put(key, item)
+}
+
 /// Whether the cache finds so once the item is put. Without memory it finds what it did.
-fn puts(
-    alloc: Global,
-    held: &[(&str, u64)],
-    before: &[(&str, Option<u64>)],
-    key: &str,
-    number: u64,
-    after: &[(&str, Option<u64>)],
-) -> Result<bool, OutOfMemory> {
+fn puts(alloc: Global, row: &Row) -> Result<bool, OutOfMemory> {
+    let (held, before, key, number, after) = row;
     let mut cache = cache_of(alloc, held)?;
-    let key = bytes(alloc, key)?;
-    let item = item(alloc, number)?;
-    match cache.put(key, item) {
+    match put(alloc, &mut cache, key, *number) {
         Ok(()) => Ok(finds(&cache, after)),
         Err(fault) if finds(&cache, before) => Err(fault),
         Err(_) => Ok(false),
@@ -97,11 +99,8 @@ fn puts(
 
 #[test]
 fn puts_items(rt: HostRuntime) -> Result<(), Fail> {
-    for (held, before, key, number, after) in PUTS {
-        assert!(rt;
-            puts(rt.alloc(), held, before, key, *number, after)?,
-            "{key}"
-        );
+    for row in PUTS {
+        assert!(rt; puts(rt.alloc(), row)?, "{}", row.2);
     }
     Ok(())
 }

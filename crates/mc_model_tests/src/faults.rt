@@ -26,17 +26,36 @@ static FAULTY_REPLIES: &[(&str, WordsFault)] = &[
     ("HIT 4294967296", WordsFault::Number),
 ];
 
+fn fault_of_request(alloc: Global, line: &str) -> Result<Option<WordsFault>, WordsFault> {
+    fault_in(request_in(alloc, line))
+}
+
+fn fault_of_reply(alloc: Global, line: &str) -> Result<Option<WordsFault>, WordsFault> {
+    fault_in(reply_in(alloc, line))
+}
+
+fn fault_of_body(alloc: Global, word: &str) -> Result<Option<WordsFault>, WordsFault> {
+    fault_in(read_body(alloc, word.as_bytes()))
+}
+
 #[test]
-fn refuses_words(rt: HostRuntime) -> Result<(), Fail> {
+fn refuses_words_of_requests(rt: HostRuntime) -> Result<(), Fail> {
     for (line, expected) in FAULTY_REQUESTS {
-        assert!(rt;
-            fault_in(request_in(rt.alloc(), line))? == Some(*expected),
+        assert_eq!(rt;
+            fault_of_request(rt.alloc(), line)?,
+            Some(*expected),
             "{line}"
         );
     }
+    Ok(())
+}
+
+#[test]
+fn refuses_words_of_replies(rt: HostRuntime) -> Result<(), Fail> {
     for (line, expected) in FAULTY_REPLIES {
-        assert!(rt;
-            fault_in(reply_in(rt.alloc(), line))? == Some(*expected),
+        assert_eq!(rt;
+            fault_of_reply(rt.alloc(), line)?,
+            Some(*expected),
             "{line}"
         );
     }
@@ -46,8 +65,9 @@ fn refuses_words(rt: HostRuntime) -> Result<(), Fail> {
 #[test]
 fn refuses_bodies(rt: HostRuntime) -> Result<(), Fail> {
     for word in ["", "9", "=%2"] {
-        assert!(rt;
-            fault_in(read_body(rt.alloc(), word.as_bytes()))? == Some(WordsFault::Form),
+        assert_eq!(rt;
+            fault_of_body(rt.alloc(), word)?,
+            Some(WordsFault::Form),
             "{word}"
         );
     }

@@ -27,23 +27,30 @@ fn section(alloc: Global, lines: &[(&str, &str)]) -> Result<Vec<Sent>, WordsFaul
     Ok(section)
 }
 
+/// A rule that is broken, and the section and place of the request that breaks it.
+type Broken = (HistoryKind, Actor, usize);
+
 fn history(
     alloc: Global,
-    p: &[(&str, &str)],
-    a: &[(&str, &str)],
-    b: &[(&str, &str)],
-) -> Result<Result<History, (HistoryKind, Actor, usize)>, WordsFault> {
-    let p = section(alloc, p)?;
-    let a = section(alloc, a)?;
-    let b = section(alloc, b)?;
-    match History::new(alloc, p, a, b) {
+    sections: [&[(&str, &str)]; 3],
+) -> Result<Result<History, Broken>, WordsFault> {
+    let p = section(alloc, sections[0])?;
+    let a = section(alloc, sections[1])?;
+    let b = section(alloc, sections[2])?;
+    Ok(History::new(alloc, p, a, b))
+}
+
+/// What is broken, where that is more than memory.
+fn broken_by(alloc: Global, sections: [&[(&str, &str)]; 3]) -> Result<Option<Broken>, WordsFault> {
+    match history(alloc, sections)? {
+        Ok(_) => Ok(None),
         Err((HistoryKind::OutOfMemory, _, _)) => Err(WordsFault::OutOfMemory),
-        answer => Ok(answer),
+        Err(broken) => Ok(Some(broken)),
     }
 }
 
-/// Sections that are no history: the rule that is broken, and the section and place of the request that breaks it.
-static FAULTY: &[(Section, Section, Section, (HistoryKind, Actor, usize))] = &[
+/// Sections that are no history, and what is broken.
+static FAULTY: &[(Section, Section, Section, Broken)] = &[
     (
         &[("delete a", "NOT_FOUND")],
         &[("get a", "MISS")],
@@ -65,8 +72,7 @@ static FAULTY: &[(Section, Section, Section, (HistoryKind, Actor, usize))] = &[
 #[test]
 fn finds_first_faults(rt: HostRuntime) -> Result<(), Fail> {
     for (p, a, b, expected) in FAULTY {
-        let fault = history(rt.alloc(), p, a, b)?.err();
-        assert!(rt; fault == Some(*expected), "{fault:?}");
+        assert_eq!(rt; broken_by(rt.alloc(), [p, a, b])?, Some(*expected));
     }
     Ok(())
 }
@@ -78,6 +84,16 @@ fn has_verbs(section: &[Sent], verbs: &[Verb]) -> bool {
         }
     }
     section.len() == verbs.len()
+}
+
+/// The first section that has other verbs.
+fn first_other(history: &History, rows: &[(Actor, &[Verb])]) -> Option<Actor> {
+    for (actor, verbs) in rows {
+        if !has_verbs(history.sent(*actor), verbs) {
+            return Some(*actor);
+        }
+    }
+    None
 }
 
 /// What a section has in a history of all three.
@@ -93,17 +109,23 @@ static VERBS: &[(Actor, &[Verb])] = &[
     (Actor::B, &[Verb::Gets]),
 ];
 
+/// The first section that has other verbs in a history of all three.
+fn first_other_in(alloc: Global, rows: &[(Actor, &[Verb])]) -> Result<Option<Actor>, Fail> {
+    let history = history(alloc, [P, A, B])?.map_err(|broken| broken.0)?;
+    Ok(first_other(&history, rows))
+}
+
 #[test]
 fn takes_histories(rt: HostRuntime) -> Result<(), Fail> {
-    let history = history(rt.alloc(), P, A, B)?.map_err(|fault| fault.0)?;
-    for (actor, verbs) in VERBS {
-        assert!(rt; has_verbs(history.sent(*actor), verbs), "{actor:?}");
-    }
+    assert_eq!(rt; first_other_in(rt.alloc(), VERBS)?, None);
     Ok(())
 }
 
-/// What is pushed, one after another, and the rule that it would break. What breaks one changes nothing.
-static PUSHES: &[(Actor, &str, &str, Option<HistoryKind>)] = &[
+/// What is pushed, and the rule that it would break.
+type Push = (Actor, &'static str, &'static str, Option<HistoryKind>);
+
+/// What is pushed, one after another. What breaks a rule changes nothing.
+static PUSHES: &[Push] = &[
     (Actor::P, "delete a", "NOT_FOUND", None),
     (Actor::A, "get b", "MISS", Some(HistoryKind::NotCleared)),
     (Actor::A, "get a", "STORED", Some(HistoryKind::WrongReply)),
@@ -129,20 +151,32 @@ fn push_fault(
     }
 }
 
+fn is_pushed(alloc: Global, builder: &mut HistoryBuilder, row: &Push) -> Result<bool, Fail> {
+    let (actor, request, reply, expected) = row;
+    let sent = sent(alloc, request, reply)?;
+    Ok(push_fault(builder, *actor, sent)? == *expected)
+}
+
+/// The first row of what is pushed that the builder doesn't meet.
+fn first_odd(alloc: Global, builder: &mut HistoryBuilder) -> Result<Option<usize>, Fail> {
+    for (index, row) in PUSHES.iter().enumerate() {
+        if !is_pushed(alloc, builder, row)? {
+            return Ok(Some(index));
+        }
+    }
+    Ok(None)
+}
+
+/// The first row that isn't met, and the first section that has other verbs then.
+fn oddities(alloc: Global) -> Result<(Option<usize>, Option<Actor>), Fail> {
+    let mut builder = HistoryBuilder::new(alloc);
+    let odd = first_odd(alloc, &mut builder)?;
+    Ok((odd, first_other(&builder.finish(), BUILT)))
+}
+
 #[test]
 fn builds_histories(rt: HostRuntime) -> Result<(), Fail> {
-    let mut builder = HistoryBuilder::new(rt.alloc());
-    for (actor, request, reply, expected) in PUSHES {
-        let sent = sent(rt.alloc(), request, reply)?;
-        assert!(rt;
-            push_fault(&mut builder, *actor, sent)? == *expected,
-            "{request} {reply}"
-        );
-    }
-    let history = builder.finish();
-    for (actor, verbs) in BUILT {
-        assert!(rt; has_verbs(history.sent(*actor), verbs), "{actor:?}");
-    }
+    assert_eq!(rt; oddities(rt.alloc())?, (None, None));
     Ok(())
 }
 

@@ -8,6 +8,8 @@ mod acts;
 #[cfg(test)]
 mod caches;
 #[cfg(test)]
+mod decisions;
+#[cfg(test)]
 mod faults;
 #[cfg(test)]
 mod histories;

@@ -16,23 +16,33 @@ fn note(alloc: Global, begins: bool, words: &str) -> Result<Note, WordsFault> {
     })
 }
 
-fn history(
-    alloc: Global,
-    lines: &[Line],
-) -> Result<Result<History, (HistoryKind, Actor, usize)>, WordsFault> {
+/// A rule that is broken, and the section and the place in the list of the note that breaks it.
+type Broken = (HistoryKind, Actor, usize);
+
+fn history(alloc: Global, lines: &[Line]) -> Result<Result<History, Broken>, WordsFault> {
     let mut notes = Vec::new(alloc);
     for (actor, begins, words) in lines {
         notes.push((*actor, note(alloc, *begins, words)?))?;
     }
-    match History::noted(alloc, notes) {
+    Ok(History::noted(alloc, notes))
+}
+
+/// What is broken, where that is more than memory.
+fn broken_by(alloc: Global, lines: &[Line]) -> Result<Option<Broken>, WordsFault> {
+    match history(alloc, lines)? {
+        Ok(_) => Ok(None),
         Err((HistoryKind::OutOfMemory, _, _)) => Err(WordsFault::OutOfMemory),
-        answer => Ok(answer),
+        Err(broken) => Ok(Some(broken)),
     }
 }
 
-/// Notes that make no history: the rule that is broken, and the section and the place in the list of the note that breaks
-/// it.
-static FAULTY: &[(&[Line], (HistoryKind, Actor, usize))] = &[
+/// The history of notes that make one.
+fn sound_history(alloc: Global, lines: &[Line]) -> Result<History, Fail> {
+    Ok(history(alloc, lines)?.map_err(|broken| broken.0)?)
+}
+
+/// Notes that make no history, and what is broken.
+static FAULTY: &[(&[Line], Broken)] = &[
     (
         &[(Actor::P, false, "NOT_FOUND")],
         (HistoryKind::Order, Actor::P, 0),
@@ -134,8 +144,7 @@ static FAULTY: &[(&[Line], (HistoryKind, Actor, usize))] = &[
 #[test]
 fn finds_first_faults_of_notes(rt: HostRuntime) -> Result<(), Fail> {
     for (lines, expected) in FAULTY {
-        let fault = history(rt.alloc(), lines)?.err();
-        assert!(rt; fault == Some(*expected), "{fault:?}");
+        assert_eq!(rt; broken_by(rt.alloc(), lines)?, Some(*expected));
     }
     Ok(())
 }
@@ -167,11 +176,15 @@ fn has_notes(history: &History, lines: &[Line]) -> bool {
         })
 }
 
+/// Whether the notes make a history, which keeps them.
+fn are_kept(alloc: Global, lines: &[Line]) -> Result<bool, Fail> {
+    Ok(has_notes(&sound_history(alloc, lines)?, lines))
+}
+
 #[test]
 fn takes_requests_without_replies(rt: HostRuntime) -> Result<(), Fail> {
     for lines in OPEN {
-        let history = history(rt.alloc(), lines)?.map_err(|fault| fault.0)?;
-        assert!(rt; has_notes(&history, lines));
+        assert!(rt; are_kept(rt.alloc(), lines)?);
     }
     Ok(())
 }
@@ -201,36 +214,84 @@ static COUNTS: &[(Actor, usize, usize)] = &[
     (Actor::B, 2, 1),
 ];
 
+/// The first of the counts that the history doesn't have.
+fn first_other_count(history: &History) -> Option<(Actor, usize)> {
+    for (actor, place, expected) in COUNTS {
+        if history.answered_before(*actor, *place) != *expected {
+            return Some((*actor, *place));
+        }
+    }
+    None
+}
+
+/// Whether the history keeps these notes and has the counts.
+fn is_counted(history: &History) -> bool {
+    has_notes(history, COUNTED)
+        && first_other_count(history).is_none()
+        && history.sent(Actor::A).len() == 2
+        && history.sent(Actor::B).len() == 3
+}
+
 #[test]
 fn counts_what_was_answered_before(rt: HostRuntime) -> Result<(), Fail> {
-    let history = history(rt.alloc(), COUNTED)?.map_err(|fault| fault.0)?;
-    assert!(rt; has_notes(&history, COUNTED));
-    for (actor, place, expected) in COUNTS {
-        let count = history.answered_before(*actor, *place);
-        assert!(rt; count == *expected, "{actor:?} {place} {count}");
-    }
-    assert!(rt; history.sent(Actor::A).len() == 2 && history.sent(Actor::B).len() == 3);
+    let history = sound_history(rt.alloc(), COUNTED)?;
+    assert!(rt; is_counted(&history));
     Ok(())
+}
+
+fn has_no_notes(history: &History) -> bool {
+    history.notes().is_none() && history.answered_before(Actor::A, 0) == 0
 }
 
 #[test]
 fn keeps_no_notes_of_sections(rt: HostRuntime) -> Result<(), Fail> {
     let alloc = rt.alloc();
     let history = History::new(alloc, Vec::new(alloc), Vec::new(alloc), Vec::new(alloc));
-    let history = history.map_err(|fault| fault.0)?;
-    assert!(rt; history.notes().is_none() && history.answered_before(Actor::A, 0) == 0);
+    assert!(rt; has_no_notes(&history.map_err(|broken| broken.0)?));
     Ok(())
+}
+
+/// Notes the words, and answers the rule that they would break.
+fn fault_at(
+    alloc: Global,
+    builder: &mut NotedBuilder,
+    actor: Actor,
+    begins: bool,
+    words: &str,
+) -> Result<Option<HistoryKind>, WordsFault> {
+    let note = note(alloc, begins, words)?;
+    match builder.push(actor, note) {
+        Ok(()) => Ok(None),
+        Err(HistoryKind::OutOfMemory) => Err(WordsFault::OutOfMemory),
+        Err(kind) => Ok(Some(kind)),
+    }
+}
+
+/// Notes these words in turn, and answers the rules that they would break.
+fn faults_at(
+    alloc: Global,
+    builder: &mut NotedBuilder,
+) -> Result<[Option<HistoryKind>; 3], WordsFault> {
+    Ok([
+        fault_at(alloc, builder, Actor::P, true, "delete a")?,
+        fault_at(alloc, builder, Actor::A, true, "get a")?,
+        fault_at(alloc, builder, Actor::P, false, "DELETED")?,
+    ])
+}
+
+/// Whether the second of three notes is refused, and the others are those of the history.
+fn is_refused_alone(alloc: Global) -> Result<bool, Fail> {
+    let mut builder = NotedBuilder::new(alloc);
+    let faults = faults_at(alloc, &mut builder)?;
+    let history = builder.finish()?;
+    Ok(
+        faults == [None, Some(HistoryKind::Order), None]
+            && has_notes(&history, &[(Actor::P, true, ""), (Actor::P, false, "")]),
+    )
 }
 
 #[test]
 fn a_refused_note_changes_nothing(rt: HostRuntime) -> Result<(), Fail> {
-    let alloc = rt.alloc();
-    let mut builder = NotedBuilder::new(alloc);
-    builder.push(Actor::P, note(alloc, true, "delete a")?)?;
-    let refused = builder.push(Actor::A, note(alloc, true, "get a")?);
-    assert_eq!(rt; refused, Err(HistoryKind::Order));
-    builder.push(Actor::P, note(alloc, false, "DELETED")?)?;
-    let history = builder.finish()?;
-    assert!(rt; has_notes(&history, &[(Actor::P, true, ""), (Actor::P, false, "")]));
+    assert!(rt; is_refused_alone(rt.alloc())?);
     Ok(())
 }

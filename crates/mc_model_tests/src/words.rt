@@ -29,6 +29,19 @@ static REQUESTS: &[(&str, Verb, u32, &[u8], u64)] = &[
     ("touch k-1", Verb::Touch, 0, b"", 0),
 ];
 
+/// Whether the line is read as these parts, and printed of them again.
+fn is_request_of(
+    alloc: Global,
+    line: &str,
+    verb: Verb,
+    flags: u32,
+    body: &[u8],
+    number: u64,
+) -> Result<bool, WordsFault> {
+    let request = request_in(alloc, line)?;
+    Ok(has_parts(&request, verb, flags, body, number) && prints_request(alloc, &request, line)?)
+}
+
 fn has_parts(request: &Request, verb: Verb, flags: u32, body: &[u8], number: u64) -> bool {
     request.verb == verb
         && request.key.as_slice() == b"k-1".as_slice()
@@ -60,10 +73,8 @@ fn prints_request(alloc: Global, request: &Request, line: &str) -> Result<bool, 
 #[test]
 fn reads_and_prints_each_verb(rt: HostRuntime) -> Result<(), Fail> {
     for (line, verb, flags, body, number) in REQUESTS {
-        let request = request_in(rt.alloc(), line)?;
         assert!(rt;
-            has_parts(&request, *verb, *flags, body, *number)
-                && prints_request(rt.alloc(), &request, line)?,
+            is_request_of(rt.alloc(), line, *verb, *flags, body, *number)?,
             "{line}"
         );
     }
@@ -91,14 +102,16 @@ fn prints_reply(alloc: Global, reply: &Reply, line: &str) -> Result<bool, WordsF
     is_appended(answer, out.as_slice(), line)
 }
 
+/// Whether the line is read as a reply of this class, and printed of it again.
+fn is_reply_of(alloc: Global, line: &str, class: Class) -> Result<bool, WordsFault> {
+    let reply = reply_in(alloc, line)?;
+    Ok(reply.class() == class && prints_reply(alloc, &reply, line)?)
+}
+
 #[test]
 fn reads_and_prints_each_reply(rt: HostRuntime) -> Result<(), Fail> {
     for (line, class) in REPLIES {
-        let reply = reply_in(rt.alloc(), line)?;
-        assert!(rt;
-            reply.class() == *class && prints_reply(rt.alloc(), &reply, line)?,
-            "{line}"
-        );
+        assert!(rt; is_reply_of(rt.alloc(), line, *class)?, "{line}");
     }
     Ok(())
 }
@@ -120,15 +133,27 @@ fn is_hit(reply: &Reply, flags: u32, body: &[u8], cas: Option<u64>) -> bool {
     }
 }
 
+/// Whether the line is read as a hit with these parts.
+fn is_hit_of(
+    alloc: Global,
+    line: &str,
+    flags: u32,
+    body: &[u8],
+    cas: Option<u64>,
+) -> Result<bool, WordsFault> {
+    Ok(is_hit(&reply_in(alloc, line)?, flags, body, cas))
+}
+
+fn is_number_of(alloc: Global, line: &str, number: u64) -> Result<bool, WordsFault> {
+    Ok(reply_in(alloc, line)? == Reply::Number(number))
+}
+
 #[test]
 fn reads_the_parts_of_replies(rt: HostRuntime) -> Result<(), Fail> {
     for (line, flags, body, cas) in HITS {
-        assert!(rt;
-            is_hit(&reply_in(rt.alloc(), line)?, *flags, body, *cas),
-            "{line}"
-        );
+        assert!(rt; is_hit_of(rt.alloc(), line, *flags, body, *cas)?, "{line}");
     }
-    assert!(rt; reply_in(rt.alloc(), "NUMBER 10")? == Reply::Number(10));
+    assert!(rt; is_number_of(rt.alloc(), "NUMBER 10", 10)?);
     Ok(())
 }
 

@@ -152,13 +152,17 @@ fn leaves_the_next_reply(rt: HostRuntime) -> Result<(), Fail> {
     Ok(())
 }
 
+// Whether the text is a hit of the key whose body is a one.
+fn is_one_of(alloc: Global, key: &[u8], text: &[u8]) -> Result<bool, OutOfMemory> {
+    let verb = Verb::Get;
+    let mut reader = ReplyReader::new(alloc, Shape { verb, key });
+    answers(&mut reader, text, text.len(), &ONE)
+}
+
 // Keys may have bytes from 128 on.
 #[test]
 fn reads_any_key(rt: HostRuntime) -> Result<(), Fail> {
-    let key = b"\xe4\xff-key".as_slice();
-    let text = b"VALUE \xe4\xff-key 0 1\r\n1\r\nEND\r\n".as_slice();
-    let verb = Verb::Get;
-    let mut reader = ReplyReader::new(rt.alloc(), Shape { verb, key });
-    assert!(rt; answers(&mut reader, text, text.len(), &Wanted::Hit(0, b"1", None))?);
+    let text = b"VALUE \xe4\xff-key 0 1\r\n1\r\nEND\r\n";
+    assert!(rt; is_one_of(rt.alloc(), b"\xe4\xff-key", text)?);
     Ok(())
 }

@@ -70,10 +70,18 @@ fn ended_text(text: &'static [u8], wanted: &Wanted) -> &'static [u8] {
     }
 }
 
+fn is_ended(
+    alloc: Global,
+    verb: Verb,
+    text: &'static [u8],
+    wanted: &Wanted,
+) -> Result<bool, OutOfMemory> {
+    is_read(alloc, shape(verb), ended_text(text, wanted), wanted)
+}
+
 fn answers_all(alloc: Global, verb: Verb, legal: &[usize]) -> Result<bool, OutOfMemory> {
     for (place, (text, reply)) in REPLIES.iter().enumerate() {
-        let wanted = outcome(place, reply, legal);
-        if !is_read(alloc, shape(verb), ended_text(text, &wanted), &wanted)? {
+        if !is_ended(alloc, verb, text, &outcome(place, reply, legal))? {
             return Ok(false);
         }
     }

@@ -3,8 +3,8 @@ use Rattle.std.proofs.Common.{◌≡◌, true, Result, Ok, Err, IfErr, is_ok, re
 use Rattle.mc_protocol.specs.declared.actor.Actor.{Actor}
 use Rattle.mc_code.specs.Code.{Code}
 use Rattle.mc_code.specs.declared.instr.Call.{Call}
-use Rattle.mc_core.specs.declared.event.Event.{Event}
-use Rattle.mc_core.specs.declared.event.Event.TheVariants as event
+use Rattle.mc_history.specs.declared.event.Event.{Event}
+use Rattle.mc_history.specs.declared.event.Event.TheVariants as event
 use Rattle.mc_core.specs.declared.step_refusal.StepRefusal.{StepRefusal}
 use Rattle.mc_core.specs.Steps.{IsRefused, MayBegin}
 use Rattle.mc_core.specs.Worlds.{World}

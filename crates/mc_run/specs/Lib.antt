@@ -4,7 +4,7 @@ pub use Rattle.mc_core.specs.Histories
 pub use Rattle.mc_core.specs.Safety
 pub use Rattle.mc_core.specs.Steps
 pub use Rattle.mc_core.specs.Worlds
-pub use Rattle.mc_explain.specs.Explains
+pub use Rattle.mc_claims.specs.Explains
 pub use Rattle.mc_explain.specs.Verdicts
 pub use Rattle.mc_lane.specs.Lanes
 pub mod Agreement

@@ -4,8 +4,8 @@ use Rattle.mc_protocol.specs.Texts.{request_text}
 use Rattle.mc_protocol.specs.declared.fault.Fault.{Fault}
 use Rattle.mc_protocol.specs.declared.reply.Reply.{Reply}
 use Rattle.mc_protocol.specs.declared.request.Request.{Request}
-use Rattle.mc_core.specs.declared.event.Event.{Event}
-use Rattle.mc_core.specs.declared.event.Event.TheVariants as event
+use Rattle.mc_history.specs.declared.event.Event.{Event}
+use Rattle.mc_history.specs.declared.event.Event.TheVariants as event
 use Rattle.mc_lane.specs.Lanes.{LaneRecord, is_closed, Calls}
 use Rattle.mc_run.specs.Agreement.{LaneRecords}
 

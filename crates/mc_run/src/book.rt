@@ -5,7 +5,8 @@ ghost use Rattle.mc_core.specs.Steps.{IsStep, IsRefused, MayBegin};
 ghost use Rattle.mc_core.specs.Worlds.{new_world};
 
 use mc_code::{Call, Code};
-use mc_core::{Event, StepRefusal, World};
+use mc_core::{StepRefusal, World};
+use mc_history::Event;
 use mc_protocol::{Actor, OutOfMemory};
 use mc_verify::Checked;
 use std::alloc::Global;

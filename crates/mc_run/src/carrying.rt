@@ -5,7 +5,7 @@ ghost use Rattle.mc_protocol.specs.Texts.{request_text};
 ghost use Rattle.mc_run.specs.Running.{ComesOver};
 
 use mc_code::{Call, Code};
-use mc_core::Event;
+use mc_history::Event;
 use mc_lane::{Lane, Stream};
 use mc_protocol::{OutOfMemory, Request, render_request};
 use mc_reader::Shape;

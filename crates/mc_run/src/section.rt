@@ -4,7 +4,7 @@ ghost use Rattle.std.specs.Prelude.{◌≡◌};
 use crate::carrying::{Prepared, carry, prepare};
 use crate::meeting::Seat;
 use crate::{Book, Gate};
-use mc_core::Event;
+use mc_history::Event;
 use mc_lane::{Lane, Stream};
 use mc_protocol::{Actor, Fault, REQUESTS_LIMIT};
 use std::alloc::Global;

@@ -5,8 +5,9 @@ ghost use Rattle.mc_core.specs.Histories.{history_of};
 ghost use Rattle.mc_explain.specs.Verdicts.{IsStated};
 ghost use Rattle.mc_run.specs.Headline.{IsTrial};
 
-use mc_core::{Event, World, drive};
+use mc_core::{World, drive};
 use mc_explain::{Verdict, judge};
+use mc_history::Event;
 use mc_protocol::{Actor, OutOfMemory};
 use mc_verify::Checked;
 use std::alloc::Global;

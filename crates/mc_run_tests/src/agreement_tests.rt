@@ -46,8 +46,6 @@ fn prefixes_agree(rt: HostRuntime) -> Result<(), Fail> {
 /// A world of one script is no world of another, whatever the lanes carried.
 #[test]
 fn other_code_does_not_agree(rt: HostRuntime) -> Result<(), Fail> {
-    let counter = counter(rt.alloc())?;
-    let by_two = checked(rt.alloc(), BY_TWO)?;
     let steps = [(A, Begin), (A, Number(6)), (B, Begin), (B, Number(7))];
     let carried = [
         Carried::P_DONE,
@@ -60,10 +58,35 @@ fn other_code_does_not_agree(rt: HostRuntime) -> Result<(), Fail> {
             ..Carried::BRANCH
         },
     ];
-    let by_itself = agree_after_prefix(rt.alloc(), &counter, &counter, &steps, carried)?;
-    let by_other = agree_after_prefix(rt.alloc(), &counter, &by_two, &steps, carried)?;
-    assert_eq!(rt; (by_itself, by_other), (true, false));
+    let found = agree_with_both(rt.alloc(), &steps, carried)?;
+    assert_eq!(rt; found, (true, false));
     Ok(())
+}
+
+/// Whether the world to which these events lead in the counter agrees with lanes that carried this, as one of the counter, and as one
+/// of the script that adds 2.
+fn agree_with_both(
+    alloc: Global,
+    steps: &[(Actor, Given)],
+    carried: [Carried; 3],
+) -> Result<(bool, bool), Fail> {
+    let counter = counter(alloc)?;
+    let by_itself = agree_after_prefix(alloc, &counter, &counter, steps, carried)?;
+    Ok((
+        by_itself,
+        agree_with_other(alloc, &counter, steps, carried)?,
+    ))
+}
+
+/// The same, as one of the script that adds 2.
+fn agree_with_other(
+    alloc: Global,
+    counter: &Checked,
+    steps: &[(Actor, Given)],
+    carried: [Carried; 3],
+) -> Result<bool, Fail> {
+    let by_two = checked(alloc, BY_TWO)?;
+    Ok(agree_after_prefix(alloc, counter, &by_two, steps, carried)?)
 }
 
 /// The same as `agree`, where P is done before these events.

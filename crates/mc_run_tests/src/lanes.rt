@@ -1,6 +1,6 @@
 //! What the runs of these tests have: lanes over streams in memory, and a gate that both branches come to.
 
-ghost use Rattle.std.specs.Prelude.{IfOk};
+ghost use Rattle.std.specs.Prelude.{◌≡◌, IfOk, Ok};
 ghost use Rattle.mc_core.specs.Held.{IsHeldBy};
 ghost use Rattle.mc_lane.specs.MemoryStreams.{state_of};
 ghost use Rattle.mc_lane.specs.Streams.{CanFail};
@@ -51,8 +51,7 @@ pub(crate) fn lanes(alloc: Global, served: [Served; 3]) -> Result<Lanes<MemorySt
     })
 }
 
-/// Runs code over these lanes. Want of memory in a section is an error here, as that of a thread is: none of these tests
-/// expects it.
+/// Runs code over these lanes.
 pub(crate) fn run<S: Stream + Send, G: Gate, R: Threads + Wait + Sync>(
     rt: &R,
     alloc: Global,
@@ -63,12 +62,7 @@ pub(crate) fn run<S: Stream + Send, G: Gate, R: Threads + Wait + Sync>(
     requires { AreNew lanes }
     ensures { IfOk result (λ run. IsHeldBy checked.now.code run.world) }
 {
-    let run = match run_lanes(rt, alloc, checked, lanes, gate) {
-        Err(RunError::NoThread) => return Err(AllocError)?,
-        other => other?,
-    };
-    has_memory(&run)?;
-    Ok(run)
+    with_memory(run_lanes(rt, alloc, checked, lanes, gate))
 }
 
 /// The same, where the branches meet in this way.
@@ -83,12 +77,21 @@ pub(crate) fn run_meeting<S: Stream + Send, G: Gate, R: Threads + Wait + Sync>(
     requires { AreNew lanes }
     ensures { IfOk result (λ run. IsHeldBy checked.now.code run.world) }
 {
-    let run = match run_lanes_with(rt, alloc, checked, lanes, gate, Builder::new(), meet) {
-        Err(RunError::NoThread) => return Err(AllocError)?,
-        other => other?,
-    };
-    has_memory(&run)?;
-    Ok(run)
+    with_memory(run_lanes_with(rt, alloc, checked, lanes, gate, Builder::new(), meet))
+}
+
+/// The run that was found. Want of memory in a section is an error here, as that of a thread is: none of these tests expects it.
+fn with_memory<S: Stream>(found: Result<Run<S>, RunError>) -> Result<Run<S>, Fail>
+    ensures { IfOk result (λ run. found ≡ Ok run) }
+{
+    match found {
+        Err(RunError::NoThread) => Err(AllocError)?,
+        Err(error) => Err(error)?,
+        Ok(run) => {
+            has_memory(&run)?;
+            Ok(run)
+        }
+    }
 }
 
 /// An error where memory ran out in a section.

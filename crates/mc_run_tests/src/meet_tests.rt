@@ -81,6 +81,11 @@ fn begin_both<R: Threads + Wait + Sync>(
     let gate = BothBegin::new();
     let given = lanes(alloc, [TO_PREFIX, SIX, SEVEN])?;
     let run = run_meeting(rt, alloc, counter, given, &gate, meet)?;
+    Ok(have_begun(&run) && !gate.missed.is_raised())
+}
+
+/// Whether what was noted after P's two calls is that both calls begin, and all sections are done.
+fn have_begun(run: &Run<MemoryStream>) -> bool {
     let begun = run
         .world
         .notes()
@@ -88,7 +93,7 @@ fn begin_both<R: Threads + Wait + Sync>(
         .skip(4)
         .take(2)
         .all(|(_, event)| *event == Event::Begin);
-    Ok(begun && !gate.missed.is_raised() && endings(&run) == [Done, Done, Done])
+    begun && endings(run) == [Done, Done, Done]
 }
 
 #[test]
@@ -109,10 +114,14 @@ fn count_both<R: Threads + Wait + Sync>(
 ) -> Result<bool, Fail> {
     let given = lanes(alloc, [TO_PREFIX, SIX, SEVEN])?;
     let run = run_meeting(rt, alloc, counter, given, &FreeGate, meet)?;
-    let Lanes { a, b, .. } = &run.lanes;
+    Ok(have_incremented(&run.lanes) && endings(&run) == [Done, Done, Done])
+}
+
+/// Whether both branches have sent their increments, and each has got what its server answers.
+fn have_incremented(lanes: &Lanes<MemoryStream>) -> bool {
+    let Lanes { a, b, .. } = lanes;
     let is_sent = a.sent() == INCREMENT && b.sent() == INCREMENT;
-    let is_got = a.got() == b"6\r\n".as_slice() && b.got() == b"7\r\n".as_slice();
-    Ok(is_sent && is_got && endings(&run) == [Done, Done, Done])
+    is_sent && a.got() == b"6\r\n".as_slice() && b.got() == b"7\r\n".as_slice()
 }
 
 #[test]
@@ -131,15 +140,23 @@ fn go_on_alone<R: Threads + Wait + Sync>(
     unequal: &Checked,
     meet: Meet,
 ) -> Result<bool, Fail> {
+    let both = end_beside(rt, alloc, unequal, (&[b"9\r\n"], NEVER), meet)?;
+    let one = end_beside(rt, alloc, unequal, (&[], 1), meet)?;
+    Ok(both == [Done, Done, Done] && one == [Done, Done, Failed(Fault::WriteFailed)])
+}
+
+/// How the sections end where A gets its three replies, and this is served to B.
+fn end_beside<R: Threads + Wait + Sync>(
+    rt: &R,
+    alloc: Global,
+    unequal: &Checked,
+    to_b: Served,
+    meet: Meet,
+) -> Result<[Ending; 3], Fail> {
     let to_a: Served = (&[b"6\r\n", b"7\r\n", b"8\r\n"], NEVER);
-    let given = lanes(alloc, [TO_PREFIX, to_a, (&[b"9\r\n"], NEVER)])?;
-    let both = run_meeting(rt, alloc, unequal, given, &FreeGate, meet)?;
-    let given = lanes(alloc, [TO_PREFIX, to_a, (&[], 1)])?;
-    let one = run_meeting(rt, alloc, unequal, given, &FreeGate, meet)?;
-    Ok(
-        endings(&both) == [Done, Done, Done]
-            && endings(&one) == [Done, Done, Failed(Fault::WriteFailed)],
-    )
+    let given = lanes(alloc, [TO_PREFIX, to_a, to_b])?;
+    let run = run_meeting(rt, alloc, unequal, given, &FreeGate, meet)?;
+    Ok(endings(&run))
 }
 
 #[test]

@@ -13,7 +13,9 @@ use mc_reader::Shape;
 use mc_run::{FreeGate, Lanes, Run, agrees};
 use mc_verify::Checked;
 use std::alloc::Global;
+use std::sync::Wait;
 use std::test::Fail;
+use std::thread::Threads;
 
 /// What P sends, and what each branch sends.
 const PREFIX: &[u8] = b"delete a\r\nset a 0 0 1\r\n5\r\n";
@@ -162,15 +164,22 @@ static ROWS: &[Row] = &[
 fn comes_to_what_its_streams_answer(rt: HostRuntime) -> Result<(), Fail> {
     let counter = counter(rt.alloc())?;
     for (number, row) in ROWS.iter().enumerate() {
-        let given = lanes(rt.alloc(), [row.p, row.a, row.b])?;
-        let run = run(&rt, rt.alloc(), &counter, given, &FreeGate)?;
-        assert_eq!(rt;
-            fits(rt.alloc(), &counter, run, row)?,
-            [true; 5],
-            "{number}"
-        );
+        let found = fit(&rt, rt.alloc(), &counter, row)?;
+        assert_eq!(rt; found, [true; 5], "{number}");
     }
     Ok(())
+}
+
+/// What of a run over the row's streams is as the row has it.
+fn fit<R: Threads + Wait + Sync>(
+    rt: &R,
+    alloc: Global,
+    counter: &Checked,
+    row: &Row,
+) -> Result<[bool; 5], Fail> {
+    let given = lanes(alloc, [row.p, row.a, row.b])?;
+    let run = run(rt, alloc, counter, given, &FreeGate)?;
+    fits(alloc, counter, run, row)
 }
 
 /// Whether the sections end as in the row, this was sent over the lanes, they agree, the verdict is that of the row, and nothing is
@@ -212,17 +221,22 @@ fn is_judged_as(
 fn notes_both_increments(rt: HostRuntime) -> Result<(), Fail> {
     let counter = counter(rt.alloc())?;
     let gate = BothBegin::new();
-    let given = lanes(
-        rt.alloc(),
-        [(TO_PREFIX, NEVER), SIX, (&[b"7\r\n8\r\n"], NEVER)],
-    )?;
-    let run = run(&rt, rt.alloc(), &counter, given, &gate)?;
-    assert!(rt; !gate.missed.is_raised());
-    assert_eq!(rt;
-        has_incremented_twice(rt.alloc(), &counter, &run)?,
-        [true; 6]
-    );
+    let found = increment_twice(&rt, rt.alloc(), &counter, &gate)?;
+    assert_eq!(rt; (found, gate.missed.is_raised()), ([true; 6], false));
     Ok(())
+}
+
+/// What holds of a run in which this gate is passed, and something comes after B's reply.
+fn increment_twice<R: Threads + Wait + Sync>(
+    rt: &R,
+    alloc: Global,
+    counter: &Checked,
+    gate: &BothBegin,
+) -> Result<[bool; 6], Fail> {
+    let to_b: Served = (&[b"7\r\n8\r\n"], NEVER);
+    let given = lanes(alloc, [(TO_PREFIX, NEVER), SIX, to_b])?;
+    let run = run(rt, alloc, counter, given, gate)?;
+    has_incremented_twice(alloc, counter, &run)
 }
 
 /// Whether all sections are done, all was sent, what came after B's reply wasn't taken, and the verdict is an explanation, where there
@@ -250,26 +264,33 @@ fn has_incremented_twice(
 #[test]
 fn agrees_with_its_own_lanes_alone(rt: HostRuntime) -> Result<(), Fail> {
     let counter = counter(rt.alloc())?;
-    let given = lanes(rt.alloc(), [(TO_PREFIX, NEVER), SIX, SEVEN])?;
-    let run = run(&rt, rt.alloc(), &counter, given, &FreeGate)?;
-    assert_eq!(rt;
-        agree_in_both_orders(rt.alloc(), &counter, run)?,
-        (true, false)
-    );
+    let found = run_and_exchange(&rt, rt.alloc(), &counter)?;
+    assert_eq!(rt; found, (true, false));
     Ok(())
 }
 
 /// Whether the lanes of a run agree with its world, and whether they do so with A's and B's exchanged.
-fn agree_in_both_orders(
+fn run_and_exchange<R: Threads + Wait + Sync>(
+    rt: &R,
+    alloc: Global,
+    counter: &Checked,
+) -> Result<(bool, bool), Fail> {
+    let given = lanes(alloc, [(TO_PREFIX, NEVER), SIX, SEVEN])?;
+    let run = run(rt, alloc, counter, given, &FreeGate)?;
+    let in_order = agrees(alloc, counter, &run.world, &run.lanes)?;
+    Ok((in_order, agree_exchanged(alloc, counter, run)?))
+}
+
+/// Whether the lanes of a run agree with its world where A's and B's are exchanged.
+fn agree_exchanged(
     alloc: Global,
     counter: &Checked,
     run: Run<MemoryStream>,
-) -> Result<(bool, bool), OutOfMemory> {
+) -> Result<bool, OutOfMemory> {
     let Run { world, lanes } = run;
-    let in_order = agrees(alloc, counter, &world, &lanes)?;
     let Lanes { p, a, b } = lanes;
     let exchanged = Lanes { p, a: b, b: a };
-    Ok((in_order, agrees(alloc, counter, &world, &exchanged)?))
+    agrees(alloc, counter, &world, &exchanged)
 }
 
 /// How the sections of a run stand.

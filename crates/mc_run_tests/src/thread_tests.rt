@@ -11,8 +11,11 @@ use mc_core::{Ending, Event, World};
 use mc_lane::Lane;
 use mc_protocol::{Actor, OutOfMemory, Reply};
 use mc_run::{FreeGate, Gate, Lanes};
+use mc_verify::Checked;
 use std::alloc::Global;
+use std::sync::Wait;
 use std::test::Fail;
+use std::thread::Threads;
 
 /// What the server answers to P, and the replies to an increment that is the first or the second.
 const TO_PREFIX: Served = (&[b"NOT_FOUND\r\n", b"STORED\r\n"], NEVER);
@@ -49,11 +52,21 @@ fn goes_on_while_a_gate_holds_the_other_branch(rt: HostRuntime) -> Result<(), Fa
         b_passed: Signal::new(),
         missed: Signal::new(),
     };
-    let given = lanes(rt.alloc(), [TO_PREFIX, SEVEN, SIX])?;
-    let run = run(&rt, rt.alloc(), &counter, given, &gate)?;
-    assert!(rt; are_done(&run.world), "{:?}", run.world);
-    assert!(rt; !gate.missed.is_raised());
+    let done = run_both(&rt, rt.alloc(), &counter, &gate)?;
+    assert_eq!(rt; (done, gate.missed.is_raised()), (true, false));
     Ok(())
+}
+
+/// Whether all sections are done where this gate is passed, and B's increment is the first.
+fn run_both<R: Threads + Wait + Sync>(
+    rt: &R,
+    alloc: Global,
+    counter: &Checked,
+    gate: &BFirst,
+) -> Result<bool, Fail> {
+    let given = lanes(alloc, [TO_PREFIX, SEVEN, SIX])?;
+    let run = run(rt, alloc, counter, given, gate)?;
+    Ok(are_done(&run.world))
 }
 
 /// What happens in the threads of a run with waiting streams.
@@ -82,12 +95,21 @@ impl Signals {
 fn goes_on_while_the_other_branch_is_read(rt: HostRuntime) -> Result<(), Fail> {
     let counter = counter(rt.alloc())?;
     let signals = Signals::new();
-    // each branch's stream is read once the other's was written to
-    let given = waiting_lanes(rt.alloc(), &signals, &signals.b_written)?;
-    let run = run(&rt, rt.alloc(), &counter, given, &FreeGate)?;
-    assert!(rt; are_done(&run.world), "{:?}", run.world);
-    assert!(rt; !signals.missed.is_raised());
+    let done = run_crosswise(&rt, rt.alloc(), &counter, &signals)?;
+    assert_eq!(rt; (done, signals.missed.is_raised()), (true, false));
     Ok(())
+}
+
+/// Whether all sections are done where each branch's stream is read once the other's was written to.
+fn run_crosswise<R: Threads + Wait + Sync>(
+    rt: &R,
+    alloc: Global,
+    counter: &Checked,
+    signals: &Signals,
+) -> Result<bool, Fail> {
+    let given = waiting_lanes(alloc, signals, &signals.b_written)?;
+    let run = run(rt, alloc, counter, given, &FreeGate)?;
+    Ok(are_done(&run.world))
 }
 
 /// A gate that tells when B's first call has passed.
@@ -108,14 +130,23 @@ impl<'s> Gate for TellsOfB<'s> {
 fn notes_that_a_call_begins_before_its_reply_is_read(rt: HostRuntime) -> Result<(), Fail> {
     let counter = counter(rt.alloc())?;
     let signals = Signals::new();
-    // B is read once A was written to, and A once B's reply was noted
-    let given = waiting_lanes(rt.alloc(), &signals, &signals.b_passed)?;
-    let gate = TellsOfB(&signals.b_passed);
-    let run = run(&rt, rt.alloc(), &counter, given, &gate)?;
-    assert!(rt; are_done(&run.world), "{:?}", run.world);
-    assert!(rt; !signals.missed.is_raised());
-    assert!(rt; begins_before(&run.world), "{:?}", run.world.notes());
+    let found = run_until_b_passed(&rt, rt.alloc(), &counter, &signals)?;
+    assert_eq!(rt; (found, signals.missed.is_raised()), ([true; 2], false));
     Ok(())
+}
+
+/// Whether all sections are done, and A's call was noted to begin before B's reply was, where B's stream is read once A's was written
+/// to, and A's once B's reply was noted.
+fn run_until_b_passed<R: Threads + Wait + Sync>(
+    rt: &R,
+    alloc: Global,
+    counter: &Checked,
+    signals: &Signals,
+) -> Result<[bool; 2], Fail> {
+    let given = waiting_lanes(alloc, signals, &signals.b_passed)?;
+    let gate = TellsOfB(&signals.b_passed);
+    let run = run(rt, alloc, counter, given, &gate)?;
+    Ok([are_done(&run.world), begins_before(&run.world)])
 }
 
 /// Whether it was noted that A's call begins before B's reply was.

@@ -2,7 +2,7 @@
 
 use crate::printed::text_of;
 use mc_script::ScriptKind::{Header, Line, Unended, UnknownLabel};
-use mc_script::{ScriptKind, parse_front};
+use mc_script::{Script, ScriptKind, parse_front};
 use std::alloc::Global;
 use std::test::Fail;
 
@@ -61,8 +61,18 @@ fn fault_of(alloc: Global, text: &str) -> Option<(ScriptKind, u32)> {
 
 // Whether the script that ends the text's front has this length and is printed so.
 fn is_front(alloc: Global, text: &str, size: usize, wanted: &str) -> Result<bool, Fail> {
-    let (read, found) = parse_front(alloc, text.as_bytes())?;
-    Ok(found == size && text_of(alloc, &read, b"")?.as_slice() == wanted.as_bytes())
+    let front = parse_front(alloc, text.as_bytes())?;
+    is_read_as(alloc, &front, size, wanted)
+}
+
+fn is_read_as(
+    alloc: Global,
+    front: &(Script, usize),
+    size: usize,
+    wanted: &str,
+) -> Result<bool, Fail> {
+    let printed = text_of(alloc, &front.0, b"")?;
+    Ok(front.1 == size && printed.as_slice() == wanted.as_bytes())
 }
 
 // Whether a script with this end is read up to there, where the others follow.

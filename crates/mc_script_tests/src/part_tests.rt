@@ -83,7 +83,15 @@ fn has_labels(script: &Script) -> bool {
         && is_label_of_b(script.labels(Actor::B))
 }
 
-// Whether the request is this one, with these masks: what must be set, must be clear, is set and is cleared.
+// Whether these are its masks: what must be set, must be clear, is set and is cleared.
+fn has_masks(template: &Template, masks: [Mask; 4]) -> bool {
+    template.require_set == masks[0]
+        && template.require_clear == masks[1]
+        && template.sets == masks[2]
+        && template.clears == masks[3]
+}
+
+// Whether the request is this one, with these masks.
 fn is_template(
     template: &Template,
     verb: Verb,
@@ -98,10 +106,7 @@ fn is_template(
         && template.flags == flags
         && template.argument == argument
         && template.body.as_slice() == body.as_bytes()
-        && template.require_set == masks[0]
-        && template.require_clear == masks[1]
-        && template.sets == masks[2]
-        && template.clears == masks[3]
+        && has_masks(template, masks)
 }
 
 fn is_set(step: &Step) -> bool {

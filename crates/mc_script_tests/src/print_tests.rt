@@ -1,6 +1,6 @@
 //! The text that is printed of a script.
 
-use crate::printed::printed;
+use crate::printed::{is_printed_as, printed};
 use std::test::Fail;
 
 // Two increments of one counter.
@@ -151,8 +151,7 @@ static PRINTED: [(&str, &str); 5] = [
 #[test]
 fn prints_in_one_order(rt: HostRuntime) -> Result<(), Fail> {
     for (text, wanted) in &PRINTED {
-        let out = printed(rt.alloc(), text, b"")?;
-        assert!(rt; out.as_slice() == wanted.as_bytes(), "{text}");
+        assert!(rt; is_printed_as(rt.alloc(), text, wanted)?, "{text}");
     }
     Ok(())
 }

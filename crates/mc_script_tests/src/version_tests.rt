@@ -1,6 +1,6 @@
 //! The version that is printed of a script, and what the versions have room for.
 
-use crate::printed::printed;
+use crate::printed::is_printed_as;
 use mc_protocol::{Actor, OutOfMemory};
 use mc_script::{Mask, Step, Version, parse};
 use std::alloc::Global;
@@ -66,35 +66,66 @@ fn push_halts(text: &mut String, count: usize) -> Result<(), OutOfMemory> {
 #[test]
 fn prints_the_least_version(rt: HostRuntime) -> Result<(), Fail> {
     for (flags, steps, version) in &PRINTED {
-        let text = text_of(rt.alloc(), "2", *flags, steps)?;
-        let wanted = text_of(rt.alloc(), version.word(), *flags, steps)?;
-        let out = printed(rt.alloc(), &text, b"")?;
-        assert!(rt; out.as_slice() == wanted.as_bytes(), "{text}");
+        assert!(rt;
+            is_printed_in(rt.alloc(), *flags, steps, *version)?,
+            "{flags} flags, {steps:?} steps"
+        );
     }
     Ok(())
+}
+
+fn is_printed_in(
+    alloc: Global,
+    flags: usize,
+    steps: &[usize; 3],
+    version: Version,
+) -> Result<bool, Fail> {
+    let text = text_of(alloc, "2", flags, steps)?;
+    let wanted = text_of(alloc, version.word(), flags, steps)?;
+    is_printed_as(alloc, &text, &wanted)
 }
 
 #[test]
 fn reads_what_it_printed(rt: HostRuntime) -> Result<(), Fail> {
     for (flags, steps, version) in &PRINTED {
-        let text = text_of(rt.alloc(), version.word(), *flags, steps)?;
-        let out = printed(rt.alloc(), &text, b"")?;
-        assert!(rt; out.as_slice() == text.as_bytes(), "{text}");
+        assert!(rt;
+            is_printed_again(rt.alloc(), *flags, steps, *version)?,
+            "{flags} flags, {steps:?} steps"
+        );
     }
     Ok(())
 }
 
+fn is_printed_again(
+    alloc: Global,
+    flags: usize,
+    steps: &[usize; 3],
+    version: Version,
+) -> Result<bool, Fail> {
+    let text = text_of(alloc, version.word(), flags, steps)?;
+    is_printed_as(alloc, &text, &text)
+}
+
+// A text with 64 flags, and these lines in A.
+fn text_with_flags(alloc: Global, lines: &str) -> Result<String, Fail> {
+    let flags = flag_line(alloc, 64)?;
+    Ok(format!(in alloc;
+        "script 2\nkeys a\n{flags}budget P 1 10\nbudget A 9 99\nbudget B 0 0\nP\nA\n{lines}B\nend\n"
+    )?)
+}
+
 // Marks of the first, the 32nd, the 33rd and the last flag.
+static MARKED: &str = "get a ?f0 ?f31 ?f32 ?f63
+get a !f0 !f31 !f32 !f63
+get a +f0 +f31 +f32 +f63
+get a -f0 -f31 -f32 -f63
+get a ?f63 !f31 +f0 -f32
+";
+
 #[test]
 fn prints_each_flag(rt: HostRuntime) -> Result<(), Fail> {
-    let flags = flag_line(rt.alloc(), 64)?;
-    let text = format!(in rt.alloc();
-        "script 2\nkeys a\n{flags}budget P 1 10\nbudget A 9 99\nbudget B 0 0\nP\nA\n\
-         get a ?f0 ?f31 ?f32 ?f63\nget a !f0 !f31 !f32 !f63\nget a +f0 +f31 +f32 +f63\nget a -f0 -f31 -f32 -f63\n\
-         get a ?f63 !f31 +f0 -f32\nB\nend\n"
-    )?;
-    let out = printed(rt.alloc(), &text, b"")?;
-    assert!(rt; out.as_slice() == text.as_bytes(), "{text}");
+    let text = text_with_flags(rt.alloc(), MARKED)?;
+    assert!(rt; is_printed_as(rt.alloc(), &text, &text)?, "{text}");
     Ok(())
 }
 
@@ -112,31 +143,34 @@ fn has_masks(step: &Step, masks: [Mask; 4]) -> bool {
 
 const HIGHEST: Mask = 0x8000_0000_0000_0000;
 
+static MASKED: &str = "get a ?f63 !f31 +f0 -f32
+get a !f63 +f63 ?f62
+get a -f63
+";
+
+// The masks of these lines.
 static MASKS: [[Mask; 4]; 3] = [
     [HIGHEST, 0x8000_0000, 1, 0x1_0000_0000],
     [0x4000_0000_0000_0000, HIGHEST, HIGHEST, 0],
     [0, 0, 0, HIGHEST],
 ];
 
+fn are_masked(steps: &[Step]) -> bool {
+    steps.len() == MASKS.len()
+        && steps
+            .iter()
+            .zip(&MASKS)
+            .all(|(step, masks)| has_masks(step, *masks))
+}
+
 fn has_steps_with_masks(alloc: Global, text: &str) -> Result<bool, Fail> {
     let script = parse(alloc, text.as_bytes())?;
-    let steps = script.steps(Actor::A);
-    Ok(
-        steps.len() == MASKS.len()
-            && steps
-                .iter()
-                .zip(&MASKS)
-                .all(|(step, masks)| has_masks(step, *masks)),
-    )
+    Ok(are_masked(script.steps(Actor::A)))
 }
 
 #[test]
 fn gives_the_masks_of_flags(rt: HostRuntime) -> Result<(), Fail> {
-    let flags = flag_line(rt.alloc(), 64)?;
-    let text = format!(in rt.alloc();
-        "script 2\nkeys a\n{flags}budget P 1 10\nbudget A 9 99\nbudget B 0 0\nP\nA\n\
-         get a ?f63 !f31 +f0 -f32\nget a !f63 +f63 ?f62\nget a -f63\nB\nend\n"
-    )?;
+    let text = text_with_flags(rt.alloc(), MASKED)?;
     assert!(rt; has_steps_with_masks(rt.alloc(), &text)?);
     Ok(())
 }

@@ -1,10 +1,11 @@
 //! Each byte of an image takes each value in turn: what is accepted then keeps its budgets along its paths.
 
+use crate::answer::{Answer, answer_to};
 use crate::short_tables::COUNTER;
 use crate::walk::keeps_budget;
-use mc_code::{ImageFault, ImageKind, decode};
-use mc_protocol::Actor;
-use mc_verify::{Checked, RefusalKind, verify};
+use mc_code::{ImageFault, ImageKind};
+use mc_protocol::{Actor, OutOfMemory};
+use mc_verify::{Checked, RefusalKind};
 use std::alloc::{AllocError, Global};
 use std::test::Fail;
 
@@ -21,11 +22,9 @@ fn count_accepted(alloc: Global, image: &[u8]) -> Result<Option<usize>, ImageFau
     let mut count = 0usize;
     for offset in 0..image.len() {
         for value in 0..=u8::MAX {
-            let mut bytes = Vec::from_slice(alloc, image)?;
-            bytes[offset] = value;
-            match verified(alloc, &bytes)? {
-                Some(checked) if keeps_budgets(alloc, &checked)? => count = count.saturating_add(1),
-                Some(_) => return Ok(None),
+            match is_kept(alloc, image, offset, value)? {
+                Some(true) => count = count.saturating_add(1),
+                Some(false) => return Ok(None),
                 None => {}
             }
         }
@@ -33,22 +32,40 @@ fn count_accepted(alloc: Global, image: &[u8]) -> Result<Option<usize>, ImageFau
     Ok(Some(count))
 }
 
-// The code of an image, where it is one and the code is accepted. Want of memory is an error.
-fn verified(alloc: Global, image: &[u8]) -> Result<Option<Checked>, ImageFault> {
-    match decode(alloc, image) {
-        Ok(code) => match verify(alloc, code).map_err(|(refusal, _)| refusal) {
-            Ok(checked) => Ok(Some(checked)),
-            Err(refusal) if refusal.kind == RefusalKind::OutOfMemory => {
-                Err(ImageFault::from(AllocError))
-            }
-            Err(_) => Ok(None),
-        },
+// Whether the code of the image with this value at this offset keeps its budgets, where it has code and that is accepted. Want of
+// memory is an error.
+fn is_kept(
+    alloc: Global,
+    image: &[u8],
+    offset: usize,
+    value: u8,
+) -> Result<Option<bool>, ImageFault> {
+    let mut bytes = Vec::from_slice(alloc, image)?;
+    if let Some(byte) = bytes.get_mut(offset) {
+        *byte = value;
+    }
+    is_kept_by_image(alloc, &bytes)
+}
+
+fn is_kept_by_image(alloc: Global, image: &[u8]) -> Result<Option<bool>, ImageFault> {
+    match answer_to(alloc, image) {
+        Ok(answer) => is_kept_by(alloc, &answer),
         Err(fault) if fault.kind == ImageKind::OutOfMemory => Err(fault),
         Err(_) => Ok(None),
     }
 }
 
-fn keeps_budgets(alloc: Global, checked: &Checked) -> Result<bool, ImageFault> {
+fn is_kept_by(alloc: Global, answer: &Answer) -> Result<Option<bool>, ImageFault> {
+    match answer {
+        Ok(checked) => Ok(Some(keeps_budgets(alloc, checked)?)),
+        Err((refusal, _)) if refusal.kind == RefusalKind::OutOfMemory => {
+            Err(ImageFault::from(AllocError))
+        }
+        Err(_) => Ok(None),
+    }
+}
+
+fn keeps_budgets(alloc: Global, checked: &Checked) -> Result<bool, OutOfMemory> {
     for actor in [Actor::P, Actor::A, Actor::B] {
         if !keeps_budget(alloc, checked.code(), actor)? {
             return Ok(false);

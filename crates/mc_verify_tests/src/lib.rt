@@ -2,6 +2,8 @@
 #![tactic(auto)]
 
 #[cfg(test)]
+mod answer;
+#[cfg(test)]
 mod changed_image_tests;
 #[cfg(test)]
 mod full_tables;

@@ -1,14 +1,15 @@
 //! Faults of structure: each kind in each section where it can stand, at the first, a middle and the last place where it can;
 //! and which of two faults is reported.
 
+use crate::answer::{Answer, answer_to};
 use crate::full_tables::{KEYS, LONG, LONG_SECTIONS, NOT_CLEARED};
 use crate::row::{Edit, Row};
 use crate::short_tables::{
     COUNTER, ENDS, ENTRIES, FAULTY_COUNTER, INDEXES, MIXED, TARGETS_IN_A, TARGETS_IN_B,
     TARGETS_IN_P, TWO_FAULTS,
 };
-use mc_code::{ImageFault, decode};
-use mc_verify::{Refusal, verify};
+use mc_code::ImageFault;
+use mc_verify::Refusal;
 use std::alloc::Global;
 use std::test::Fail;
 
@@ -87,7 +88,7 @@ fn first_other(
     rows: &[Row],
 ) -> Result<Option<(usize, Option<Refusal>)>, ImageFault> {
     for (row, (edits, kind, actor, place)) in rows.iter().enumerate() {
-        let refusal = refusal_of(alloc, &edited(alloc, image, edits)?)?;
+        let refusal = refusal_of_edited(alloc, image, edits)?;
         let expected = Refusal {
             kind: *kind,
             actor: *actor,
@@ -100,13 +101,26 @@ fn first_other(
     Ok(None)
 }
 
+fn refusal_of_edited(
+    alloc: Global,
+    image: &[u8],
+    edits: &[Edit],
+) -> Result<Option<Refusal>, ImageFault> {
+    let bytes = edited(alloc, image, edits)?;
+    refusal_of(alloc, &bytes)
+}
+
 // What the code of an image is refused for, if it is.
 fn refusal_of(alloc: Global, image: &[u8]) -> Result<Option<Refusal>, ImageFault> {
-    Ok(
-        verify(alloc, decode(alloc, image)?)
-            .err()
-            .map(|(refusal, _)| refusal),
-    )
+    let answer = answer_to(alloc, image)?;
+    Ok(refusal_in(&answer))
+}
+
+fn refusal_in(answer: &Answer) -> Option<Refusal> {
+    match answer {
+        Ok(_) => None,
+        Err((refusal, _)) => Some(*refusal),
+    }
 }
 
 fn edited(alloc: Global, image: &[u8], edits: &[Edit]) -> Result<Vec<u8>, ImageFault> {

@@ -1,9 +1,10 @@
 //! What `verify` hands out: sound code with its greatest costs, or the refusal with the code as it was.
 
+use crate::answer::{Answer, answer_to};
 use crate::short_tables::COUNTER;
-use mc_code::{Code, decode, encode};
+use mc_code::{Code, encode};
 use mc_protocol::Actor;
-use mc_verify::{Refusal, RefusalKind, verify};
+use mc_verify::{Checked, Refusal, RefusalKind};
 use std::alloc::Global;
 use std::test::Fail;
 
@@ -19,32 +20,46 @@ fn hands_out_the_counter(rt: HostRuntime) -> Result<(), Fail> {
 
 /// What the sections of the counter's code cost, and whether the sound code has the same image, where it is sound.
 fn checked_counter(alloc: Global) -> Result<Option<([(u32, u32); 3], bool)>, Fail> {
-    match verify(alloc, decode(alloc, COUNTER)?) {
-        Ok(checked) => {
-            let costs = [Actor::P, Actor::A, Actor::B].map(|actor| {
-                let cost = checked.maxima(actor);
-                (cost.requests, cost.bytes)
-            });
-            Ok(Some((costs, has_image(alloc, checked.code(), COUNTER)?)))
-        }
+    let answer = answer_to(alloc, COUNTER)?;
+    checked_in(alloc, &answer, COUNTER)
+}
+
+fn checked_in(
+    alloc: Global,
+    answer: &Answer,
+    image: &[u8],
+) -> Result<Option<([(u32, u32); 3], bool)>, Fail> {
+    match answer {
+        Ok(checked) => Ok(Some((costs_of(checked), has_image(alloc, checked.code(), image)?))),
         Err(_) => Ok(None),
     }
 }
 
+fn costs_of(checked: &Checked) -> [(u32, u32); 3] {
+    [Actor::P, Actor::A, Actor::B].map(|actor| {
+        let cost = checked.maxima(actor);
+        (cost.requests, cost.bytes)
+    })
+}
+
 #[test]
 fn hands_back_what_it_refuses(rt: HostRuntime) -> Result<(), Fail> {
-    // the first byte of P's budget of bytes: 26 bytes become 25
-    let mut bytes = Vec::new(rt.alloc());
-    bytes.extend_from_slice(COUNTER)?;
-    bytes[11] = 25;
     let expected = Refusal {
         kind: RefusalKind::TooManyBytes,
         actor: Actor::P,
         place: 1,
     };
-    let found = refusal_of(rt.alloc(), bytes.as_slice())?;
+    let found = refusal_of_poor_counter(rt.alloc())?;
     assert_eq!(rt; found, Some((expected, true)));
     Ok(())
+}
+
+/// What is wrong where P may send a byte fewer than it sends.
+fn refusal_of_poor_counter(alloc: Global) -> Result<Option<(Refusal, bool)>, Fail> {
+    let mut bytes = Vec::from_slice(alloc, COUNTER)?;
+    // the first byte of P's budget of bytes: 26 bytes become 25
+    bytes[11] = 25;
+    refusal_of(alloc, &bytes)
 }
 
 #[test]
@@ -55,9 +70,18 @@ fn names_its_refusals(rt: HostRuntime) {
 
 /// What is wrong with the code of the image, and whether the code that is handed back has the same image; nothing where it is sound.
 fn refusal_of(alloc: Global, image: &[u8]) -> Result<Option<(Refusal, bool)>, Fail> {
-    match verify(alloc, decode(alloc, image)?) {
+    let answer = answer_to(alloc, image)?;
+    refusal_in(alloc, &answer, image)
+}
+
+fn refusal_in(
+    alloc: Global,
+    answer: &Answer,
+    image: &[u8],
+) -> Result<Option<(Refusal, bool)>, Fail> {
+    match answer {
         Ok(_) => Ok(None),
-        Err((refusal, code)) => Ok(Some((refusal, has_image(alloc, &code, image)?))),
+        Err((refusal, code)) => Ok(Some((*refusal, has_image(alloc, code, image)?))),
     }
 }
 

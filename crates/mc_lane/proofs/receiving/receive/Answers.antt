@@ -1,9 +1,10 @@
 use Rattle.std.proofs.Common.{arith, ℕ, ◌-◌, ◌≤◌, ◌∙◌, List, sym, ap, length, drop, take, length-append}
 use Rattle.std.specs.Prelude.{Some, slice_range}
 use Rattle.mc_protocol.specs.declared.reply.Reply.{Reply}
+use Rattle.mc_lane.specs.Streams.{no_counts}
 use Rattle.mc_lane.proofs.Carried.{count_in_range}
 use Rattle.mc_lane.proofs.Received.{part_and_rest, part_and_next, part_of_longer, received_more, grown_more, Carries-after}
-use Rattle.mc_lane.proofs.Received.{needs_more, replies, fails, fault_for-no_failure, Stops-from_Brings}
+use Rattle.mc_lane.proofs.Received.{needs_more, replies, fails, fault_for-no_counts, Stops-from_Brings}
 use Rattle.mc_lane.proofs.receiving.receive.Goals as goal
 
 -- the bytes from a place on, as the reader is fed them
@@ -53,7 +54,7 @@ returns-in-Err g c =
       received = drop (length c.args.got.now.items) got;
       recorded = before.grown;
       within = omega (arith, c.pieces.got.ok.0, before.within);
-      carries = rw (c.fault_for.ensures, fault_for-no_failure (Reply × ℕ) f) before.carries;
+      carries = rw (c.fault_for.ensures, fault_for-no_counts (Reply × ℕ) f) before.carries;
       outcome = rw c.fault_for.ensures stops;
     }
 
@@ -99,7 +100,7 @@ pieces-preserved g c =
     c.feed.new.self.fed (slice_range got start place) (from place got) (from place c.deref.result.now) c.in-Ok-More.field-0
     before.verb before.key before.read (ap (from place) c.deref.ensures.value) c.in-Ok-More.field-0-is c.in-Ok-More.ensures.answer in
     let carried = Carries-after (g.S.Stream.state c.args.stream.now) (g.S.Stream.state c.pieces.stream)
-    (g.S.Stream.state c.read_some.new.stream) (drop (length first) got) read.brought 0 before.carries read.carries in
+    (g.S.Stream.state c.read_some.new.stream) (drop (length first) got) read.brought no_counts before.carries read.carries in
     let lengths = length-append got read.brought in
     record {
       forward = omega arith;

@@ -1,5 +1,5 @@
 use Rattle.std.specs.Prelude.{◌≡◌, ◌-◌, ◌≤◌, Some, [], ◌++◌, length, drop, slice_range, vec_len}
-use Rattle.mc_lane.specs.Streams.{Carries}
+use Rattle.mc_lane.specs.Streams.{no_counts, Carries}
 use Rattle.mc_lane.proofs.receiving.receive.Given as goal
 
 -- what the reader was fed, and what was received since the call began
@@ -14,7 +14,7 @@ invariant-pieces g l =
       read : l.reader.fed ≡ Some (slice_range l.got.items l.taken l.fed);
       grown : l.got.items ≡ l.fn.got.items ++ drop before l.got.items;
       within : vec_len l.got ≤ l.limit;
-      carries : Carries (g.S.Stream.state l.fn.stream) (g.S.Stream.state l.stream) (drop before l.got.items) [] 0;
+      carries : Carries (g.S.Stream.state l.fn.stream) (g.S.Stream.state l.stream) (drop before l.got.items) [] no_counts;
     }
 
 abbrev pub decreases-pieces : goal.decreases-pieces

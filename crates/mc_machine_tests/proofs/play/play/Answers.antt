@@ -12,13 +12,13 @@ is_branch branch (inr b) e = let clash : actor.P ≡ actor.B = sym e ∙ b in ab
 
 pub follow-requires-clause-stands : goal.follow-requires-clause-stands
 follow-requires-clause-stands c =
-    let empty = no_variables c.in_ok-checked.checked.code in
+    let empty = no_variables c.args.checked.now.code in
     let starts = c.start-p.ensures.stands empty refl in
     (empty, [], starts.0, starts.1)
 
 pub start-machine-requires : goal.start-machine-requires
 start-machine-requires c =
-    let code : Code = c.in_ok-checked.checked.code in
+    let code : Code = c.args.checked.now.code in
     let stands = c.follow.ensures.stands in
     let comes = (c.at_halt.ensures stands.0 stands.1 stands.2 stands.3).0 c.if-not-at_halt.false in
     let is = c.follow.ensures.actor ∙ c.start-p.ensures.actor in
@@ -27,7 +27,7 @@ start-machine-requires c =
 
 pub follow-requires-2-clause-stands : goal.follow-requires-2-clause-stands
 follow-requires-2-clause-stands c =
-    let code : Code = c.in_ok-checked.checked.code in
+    let code : Code = c.args.checked.now.code in
     let stands = c.follow.ensures.stands in
     let comes = (c.at_halt.ensures stands.0 stands.1 stands.2 stands.3).0 c.if-not-at_halt.false in
     let is = c.follow.ensures.actor ∙ c.start-p.ensures.actor in

@@ -1,5 +1,5 @@
 use Rattle.std.proofs.Common.{◌≡◌, Some, None, sym, subst, ◌∙◌}
-use Rattle.mc_core.specs.declared.event.Event.TheVariants as event
+use Rattle.mc_history.specs.declared.event.Event.TheVariants as event
 use Rattle.mc_core.specs.Fields.{MayTake}
 use Rattle.mc_core.proofs.Stepping.{fields_of, named, refused_by, may_step, step_may_take}
 use Rattle.mc_core.proofs.Upcoming.{begins_upcoming, begins_exactly, begins_none, begins_named}

@@ -1,6 +1,7 @@
-use Rattle.std.proofs.Common.{rules, arith, ◌+◌, ◌≤◌, drop, length}
+use Rattle.std.proofs.Common.{rules, arith, ◌+◌, ◌≤◌, drop, length, ap, ◌∙◌}
 use Rattle.std.proofs.lemmas.Grind.{common_steps}
-use Rattle.mc_lane.proofs.Pieces.{read_on}
+use Rattle.mc_lane.specs.declared.stream.Counts.{Counts}
+use Rattle.mc_lane.proofs.Pieces.{read_on, none_more}
 use Rattle.mc_lane.proofs.memory_stream.MemoryStreamStream.read.Goals as goal
 
 -- what was copied comes after what was given before
@@ -12,4 +13,14 @@ returns-clause-reads c =
     let within : given + count ≤ length replies = omega arith in
     let at = read_on replies c.copy_from_slice.new.self (drop count c.args.buffer.now) given count within
     (rw (← c.deref.ensures.value) c.copy_from_slice.ensures.after) in
-    rw (← c.self.view_is) (grind (arith, common_steps), record { reads = at; writes = search rules; fails = omega arith })
+    let counted = c.after_read-self-inside.ensures in
+    rw (← c.self.view_is) (
+      grind (arith, common_steps),
+      record {
+        reads = at;
+        writes = search rules;
+        failed_reads = ap (λ (k : Counts). k.failed_reads) counted ∙ none_more _;
+        failed_writes = ap (λ (k : Counts). k.failed_writes) counted ∙ none_more _;
+        ends = ap (λ (k : Counts). k.ends) counted;
+      },
+    )

@@ -1,4 +1,5 @@
 use Rattle.std.proofs.Common.{refl}
+use Rattle.mc_lane.specs.Streams.{no_counts}
 use Rattle.mc_lane.proofs.Carried.{Carries-both}
 use Rattle.mc_lane.proofs.traffic.Traffic.exchange.Goals as goal
 
@@ -13,7 +14,7 @@ returns-in-Ok g c =
       received = received.received;
       stream = refl;
       carries = Carries-both (g.S.Stream.state c.args.stream.now) (g.S.Stream.state c.send.new.stream)
-          (g.S.Stream.state c.receive.new.stream) received.received sent.written 0 sent.carries received.carries;
+          (g.S.Stream.state c.receive.new.stream) received.received sent.written no_counts sent.carries received.carries;
       sent = sent.recorded;
       got = received.recorded;
       limit = refl;

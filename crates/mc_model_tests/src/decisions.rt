@@ -1,0 +1,119 @@
+//! What is decided of a request, and what a decision does that is applied later.
+use crate::lines::{bytes, reply_in, request_in};
+use mc_model::{
+    Answer, Cache, Change, Choice, Found, Item, Numeral, Reading, WordsFault, decide, numeral_of,
+};
+use mc_protocol::{OutOfMemory, Reply, Verb};
+use std::alloc::Global;
+use std::test::Fail;
+
+const PLAIN: Choice = Choice {
+    pad: false,
+    read: true,
+};
+
+fn cache_of(alloc: Global, body: &str) -> Result<Cache, OutOfMemory> {
+    let mut cache = Cache::new(alloc);
+    let item = Item {
+        flags: 5,
+        body: bytes(alloc, body)?,
+        number: 4,
+    };
+    cache.put(bytes(alloc, "k")?, item)?;
+    Ok(cache)
+}
+
+fn holds(cache: &Cache, body: &str) -> bool {
+    match cache.find(b"k") {
+        Some(item) => item.body.as_slice() == body.as_bytes(),
+        None => false,
+    }
+}
+
+/// Two requests are decided by what is there, and then both are done.
+fn decides_twice(
+    alloc: Global,
+    body: &str,
+    first: &str,
+    second: &str,
+) -> Result<Cache, WordsFault> {
+    let mut cache = cache_of(alloc, body)?;
+    let first = request_in(alloc, first)?;
+    let second = request_in(alloc, second)?;
+    let earlier = cache.decide(&first, PLAIN);
+    let later = cache.decide(&second, PLAIN);
+    let _ = cache.apply(&first, earlier, false, 9)?;
+    let _ = cache.apply(&second, later, false, 10)?;
+    Ok(cache)
+}
+
+/// Of two counts that are decided by one number, one is lost; what joins a body is not.
+static TWICE: &[(&str, &str, &str, &str)] = &[
+    ("5", "incr k 1", "incr k 2", "7"),
+    ("5", "decr k 7", "append k 0 =x", "0x"),
+    ("5", "set k 0 =x", "prepend k 0 =y", "yx"),
+];
+
+#[test]
+fn applies_what_was_decided_before(rt: HostRuntime) -> Result<(), Fail> {
+    for (body, first, second, after) in TWICE {
+        let cache = decides_twice(rt.alloc(), body, first, second)?;
+        assert!(rt; holds(&cache, after), "{first}, {second}");
+    }
+    Ok(())
+}
+
+fn answers_a_miss(alloc: Global) -> Result<bool, WordsFault> {
+    let mut cache = cache_of(alloc, "x")?;
+    let get = request_in(alloc, "get k")?;
+    let decision = cache.decide(&get, PLAIN);
+    let _ = cache.act(&request_in(alloc, "delete k")?, PLAIN, 9)?;
+    Ok(cache.apply(&get, decision, false, 10)? == reply_in(alloc, "MISS")?)
+}
+
+#[test]
+fn shows_nothing_that_is_gone(rt: HostRuntime) -> Result<(), Fail> {
+    assert!(rt; answers_a_miss(rt.alloc())?);
+    Ok(())
+}
+
+fn found(says: Numeral) -> Option<Found> {
+    Some(Found {
+        has_number: false,
+        says,
+    })
+}
+
+#[test]
+fn decides_by_what_is_known(rt: HostRuntime) {
+    let none = decide(Verb::Cas, 4, PLAIN, None);
+    assert!(rt; none.change == Change::Keeps && none.answer == Answer::Reply(Reply::NotFound));
+    let other = decide(Verb::Cas, 4, PLAIN, found(Numeral::NoNumber));
+    assert!(rt; other.change == Change::Keeps && other.answer == Answer::Reply(Reply::Exists));
+    let counted = decide(Verb::Decr, 7, PLAIN, found(Numeral::Is(5)));
+    assert!(rt; counted.change == Change::Counts(0));
+    assert!(rt; counted.answer == Answer::Reply(Reply::Number(0)));
+}
+
+fn knows_its_number(alloc: Global) -> Result<bool, OutOfMemory> {
+    let cache = cache_of(alloc, "12")?;
+    let Some(item) = cache.find(b"k") else {
+        return Ok(false);
+    };
+    let known = Found::of(item, 4);
+    Ok(known.has_number && known.says.read_as(false) == Some(12) && !Found::of(item, 5).has_number)
+}
+
+#[test]
+fn knows_an_item(rt: HostRuntime) -> Result<(), Fail> {
+    assert!(rt; knows_its_number(rt.alloc())?);
+    Ok(())
+}
+
+#[test]
+fn reads_a_number_in_pieces(rt: HostRuntime) {
+    let pieces = Reading::start().with_bytes(b"1").with_bytes(b"2");
+    assert!(rt; pieces.with_spaces(2).numeral() == numeral_of(b"12  "));
+    assert!(rt; pieces.with_spaces(1).with_bytes(b"x").numeral() == Numeral::MayBe(12));
+    assert!(rt; pieces.with_bytes(b"x").numeral() == Numeral::NoNumber);
+}
