@@ -8,7 +8,7 @@ use crate::Instr;
 use crate::limits::{CLASS_COUNT, NO_ENTRY, TEMPLATES_LIMIT};
 use crate::places::Places;
 use crate::size::request_count_of;
-use mc_protocol::{Bytes, Class, OutOfMemory, Verb, is_legal};
+use mc_protocol::{Bytes, Class, OutOfMemory, Verb, legal};
 use mc_script::{STEPS_LIMIT, Step};
 
 /// Where a reply leads if no jump is made on its class.
@@ -143,7 +143,7 @@ fn entries(
 fn entry(places: &Places, verb: Verb, jumps: &[(Class, usize)], onward: Onward, class: Class) -> u8
     ensures { result ≡ spec.legal_entry places.now.labels verb jumps.now onward class }
 {
-    if !is_legal(verb, class) {
+    if !legal(verb, class) {
         return NO_ENTRY;
     }
     match jump_on(class, jumps) {

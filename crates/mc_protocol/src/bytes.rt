@@ -4,6 +4,7 @@ ghost use Rattle.std.specs.Prelude.{◌≡◌, ℕ, List, IfOk};
 
 use crate::OutOfMemory;
 use std::alloc::Global;
+use std::hash::{Hash, Hasher};
 use std::marker::Model;
 
 /// Bytes of any value: a key, or the body of an item. Contracts see the list of them.
@@ -62,5 +63,26 @@ impl PartialEq for Bytes {
 
     fn eq(&self, other: &Bytes) -> bool {
         self.bytes.as_slice() == other.bytes.as_slice()
+    }
+}
+
+impl Eq for Bytes {
+    ghost use Rattle.std.specs.Cmp.Rules.{comparing};
+    ghost use Rattle.std.proofs.Common.{rules};
+
+    ghost laws = { Prim.search (comparing, rules) };
+}
+
+// The bytes are hashed at once: as a `Vec<u8>` they would be hashed one by one.
+impl Hash for Bytes {
+    ghost use Rattle.std.specs.Prelude.{◌∷◌, []};
+    ghost use Rattle.std.proofs.Common.{rules};
+
+    ghost hash_input = { λ b. b ∷ [] };
+
+    ghost respects_eq = { Prim.search rules };
+
+    fn hash<H: Hasher>(&self, state: &mut H) {
+        state.write(self.bytes.as_slice());
     }
 }

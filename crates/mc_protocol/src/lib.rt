@@ -11,7 +11,7 @@ mod actor;
 mod bytes;
 mod decimal;
 mod fault;
-mod legal;
+mod legal_replies;
 mod limits;
 mod lines;
 mod name_set;
@@ -26,7 +26,7 @@ pub use actor::Actor;
 pub use bytes::Bytes;
 pub use decimal::{DecimalFault, has_digits_alone, is_digit, read_decimal, value_of_digits};
 pub use fault::Fault;
-pub use legal::{fits, is_legal, may_answer, shows_number};
+pub use legal_replies::{fits, legal, may_answer, shows_number};
 pub use limits::{
     DIGITS_LIMIT, KEY_BYTES_LIMIT, KEYS_LIMIT, REPLY_BODY_LIMIT, REQUEST_BYTES_LIMIT,
     REQUESTS_LIMIT, SCRIPT_BODY_LIMIT,

@@ -1,6 +1,6 @@
 //! Which replies a request may have.
 use crate::values::{hit, request};
-use mc_protocol::{Class, OutOfMemory, Reply, Verb, fits, is_legal};
+use mc_protocol::{Class, OutOfMemory, Reply, Verb, fits, legal};
 use std::alloc::Global;
 use std::test::Fail;
 
@@ -35,7 +35,7 @@ static LEGAL: &[(Verb, &[u8])] = &[
 
 fn has_marks(verb: Verb, marks: &[u8]) -> bool {
     for (class, mark) in CLASSES.iter().zip(marks) {
-        if is_legal(verb, *class) != (*mark == b'y') {
+        if legal(verb, *class) != (*mark == b'y') {
             return false;
         }
     }

@@ -8,7 +8,7 @@ use crate::number::read_number;
 use crate::said::Said;
 use crate::words::{error_of, reply_of_word};
 use crate::{ErrorKind, ReadFault, Shape};
-use mc_protocol::{Class, Reply, is_legal};
+use mc_protocol::{Class, Reply, legal};
 
 /// What a line without its LF says to a request of this shape.
 pub(crate) fn read_line(shape: Shape<'_>, line: &[u8]) -> Result<Said, ReadFault>
@@ -48,7 +48,7 @@ fn read_text(shape: Shape<'_>, text: &[u8]) -> Result<Said, ReadFault>
     ensures { result ≡ words.text_says shape.entry.verb shape.entry.key.now text.now }
 {
     if let Some(reply) = reply_of_word(text) {
-        return match is_legal(shape.verb, reply.class()) {
+        return match legal(shape.verb, reply.class()) {
             true => Ok(Said::Whole(reply)),
             false => Err(ReadFault::NotAReply),
         };
@@ -65,7 +65,7 @@ fn read_error(shape: Shape<'_>, kind: ErrorKind) -> Result<Said, ReadFault>
     ensures { result ≡ words.error_says shape.entry.verb kind }
 {
     match kind {
-        ErrorKind::Client if is_legal(shape.verb, Class::NotNumber) => {
+        ErrorKind::Client if legal(shape.verb, Class::NotNumber) => {
             Ok(Said::Whole(Reply::NotNumber))
         }
         _ => Err(ReadFault::ErrorLine(kind)),
@@ -77,9 +77,9 @@ fn read_error(shape: Shape<'_>, kind: ErrorKind) -> Result<Said, ReadFault>
 fn read_others(shape: Shape<'_>, text: &[u8]) -> Result<Said, ReadFault>
     ensures { result ≡ words.others_say shape.entry.verb shape.entry.key.now text.now }
 {
-    if is_legal(shape.verb, Class::Number) {
+    if legal(shape.verb, Class::Number) {
         read_number(text)
-    } else if is_legal(shape.verb, Class::Hit) {
+    } else if legal(shape.verb, Class::Hit) {
         read_hit(shape, text)
     } else {
         Err(ReadFault::NotAReply)

@@ -8,7 +8,7 @@ ghost use Rattle.mc_script.specs.Reading as reading;
 use crate::ScriptKind;
 use crate::entry::{Mark, Marks, Sign};
 use crate::names::Names;
-use mc_protocol::{Bytes, Class, Verb, is_legal};
+use mc_protocol::{Bytes, Class, Verb, legal};
 use std::alloc::Global;
 
 /// The byte before a flag.
@@ -200,7 +200,7 @@ fn may_stand(verb: Verb, mark: &Mark) -> bool
 {
     match mark {
         Mark::Flag(_, _) => true,
-        Mark::Jump(class, _) => is_legal(verb, *class),
+        Mark::Jump(class, _) => legal(verb, *class),
         Mark::Bind(_) => shows_numbers(verb),
     }
 }

@@ -9,7 +9,7 @@ ghost use Rattle.mc_verify.specs.Structure as structure;
 use crate::RefusalKind;
 use crate::section::instructions;
 use mc_code::{CLASS_COUNT, Code, Instr, NO_ENTRY, entry};
-use mc_protocol::{Actor, Class, is_legal};
+use mc_protocol::{Actor, Class, legal};
 use mc_script::Template;
 
 /// The lowest place of the section whose instruction has a bad target.
@@ -62,7 +62,7 @@ fn is_entry(
     ensures { result ≡ structure.is_entry size place template.now next.now class }
 {
     let target = entry(next, class);
-    if is_legal(template.verb, class) {
+    if legal(template.verb, class) {
         is_ahead(size, place, target)
     } else {
         target == NO_ENTRY

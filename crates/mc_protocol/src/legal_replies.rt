@@ -1,13 +1,13 @@
 //! Which replies a request may have.
 
 ghost use Rattle.std.specs.Prelude.{◌≡◌};
-ghost use Rattle.mc_protocol.specs.Legal as legal;
+ghost use Rattle.mc_protocol.specs.Legal as table;
 
 use crate::{Class, REPLY_BODY_LIMIT, Reply, Request, Verb};
 
 /// Whether the protocol has a reply of this class to the verb (`protocol.txt`).
-pub fn is_legal(verb: Verb, class: Class) -> bool
-    ensures { result ≡ legal.is_legal verb class }
+pub fn legal(verb: Verb, class: Class) -> bool
+    ensures { result ≡ table.is_legal verb class }
 {
     match verb {
         Verb::Set | Verb::Add | Verb::Replace | Verb::Append | Verb::Prepend | Verb::Cas => {
@@ -23,7 +23,7 @@ pub fn is_legal(verb: Verb, class: Class) -> bool
 }
 
 fn is_storage_reply(class: Class) -> bool
-    ensures { result ≡ legal.is_storage_reply class }
+    ensures { result ≡ table.is_storage_reply class }
 {
     matches!(
         class,
@@ -33,7 +33,7 @@ fn is_storage_reply(class: Class) -> bool
 
 /// Whether the request may have this reply.
 pub fn fits(request: &Request, reply: &Reply) -> bool
-    ensures { result ≡ legal.is_fit request.now reply.now }
+    ensures { result ≡ table.is_fit request.now reply.now }
 {
     may_answer(request.verb, reply)
 }
@@ -41,14 +41,14 @@ pub fn fits(request: &Request, reply: &Reply) -> bool
 /// Whether a request of this verb may have this reply: its class is legal, a hit shows a cas number exactly to `gets`,
 /// and its body has at most [`REPLY_BODY_LIMIT`] bytes.
 pub fn may_answer(verb: Verb, reply: &Reply) -> bool
-    ensures { result ≡ legal.is_fit_for verb reply.now }
+    ensures { result ≡ table.is_fit_for verb reply.now }
 {
-    is_legal(verb, reply.class()) && suits(verb, reply)
+    legal(verb, reply.class()) && suits(verb, reply)
 }
 
 // Whether what the reply carries is right for the verb.
 fn suits(verb: Verb, reply: &Reply) -> bool
-    ensures { result ≡ legal.suits verb reply.now }
+    ensures { result ≡ table.suits verb reply.now }
 {
     match reply {
         Reply::Hit { body, cas, .. } => {
@@ -60,7 +60,7 @@ fn suits(verb: Verb, reply: &Reply) -> bool
 
 /// Whether a hit for the verb shows the cas number.
 pub fn shows_number(verb: Verb) -> bool
-    ensures { result ≡ legal.shows_number verb }
+    ensures { result ≡ table.shows_number verb }
 {
     matches!(verb, Verb::Gets)
 }
