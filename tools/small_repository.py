@@ -74,6 +74,13 @@ pub fn is_short(n: u8) -> bool {
     n < 10
 }
 
+/// The number itself, in which no other body can stand.
+pub fn itself(n: u8) -> u8
+    ensures { result ≡ n }
+{
+    n
+}
+
 /// A law, which needs no edit.
 pub fn nothing_is_least(_n: u8)
     ensures { 0 ≤ _n }
@@ -167,6 +174,12 @@ small/named_in_no_words
 small/named_and_gone
 """
 
+UNEDITED = """# Those in which no wrong body stands.
+small::itself: there is nothing else to answer
+small::quarter: an edit stands in it all the same
+small::gone: there is no such function
+"""
+
 # Those that no open goal refuses, each with its way, as listed at the end.
 APART = {
     "small/a_fifth": "refused by the written proof of a goal",
@@ -177,6 +190,8 @@ APART = {
 NO_EDITS = {
     "low::same": "no wrong body stands in this public function",
     "small/named_and_gone": "tools/named-edits lists it, but no edit of this name has a line 'named:'",
+    "small::quarter": "a wrong body stands in it, and tools/unedited lists it",
+    "small::gone": "tools/unedited lists it, and it is no public function",
 }
 
 FAILED = {**{f"small/{name}": said for name, (_, said) in EDITS.items() if said}, **NO_EDITS}
@@ -205,3 +220,4 @@ def make(root):
         file.write_text(text, encoding="utf-8")
     shutil.copytree(TOOLS, root / "tools", ignore=shutil.ignore_patterns("__pycache__"))
     (root / "tools/named-edits").write_text(NAMED, encoding="utf-8")
+    (root / "tools/unedited").write_text(UNEDITED, encoding="utf-8")

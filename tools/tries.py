@@ -8,6 +8,7 @@ import bodies
 import checks
 import edits
 import items
+import unedited
 
 # What a check takes beside the functions that it is asked for, as so many of these; and one with all bodies, which makes and
 # checks the code of all that they call.
@@ -69,7 +70,7 @@ class Check:
 class Tries:
     """The edits of a crate, and what came of each: how it was refused and by what."""
 
-    def __init__(self, crate, is_whole, paths, say):
+    def __init__(self, crate, is_whole, paths, say, without_edits):
         self.crate, self.is_whole, self.say, self.refused, self.failed = crate, is_whole, say, {}, {}
         self.checks, self.seconds = 0, 0.0
         self.items = items.items_of(crate.folder)
@@ -81,7 +82,7 @@ class Tries:
         # What the checks without other bodies leave to those with all, and how many of the former are still to end.
         self.unsettled, self.first_checks = [], 0
         if is_whole:
-            self.look_at_public_functions()
+            self.look_at_public_functions(without_edits)
 
     def read(self, path):
         """The edit that a file holds; where it is a bad one, that is reported."""
@@ -97,14 +98,18 @@ class Tries:
         """The edits to try that no test is named for."""
         return [it for it in self.tried if it.test is None]
 
-    def look_at_public_functions(self):
-        """Fails for each public function in which no edit stands, of those that are tried here or by `rt ci`."""
+    def look_at_public_functions(self, without_edits):
+        """Fails for each public function in which no edit stands, of those that are tried here or by `rt ci`, and which isn't one
+        of those that have none for a reason; and for each of these that the crate doesn't have."""
         by_gate = map(self.read, sorted((self.crate.folder / "must-fail").glob("*.edit")))
-        tried = {name for edit in (*self.edits, *filter(None, by_gate)) for name in edit.functions}
-        for item in items.public_functions(self.crate.folder):
-            name = attribution.name_of(self.crate, item)
-            if name not in tried:
-                self.fail(name, "no wrong body stands in this public function")
+        edited = {name for edit in (*self.edits, *filter(None, by_gate)) for name in edit.functions}
+        names = [attribution.name_of(self.crate, it) for it in items.public_functions(self.crate.folder)]
+        for name in names:
+            if fault := unedited.fault_of(name, without_edits, name in edited):
+                self.fail(name, fault)
+        for name in without_edits:
+            if name.startswith(f"{self.crate.name}::") and name not in names:
+                self.fail(name, f"{unedited.FILE} lists it, and it is no public function")
 
     def fail(self, what, why):
         self.failed[str(what)] = why
