@@ -25,7 +25,6 @@ pub mod RunLaws
 pub mod StandingLaws
 pub mod NumberLaws
 pub mod LayoutLaws
-pub mod Examples
 pub mod AsmKinds
 pub mod ImageKinds
 -- What private contracts cite.

@@ -3,14 +3,12 @@
 //! Below it stand `mc_protocol` and `mc_script`. The crates above use what code is (`specs/Code.antt`), how a section of
 //! it runs (`specs/Paths.antt`, `specs/Runs.antt`), where it stands then and which calls it makes (`specs/Standing.antt`,
 //! `specs/Calls.antt`), and that code agrees with its script (`specs/Agreement.antt`). What follows from these stands in
-//! `specs/RunLaws.antt`, `specs/StandingLaws.antt`, `specs/NumberLaws.antt` and `specs/LayoutLaws.antt`, and what they say
-//! of three small scripts in `specs/Examples.antt`.
+//! `specs/RunLaws.antt`, `specs/StandingLaws.antt`, `specs/NumberLaws.antt` and `specs/LayoutLaws.antt`.
 #![tactic(auto)]
 
 mod assembler;
 mod code;
 mod emit;
-mod example_laws;
 mod fault;
 mod fields;
 mod image_laws;
@@ -34,10 +32,6 @@ mod well_formed;
 
 pub use assembler::assemble;
 pub use code::Code;
-pub use example_laws::{
-    counter_calls, counter_comes_to, counter_is_image, counter_is_laid_out, jumper_comes_to,
-    jumper_is_laid_out, swap_comes_to, swap_is_laid_out,
-};
 pub use fault::{AsmFault, ImageFault, ImageKind};
 pub use image_laws::{codes_have_images, images_are_of_one_code, images_are_written_again};
 pub use image_reader::decode;

@@ -12,14 +12,6 @@ pub mod Right
 pub mod Admitted
 mod CostLemmas
 mod FlagLemmas
-mod Straight
-mod StraightSends
-mod CounterSound
-mod FlagExamples
-mod NumberExamples
-mod SwapCosts
-mod OrderExample
-mod ClearingExamples
 pub mod Sent
 pub mod CallCosts
 pub mod CostPaths

@@ -7,8 +7,6 @@ pub mod Faults
 pub mod Refusals
 pub mod Checked
 pub mod Laws
-pub mod Examples
-pub mod ExampleLaws
 -- What private contracts cite.
 pub mod Entries
 pub mod CostTables

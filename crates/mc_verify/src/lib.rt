@@ -11,7 +11,6 @@ mod checked;
 mod clearing;
 mod cost;
 mod cost_table;
-mod example_laws;
 mod flag_grid;
 mod flag_row;
 mod flag_sets;
@@ -36,10 +35,6 @@ mod wrong_number;
 
 pub use checked::Checked;
 pub use cost::Cost;
-pub use example_laws::{
-    clearing_is_refused, counter_is_sound, first_is_least, flags_are_refused, merges_are_refused,
-    numbers_are_refused, structure_is_refused, swap_costs,
-};
 pub use laws::{
     least_is_one, no_flags_no_faults, prefixes_cost_less, sent_is_admitted, sound_is_admitted,
     sound_is_right,
