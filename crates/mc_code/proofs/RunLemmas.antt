@@ -23,12 +23,6 @@ use Rattle.mc_protocol.proofs.FirstItems.{head_is, rest_is}
 
 -- ---- longer runs
 
-pub run_append : {templates : List Template} {section : List Instr} {p q r : ℕ} {st mid end : State} {xs ys : List Exchange}
-    → IsRun templates section p st xs q mid → IsRun templates section q mid ys r end → IsRun templates section p st (xs ++ ys) r end
-run_append rests more = more
-run_append (slides i at leads run) more = slides i at leads (run_append run more)
-run_append (sends i at leads fit run) more = sends i at leads fit (run_append run more)
-
 pub run_slides : {templates : List Template} {section : List Instr} {p q r : ℕ} {st end : State} {xs : List Exchange}
     → IsRun templates section p st xs q end → (i : Instr) → slice_get section q ≡ Some i → Slides i q r
     → IsRun templates section p st xs r (after_slide i end)
@@ -43,21 +37,6 @@ pub run_sends : {templates : List Template} {section : List Instr} {p q r : ℕ}
 run_sends rests i t given at leads fit = sends i at leads fit rests
 run_sends (slides j here on run) i t given at leads fit = slides j here on (run_sends run i t given at leads fit)
 run_sends (sends j here on is_fit run) i t given at leads fit = sends j here on is_fit (run_sends run i t given at leads fit)
-
--- a run by two lists of exchanges goes by a place and a state in between
-pub run_split : (templates : List Template) (section : List Instr) (xs ys : List Exchange) → {p r : ℕ} {st end : State} {all : List Exchange}
-    → IsRun templates section p st all r end → all ≡ xs ++ ys
-    → (q : ℕ) × (mid : State) × IsRun templates section p st xs q mid × IsRun templates section q mid ys r end
-run_split templates section [] ys {p = p} {r = r} {st = st} {end = end} run is =
-    (p, st, rests, subst (λ l. IsRun templates section p st l r end) is run)
-run_split templates section (x ∷ xs) ys rests is = absurd (cc)
-run_split templates section (x ∷ xs) ys (slides i at leads run) is =
-    let parts = run_split templates section (x ∷ xs) ys run is in
-    (parts.0, parts.1, slides i at leads parts.2, parts.3)
-run_split templates section (x ∷ xs) ys (sends {p = p} {st = st} {exchanges = exchanges} {t = t} {reply = r} i at leads fit run) is =
-    let parts = run_split templates section xs ys run (rest_is (t, r) x exchanges (xs ++ ys) is) in
-    let here = sends i at leads fit parts.2 in
-    (parts.0, parts.1, subst (λ x. IsRun templates section p st (x ∷ xs) parts.0 parts.1) (head_is (t, r) x exchanges (xs ++ ys) is) here, parts.3)
 
 -- ---- what holds along a run
 

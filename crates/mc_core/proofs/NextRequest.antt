@@ -85,11 +85,6 @@ number_zero t u argument.Nothing variables n e none = cc
 number_zero t u (argument.Number m) variables n e none = absurd (cc)
 number_zero t u (argument.Variable v) variables n e none = absurd (cc)
 
-pub record IsMade (c : Code) (variables : List Tagged) (exchanges : List Exchange) (made : Call) : Type 0 where
-  pub template : IsTemplate (length c.keys) c.flags c.vars (template_of c made)
-  pub st : State
-  pub sent : send_outcome (template_of c made) st ≡ call (template_of c made) made.number
-
 pub call_made : (c : Code) (who : Actor) (variables : List Tagged) (exchanges : List Exchange) (made : Call) → IsCode c
     → (calling : IsCalling c who variables exchanges made)
     → IsTemplate (length c.keys) c.flags c.vars (template_of c made) × (send_outcome (template_of c made) calling.st ≡ call (template_of c made) made.number)

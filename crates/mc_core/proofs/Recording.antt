@@ -121,9 +121,6 @@ begun_whole who notes n noted at =
 
 -- ---- one note
 
-abbrev WorldOf : Sections Section → List Noted → World
-WorldOf s notes = world_in s notes
-
 few_begun : (c : Code) (s : Sections Section) (notes : List Noted) (who : Actor) → Fields c s notes
     → begun_in who notes ≡ length (calls_in (log_of (world_in s notes) who))
 few_begun c s notes who fields = begun_all (world_in s notes) who (fold_noted c fields.held.fold)

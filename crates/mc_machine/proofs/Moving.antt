@@ -123,17 +123,6 @@ follows_bind c m v sound at long variables exchanges st way =
       },
     )
 
-pub follows_self : (c : Code) (m : Machine) → Follows c m m
-follows_self c m variables exchanges st way = (st, way)
-
-pub follows_on : (c : Code) (m n o : Machine) → Follows c m n → Follows c n o → Follows c m o
-follows_on c m n o first more variables exchanges st way =
-    let mid = first variables exchanges st way in more variables exchanges mid.0 mid.1
-
-pub goes_on : (c : Code) (m n : Machine) → Goes c m → Follows c m n → Goes c n
-goes_on c m n (variables, exchanges, st, way) follows =
-    let after = follows variables exchanges st way in (variables, exchanges, after.0, after.1)
-
 -- a bind or a goto leads ahead, inside the section
 pub goes_ahead : (c : Code) (m : Machine) (i : Instr) (q : ℕ) → IsSound c
     → slice_get (instructions_in c m.actor) m.place ≡ Some i → Slides i m.place q

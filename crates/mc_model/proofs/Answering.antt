@@ -72,9 +72,6 @@ keys-answered [] reply = refl
 keys-answered (x ∷ []) reply = refl
 keys-answered (x ∷ y ∷ xs) reply = ap (λ l. x.request.key ∷ l) (keys-answered (y ∷ xs) reply)
 
-key_of : Sent → List ℕ
-key_of sent = sent.request.key
-
 keys_in_all : (xs ys zs : List Sent) → keys_of (xs ++ ys ++ zs) ≡ keys_of xs ++ keys_of ys ++ keys_of zs
 keys_in_all xs ys zs = map-append (λ (sent : Sent). sent.request.key) (xs ++ ys) zs ∙ ap (λ l. l ++ keys_of zs) (map-append (λ (sent : Sent). sent.request.key) xs ys)
 

@@ -8,11 +8,6 @@ pub then-ok : {A E : Type 0} (b : Bool) (r : Result A E) (e : E) (x : A) → con
 then-ok true r e x h = (refl, h)
 then-ok false r e x h = absurd (cc)
 
--- a test that stops a reading didn't hold
-pub else-ok : {A E : Type 0} (b : Bool) (r : Result A E) (e : E) (x : A) → cond b (Err e) r ≡ Ok x → (b ≡ false) × (r ≡ Ok x)
-else-ok true r e x h = absurd (cc)
-else-ok false r e x h = (refl, h)
-
 -- both steps succeeded
 pub steps-ok : {A B : Type 0} (r : Result A WordsFault) (f : A → Result B WordsFault) (y : B) → (r >>= f) ≡ Ok y → (x : A) × (r ≡ Ok x) × (f x ≡ Ok y)
 steps-ok (Ok x) f y h = (x, refl, h)

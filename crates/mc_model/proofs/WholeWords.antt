@@ -45,9 +45,6 @@ some-passes false true c x y z h e = refl
 some-passes false false true x y z h e = refl
 some-passes false false false x y z h e = absurd (cc)
 
-is_hex : ℕ → Bool
-is_hex byte = (nat_le 48 byte && nat_le byte 57) || (nat_le 97 byte && nat_le byte 102) || (nat_le 65 byte && nat_le byte 70)
-
 hex-visible : (byte h : ℕ) → hex_value byte ≡ Some h → is_visible byte ≡ true
 hex-visible byte h e =
     let k = some-passes (nat_le 48 byte && nat_le byte 57) (nat_le 97 byte && nat_le byte 102) (nat_le 65 byte && nat_le byte 70) _ _ _ h e in

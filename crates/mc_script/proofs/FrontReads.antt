@@ -63,8 +63,3 @@ pub reaches-end : (text line : List ℕ) (lines : List (List ℕ)) (len : ℕ) �
 reaches-end text line lines len r is =
     let last : concat (to_end (line ∷ lines)) ≡ line = rw is (append-nil line) in
     taken-more text line lines len r ∙ sym (r.same ∙ ap (λ rest. take len text ++ rest) last)
-
--- after the last line
-pub reaches-all : (text : List ℕ) (len : ℕ) → Reaches text len [] → text ≡ concat (to_end (lines_of text))
-reaches-all text len r =
-    sym (take-append-drop len text) ∙ ap (λ rest. take len text ++ rest) r.left ∙ sym r.same

@@ -120,15 +120,3 @@ label_following limit count labels names line name e at h =
 pub label_unread : (limit count : ℕ) (labels : List Word) (names : Names) (line : Words) (name : Word) → label_of line ≡ Some name
     → label_named name ≡ None → following limit count labels (entry_in names line) ≡ None
 label_unread limit count labels names line name at h = ap (following limit count labels) (label-entry names line name at ∙ h)
-
--- and it is added
-pub label_adds : (labels : List Word) (name : Word) (e : Entry) → label_named name ≡ Some e → with_label labels e ≡ labels ++ name ∷ []
-label_adds labels name e h = ap (with_label labels) (sym (label-same name e h))
-
--- the steps that there are then
-pub few_follow : (limit count : ℕ) (labels : List Word) (e : Entry) → count ≤ limit → may_follow limit count labels e ≡ true → count + step_count e ≤ limit
-few_follow limit count labels (entry.Label name) few may = omega (arith, few)
-few_follow limit count labels (entry.Send t marks) few may = let below = ltb-true count limit may in omega (arith, below)
-few_follow limit count labels (entry.Bind v) few may = let below = ltb-true count limit may in omega (arith, below)
-few_follow limit count labels (entry.Goto name) few may = let below = ltb-true count limit may in omega (arith, below)
-few_follow limit count labels entry.Halt few may = let below = ltb-true count limit may in omega (arith, below)

@@ -21,9 +21,6 @@ use Rattle.mc_script.proofs.Outcomes.{then-some, some-same, cond-cases}
 
 -- ---- the first colon
 
-is_colon : ℕ → Bool
-is_colon byte = byte == 58
-
 abbrev has_no_colon : Word → Bool
 has_no_colon word = list_all (λ byte. not (byte == 58)) word
 

@@ -93,9 +93,6 @@ pub gathered-append : (s : Sign) (mask : ℕ) (xs ys : List Mark) → gathered s
 gathered-append s mask [] ys = refl
 gathered-append s mask (x ∷ xs) ys = gathered-append s (with_flag mask (says s x)) xs ys
 
-abbrev pub is_silent : Sign → Mark → Type 0
-is_silent s m = says s m ≡ None
-
 -- marks that say nothing of the sort add nothing
 pub gathered-silent : (s : Sign) (mask : ℕ) (p : Mark → Bool) (ms : List Mark) → ((m : Mark) → p m ≡ true → says s m ≡ None) → list_all p ms ≡ true
     → gathered s mask ms ≡ mask

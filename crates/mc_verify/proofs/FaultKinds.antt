@@ -212,12 +212,6 @@ no_fault_of_call refusal.WrongKind t n = refl
 no_fault_of_call refusal.NothingToBind t n = refl
 no_fault_of_call _ t n = refl
 
-pub no_fault_of_end : (kind : RefusalKind) → is_outcome kind (Some ended) ≡ false
-no_fault_of_end refusal.Unbound = refl
-no_fault_of_end refusal.WrongKind = refl
-no_fault_of_end refusal.NothingToBind = refl
-no_fault_of_end _ = refl
-
 pub no_fault_of_none : (kind : RefusalKind) → is_outcome kind None ≡ false
 no_fault_of_none refusal.Unbound = refl
 no_fault_of_none refusal.WrongKind = refl

@@ -128,9 +128,6 @@ pub record IsGreatestBefore (c : Code) (actor : Actor) (measure : Measure) (plac
   pub attained : MayCost c actor measure most
   pub bound : (p cost : ℕ) → p < place → IsOpened c actor measure p cost → cost ≤ most
 
-pub greatest_begins : (c : Code) (actor : Actor) (measure : Measure) → IsGreatestBefore c actor measure 0 0
-greatest_begins c actor measure = record { attained = inl refl; bound = λ p cost before. absurd (omega (arith, before)) }
-
 cost_attained : (c : Code) (actor : Actor) (measure : Measure) (place most : ℕ) → IsCostAt c actor measure place most
     → MayCost c actor measure most
 cost_attained c actor measure place most exact = by_cases ((exact most).0 (omega arith))

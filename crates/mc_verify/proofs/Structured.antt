@@ -118,10 +118,6 @@ structured_sends c actor structured (instr.Bind variable) p q t class at leads =
 structured_sends c actor structured (instr.Goto target) p q t class at leads = absurd leads
 structured_sends c actor structured instr.Halt p q t class at leads = absurd leads
 
-pub structured_forwards : (c : Code) (actor : Actor) → IsStructured c actor → LeadsForwards c.templates (instructions_in c actor)
-structured_forwards c actor structured i p q at (inl leads) = structured_slides c actor structured i p q at leads
-structured_forwards c actor structured i p q at (inr (t, class, leads)) = structured_sends c actor structured i p q t class at leads
-
 -- ---- what an instruction names
 
 pub structured_template : (c : Code) (actor : Actor) → IsStructured c actor → (p n : ℕ) (next : List ℕ)
