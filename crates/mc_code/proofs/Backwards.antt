@@ -1,5 +1,8 @@
 -- A run of a script's code is one of the script.
-use Rattle.std.proofs.Common.{◌≡◌, ◌⊎◌, inl, inr, ℕ, ◌+◌, Bool, true, false, Option, Some, None, List, [], ◌∷◌, slice_get, refl, ap, sym, subst, ◌∙◌, if◌then◌else◌, arith}
+use Rattle.std.proofs.Common.{
+  ◌≡◌, ◌⊎◌, inl, inr, ℕ, ◌+◌, Bool, true, false, Option, Some, None, List, [], ◌∷◌, slice_get, refl,
+  ap, sym, subst, ◌∙◌, if◌then◌else◌, arith,
+}
 use Rattle.mc_protocol.specs.Legal.{class_of, is_fit_for}
 use Rattle.mc_protocol.specs.declared.reply.Class.{Class}
 use Rattle.mc_protocol.specs.declared.reply.Reply.{Reply}
@@ -112,7 +115,8 @@ landed labels steps first p q t jumps r (Some v) (Some index) st at fit labelled
     by_class false number = refl
 
 sent_from_request : (labels : List Label) (steps : List Step) (templates : List Template) (first : ℕ) → IsLaid labels steps templates first
-    → (p q : ℕ) (st st' : State) (exchanges : List Exchange) (outcome : Outcome) (i : Instr) (t : Template) (jumps : List (Class × ℕ)) (bind : Option ℕ) (r : Reply)
+    → (p q : ℕ) (st st' : State) (exchanges : List Exchange) (outcome : Outcome) (i : Instr) (t : Template) (jumps : List (Class × ℕ))
+        (bind : Option ℕ) (r : Reply)
     → slice_get steps p ≡ Some (step.Send t jumps bind)
     → slice_get (code_of_all labels steps first) (code_place steps p) ≡ Some i → Sends templates i t (class_of r) q → is_fit_for t.verb r ≡ true
     → Follows labels steps first q (after_reply t r st) exchanges st' outcome → Goes labels steps p st ((t, r) ∷ exchanges) st' outcome
@@ -128,7 +132,8 @@ sent_from_request labels steps templates first laid p q st st' exchanges outcome
     (on.0, script_run.sends {r = on.0} e fit to.1 on.1, on.2)
 
 sent_from_step : (labels : List Label) (steps : List Step) (templates : List Template) (first : ℕ) → IsLaid labels steps templates first
-    → (p q : ℕ) (st st' : State) (exchanges : List Exchange) (outcome : Outcome) (i : Instr) (t : Template) (r : Reply) (o : Option Step) → slice_get steps p ≡ o
+    → (p q : ℕ) (st st' : State) (exchanges : List Exchange) (outcome : Outcome) (i : Instr) (t : Template) (r : Reply) (o : Option Step)
+        → slice_get steps p ≡ o
     → slice_get (code_of_all labels steps first) (code_place steps p) ≡ Some i → Sends templates i t (class_of r) q → is_fit_for t.verb r ≡ true
     → Follows labels steps first q (after_reply t r st) exchanges st' outcome → Goes labels steps p st ((t, r) ∷ exchanges) st' outcome
 sent_from_step labels steps templates first laid p q st st' exchanges outcome i t r None e at leads fit others =
@@ -190,8 +195,10 @@ pub backwards : (labels : List Label) (steps : List Step) (templates : List Temp
 backwards labels steps templates first laid outcome (rests {p = p} {st = st}) met = rested labels steps templates first laid p st outcome met
 backwards labels steps templates first laid outcome (slides {p = p} {q = q} {st = st} {st' = st'} {exchanges = exchanges} i at leads more) met =
     slid_back labels steps templates first laid p q st st' exchanges outcome i at leads (backwards labels steps templates first laid outcome more met)
-backwards labels steps templates first laid outcome (sends {p = p} {q = q} {st = st} {st' = st'} {exchanges = exchanges} {t = t} {reply = reply} i at leads fit more) met =
-    sent_back labels steps templates first laid p q st st' exchanges outcome i t reply at leads fit (backwards labels steps templates first laid outcome more met)
+backwards labels steps templates first laid outcome
+    (sends {p = p} {q = q} {st = st} {st' = st'} {exchanges = exchanges} {t = t} {reply = reply} i at leads fit more) met =
+    sent_back labels steps templates first laid p q st st' exchanges outcome i t reply at leads fit
+        (backwards labels steps templates first laid outcome more met)
 
 -- what the code does from its start, the script does from its start
 pub comes_to_too : (labels : List Label) (steps : List Step) (templates : List Template) (first : ℕ) → IsLaid labels steps templates first

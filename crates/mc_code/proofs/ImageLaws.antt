@@ -1,5 +1,8 @@
 -- The whole image: what is read was written, and is code; and the image of code is read again.
-use Rattle.std.proofs.Common.{◌≡◌, ℕ, ◌≤◌, ◌==◌, Bool, true, false, not, Some, None, List, [], ◌∷◌, ◌++◌, length, All, cond, refl, sym, ap, subst, ◌∙◌, append_assoc, arith}
+use Rattle.std.proofs.Common.{
+  ◌≡◌, ℕ, ◌≤◌, ◌==◌, Bool, true, false, not, Some, None, List, [], ◌∷◌, ◌++◌, length, All, cond,
+  refl, sym, ap, subst, ◌∙◌, append_assoc, arith,
+}
 use Rattle.std.specs.Str.{bytes_eq}
 use Rattle.std.proofs.lemmas.List.{append-nil}
 use Rattle.std.proofs.lemmas.Slice.Eq.{bytes_eq-Decides}
@@ -17,8 +20,14 @@ use Rattle.mc_script.specs.Steps.{◌>>=◌}
 use Rattle.mc_script.specs.Versions.{flags_limit, steps_limit}
 use Rattle.mc_code.specs.declared.instr.Instr.{Instr}
 use Rattle.mc_code.specs.Code.{IsInstr, Section, IsSection, Code, IsCode}
-use Rattle.mc_code.specs.Image.{magic, with_length, with_count, budget_bytes, template_bytes, instr_bytes, section_bytes, image_in, IsWithin, IsImageOf, ImagesAreOfOneCode}
-use Rattle.mc_code.specs.ImageReading.{Field, bytes_in, small_in, keys_in, budget_in, templates_in, instructions_in, version_at, version_in, Declared, declared_in, each_in, code_of, at_end, code_in}
+use Rattle.mc_code.specs.Image.{
+  magic, with_length, with_count, budget_bytes, template_bytes, instr_bytes, section_bytes,
+  image_in, IsWithin, IsImageOf, ImagesAreOfOneCode,
+}
+use Rattle.mc_code.specs.ImageReading.{
+  Field, bytes_in, small_in, keys_in, budget_in, templates_in, instructions_in, version_at,
+  version_in, Declared, declared_in, each_in, code_of, at_end, code_in,
+}
 use Rattle.mc_code.proofs.FieldLaws.{then-some, only-then, some-same, IsBytes, Takes, Takes-then, bytes_take, bytes_again, small_takes, small_again}
 use Rattle.mc_code.proofs.ImageRoom.{flags-within, steps-within, room-in, is-within}
 use Rattle.mc_code.proofs.KeyLaws.{keys_take, keys_again}
@@ -62,7 +71,8 @@ record AreDeclared (v : Version) (d : Declared) : Type 0 where
   flags : d.flags ≤ flags_limit v
   vars : d.vars ≤ VARIABLES_LIMIT
 
-declared_takes : (w : Version) (bytes : List ℕ) (x : Declared × List ℕ) → IsBytes bytes → declared_in w bytes ≡ Some x → Takes bytes (declared_text x.0) x.1 × AreDeclared w x.0
+declared_takes : (w : Version) (bytes : List ℕ) (x : Declared × List ℕ) → IsBytes bytes → declared_in w bytes ≡ Some x
+    → Takes bytes (declared_text x.0) x.1 × AreDeclared w x.0
 unfolding declared_in
 declared_takes w bytes x fits e =
     let k = then-some (keys_in bytes) _ x e in
@@ -77,7 +87,8 @@ declared_takes w bytes x fits e =
     subst (λ (y : Declared × List ℕ). Takes bytes (declared_text y.0) y.1 × AreDeclared w y.0) (some-same (made, v.0.1) x v.2)
     (all, record { some_key = tk.1; keys = tk.2; flags = tf.2; vars = tv.2 })
 
-declared_again : (w : Version) (d : Declared) (rest : List ℕ) → AreDeclared w d → declared_in w (with_count with_length d.keys ++ (d.flags ∷ d.vars ∷ rest)) ≡ Some (d, rest)
+declared_again : (w : Version) (d : Declared) (rest : List ℕ) → AreDeclared w d
+    → declared_in w (with_count with_length d.keys ++ (d.flags ∷ d.vars ∷ rest)) ≡ Some (d, rest)
 unfolding declared_in
 declared_again w d rest h =
     rw (
@@ -219,7 +230,8 @@ code-again w c h within =
     let kept-a = h.sections actor.A in
     let kept-b = h.sections actor.B in
     let regrouped : image_in w c ≡ magic w ++ (with_count with_length c.keys ++ (c.flags ∷ c.vars ∷ budgets)) =
-    ap (λ (text : List ℕ). magic w ++ (with_count with_length c.keys ++ (c.flags ∷ c.vars ∷ (budget_bytes p.budget ++ (budget_bytes a.budget ++ (budget_bytes b.budget ++ text))))))
+    ap (λ (text : List ℕ). magic w ++ (with_count with_length c.keys
+        ++ (c.flags ∷ c.vars ∷ (budget_bytes p.budget ++ (budget_bytes a.budget ++ (budget_bytes b.budget ++ text))))))
     (spread templates (section_bytes p) (section_bytes a) (section_bytes b)) in
     ap code_in regrouped
     ∙ rw (

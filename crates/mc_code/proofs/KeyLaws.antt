@@ -90,7 +90,8 @@ key_takes keys bytes x fits p e =
     let taken = subst (λ (i : ℕ). Takes bytes (i ∷ k.0.0) k.0.1) (sym b.1) (Takes-then bytes (n.0.0 ∷ []) n.0.1 k.0.0 k.0.1 t.0 b.0) in
     subst (λ (y : Word × List ℕ). Takes bytes (with_length y.0) y.1 × AreKeys (keys ++ y.0 ∷ [])) (some-same k.0 x g.1) (taken, keys-push keys k.0.0 p h.0 h.1)
 
-key_again : (keys : List Word) (key : Word) (others : List Word) (rest : List ℕ) → AreKeys (keys ++ key ∷ others) → key_in keys (with_length key ++ rest) ≡ Some (key, rest)
+key_again : (keys : List Word) (key : Word) (others : List Word) (rest : List ℕ) → AreKeys (keys ++ key ∷ others)
+    → key_in keys (with_length key ++ rest) ≡ Some (key, rest)
 unfolding key_in
 key_again keys key others rest p =
     let named = key-named keys key others p in

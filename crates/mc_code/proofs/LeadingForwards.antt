@@ -1,5 +1,9 @@
 -- The layout of a script leads forwards.
-use Rattle.std.proofs.Common.{◌==◌, ◌≡◌, ◌⊎◌, inl, inr, ℕ, ◌+◌, ◌<◌, ◌≤◌, zero, suc, Bool, true, false, Option, Some, None, List, [], ◌∷◌, ◌++◌, map, option_map, length, take, slice_get, refl, ap, sym, subst, ◌∙◌, if◌then◌else◌, arith}
+use Rattle.std.proofs.Common.{
+  ◌==◌, ◌≡◌, ◌⊎◌, inl, inr, ℕ, ◌+◌, ◌<◌, ◌≤◌, zero, suc, Bool, true, false, Option, Some, None,
+  List, [], ◌∷◌, ◌++◌, map, option_map, length, take, slice_get, refl, ap, sym, subst, ◌∙◌,
+  if◌then◌else◌, arith,
+}
 use Rattle.std.proofs.lemmas.List.{length-append}
 use Rattle.std.proofs.lemmas.Option.{slice_get-map}
 use Rattle.mc_protocol.specs.Legal.{is_legal}
@@ -18,7 +22,10 @@ use Rattle.mc_script.specs.WellFormed.{AreJumps, AreSteps, IsBehind, IsScript, I
 use Rattle.mc_code.specs.declared.instr.Instr.{Instr}
 use Rattle.mc_code.specs.declared.instr.Instr.TheVariants as instr
 use Rattle.mc_code.specs.declared.limits.TheConstants.{NO_ENTRY}
-use Rattle.mc_code.specs.Layout.{request_of, requests_of, size_of, size_of_all, code_place, after_label, label_place, entry_for, entries, step_code, code_from, templates_of, first_template, instructions_of}
+use Rattle.mc_code.specs.Layout.{
+  request_of, requests_of, size_of, size_of_all, code_place, after_label, label_place, entry_for,
+  entries, step_code, code_from, templates_of, first_template, instructions_of,
+}
 use Rattle.mc_code.specs.LayoutLaws.{EntriesAreLegal, LayoutsLeadForwards}
 use Rattle.mc_code.specs.Paths.{LeadsForwards, Slides, Sends, entry_of}
 use Rattle.mc_code.specs.ScriptRuns.{clearing_steps, front_of, all_steps, shift_label, all_labels, jump_on}
@@ -74,7 +81,8 @@ jump_after v labels place least (jump ∷ jumps) are c index on =
     by_class true on others = subst (IsBehind labels place) (some_is jump.1 index on) are.2
     by_class false on others = others on
 
-step_onward : (names : Names) (labels : List Label) (count p q : ℕ) (s : Step) → q ≡ count + p → IsStep names labels p s → IsOnward (map (shift_label count) labels) q s
+step_onward : (names : Names) (labels : List Label) (count p q : ℕ) (s : Step) → q ≡ count + p → IsStep names labels p s
+    → IsOnward (map (shift_label count) labels) q s
 step_onward names labels count p q (step.Send t jumps bind) place is =
     λ c index on. after_moved labels count p q index place (jump_after t.verb labels p 0 jumps is.1 c index on)
 step_onward names labels count p q (step.Bind variable) place is = tt
@@ -264,7 +272,8 @@ section_forwards s is k i x y at leads =
     let labels = all_labels s k in
     let steps = all_steps s k in
     let first = first_template s k in
-    let ahead = all_ahead labels steps (templates_of s) first (script_laid s is k) (section_onward s is k) i x y leads (part_of labels steps first 0 steps x i at) in
+    let ahead = all_ahead labels steps (templates_of s) first (script_laid s is k) (section_onward s is k) i x y leads
+        (part_of labels steps first 0 steps x i at) in
     let size = code-length labels steps first 0 steps in
     (ahead.0, omega (arith, ahead.1, size))
 
@@ -280,7 +289,8 @@ part_entry : (labels : List Label) (steps : List Step) (templates : List Templat
     → (j n : ℕ) (next : List ℕ) (t : Template) (c : Class) → slice_get (step_code labels steps m p s) j ≡ Some (instr.Send n next)
     → slice_get templates n ≡ Some t → is_legal t.verb c ≡ false → entry_of next c ≡ NO_ENTRY
 part_entry labels steps templates m p (step.Send u jumps bind) named zero n next t c is there legal =
-    let same : instr.Send m (entries labels steps p u jumps bind) ≡ instr.Send n next = some_is (instr.Send m (entries labels steps p u jumps bind)) (instr.Send n next) is in
+    let same : instr.Send m (entries labels steps p u jumps bind) ≡ instr.Send n next =
+        some_is (instr.Send m (entries labels steps p u jumps bind)) (instr.Send n next) is in
     let number : m ≡ n = cc in
     let entries_are : entries labels steps p u jumps bind ≡ next = cc in
     let template : u ≡ t = some_is u t (sym (named u refl) ∙ ap (slice_get templates) number ∙ there) in

@@ -1,5 +1,8 @@
 -- The kinds of numbers follow the edges of a run.
-use Rattle.std.proofs.Common.{◌≡◌, ℕ, zero, suc, ◌≤◌, Bool, true, false, not, ◌&&◌, Some, None, List, [], ◌∷◌, slice_get, slice_set, refl, ap, sym, subst, ◌∙◌, inl, inr, if◌then◌else◌, arith}
+use Rattle.std.proofs.Common.{
+  ◌≡◌, ℕ, zero, suc, ◌≤◌, Bool, true, false, not, ◌&&◌, Some, None, List, [], ◌∷◌, slice_get,
+  slice_set, refl, ap, sym, subst, ◌∙◌, inl, inr, if◌then◌else◌, arith,
+}
 use Rattle.std.specs.List.{All}
 use Rattle.std.proofs.lemmas.List.Elements.{All-head, All-tail}
 use Rattle.mc_protocol.specs.Legal.{class_of, shows_number, is_fit_for}
@@ -139,7 +142,8 @@ when_slid templates section forwards i p q s st end xs at leads more alike other
     let one : j ≡ i = some_is j i (sym there ∙ at) in
     absurd (slides_or_sends templates i p q u t (class_of r) leads (subst (λ i. Sends templates i t (class_of r) u) one on))
 
-when_sent : (templates : List Template) (section : List Instr) → LeadsForwards templates section → (i : Instr) (p q s : ℕ) (st end : State) (t : Template) (r : Reply)
+when_sent : (templates : List Template) (section : List Instr) → LeadsForwards templates section
+    → (i : Instr) (p q s : ℕ) (st end : State) (t : Template) (r : Reply)
     (xs : List Exchange) → slice_get section p ≡ Some i → Sends templates i t (class_of r) q → is_fit_for t.verb r ≡ true
     → EndsAlike templates section q (after_reply t r st) xs s end
     → (other end' : State) (ys : List Exchange) → HaveSameKinds st other → (t, class_of r) ∷ edges_of xs ≡ edges_of ys
@@ -170,9 +174,12 @@ ends_alike : (templates : List Template) (section : List Instr) → LeadsForward
 ends_alike templates section forwards (rests {p = p} {st = st}) other end' ys same edges run =
     when_rested templates section forwards p st other end' ys same (run_begins run)
 ends_alike templates section forwards (slides {p = p} {q = q} {r = s} {st = st} {st' = end} {exchanges = xs} i at leads more) other end' ys same edges run =
-    when_slid templates section forwards i p q s st end xs at leads (goes_on forwards more) (ends_alike templates section forwards more) other end' ys same edges (run_begins run)
-ends_alike templates section forwards (sends {p = p} {q = q} {r = s} {st = st} {st' = end} {exchanges = xs} {t = t} {reply = r} i at leads fit more) other end' ys same edges run =
-    when_sent templates section forwards i p q s st end t r xs at leads fit (ends_alike templates section forwards more) other end' ys same edges (run_begins run)
+    when_slid templates section forwards i p q s st end xs at leads (goes_on forwards more) (ends_alike templates section forwards more) other end' ys same
+        edges (run_begins run)
+ends_alike templates section forwards (sends {p = p} {q = q} {r = s} {st = st} {st' = end} {exchanges = xs} {t = t} {reply = r} i at leads fit more) other
+    end' ys same edges run =
+    when_sent templates section forwards i p q s st end t r xs at leads fit (ends_alike templates section forwards more) other end' ys same
+        edges (run_begins run)
 
 pub kinds_follow_edges : KindsFollowEdges
 kinds_follow_edges templates section p q st other end end' xs ys forwards same edges run run' =
@@ -210,7 +217,8 @@ lead_alike templates section rests other (y ∷ ys) same edges fits = absurd (cc
 lead_alike templates section (slides {st = st} i at leads more) other ys same edges fits =
     let on = lead_alike templates section more (after_slide i other) ys (slid_alike i st other same) edges fits in
     (on.0, slides i at leads on.1, on.2)
-lead_alike templates section (sends {p = p} {q = q} {r = s} {st = st} {st' = end} {exchanges = xs} {t = t} {reply = r} i at leads fit more) other ys same edges fits =
+lead_alike templates section (sends {p = p} {q = q} {r = s} {st = st} {st' = end} {exchanges = xs} {t = t} {reply = r} i at leads fit more) other
+    ys same edges fits =
     sent_alike templates section i p q s st other end t r xs at leads fit same (lead_alike templates section more) ys edges fits
 
 pub edges_lead_alike : EdgesLeadAlike

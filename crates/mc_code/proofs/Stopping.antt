@@ -86,7 +86,8 @@ when_rested templates section p st stop r end (slid_first i q at leads run) = ab
 when_rested templates section p st stop r end (sent_first i q t given rest at leads fit run is) = absurd (cc)
 
 when_slid : (templates : List Template) (section : List Instr) (i : Instr) (p q s : ℕ) (st mid : State) (exchanges : List Exchange)
-    → slice_get section p ≡ Some i → Slides i p q → IsOnlyStop templates section q (after_slide i st) exchanges s mid → (r : ℕ) (end : State) → StopsAt section r
+    → slice_get section p ≡ Some i → Slides i p q → IsOnlyStop templates section q (after_slide i st) exchanges s mid
+        → (r : ℕ) (end : State) → StopsAt section r
     → RunBegins templates section p st exchanges r end → IsSame s r mid end
 when_slid templates section i p q s st mid exchanges at leads comes r end stop (rested e f g) =
     absurd (stop i q (ap (slice_get section) (sym e) ∙ at) (subst (λ p. Slides i p q) e leads))
@@ -99,7 +100,8 @@ when_slid templates section i p q s st mid exchanges at leads comes r end stop (
     let same : j ≡ i = some_is j i (sym there ∙ at) in
     absurd (slides_or_sends templates i p q u t (class_of given) leads (subst (λ i. Sends templates i t (class_of given) u) same on))
 
-when_sent : (templates : List Template) (section : List Instr) (i : Instr) (p q s : ℕ) (st mid : State) (t : Template) (given : Reply) (exchanges : List Exchange)
+when_sent : (templates : List Template) (section : List Instr) (i : Instr) (p q s : ℕ) (st mid : State) (t : Template) (given : Reply)
+    (exchanges : List Exchange)
     → slice_get section p ≡ Some i → Sends templates i t (class_of given) q → IsOnlyStop templates section q (after_reply t given st) exchanges s mid
     → (r : ℕ) (end : State) → StopsAt section r → RunBegins templates section p st ((t, given) ∷ exchanges) r end → IsSame s r mid end
 when_sent templates section i p q s st mid t given exchanges at leads comes r end stop (rested e f g) = absurd (cc)
@@ -122,7 +124,8 @@ pub one_stop : (templates : List Template) (section : List Instr) → {p q : ℕ
 one_stop templates section (rests {p = p} {st = st}) stop r end run halt = when_rested templates section p st stop r end (run_begins run)
 one_stop templates section (slides {p = p} {q = q} {r = s} {st = st} {st' = mid} {exchanges = exchanges} i at leads more) stop r end run halt =
     when_slid templates section i p q s st mid exchanges at leads (one_stop templates section more stop) r end halt (run_begins run)
-one_stop templates section (sends {p = p} {q = q} {r = s} {st = st} {st' = mid} {exchanges = exchanges} {t = t} {reply = given} i at leads fit more) stop r end run halt =
+one_stop templates section (sends {p = p} {q = q} {r = s} {st = st} {st' = mid} {exchanges = exchanges} {t = t} {reply = given} i at leads fit more)
+    stop r end run halt =
     when_sent templates section i p q s st mid t given exchanges at leads (one_stop templates section more stop) r end halt (run_begins run)
 
 pub stop_once : StopsOnce

@@ -57,7 +57,8 @@ stops _ = true
 -- after the same exchanges a section stops at one outcome, in one state
 abbrev pub StopsOnce : Type 0
 StopsOnce = (c : Code) (actor : Actor) (variables : List Tagged) (exchanges : List Exchange) (st st' : State) (outcome outcome' : Outcome)
-    → ComesTo c actor variables exchanges st outcome → ComesTo c actor variables exchanges st' outcome' → stops outcome ≡ true → stops outcome' ≡ true
+    → ComesTo c actor variables exchanges st outcome → ComesTo c actor variables exchanges st' outcome' → stops outcome ≡ true
+        → stops outcome' ≡ true
     → (st ≡ st') × (outcome ≡ outcome')
 
 -- every script agrees with its layout

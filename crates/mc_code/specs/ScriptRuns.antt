@@ -89,7 +89,8 @@ pub data IsScriptRun (labels : List Label) (steps : List Step) : ℕ → State �
       → IsScriptRun labels steps (p + 1) (after_bind variable st) exchanges r st' → IsScriptRun labels steps p st exchanges r st'
   goes : {p q r label : ℕ} {st st' : State} {exchanges : List Exchange} → slice_get steps p ≡ Some (step.Goto label)
       → place_of labels label ≡ Some q → IsScriptRun labels steps q st exchanges r st' → IsScriptRun labels steps p st exchanges r st'
-  sends : {p q r : ℕ} {st st' : State} {exchanges : List Exchange} {t : Template} {jumps : List (Class × ℕ)} {bind : Option ℕ} {reply : Reply}
+  sends : {p q r : ℕ} {st st' : State} {exchanges : List Exchange} {t : Template} {jumps : List (Class × ℕ)}
+      {bind : Option ℕ} {reply : Reply}
       → slice_get steps p ≡ Some (step.Send t jumps bind) → is_fit_for t.verb reply ≡ true
       → next_of labels p (jump_on (class_of reply) jumps) ≡ Some q
       → IsScriptRun labels steps q (bind_reply bind (class_of reply) (after_reply t reply st)) exchanges r st'

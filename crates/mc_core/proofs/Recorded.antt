@@ -1,5 +1,9 @@
 -- What is recorded of a world: it spells the calls of its logs, and grows with them.
-use Rattle.std.proofs.Common.{◌≡◌, ℕ, zero, suc, ◌+◌, ◌<◌, ◌≤◌, Bool, true, false, Option, Some, None, List, [], ◌∷◌, ◌++◌, length, map, take, drop, slice_index_or, refl, ap, ap₂, sym, ◌∙◌, arith, length-append, if◌then◌else◌}
+use Rattle.std.proofs.Common.{
+  ◌≡◌, ℕ, zero, suc, ◌+◌, ◌<◌, ◌≤◌, Bool, true, false, Option, Some, None, List, [], ◌∷◌, ◌++◌,
+  length, map, take, drop, slice_index_or, refl, ap, ap₂, sym, ◌∙◌, arith, length-append,
+  if◌then◌else◌,
+}
 use Rattle.std.specs.List.{flat_map}
 use Rattle.std.specs.Option.{option_to_list}
 use Rattle.std.proofs.lemmas.List.{append-nil, append_assoc, map-append, length-map, take_all, drop-drop, drop_more, get_or_append_left}
@@ -154,7 +158,8 @@ requests_from c w who front (noted ∷ notes) few =
 replies_from : (c : Code) (w : World) (who : Actor) (front notes : List Noted)
     → replies_in who (recorded_from c w front notes) ≡ replies_of who notes
 replies_from c w who front [] = refl
-replies_from c w who front ((other, event.Begin) ∷ notes) = replies_from c w who (front ++ (other, event.Begin) ∷ []) notes ∙ by_section (is_same_section who other)
+replies_from c w who front ((other, event.Begin) ∷ notes) =
+    replies_from c w who (front ++ (other, event.Begin) ∷ []) notes ∙ by_section (is_same_section who other)
   where
     by_section : (b : Bool) → replies_of who notes ≡ flat_map reply_in ((if b then event.Begin ∷ [] else []) ++ events_of who notes)
     by_section true = refl

@@ -1,5 +1,8 @@
 -- The cas unique of a call was shown before it, in its own section or in P.
-use Rattle.std.proofs.Common.{◌≡◌, ◌⊎◌, inl, inr, ℕ, zero, suc, ◌==◌, nat_le, Bool, true, false, not, ◌&&◌, ◌||◌, Some, List, [], ◌∷◌, replicate, slice_get, slice_index_or, refl, ap, sym, subst, ◌∙◌, if◌then◌else◌}
+use Rattle.std.proofs.Common.{
+  ◌≡◌, ◌⊎◌, inl, inr, ℕ, zero, suc, ◌==◌, nat_le, Bool, true, false, not, ◌&&◌, ◌||◌, Some, List,
+  [], ◌∷◌, replicate, slice_get, slice_index_or, refl, ap, sym, subst, ◌∙◌, if◌then◌else◌,
+}
 use Rattle.std.specs.List.{list_any}
 use Rattle.std.proofs.lemmas.Bool.{and_parts, eqb-true}
 use Rattle.mc_protocol.specs.Decimals.{MAX_32}
@@ -43,7 +46,8 @@ number_is t m n e = cc
 
 held_by : (t : Template) (x : Tagged) (n : ℕ) → t.verb ≡ verb.Cas → call_with t x ≡ call t n → x ≡ (kind.Cas t.key, n)
 held_by t (kind.Unbound, m) n cas e = absurd (cc)
-held_by t (kind.Cas key, m) n cas e = by_kind (key == t.key) refl (ap (λ v. if is_same (kind.Cas key) (wanted_by v t.key) then call t m else wrong_kind t) (sym cas) ∙ e)
+held_by t (kind.Cas key, m) n cas e =
+    by_kind (key == t.key) refl (ap (λ v. if is_same (kind.Cas key) (wanted_by v t.key) then call t m else wrong_kind t) (sym cas) ∙ e)
   where
     by_kind : (b : Bool) → (key == t.key) ≡ b → (if b then call t m else wrong_kind t) ≡ call t n
         → (let x : Tagged = (kind.Cas key, m) in x) ≡ (kind.Cas t.key, n)
@@ -57,7 +61,8 @@ held_by t (kind.Num, m) n cas e =
 
 cas_fields : (vars flags : ℕ) (a : Argument) (body : List ℕ) → has_fields vars (fields_of verb.Cas) flags a body ≡ true
     → is_variable vars a ≡ true
-cas_fields vars flags a body e = (and_parts (nat_le flags MAX_32) (is_variable vars a) (and_parts (nat_le flags MAX_32 && is_variable vars a) (is_body body) e).0).1
+cas_fields vars flags a body e =
+    (and_parts (nat_le flags MAX_32) (is_variable vars a) (and_parts (nat_le flags MAX_32 && is_variable vars a) (is_body body) e).0).1
 
 -- the variable that a cas takes holds its cas unique
 variable_holds : (vars : ℕ) (t : Template) (a : Argument) (st : State) (n : ℕ) → is_variable vars a ≡ true → t.verb ≡ verb.Cas

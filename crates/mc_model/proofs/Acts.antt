@@ -13,7 +13,11 @@ use Rattle.mc_model.specs.declared.act.Choice.{Choice}
 use Rattle.mc_model.specs.Contents.{Contents}
 use Rattle.mc_model.specs.Numeral.{numeral_of}
 use Rattle.mc_model.specs.Act.{Puts, Effect, effect_by, effect_of, item_after, act}
-use Rattle.mc_model.specs.ActLaws.{OtherKeysStay, RepliesFit, BodiesStayShort, JoinedBodiesAddUp, DeletedIsGone, ReportedVersionIsMade, MadeVersionIsReported, AnsweredNumberIsThere, is_short, body_length, joins, reports_version}
+use Rattle.mc_model.specs.ActLaws.{
+  OtherKeysStay, RepliesFit, BodiesStayShort, JoinedBodiesAddUp, DeletedIsGone,
+  ReportedVersionIsMade, MadeVersionIsReported, AnsweredNumberIsThere, is_short, body_length, joins,
+  reports_version,
+}
 use Rattle.mc_model.proofs.Changes.{get_changed, get_other}
 use Rattle.mc_model.proofs.Effects.{NewBody, own, joining, counting, Does, answering, removing, putting, does}
 
@@ -27,7 +31,8 @@ left : (contents : Contents) (request : Request) (choice : Choice) (number : ℕ
 left contents request choice number = get_changed contents request.key (effect_of contents request choice number).change
 
 -- what the request's effect does
-does_here : (contents : Contents) (request : Request) (choice : Choice) (number : ℕ) → Does request number (at contents request) (effect_of contents request choice number)
+does_here : (contents : Contents) (request : Request) (choice : Choice) (number : ℕ)
+    → Does request number (at contents request) (effect_of contents request choice number)
 does_here contents request choice number = does request.verb request choice number (at contents request) refl
 
 -- another key isn't the one that is changed
@@ -35,7 +40,8 @@ pub other_keys_stay : OtherKeysStay
 other_keys_stay contents request choice number key differ = get_other contents request.key (effect_of contents request choice number).change key differ
 
 -- each answer of an effect is one that fits
-fits : (request : Request) (number : ℕ) (found : Option Item) (effect : Effect) → Does request number found effect → is_short found ≡ true → is_fit request effect.reply ≡ true
+fits : (request : Request) (number : ℕ) (found : Option Item) (effect : Effect) → Does request number found effect → is_short found ≡ true
+    → is_fit request effect.reply ≡ true
 fits request number found effect (answering r told fit) short = fit short
 fits request number found effect (removing fit) short = fit
 fits request number found effect (putting item r numbered told fit says new) short = fit
@@ -51,14 +57,16 @@ no_longer None n few short = le-leb n REPLY_BODY_LIMIT (omega arith)
 no_longer (Some item) n few short = let below = leb-true (length item.body) REPLY_BODY_LIMIT short in le-leb n REPLY_BODY_LIMIT (omega arith)
 
 -- a new body that isn't joined is within the limit
-new_short : (request : Request) (found : Option Item) (body : List ℕ) → NewBody request found body → joins request.verb ≡ false → leb (length request.body) REPLY_BODY_LIMIT ≡ true → is_short found ≡ true
+new_short : (request : Request) (found : Option Item) (body : List ℕ) → NewBody request found body → joins request.verb ≡ false
+    → leb (length request.body) REPLY_BODY_LIMIT ≡ true → is_short found ≡ true
     → leb (length body) REPLY_BODY_LIMIT ≡ true
 new_short request found body (own alone) not_joined given short = given
 new_short request found body (joining _ both is) not_joined given short = absurd (both_ways (joins request.verb) not_joined both)
 new_short request found body (counting _ alone few) not_joined given short = no_longer found (length body) few short
 
 -- and so is what is at the key after an effect
-stays_short : (request : Request) (number : ℕ) (found : Option Item) (effect : Effect) → Does request number found effect → joins request.verb ≡ false → leb (length request.body) REPLY_BODY_LIMIT ≡ true → is_short found ≡ true
+stays_short : (request : Request) (number : ℕ) (found : Option Item) (effect : Effect) → Does request number found effect → joins request.verb ≡ false
+    → leb (length request.body) REPLY_BODY_LIMIT ≡ true → is_short found ≡ true
     → is_short (item_after effect.change found) ≡ true
 stays_short request number found effect (answering r told fit) alone given short = short
 stays_short request number found effect (removing fit) alone given short = refl
@@ -71,7 +79,8 @@ bodies_stay_short contents request choice number alone given short =
     ∙ stays_short request number (at contents request) (effect_of contents request choice number) (does_here contents request choice number) alone given short
 
 -- a body that is joined is as long as both
-new_adds_up : (request : Request) (found : Option Item) (body : List ℕ) → NewBody request found body → joins request.verb ≡ true → length body ≤ body_length found + length request.body
+new_adds_up : (request : Request) (found : Option Item) (body : List ℕ) → NewBody request found body → joins request.verb ≡ true
+    → length body ≤ body_length found + length request.body
 new_adds_up request found body (own alone) both = absurd (both_ways (joins request.verb) alone both)
 new_adds_up request found body (joining _ joined is) both = omega arith
 new_adds_up request found body (counting _ alone few) both = absurd (both_ways (joins request.verb) alone both)
@@ -90,7 +99,8 @@ joined_bodies_add_up contents request choice number both =
     (adds_up request number (at contents request) (effect_of contents request choice number) (does_here contents request choice number) both)
 
 -- a delete leaves nothing
-gone : (request : Request) (choice : Choice) (number : ℕ) (found : Option Item) → item_after (effect_by verb.Delete request choice number found).change found ≡ None
+gone : (request : Request) (choice : Choice) (number : ℕ) (found : Option Item)
+    → item_after (effect_by verb.Delete request choice number found).change found ≡ None
 gone request choice number None = refl
 gone request choice number (Some item) = refl
 
@@ -108,7 +118,8 @@ record Made (number : ℕ) (effect : Effect) : Type 0 where
   numbered : item.number ≡ number
 
 -- an effect whose reply reports a version makes one
-made : (request : Request) (number : ℕ) (found : Option Item) (effect : Effect) → Does request number found effect → reports_version (class_of effect.reply) ≡ true → Made number effect
+made : (request : Request) (number : ℕ) (found : Option Item) (effect : Effect) → Does request number found effect
+    → reports_version (class_of effect.reply) ≡ true → Made number effect
 made request number found effect (answering r untold fit) told = absurd (both_ways (reports_version (class_of r)) untold told)
 made request number found effect (removing fit) told = absurd cc
 made request number found effect (putting item r numbered told_of fit says new) told = record { item = item; puts = refl; numbered = numbered }
@@ -125,7 +136,8 @@ reported_version_is_made contents request choice number told =
     }
 
 -- an effect that makes a version reports it
-told : (request : Request) (number : ℕ) (found : Option Item) (effect : Effect) (item : Item) → Does request number found effect → effect.change ≡ Puts item → reports_version (class_of effect.reply) ≡ true
+told : (request : Request) (number : ℕ) (found : Option Item) (effect : Effect) (item : Item) → Does request number found effect → effect.change ≡ Puts item
+    → reports_version (class_of effect.reply) ≡ true
 told request number found effect item (answering r untold fit) is = absurd cc
 told request number found effect item (removing fit) is = absurd cc
 told request number found effect item (putting _ r numbered told_of fit says new) is = told_of
@@ -138,7 +150,8 @@ made_version_is_reported contents request choice number item is =
 -- a number that an effect answers is what its new body says
 says_number : (request : Request) (number n : ℕ) (found : Option Item) (effect : Effect) → Does request number found effect → effect.reply ≡ reply.Number n
     → (item : Item) × (item_after effect.change found ≡ Some item) × (numeral_of item.body ≡ Is n)
-says_number request number n found effect (answering r untold fit) is = absurd (both_ways (reports_version (class_of r)) untold (ap (λ r. reports_version (class_of r)) is))
+says_number request number n found effect (answering r untold fit) is =
+    absurd (both_ways (reports_version (class_of r)) untold (ap (λ r. reports_version (class_of r)) is))
 says_number request number n found effect (removing fit) is = absurd cc
 says_number request number n found effect (putting item r numbered told_of fit says new) is = (item, refl, says n is)
 

@@ -1,5 +1,9 @@
 -- A history in which the last request of a section gets its reply.
-use Rattle.std.proofs.Common.{◌≡◌, ◌⊎◌, inl, inr, ℕ, ◌-◌, ◌<◌, Bool, true, false, not, ◌&&◌, ◌||◌, if◌then◌else◌, Option, Some, None, is_some, Result, Ok, Err, OnOk, IfOk, OnErr, List, [], ◌∷◌, ◌++◌, length, slice_get, slice_index_or, arith, refl, sym, ap, ◌∙◌, length-append}
+use Rattle.std.proofs.Common.{
+  ◌≡◌, ◌⊎◌, inl, inr, ℕ, ◌-◌, ◌<◌, Bool, true, false, not, ◌&&◌, ◌||◌, if◌then◌else◌, Option, Some,
+  None, is_some, Result, Ok, Err, OnOk, IfOk, OnErr, List, [], ◌∷◌, ◌++◌, length, slice_get,
+  slice_index_or, arith, refl, sym, ap, ◌∙◌, length-append,
+}
 use Rattle.std.specs.Ordering.{nat_cmp}
 use Rattle.std.specs.Cmp.Lexicographic.{slice_cmp}
 use Rattle.std.specs.FinSet as set
@@ -41,7 +45,8 @@ last_of-push front sent =
     ∙ slice_get-get_or (front ++ sent ∷ []) (length front) sent (simp length-append (omega arith))
     ∙ ap Some (get_or_at front sent [] sent (length front) refl)
 
-pub with_last_reply-push : (front : List Sent) (sent : Sent) (reply : Reply) → with_last_reply (front ++ sent ∷ []) reply ≡ front ++ record sent { reply = Some reply } ∷ []
+pub with_last_reply-push : (front : List Sent) (sent : Sent) (reply : Reply)
+    → with_last_reply (front ++ sent ∷ []) reply ≡ front ++ record sent { reply = Some reply } ∷ []
 with_last_reply-push [] sent reply = refl
 with_last_reply-push (x ∷ []) sent reply = refl
 with_last_reply-push (x ∷ y ∷ front) sent reply = ap (λ l. x ∷ l) (with_last_reply-push (y ∷ front) sent reply)
@@ -60,7 +65,8 @@ set_last xs n sent reply len is =
       | inr (front, last, e) ↦
           let same : last ≡ sent = same_Some last sent (sym (last_of-push front last) ∙ sym (ap last_of e) ∙ is) in
           let place : n - 1 ≡ length front = ap (λ m. m - 1) (len ∙ ap length e ∙ length_push front last) ∙ omega arith in
-          rw (place, e, ← same) (set-append_seam front last [] (record { request = last.request; reply = Some reply }) ∙ sym (with_last_reply-push front last reply))
+          rw (place, e, ← same) (set-append_seam front last [] (record { request = last.request; reply = Some reply })
+              ∙ sym (with_last_reply-push front last reply))
     ]
   where
     nothing : None ≡ Some sent → ⊥
@@ -73,15 +79,19 @@ keys-answered (x ∷ []) reply = refl
 keys-answered (x ∷ y ∷ xs) reply = ap (λ l. x.request.key ∷ l) (keys-answered (y ∷ xs) reply)
 
 keys_in_all : (xs ys zs : List Sent) → keys_of (xs ++ ys ++ zs) ≡ keys_of xs ++ keys_of ys ++ keys_of zs
-keys_in_all xs ys zs = map-append (λ (sent : Sent). sent.request.key) (xs ++ ys) zs ∙ ap (λ l. l ++ keys_of zs) (map-append (λ (sent : Sent). sent.request.key) xs ys)
+keys_in_all xs ys zs = map-append (λ (sent : Sent). sent.request.key) (xs ++ ys) zs
+    ∙ ap (λ l. l ++ keys_of zs) (map-append (λ (sent : Sent). sent.request.key) xs ys)
 
 pub key_count-after_reply : (s : Sections) (who : Actor) (reply : Reply) → key_count (after_reply s who reply) ≡ key_count s
 key_count-after_reply s who reply = ap (λ keys. set.len (set.from_list {R = slice_cmp nat_cmp} keys)) (same who)
   where
     same : (who : Actor) → keys_of ((after_reply s who reply).p ++ (after_reply s who reply).a ++ (after_reply s who reply).b) ≡ keys_of (s.p ++ s.a ++ s.b)
-    same actor.P = keys_in_all (with_last_reply s.p reply) s.a s.b ∙ ap (λ l. l ++ keys_of s.a ++ keys_of s.b) (keys-answered s.p reply) ∙ sym (keys_in_all s.p s.a s.b)
-    same actor.A = keys_in_all s.p (with_last_reply s.a reply) s.b ∙ ap (λ l. keys_of s.p ++ l ++ keys_of s.b) (keys-answered s.a reply) ∙ sym (keys_in_all s.p s.a s.b)
-    same actor.B = keys_in_all s.p s.a (with_last_reply s.b reply) ∙ ap (λ l. keys_of s.p ++ keys_of s.a ++ l) (keys-answered s.b reply) ∙ sym (keys_in_all s.p s.a s.b)
+    same actor.P = keys_in_all (with_last_reply s.p reply) s.a s.b ∙ ap (λ l. l ++ keys_of s.a ++ keys_of s.b) (keys-answered s.p reply)
+        ∙ sym (keys_in_all s.p s.a s.b)
+    same actor.A = keys_in_all s.p (with_last_reply s.a reply) s.b ∙ ap (λ l. keys_of s.p ++ l ++ keys_of s.b) (keys-answered s.a reply)
+        ∙ sym (keys_in_all s.p s.a s.b)
+    same actor.B = keys_in_all s.p s.a (with_last_reply s.b reply) ∙ ap (λ l. keys_of s.p ++ keys_of s.a ++ l) (keys-answered s.b reply)
+        ∙ sym (keys_in_all s.p s.a s.b)
 
 -- ---- the reply
 
@@ -153,19 +163,22 @@ waits s actor.P front request reply late at = record {
   earlier = record s { p = front };
   is = ap (λ l. record s { p = l }) at;
   late = late;
-  with_reply = ap (λ l. record s { p = l }) (ap (λ l. with_last_reply l reply) at ∙ with_last_reply-push front (record { request = request; reply = None }) reply);
+  with_reply = ap (λ l. record s { p = l })
+      (ap (λ l. with_last_reply l reply) at ∙ with_last_reply-push front (record { request = request; reply = None }) reply);
 }
 waits s actor.A front request reply late at = record {
   earlier = record s { a = front };
   is = ap (λ l. record s { a = l }) at;
   late = refl;
-  with_reply = ap (λ l. record s { a = l }) (ap (λ l. with_last_reply l reply) at ∙ with_last_reply-push front (record { request = request; reply = None }) reply);
+  with_reply = ap (λ l. record s { a = l })
+      (ap (λ l. with_last_reply l reply) at ∙ with_last_reply-push front (record { request = request; reply = None }) reply);
 }
 waits s actor.B front request reply late at = record {
   earlier = record s { b = front };
   is = ap (λ l. record s { b = l }) at;
   late = refl;
-  with_reply = ap (λ l. record s { b = l }) (ap (λ l. with_last_reply l reply) at ∙ with_last_reply-push front (record { request = request; reply = None }) reply);
+  with_reply = ap (λ l. record s { b = l })
+      (ap (λ l. with_last_reply l reply) at ∙ with_last_reply-push front (record { request = request; reply = None }) reply);
 }
 
 -- no late reply is awaited
@@ -194,11 +207,14 @@ waits_for s who reply h none =
     by : (front : List Sent) (sent : Sent) → section_of s who ≡ front ++ sent ∷ [] → (o : Option Reply) → sent.reply ≡ o → reply_fault (Some sent) reply ≡ None
         → (request : Request) × IsWaiting s who request reply × (is_fit request reply ≡ true)
     by front sent e (Some other) o f =
-        let same : reply_fault (Some sent) reply ≡ Some kind.Order = ap (λ r. if is_some r then Some kind.Order else (if is_fit sent.request reply then None else Some kind.WrongReply)) o in
+        let same : reply_fault (Some sent) reply ≡ Some kind.Order =
+            ap (λ r. if is_some r then Some kind.Order else (if is_fit sent.request reply then None else Some kind.WrongReply)) o in
         absurd (nothing (sym same ∙ f))
     by front sent e None o f =
-        let same : reply_fault (Some sent) reply ≡ (if is_fit sent.request reply then None else Some kind.WrongReply) = ap (λ r. if is_some r then Some kind.Order else (if is_fit sent.request reply then None else Some kind.WrongReply)) o in
-        let last : section_of s who ≡ front ++ record { request = sent.request; reply = None } ∷ [] = e ∙ ap (λ r. front ++ record { request = sent.request; reply = r } ∷ []) o in
+        let same : reply_fault (Some sent) reply ≡ (if is_fit sent.request reply then None else Some kind.WrongReply) =
+            ap (λ r. if is_some r then Some kind.Order else (if is_fit sent.request reply then None else Some kind.WrongReply)) o in
+        let last : section_of s who ≡ front ++ record { request = sent.request; reply = None } ∷ [] =
+            e ∙ ap (λ r. front ++ record { request = sent.request; reply = r } ∷ []) o in
         let open_end = ap are_answered e ∙ unanswered front sent o in
         (sent.request, waits s who front sent.request reply (awaited_in_time s who h open_end) last, fits (is_fit sent.request reply) (sym same ∙ f))
 
@@ -210,11 +226,15 @@ unanswered_history s who request reply late h =
     let open_one : Sent = record { request = request; reply = None } in
     let whole : Sent = record { request = request; reply = Some reply } in
     let before = history_before s who whole late h in
-    let none : first_failed (has_words request) (is_full s who open_one) (may_come s who) (clears s who open_one) (number_is_seen s who open_one) (is_fit request reply) ≡ None =
+    let none : first_failed (has_words request) (is_full s who open_one) (may_come s who) (clears s who open_one) (number_is_seen s who open_one)
+        (is_fit request reply) ≡ None =
     sym (fault_by_tests s who whole before) ∙ no_fault_of s who whole late h in
-    (no_fault s who open_one (fault_by_tests s who open_one before ∙ without (has_words request) (is_full s who open_one) (may_come s who) (clears s who open_one) (number_is_seen s who open_one) (is_fit request reply) none)).1
+    (no_fault s who open_one (fault_by_tests s who open_one before
+        ∙ without (has_words request) (is_full s who open_one) (may_come s who) (clears s who open_one) (number_is_seen s who open_one)
+        (is_fit request reply) none)).1
   where
-    without : (words full turn cleared seen fits : Bool) → first_failed words full turn cleared seen fits ≡ None → first_failed words full turn cleared seen true ≡ None
+    without : (words full turn cleared seen fits : Bool) → first_failed words full turn cleared seen fits ≡ None
+        → first_failed words full turn cleared seen true ≡ None
     without false full turn cleared seen fits e = cc
     without true true turn cleared seen fits e = cc
     without true false false cleared seen fits e = cc
@@ -223,7 +243,8 @@ unanswered_history s who request reply late h =
     without true false true true true fits e = refl
 
 -- a history stays one when a reply comes that has no fault
-pub answered_history : (s : Sections) (who : Actor) (reply : Reply) → is_history s ≡ true → reply_fault (last_of (section_of s who)) reply ≡ None → is_history (after_reply s who reply) ≡ true
+pub answered_history : (s : Sections) (who : Actor) (reply : Reply) → is_history s ≡ true → reply_fault (last_of (section_of s who)) reply ≡ None
+    → is_history (after_reply s who reply) ≡ true
 answered_history s who reply h none =
     let (request, w, fits) = waits_for s who reply h none in
     let whole : is_history (with_sent w.earlier who (record { request = request; reply = None })) ≡ true = sym (ap is_history w.is) ∙ h in
@@ -231,7 +252,8 @@ answered_history s who reply h none =
     ap is_history w.with_reply ∙ (no_fault w.earlier who (record { request = request; reply = Some reply }) fault).1
 
 -- a history with another list in the place of one section: the same list, or the list with the reply
-pub kept : {X : Type 0} (result : Result X HistoryKind) (s : Sections) (who : Actor) (with_list : List Sent → Sections) (old new : List Sent) (reply : Reply) (keys : ℕ)
+pub kept : {X : Type 0} (result : Result X HistoryKind) (s : Sections) (who : Actor) (with_list : List Sent → Sections) (old new : List Sent)
+    (reply : Reply) (keys : ℕ)
     → is_history s ≡ true → keys ≡ key_count s → with_list old ≡ s → with_list (with_last_reply old reply) ≡ after_reply s who reply
     → OnOk result (new ≡ with_last_reply old reply) → IfOk result (λ _. reply_fault (last_of (section_of s who)) reply ≡ None) → OnErr result (new ≡ old)
     → (is_history (with_list new) ≡ true) × (keys ≡ key_count (with_list new))

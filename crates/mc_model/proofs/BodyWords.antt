@@ -1,5 +1,8 @@
 -- A word is read as a body exactly where it spells it.
-use Rattle.std.proofs.Common.{◌≡◌, ◌≢◌, ℕ, ◌+◌, ◌*◌, ◌==◌, nat_le, Bool, true, false, not, ◌&&◌, cond, Option, Some, None, Result, Ok, Err, List, [], ◌∷◌, length, refl, sym, ap, ◌∙◌, inl, inr}
+use Rattle.std.proofs.Common.{
+  ◌≡◌, ◌≢◌, ℕ, ◌+◌, ◌*◌, ◌==◌, nat_le, Bool, true, false, not, ◌&&◌, cond, Option, Some, None,
+  Result, Ok, Err, List, [], ◌∷◌, length, refl, sym, ap, ◌∙◌, inl, inr,
+}
 use Rattle.std.specs.Result.{IfErr}
 use Rattle.std.proofs.lemmas.Bool.{eqb-true, leb-true, le-leb}
 use Rattle.mc_protocol.specs.declared.limits.TheConstants.{REPLY_BODY_LIMIT}
@@ -28,14 +31,16 @@ plain-spelled a xs byte rest h =
     let s = some-same a byte xs rest p.1 in
     inl (rw (s.0, s.1) refl, rw (← s.0) p.0)
 
-hex-spelled : (a b : ℕ) (high low : Option ℕ) (xs : List ℕ) (byte : ℕ) (rest : List ℕ) → hex_value a ≡ high → hex_value b ≡ low → if_hex high low xs ≡ Ok (Some (byte, rest)) → SpellsByte (37 ∷ a ∷ b ∷ xs) byte rest
+hex-spelled : (a b : ℕ) (high low : Option ℕ) (xs : List ℕ) (byte : ℕ) (rest : List ℕ) → hex_value a ≡ high → hex_value b ≡ low
+    → if_hex high low xs ≡ Ok (Some (byte, rest)) → SpellsByte (37 ∷ a ∷ b ∷ xs) byte rest
 hex-spelled a b (Some h) (Some l) xs byte rest p q e =
     let s = some-same (h * 16 + l) byte xs rest e in
     inr (a, b, h, l, rw s.1 refl, p, q, sym s.0)
 hex-spelled a b (Some h) None xs byte rest p q e = absurd (cc)
 hex-spelled a b None low xs byte rest p q e = absurd (cc)
 
-either-spelled : (percent : Bool) (a b c : ℕ) (xs : List ℕ) (byte : ℕ) (rest : List ℕ) → (a == 37) ≡ percent → cond percent (if_hex (hex_value b) (hex_value c) xs) (if_plain a (b ∷ c ∷ xs)) ≡ Ok (Some (byte, rest)) → SpellsByte (a ∷ b ∷ c ∷ xs) byte rest
+either-spelled : (percent : Bool) (a b c : ℕ) (xs : List ℕ) (byte : ℕ) (rest : List ℕ) → (a == 37) ≡ percent
+    → cond percent (if_hex (hex_value b) (hex_value c) xs) (if_plain a (b ∷ c ∷ xs)) ≡ Ok (Some (byte, rest)) → SpellsByte (a ∷ b ∷ c ∷ xs) byte rest
 either-spelled true a b c xs byte rest p h =
     let e = eqb-true a 37 p in
     rw e (hex-spelled b c (hex_value b) (hex_value c) xs byte rest refl refl h)
@@ -78,7 +83,8 @@ in_front-some x (Ok bytes) h = cc
 in_front-some x (Err e) h = cc
 
 -- the first byte of bytes that were read
-read_on-ok : (first : FirstByte) (byte : ℕ) (bytes : List ℕ) → read_on first ≡ Ok (byte ∷ bytes) → (rest : List ℕ) × (first ≡ Ok (Some (byte, rest))) × (bytes_in rest ≡ Ok bytes)
+read_on-ok : (first : FirstByte) (byte : ℕ) (bytes : List ℕ) → read_on first ≡ Ok (byte ∷ bytes)
+    → (rest : List ℕ) × (first ≡ Ok (Some (byte, rest))) × (bytes_in rest ≡ Ok bytes)
 read_on-ok (Err e) byte bytes h = absurd (cc)
 read_on-ok (Ok None) byte bytes h = absurd (cc)
 read_on-ok (Ok (Some p)) byte bytes h =
@@ -93,7 +99,8 @@ hex-some (Some h) (Some l) read e = in_front-some (h * 16 + l) read e
 hex-some (Some h) None read e = cc
 hex-some None low read e = cc
 
-either-some : (percent : Bool) (high low : Option ℕ) (read other : Result (List ℕ) WordsFault) (a : ℕ) → cond percent (hex_before high low read) (plain_before a other) ≡ Ok [] → ⊥
+either-some : (percent : Bool) (high low : Option ℕ) (read other : Result (List ℕ) WordsFault) (a : ℕ)
+    → cond percent (hex_before high low read) (plain_before a other) ≡ Ok [] → ⊥
 either-some true high low read other a h = hex-some high low read h
 either-some false high low read other a h = plain-some a other h
 
@@ -159,7 +166,8 @@ form-hex (Some h) (Some l) read k = form-front (h * 16 + l) read k
 form-hex (Some h) None read k = form-apart
 form-hex None low read k = form-apart
 
-form-either : (percent : Bool) (high low : Option ℕ) (read other : Result (List ℕ) WordsFault) (a : ℕ) → IsNoNumber read → IsNoNumber other → IsNoNumber (cond percent (hex_before high low read) (plain_before a other))
+form-either : (percent : Bool) (high low : Option ℕ) (read other : Result (List ℕ) WordsFault) (a : ℕ) → IsNoNumber read → IsNoNumber other
+    → IsNoNumber (cond percent (hex_before high low read) (plain_before a other))
 form-either true high low read other a h k = form-hex high low read h
 form-either false high low read other a h k = form-plain a other k
 
@@ -167,7 +175,8 @@ form-bytes : (text : List ℕ) → IsNoNumber (bytes_in text)
 form-bytes [] = tt
 form-bytes (a ∷ []) = form-plain a (Ok []) tt
 form-bytes (a ∷ b ∷ []) = form-plain a (bytes_in (b ∷ [])) (form-bytes (b ∷ []))
-form-bytes (a ∷ b ∷ c ∷ xs) = form-either (a == 37) (hex_value b) (hex_value c) (bytes_in xs) (bytes_in (b ∷ c ∷ xs)) a (form-bytes xs) (form-bytes (b ∷ c ∷ xs))
+form-bytes (a ∷ b ∷ c ∷ xs) = form-either (a == 37) (hex_value b) (hex_value c) (bytes_in xs) (bytes_in (b ∷ c ∷ xs)) a (form-bytes xs)
+    (form-bytes (b ∷ c ∷ xs))
 
 form-limit : (read : Result (List ℕ) WordsFault) → IsNoNumber read → IsNoNumber (read >>= within_limit)
 form-limit (Ok bytes) h = form-then (nat_le (length bytes) REPLY_BODY_LIMIT) (Ok bytes) tt

@@ -22,7 +22,8 @@ alike : (key : List ℕ) → eq_by_cmp (slice_cmp nat_cmp) key key ≡ true
 alike key = (eq_by_cmp_equiv nat_list_cmp_total).refl key
 
 -- what is at the key after its change
-pub get_changed : (contents : Contents) (key : List ℕ) (change : Change) → finite_map.get (with_change contents key change) key ≡ item_after change (finite_map.get contents key)
+pub get_changed : (contents : Contents) (key : List ℕ) (change : Change)
+    → finite_map.get (with_change contents key change) key ≡ item_after change (finite_map.get contents key)
 get_changed contents key Keeps = refl
 get_changed contents key (Puts item) =
     get-insert nat_list_cmp_total contents key item key ∙ ap (λ b. cond b (Some item) (finite_map.get contents key)) (alike key)
@@ -30,7 +31,8 @@ get_changed contents key Removes =
     get-remove nat_list_cmp_total contents key key ∙ ap (λ b. cond b None (finite_map.get contents key)) (alike key)
 
 -- what is at another key
-pub get_other : (contents : Contents) (key : List ℕ) (change : Change) (q : List ℕ) → q ≢ key → finite_map.get (with_change contents key change) q ≡ finite_map.get contents q
+pub get_other : (contents : Contents) (key : List ℕ) (change : Change) (q : List ℕ) → q ≢ key
+    → finite_map.get (with_change contents key change) q ≡ finite_map.get contents q
 get_other contents key Keeps q differ = refl
 get_other contents key (Puts item) q differ =
     get-insert nat_list_cmp_total contents key item q ∙ ap (λ b. cond b (Some item) (finite_map.get contents q)) (apart q key differ)

@@ -13,7 +13,8 @@ use Rattle.mc_model.specs.Act.{count, count_from, count_to, increment, decrement
 use Rattle.mc_model.specs.ActLaws.{OnlyCountsChoose, OnlyDoubtfulAreChosen, PaddingIsUnseen, counts, is_doubtful, may_be_refused}
 
 -- a verb that doesn't count has one effect
-one_effect : (v : Verb) (request : Request) (choice other : Choice) (number : ℕ) (found : Option Item) → counts v ≡ false → effect_by v request choice number found ≡ effect_by v request other number found
+one_effect : (v : Verb) (request : Request) (choice other : Choice) (number : ℕ) (found : Option Item) → counts v ≡ false
+    → effect_by v request choice number found ≡ effect_by v request other number found
 one_effect verb.Incr request choice other number found none = absurd cc
 one_effect verb.Decr request choice other number found none = absurd cc
 one_effect _ request choice other number found none = refl
@@ -36,7 +37,8 @@ one_pad new request choice other number item None same = refl
 one_pad new request choice other number item (Some n) same = ap (λ pad. count_to item pad (new n request.number) number) same
 
 -- a count at what isn't doubtful has one effect where the padding is one
-one_count : (new : ℕ → ℕ → ℕ) (request : Request) (choice other : Choice) (number : ℕ) (found : Option Item) → may_be_refused found ≡ false → choice.pad ≡ other.pad
+one_count : (new : ℕ → ℕ → ℕ) (request : Request) (choice other : Choice) (number : ℕ) (found : Option Item) → may_be_refused found ≡ false
+    → choice.pad ≡ other.pad
     → count new request choice number found ≡ count new request other number found
 one_count new request choice other number None plain same = refl
 one_count new request choice other number (Some item) plain same =
@@ -44,7 +46,8 @@ one_count new request choice other number (Some item) plain same =
     ∙ one_pad new request choice other number item (read_as other.read (numeral_of item.body)) same
 
 -- and so has every verb
-one_where_plain : (v : Verb) (request : Request) (choice other : Choice) (number : ℕ) (found : Option Item) → may_be_refused found ≡ false → choice.pad ≡ other.pad
+one_where_plain : (v : Verb) (request : Request) (choice other : Choice) (number : ℕ) (found : Option Item) → may_be_refused found ≡ false
+    → choice.pad ≡ other.pad
     → effect_by v request choice number found ≡ effect_by v request other number found
 one_where_plain verb.Incr request choice other number found plain same = one_count increment request choice other number found plain same
 one_where_plain verb.Decr request choice other number found plain same = one_count decrement request choice other number found plain same

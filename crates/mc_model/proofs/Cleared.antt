@@ -1,5 +1,8 @@
 -- Keys that are cleared: a request in P is on them, and the first is a delete.
-use Rattle.std.proofs.Common.{◌≡◌, ℕ, Bool, true, false, cond, ◌&&◌, ◌||◌, inl, inr, Option, Some, None, List, [], ◌∷◌, ◌++◌, append_assoc, refl, sym, ap, subst, ◌∙◌}
+use Rattle.std.proofs.Common.{
+  ◌≡◌, ℕ, Bool, true, false, cond, ◌&&◌, ◌||◌, inl, inr, Option, Some, None, List, [], ◌∷◌, ◌++◌,
+  append_assoc, refl, sym, ap, subst, ◌∙◌,
+}
 use Rattle.std.specs.List.{list_all, list_any, find}
 use Rattle.std.specs.Option.{option_or}
 use Rattle.std.proofs.lemmas.Bool.{cases_Bool, and_parts, and_from, false≢true}
@@ -45,7 +48,8 @@ clears-append p more key cleared =
     ] cleared)
 
 -- a request of a list where each one's key is cleared, on a key: the key is cleared
-pub clears-of : (p : List Sent) (key : List ℕ) (xs : List Sent) → list_all (λ sent. clears p sent.request.key) xs ≡ true → has_key key xs ≡ true → clears p key ≡ true
+pub clears-of : (p : List Sent) (key : List ℕ) (xs : List Sent) → list_all (λ sent. clears p sent.request.key) xs ≡ true → has_key key xs ≡ true
+    → clears p key ≡ true
 clears-of p key [] all one = absurd (false≢true one)
 clears-of p key (x ∷ xs) all one =
     let parts = and_parts (clears p x.request.key) (list_all (λ sent. clears p sent.request.key) xs) all in
@@ -71,14 +75,18 @@ clears-has_key p key all =
     ]
 
 -- what was cleared stays so when P has more requests
-cleared-append : (p more xs : List Sent) → list_all (λ sent. clears p sent.request.key) xs ≡ true → list_all (λ sent. clears (p ++ more) sent.request.key) xs ≡ true
+cleared-append : (p more xs : List Sent) → list_all (λ sent. clears p sent.request.key) xs ≡ true
+    → list_all (λ sent. clears (p ++ more) sent.request.key) xs ≡ true
 cleared-append p more [] all = refl
 cleared-append p more (x ∷ xs) all =
     let parts = and_parts (clears p x.request.key) (list_all (λ sent. clears p sent.request.key) xs) all in
-    and_from (clears (p ++ more) x.request.key) (list_all (λ sent. clears (p ++ more) sent.request.key) xs) (clears-append p more x.request.key parts.0) (cleared-append p more xs parts.1)
+    and_from (clears (p ++ more) x.request.key) (list_all (λ sent. clears (p ++ more) sent.request.key) xs) (clears-append p more x.request.key parts.0)
+        (cleared-append p more xs parts.1)
 
 -- the three sections, each of whose keys is cleared
-pub cleared_parts : (s : Sections) → is_cleared s ≡ true → (list_all (λ sent. clears s.p sent.request.key) s.p ≡ true) × (list_all (λ sent. clears s.p sent.request.key) s.a ≡ true) × (list_all (λ sent. clears s.p sent.request.key) s.b ≡ true)
+pub cleared_parts : (s : Sections) → is_cleared s ≡ true
+    → (list_all (λ sent. clears s.p sent.request.key) s.p ≡ true) × (list_all (λ sent. clears s.p sent.request.key) s.a ≡ true)
+    × (list_all (λ sent. clears s.p sent.request.key) s.b ≡ true)
 cleared_parts s all =
     let passes : List Sent → Bool = list_all (λ sent. clears s.p sent.request.key) in
     let both = and_parts (passes s.p && passes s.a) (passes s.b) all in
@@ -105,7 +113,8 @@ keys_in_prefix s key all =
     ])
 
 -- the request that comes clears its key in P, or its key is cleared
-cleared_next : (p : List Sent) (sent : Sent) → list_all (λ sent. clears p sent.request.key) p ≡ true → clears (p ++ sent ∷ []) sent.request.key ≡ (has_key sent.request.key p || is_delete sent.request.verb)
+cleared_next : (p : List Sent) (sent : Sent) → list_all (λ sent. clears p sent.request.key) p ≡ true
+    → clears (p ++ sent ∷ []) sent.request.key ≡ (has_key sent.request.key p || is_delete sent.request.verb)
 cleared_next p sent all =
     elim (cases_Bool (has_key sent.request.key p)) [
       | inl e ↦ clears-append p (sent ∷ []) sent.request.key (clears-of p sent.request.key p all e) ∙ rw e refl
@@ -129,7 +138,8 @@ pub cleared_added : (s : Sections) (who : Actor) (sent : Sent) → is_cleared s 
 cleared_added s actor.P sent all =
     let more = s.p ++ sent ∷ [] in
     let parts = cleared_parts s all in
-    rw (list_all-append (λ x. clears more x.request.key) s.p (sent ∷ []), cleared-append s.p (sent ∷ []) s.p parts.0, cleared-append s.p (sent ∷ []) s.a parts.1, cleared-append s.p (sent ∷ []) s.b parts.2, cleared_next s.p sent parts.0)
+    rw (list_all-append (λ x. clears more x.request.key) s.p (sent ∷ []), cleared-append s.p (sent ∷ []) s.p parts.0, cleared-append s.p (sent ∷ []) s.a
+        parts.1, cleared-append s.p (sent ∷ []) s.b parts.2, cleared_next s.p sent parts.0)
     (thrice (has_key sent.request.key s.p || is_delete sent.request.verb))
 cleared_added s actor.A sent all =
     every_added (λ x. clears s.p x.request.key) s actor.A sent
@@ -158,7 +168,8 @@ keys_within front (x ∷ xs) =
     and_from (has_key x.request.key (front ++ x ∷ xs)) (list_all (λ y. has_key y.request.key (front ++ x ∷ xs)) xs) here others
 
 -- what is cleared with more requests in P, and has its keys in P, is cleared
-cleared_front : (p more xs : List Sent) → list_all (λ x. has_key x.request.key p) xs ≡ true → list_all (λ x. clears (p ++ more) x.request.key) xs ≡ true → list_all (λ x. clears p x.request.key) xs ≡ true
+cleared_front : (p more xs : List Sent) → list_all (λ x. has_key x.request.key p) xs ≡ true → list_all (λ x. clears (p ++ more) x.request.key) xs ≡ true
+    → list_all (λ x. clears p x.request.key) xs ≡ true
 cleared_front p more [] there all = refl
 cleared_front p more (x ∷ xs) there all =
     let here = and_parts (has_key x.request.key p) (list_all (λ y. has_key y.request.key p) xs) there in
@@ -168,9 +179,11 @@ cleared_front p more (x ∷ xs) there all =
     and_from (clears p x.request.key) (list_all (λ y. clears p y.request.key) xs) (sym same ∙ parts.0) (cleared_front p more xs here.1 parts.1)
 
 -- where P's keys are cleared with one more request of P, they are cleared
-pub cleared_before : (p : List Sent) (sent : Sent) → list_all (λ x. clears (p ++ sent ∷ []) x.request.key) (p ++ sent ∷ []) ≡ true → list_all (λ x. clears p x.request.key) p ≡ true
+pub cleared_before : (p : List Sent) (sent : Sent) → list_all (λ x. clears (p ++ sent ∷ []) x.request.key) (p ++ sent ∷ []) ≡ true
+    → list_all (λ x. clears p x.request.key) p ≡ true
 cleared_before p sent all =
     let more = p ++ sent ∷ [] in
     let both : (list_all (λ x. clears more x.request.key) p && list_all (λ x. clears more x.request.key) (sent ∷ [])) ≡ true =
     sym (list_all-append (λ x. clears more x.request.key) p (sent ∷ [])) ∙ all in
-    cleared_front p (sent ∷ []) p (keys_within [] p) (and_parts (list_all (λ x. clears more x.request.key) p) (list_all (λ x. clears more x.request.key) (sent ∷ [])) both).0
+    cleared_front p (sent ∷ []) p (keys_within [] p)
+        (and_parts (list_all (λ x. clears more x.request.key) p) (list_all (λ x. clears more x.request.key) (sent ∷ [])) both).0

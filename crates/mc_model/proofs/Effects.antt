@@ -1,5 +1,8 @@
 -- Every effect is an answer alone, a removal, or a version that the reply reports.
-use Rattle.std.proofs.Common.{◌≡◌, ℕ, ◌+◌, ◌-◌, ◌^◌, ◌<◌, ◌≤◌, Bool, true, false, ◌&&◌, cond, eqb, ltb, Option, Some, None, List, ◌++◌, length, replicate, max, refl, sym, ap, ◌∙◌, arith}
+use Rattle.std.proofs.Common.{
+  ◌≡◌, ℕ, ◌+◌, ◌-◌, ◌^◌, ◌<◌, ◌≤◌, Bool, true, false, ◌&&◌, cond, eqb, ltb, Option, Some, None,
+  List, ◌++◌, length, replicate, max, refl, sym, ap, ◌∙◌, arith,
+}
 use Rattle.std.specs.Fmt.{decimal}
 use Rattle.std.proofs.lemmas.List.{append-nil, length-append, length-replicate}
 use Rattle.std.proofs.lemmas.Nat.{mod_below}
@@ -36,16 +39,20 @@ no_number : (n : ℕ) (body : List ℕ) → reply.Stored ≡ reply.Number n → 
 no_number n body e = absurd cc
 
 -- a storage makes a version of the request's own body
-does_stored : (request : Request) (number : ℕ) (found : Option Item) → is_fit request reply.Stored ≡ true → joins request.verb ≡ false → Does request number found (store request number)
+does_stored : (request : Request) (number : ℕ) (found : Option Item) → is_fit request reply.Stored ≡ true → joins request.verb ≡ false
+    → Does request number found (store request number)
 does_stored request number found fit alone = putting (version request number) reply.Stored refl refl fit (λ n. no_number n request.body) (own alone)
 
 -- a join makes a version of both bodies
 does_joined : (request : Request) (number : ℕ) (item : Item) (body : List ℕ) → is_fit request reply.Stored ≡ true → joins request.verb ≡ true
-    → length body ≡ length item.body + length request.body → Does request number (Some item) (puts (record { flags = item.flags; body = body; number = number }) reply.Stored)
-does_joined request number item body fit both long = putting (record { flags = item.flags; body = body; number = number }) reply.Stored refl refl fit (λ n. no_number n body) (joining body both long)
+    → length body ≡ length item.body + length request.body
+        → Does request number (Some item) (puts (record { flags = item.flags; body = body; number = number }) reply.Stored)
+does_joined request number item body fit both long =
+    putting (record { flags = item.flags; body = body; number = number }) reply.Stored refl refl fit (λ n. no_number n body) (joining body both long)
 
 -- a swap stores, or answers that there is another version
-does_swapped : (request : Request) (number : ℕ) (item : Item) (b : Bool) → is_fit request reply.Stored ≡ true → is_fit request reply.Exists ≡ true → joins request.verb ≡ false
+does_swapped : (request : Request) (number : ℕ) (item : Item) (b : Bool) → is_fit request reply.Stored ≡ true → is_fit request reply.Exists ≡ true
+    → joins request.verb ≡ false
     → Does request number (Some item) (cond b (store request number) (answers reply.Exists))
 does_swapped request number item true fit other alone = does_stored request number (Some item) fit alone
 does_swapped request number item false fit other alone = answering reply.Exists refl (λ short. other)
@@ -80,14 +87,16 @@ does_counted_to request number item pad n as_count small =
 does_counted_from : (new : ℕ → ℕ → ℕ) (request : Request) (choice : Choice) (number : ℕ) (item : Item) (o : Option ℕ) → CountsAs request
     → ((n : ℕ) → o ≡ Some n → new n request.number < 2 ^ 64) → Does request number (Some item) (count_from new request choice number item o)
 does_counted_from new request choice number item None as_count small = answering reply.NotNumber refl (λ short. as_count.refused)
-does_counted_from new request choice number item (Some n) as_count small = does_counted_to request number item choice.pad (new n request.number) as_count (small n refl)
+does_counted_from new request choice number item (Some n) as_count small =
+    does_counted_to request number item choice.pad (new n request.number) as_count (small n refl)
 
 -- a count at what is there
 does_counted : (new : ℕ → ℕ → ℕ) (request : Request) (choice : Choice) (number : ℕ) (found : Option Item) → CountsAs request
     → ((n : ℕ) → n < 2 ^ 64 → new n request.number < 2 ^ 64) → Does request number found (count new request choice number found)
 does_counted new request choice number None as_count small = answering reply.NotFound refl (λ short. as_count.absent)
 does_counted new request choice number (Some item) as_count small =
-    does_counted_from new request choice number item (read_as choice.read (numeral_of item.body)) as_count (λ n e. small n (small_numeral choice.read item.body n e))
+    does_counted_from new request choice number item (read_as choice.read (numeral_of item.body)) as_count
+        (λ n e. small n (small_numeral choice.read item.body n e))
 
 -- a sum that wraps has 64 bits
 small_sum : (n amount : ℕ) → n < 2 ^ 64 → increment n amount < 2 ^ 64
@@ -98,7 +107,8 @@ small_rest : (n amount : ℕ) → n < 2 ^ 64 → decrement n amount < 2 ^ 64
 small_rest n amount small = omega arith
 
 -- by the verb and what is there
-pub does : (v : Verb) (request : Request) (choice : Choice) (number : ℕ) (found : Option Item) → request.verb ≡ v → Does request number found (effect_by v request choice number found)
+pub does : (v : Verb) (request : Request) (choice : Choice) (number : ℕ) (found : Option Item) → request.verb ≡ v
+    → Does request number found (effect_by v request choice number found)
 does verb.Set request choice number found e = does_stored request number found (rw e refl) (rw e refl)
 does verb.Add request choice number None e = does_stored request number None (rw e refl) (rw e refl)
 does verb.Add request choice number (Some item) e = answering reply.NotStored refl (λ short. rw e refl)
@@ -117,9 +127,11 @@ does verb.Get request choice number (Some item) e = answering (reply.Hit item.fl
 does verb.Gets request choice number None e = answering reply.Miss refl (λ short. rw e refl)
 does verb.Gets request choice number (Some item) e = answering (reply.Hit item.flags item.body (Some item.number)) refl (λ short. rw e short)
 does verb.Incr request choice number found e =
-    does_counted increment request choice number found (record { absent = rw e refl; refused = rw e refl; number = λ n. rw e refl; alone = rw e refl }) (λ n. small_sum n request.number)
+    does_counted increment request choice number found (record { absent = rw e refl; refused = rw e refl; number = λ n. rw e refl; alone = rw e refl })
+        (λ n. small_sum n request.number)
 does verb.Decr request choice number found e =
-    does_counted decrement request choice number found (record { absent = rw e refl; refused = rw e refl; number = λ n. rw e refl; alone = rw e refl }) (λ n. small_rest n request.number)
+    does_counted decrement request choice number found (record { absent = rw e refl; refused = rw e refl; number = λ n. rw e refl; alone = rw e refl })
+        (λ n. small_rest n request.number)
 does verb.Delete request choice number None e = answering reply.NotFound refl (λ short. rw e refl)
 does verb.Delete request choice number (Some item) e = removing (rw e refl)
 does verb.Touch request choice number None e = answering reply.NotFound refl (λ short. rw e refl)

@@ -7,7 +7,10 @@ use Rattle.std.specs.List.{find, filter}
 use Rattle.std.specs.Option.{option_map}
 use Rattle.std.specs.Str.{bytes_eq}
 use Rattle.std.specs.FinMap as finite_map
-use Rattle.std.specs.FinMap.{FinMap, IsAntisymmetric, nat_cmp-IsAntisymmetric, slice_cmp-IsAntisymmetric, same_map, from_entries_push, get-from_entries, get-insert, get-remove}
+use Rattle.std.specs.FinMap.{
+  FinMap, IsAntisymmetric, nat_cmp-IsAntisymmetric, slice_cmp-IsAntisymmetric, same_map,
+  from_entries_push, get-from_entries, get-insert, get-remove,
+}
 use Rattle.std.specs.FinMap.Entries as entries
 use Rattle.std.specs.FinMap.Entries.{find-where_key}
 
@@ -33,7 +36,9 @@ module _ {X : Type 0} where
   found_value key [] = refl
   found_value key (e ∷ es) =
       ap (λ b. option_map (λ (e : List ℕ × X). e.1) (cond b (Some e) (find (λ e. bytes_eq e.0 key) es))) (bytes_tie e.0 key)
-      ∙ elim (eq_by_cmp (slice_cmp nat_cmp) key e.0) as (λ b. option_map (λ (e : List ℕ × X). e.1) (cond b (Some e) (find (λ e. bytes_eq e.0 key) es)) ≡ cond b (Some e.1) (entries.find (slice_cmp nat_cmp) key es)) [
+      ∙ elim (eq_by_cmp (slice_cmp nat_cmp) key e.0) as
+          (λ b. option_map (λ (e : List ℕ × X). e.1) (cond b (Some e) (find (λ e. bytes_eq e.0 key) es))
+          ≡ cond b (Some e.1) (entries.find (slice_cmp nat_cmp) key es)) [
         | true ↦ refl
         | false ↦ found_value key es
       ]
@@ -63,7 +68,8 @@ module _ {X : Type 0} where
       ∙ sym (get-insert nat_list_cmp_total m key x q))
 
   -- an entry after entries that make the map without its key
-  pub pushed_entry : (m : FinMap (slice_cmp nat_cmp) X) (kept : List (List ℕ × X)) (key : List ℕ) (x : X) → finite_map.from_entries kept ≡ finite_map.remove m key
+  pub pushed_entry : (m : FinMap (slice_cmp nat_cmp) X) (kept : List (List ℕ × X)) (key : List ℕ) (x : X)
+      → finite_map.from_entries kept ≡ finite_map.remove m key
       → finite_map.from_entries (kept ++ (key, x) ∷ []) ≡ finite_map.insert m key x
   pushed_entry m kept key x is =
       let none : entries.find (slice_cmp nat_cmp) key kept ≡ None =

@@ -1,5 +1,8 @@
 -- The bytes that a text stands for, from its first byte on.
-use Rattle.std.proofs.Common.{◌≡◌, ℕ, ◌<◌, ◌==◌, Bool, true, false, cond, List, [], ◌∷◌, ◌++◌, length, Option, Some, None, Result, Ok, Err, refl, sym, ap, ◌∙◌, subst, arith}
+use Rattle.std.proofs.Common.{
+  ◌≡◌, ℕ, ◌<◌, ◌==◌, Bool, true, false, cond, List, [], ◌∷◌, ◌++◌, length, Option, Some, None,
+  Result, Ok, Err, refl, sym, ap, ◌∙◌, subst, arith,
+}
 use Rattle.std.specs.Result.{IfOk}
 use Rattle.std.specs.Option.{IfSome}
 use Rattle.std.proofs.lemmas.List.{append_assoc}
@@ -19,7 +22,8 @@ read_on (Err e) = Err e
 read_on (Ok None) = Ok []
 read_on (Ok (Some p)) = in_front p.0 (bytes_in p.1)
 
-read_on-plain : (plain : Bool) (a : ℕ) (xs : List ℕ) → cond plain (in_front a (bytes_in xs)) (Err fault.Form) ≡ read_on (cond plain (Ok (Some (a, xs))) (Err fault.Form))
+read_on-plain : (plain : Bool) (a : ℕ) (xs : List ℕ)
+    → cond plain (in_front a (bytes_in xs)) (Err fault.Form) ≡ read_on (cond plain (Ok (Some (a, xs))) (Err fault.Form))
 read_on-plain true a xs = refl
 read_on-plain false a xs = refl
 
@@ -28,7 +32,8 @@ read_on-hex (Some h) (Some l) xs = refl
 read_on-hex (Some h) None xs = refl
 read_on-hex None low xs = refl
 
-read_on-either : (percent : Bool) (high low : Option ℕ) (xs : List ℕ) (a : ℕ) (ys : List ℕ) → cond percent (hex_before high low (bytes_in xs)) (plain_before a (bytes_in ys)) ≡ read_on (cond percent (if_hex high low xs) (if_plain a ys))
+read_on-either : (percent : Bool) (high low : Option ℕ) (xs : List ℕ) (a : ℕ) (ys : List ℕ)
+    → cond percent (hex_before high low (bytes_in xs)) (plain_before a (bytes_in ys)) ≡ read_on (cond percent (if_hex high low xs) (if_plain a ys))
 read_on-either true high low xs a ys = read_on-hex high low xs
 read_on-either false high low xs a ys = read_on-plain (is_plain a) a ys
 
@@ -44,7 +49,8 @@ onto-in_front front byte (Ok bytes) = ap Ok (append_assoc front (byte ∷ []) by
 onto-in_front front byte (Err e) = refl
 
 -- a step of the reader
-pub onto-byte : (front rest after : List ℕ) (byte : ℕ) (all : Result (List ℕ) WordsFault) → onto front (bytes_in rest) ≡ all → first_byte_in rest ≡ Ok (Some (byte, after)) → onto (front ++ (byte ∷ [])) (bytes_in after) ≡ all
+pub onto-byte : (front rest after : List ℕ) (byte : ℕ) (all : Result (List ℕ) WordsFault) → onto front (bytes_in rest) ≡ all
+    → first_byte_in rest ≡ Ok (Some (byte, after)) → onto (front ++ (byte ∷ [])) (bytes_in after) ≡ all
 onto-byte front rest after byte all h e = onto-in_front front byte (bytes_in after) ∙ ap (onto front) (sym (bytes_in-first rest ∙ ap read_on e)) ∙ h
 
 -- what follows is shorter than a bound
@@ -60,7 +66,8 @@ shorter-hex n (Some h) (Some l) xs k = k
 shorter-hex n (Some h) None xs k = tt
 shorter-hex n None low xs k = tt
 
-shorter-either : (n : ℕ) (percent : Bool) (high low : Option ℕ) (xs : List ℕ) (a : ℕ) (ys : List ℕ) → length xs < n → length ys < n → IsShorter n (cond percent (if_hex high low xs) (if_plain a ys))
+shorter-either : (n : ℕ) (percent : Bool) (high low : Option ℕ) (xs : List ℕ) (a : ℕ) (ys : List ℕ) → length xs < n → length ys < n
+    → IsShorter n (cond percent (if_hex high low xs) (if_plain a ys))
 shorter-either n true high low xs a ys h k = shorter-hex n high low xs h
 shorter-either n false high low xs a ys h k = shorter-plain n (is_plain a) a ys k
 
@@ -74,11 +81,13 @@ first_byte_in-shorter (a ∷ b ∷ c ∷ xs) = shorter-either _ (a == 37) (hex_v
 pub shorter-byte : (rest after : List ℕ) (byte : ℕ) → first_byte_in rest ≡ Ok (Some (byte, after)) → length after < length rest
 shorter-byte rest after byte e = subst (IsShorter (length rest)) e (first_byte_in-shorter rest)
 
-onto-fault : (front rest : List ℕ) (all : Result (List ℕ) WordsFault) (f : WordsFault) → onto front (bytes_in rest) ≡ all → first_byte_in rest ≡ Err f → all ≡ Err f
+onto-fault : (front rest : List ℕ) (all : Result (List ℕ) WordsFault) (f : WordsFault) → onto front (bytes_in rest) ≡ all
+    → first_byte_in rest ≡ Err f → all ≡ Err f
 onto-fault front rest all f h e = sym h ∙ ap (onto front) (bytes_in-first rest ∙ ap read_on e)
 
 -- a byte's fault is that of the text
-pub onto-fails : (front rest : List ℕ) (all : Result (List ℕ) WordsFault) (f : WordsFault) → onto front (bytes_in rest) ≡ all → Fails f (first_byte_in rest) → Fails f all
+pub onto-fails : (front rest : List ℕ) (all : Result (List ℕ) WordsFault) (f : WordsFault) → onto front (bytes_in rest) ≡ all
+    → Fails f (first_byte_in rest) → Fails f all
 onto-fails front rest all fault.OutOfMemory h e = tt
 onto-fails front rest all fault.Form h e = onto-fault front rest all fault.Form h e
 onto-fails front rest all fault.Number h e = onto-fault front rest all fault.Number h e

@@ -10,7 +10,11 @@ use Rattle.mc_model.specs.declared.sent.Sent.{Sent}
 use Rattle.mc_model.specs.declared.rules.HistoryKind.{HistoryKind}
 use Rattle.mc_model.specs.declared.rules.HistoryKind.TheVariants as kind
 use Rattle.mc_model.specs.Sections.{Sections, no_sections, with_sent}
-use Rattle.mc_model.specs.History.{has_words, all_have_words, has_few_requests, has_few_keys, is_within_limits, is_in_turn, is_cleared, numbers_are_seen, is_answered_rightly, are_answered_rightly, is_history, fault_at, comes_late, key_count}
+use Rattle.mc_model.specs.History.{
+  has_words, all_have_words, has_few_requests, has_few_keys, is_within_limits, is_in_turn,
+  is_cleared, numbers_are_seen, is_answered_rightly, are_answered_rightly, is_history, fault_at,
+  comes_late, key_count,
+}
 use Rattle.mc_model.specs.Next.{is_full, may_come, clears, number_is_seen, keys_with}
 use Rattle.mc_model.proofs.Added.{every_added}
 use Rattle.mc_model.proofs.Limits.{limits_added}
@@ -62,17 +66,25 @@ not_twice true = refl
 not_twice false = refl
 
 -- what is wrong with the request that comes next is the first test that it fails
-pub fault_by_tests : (s : Sections) (who : Actor) (sent : Sent) → is_history s ≡ true → fault_at s who sent ≡ first_failed (has_words sent.request) (is_full s who sent) (may_come s who) (clears s who sent) (number_is_seen s who sent) (is_answered_rightly sent)
+pub fault_by_tests : (s : Sections) (who : Actor) (sent : Sent) → is_history s ≡ true
+    → fault_at s who sent ≡ first_failed (has_words sent.request) (is_full s who sent) (may_come s who) (clears s who sent) (number_is_seen s who sent)
+    (is_answered_rightly sent)
 unfolding fault_at
 fault_by_tests s who sent h =
     let r = rules_of s h in
     let words : all_have_words (with_sent s who sent) ≡ has_words sent.request = every_added (λ x. has_words x.request) s who sent ∙ rw (r.words) refl in
     let replies : are_answered_rightly (with_sent s who sent) ≡ is_answered_rightly sent = every_added is_answered_rightly s who sent ∙ rw (r.replies) refl in
     let limits = limits_added s who sent r.few r.few_keys r.cleared in
-    rw (words, limits, turn_added s who sent r.turn, cleared_added s who sent r.cleared, numbers_added s who sent r.numbers, replies, not_twice (is_full s who sent)) refl
+    rw (words, limits, turn_added s who sent r.turn, cleared_added s who sent r.cleared, numbers_added s who sent r.numbers, replies, not_twice
+        (is_full s who sent)) refl
 
 -- all rules are kept where none is broken
-pub none_failed : (words limits late turn cleared seen replies : Bool) → (if not words then Some kind.Line else (if not limits then Some kind.TooMany else (if late || not turn then Some kind.Order else (if not cleared then Some kind.NotCleared else (if not seen then Some kind.UnseenNumber else (if not replies then Some kind.WrongReply else None)))))) ≡ None → (late ≡ false) × ((words && limits && turn && cleared && seen && replies) ≡ true)
+pub none_failed : (words limits late turn cleared seen replies : Bool)
+    → (if not words then Some kind.Line
+    else (if not limits then Some kind.TooMany
+    else (if late || not turn then Some kind.Order
+    else (if not cleared then Some kind.NotCleared else (if not seen then Some kind.UnseenNumber else (if not replies then Some kind.WrongReply else None))))))
+    ≡ None → (late ≡ false) × ((words && limits && turn && cleared && seen && replies) ≡ true)
 none_failed false limits late turn cleared seen replies e = cc
 none_failed true false late turn cleared seen replies e = cc
 none_failed true true true turn cleared seen replies e = cc
@@ -98,7 +110,8 @@ no_fault_of s who sent late h =
 
 -- how many keys a history has with one more request
 pub keys_counted : (s : Sections) (who : Actor) (sent : Sent) → is_history s ≡ true → key_count (with_sent s who sent) ≡ keys_with s sent
-keys_counted s who sent h = key_count_added s who sent ∙ ap (λ b. cond b (key_count s) (key_count s + 1)) (keys_in_prefix s sent.request.key (rules_of s h).cleared)
+keys_counted s who sent h = key_count_added s who sent
+    ∙ ap (λ b. cond b (key_count s) (key_count s + 1)) (keys_in_prefix s sent.request.key (rules_of s h).cleared)
 
 -- a history has at most as many keys as it may
 pub few_keys_in : (s : Sections) → is_history s ≡ true → key_count s ≤ KEYS_LIMIT

@@ -1,5 +1,9 @@
 -- The first fault of sections: there is one where they are no history, and only one.
-use Rattle.std.proofs.Common.{◌≡◌, ◌⊎◌, inl, inr, ℕ, ◌<◌, true, false, Option, Some, None, List, [], ◌∷◌, ◌++◌, length, take, slice_get, append_assoc, append-nil, length-take, length-append, take-take, arith, refl, sym, ap, subst, ◌∙◌}
+use Rattle.std.proofs.Common.{
+  ◌≡◌, ◌⊎◌, inl, inr, ℕ, ◌<◌, true, false, Option, Some, None, List, [], ◌∷◌, ◌++◌, length, take,
+  slice_get, append_assoc, append-nil, length-take, length-append, take-take, arith, refl, sym, ap,
+  subst, ◌∙◌,
+}
 use Rattle.std.proofs.lemmas.Bool.{both_ways, cases_order}
 use Rattle.std.proofs.lemmas.List.{take_at, get_or_at, get_or-take}
 use Rattle.std.proofs.lemmas.Option.{slice_get_within, slice_get-get_or, get_or_from_slice_get, same_Some}
@@ -46,12 +50,18 @@ same_section : (s : Sections) (k j : HistoryKind) (who other : Actor) (n m : ℕ
 same_section s k j actor.P actor.P n m f g = refl
 same_section s k j actor.A actor.A n m f g = refl
 same_section s k j actor.B actor.B n m f g = refl
-same_section s k j actor.P actor.A n m f g = absurd (clash s k j actor.P actor.A n m (record { history = f.history; sent = f.sent; request = f.request; fault = f.fault }) g)
-same_section s k j actor.P actor.B n m f g = absurd (clash s k j actor.P actor.B n m (record { history = f.history; sent = f.sent; request = f.request; fault = f.fault }) g)
-same_section s k j actor.A actor.B n m f g = absurd (clash s k j actor.A actor.B n m (record { history = f.history; sent = f.sent; request = f.request; fault = f.fault }) g)
-same_section s k j actor.A actor.P n m f g = absurd (clash s j k actor.P actor.A m n (record { history = g.history; sent = g.sent; request = g.request; fault = g.fault }) f)
-same_section s k j actor.B actor.P n m f g = absurd (clash s j k actor.P actor.B m n (record { history = g.history; sent = g.sent; request = g.request; fault = g.fault }) f)
-same_section s k j actor.B actor.A n m f g = absurd (clash s j k actor.A actor.B m n (record { history = g.history; sent = g.sent; request = g.request; fault = g.fault }) f)
+same_section s k j actor.P actor.A n m f g =
+    absurd (clash s k j actor.P actor.A n m (record { history = f.history; sent = f.sent; request = f.request; fault = f.fault }) g)
+same_section s k j actor.P actor.B n m f g =
+    absurd (clash s k j actor.P actor.B n m (record { history = f.history; sent = f.sent; request = f.request; fault = f.fault }) g)
+same_section s k j actor.A actor.B n m f g =
+    absurd (clash s k j actor.A actor.B n m (record { history = f.history; sent = f.sent; request = f.request; fault = f.fault }) g)
+same_section s k j actor.A actor.P n m f g =
+    absurd (clash s j k actor.P actor.A m n (record { history = g.history; sent = g.sent; request = g.request; fault = g.fault }) f)
+same_section s k j actor.B actor.P n m f g =
+    absurd (clash s j k actor.P actor.B m n (record { history = g.history; sent = g.sent; request = g.request; fault = g.fault }) f)
+same_section s k j actor.B actor.A n m f g =
+    absurd (clash s j k actor.A actor.B m n (record { history = g.history; sent = g.sent; request = g.request; fault = g.fault }) f)
 
 same_kind : (s : Sections) (k j : HistoryKind) (who : Actor) (n : ℕ) → IsFirstFault s k who n → IsFirstFault s j who n → k ≡ j
 same_kind s k j who n f g =
@@ -59,7 +69,8 @@ same_kind s k j who n f g =
     same_Some k j (sym f.fault ∙ ap (fault_at (before s who n) who) sent ∙ g.fault)
 
 -- sections have at most one first fault
-pub one_first_fault : (s : Sections) (k j : HistoryKind) (who other : Actor) (n m : ℕ) → IsFirstFault s k who n → IsFirstFault s j other m → (k ≡ j) × (who ≡ other) × (n ≡ m)
+pub one_first_fault : (s : Sections) (k j : HistoryKind) (who other : Actor) (n m : ℕ) → IsFirstFault s k who n → IsFirstFault s j other m
+    → (k ≡ j) × (who ≡ other) × (n ≡ m)
 one_first_fault s k j who other n m f g =
     let section = same_section s k j who other n m f g in
     let there : IsFirstFault s j who m = subst (λ w. IsFirstFault s j w m) (sym section) g in
@@ -67,14 +78,19 @@ one_first_fault s k j who other n m f g =
     (same_kind s k j who n f (subst (λ p. IsFirstFault s j who p) (sym place) there), section, place)
 
 -- a section's requests after those that made a history: all do, or one fails first
-walk : (s : Sections) (who : Actor) (done rest : List Sent) → comes_late s who ≡ false → is_history (with_section s who done) ≡ true → (is_history (with_section s who (done ++ rest)) ≡ true) ⊎ ((kind : HistoryKind) × (place : ℕ) × FailsAt s who (done ++ rest) kind place)
+walk : (s : Sections) (who : Actor) (done rest : List Sent) → comes_late s who ≡ false → is_history (with_section s who done) ≡ true
+    → (is_history (with_section s who (done ++ rest)) ≡ true) ⊎ ((kind : HistoryKind) × (place : ℕ) × FailsAt s who (done ++ rest) kind place)
 walk s who done [] late h = inl (rw (append-nil done) h)
 walk s who done (x ∷ xs) late h =
-    let at_x : (fault : Option HistoryKind) → fault_at (with_section s who done) who x ≡ fault → (is_history (with_section s who (done ++ x ∷ xs)) ≡ true) ⊎ ((kind : HistoryKind) × (place : ℕ) × FailsAt s who (done ++ x ∷ xs) kind place) =
-    λ fault. elim fault as (λ o. fault_at (with_section s who done) who x ≡ o → (is_history (with_section s who (done ++ x ∷ xs)) ≡ true) ⊎ ((kind : HistoryKind) × (place : ℕ) × FailsAt s who (done ++ x ∷ xs) kind place)) [
+    let at_x : (fault : Option HistoryKind) → fault_at (with_section s who done) who x ≡ fault
+        → (is_history (with_section s who (done ++ x ∷ xs)) ≡ true) ⊎ ((kind : HistoryKind) × (place : ℕ) × FailsAt s who (done ++ x ∷ xs) kind place) =
+    λ fault. elim fault as (λ o. fault_at (with_section s who done) who x ≡ o
+        → (is_history (with_section s who (done ++ x ∷ xs)) ≡ true) ⊎ ((kind : HistoryKind) × (place : ℕ) × FailsAt s who (done ++ x ∷ xs) kind place)) [
       | None ↦ λ none.
-          let next : is_history (with_section s who (done ++ x ∷ [])) ≡ true = ap is_history (added_last s who done x) ∙ (no_fault (with_section s who done) who x none).1 in
-          subst (λ all. (is_history (with_section s who all) ≡ true) ⊎ ((kind : HistoryKind) × (place : ℕ) × FailsAt s who all kind place)) (append_assoc done (x ∷ []) xs)
+          let next : is_history (with_section s who (done ++ x ∷ [])) ≡ true =
+              ap is_history (added_last s who done x) ∙ (no_fault (with_section s who done) who x none).1 in
+          subst (λ all. (is_history (with_section s who all) ≡ true) ⊎ ((kind : HistoryKind) × (place : ℕ) × FailsAt s who all kind place))
+              (append_assoc done (x ∷ []) xs)
           (walk s who (done ++ x ∷ []) xs late next)
       | Some kind ↦ λ fault.
           let front : take (length done) (done ++ x ∷ xs) ≡ done = take_at done (x ∷ xs) (length done) refl in
@@ -84,7 +100,8 @@ walk s who done (x ∷ xs) late h =
             record {
               history = rw front h;
               sent = x;
-              request = slice_get-get_or (done ++ x ∷ xs) (length done) x (simp length-append (omega arith)) ∙ ap Some (get_or_at done x xs x (length done) refl);
+              request = slice_get-get_or (done ++ x ∷ xs) (length done) x (simp length-append (omega arith))
+                  ∙ ap Some (get_or_at done x xs x (length done) refl);
               fault = rw front fault;
             },
           )

@@ -47,14 +47,16 @@ key_set_with xs ys sent =
     ∙ ap₂ (λ x y. x || y) (sym (texts_ties q sent.request.key) ∙ bytes_eq_sym q sent.request.key) (contains-key_set (xs ++ ys) q)))
 
 -- the lists less and more, the second with one more request somewhere
-counted : (xs ys : List Sent) (sent : Sent) (less more : List Sent) → less ≡ xs ++ ys → more ≡ xs ++ sent ∷ ys → set.len (key_set more) ≡ cond (has_key sent.request.key less) (set.len (key_set less)) (set.len (key_set less) + 1)
+counted : (xs ys : List Sent) (sent : Sent) (less more : List Sent) → less ≡ xs ++ ys → more ≡ xs ++ sent ∷ ys
+    → set.len (key_set more) ≡ cond (has_key sent.request.key less) (set.len (key_set less)) (set.len (key_set less) + 1)
 counted xs ys sent less more e f =
     rw (f, e)
     (ap set.len (key_set_with xs ys sent) ∙ set.len-insert nat_list_cmp_total (key_set (xs ++ ys)) sent.request.key
     ∙ ap (λ b. cond b (set.len (key_set (xs ++ ys))) (set.len (key_set (xs ++ ys)) + 1)) (contains-key_set (xs ++ ys) sent.request.key))
 
 -- how many keys there are with one more request
-pub key_count_added : (s : Sections) (who : Actor) (sent : Sent) → key_count (with_sent s who sent) ≡ cond (has_key sent.request.key (s.p ++ s.a ++ s.b)) (key_count s) (key_count s + 1)
+pub key_count_added : (s : Sections) (who : Actor) (sent : Sent)
+    → key_count (with_sent s who sent) ≡ cond (has_key sent.request.key (s.p ++ s.a ++ s.b)) (key_count s) (key_count s + 1)
 key_count_added s actor.P sent = counted s.p (s.a ++ s.b) sent (s.p ++ s.a ++ s.b) _ (simp append_assoc) (simp append_assoc)
 key_count_added s actor.A sent = counted (s.p ++ s.a) s.b sent (s.p ++ s.a ++ s.b) _ refl (simp append_assoc)
 key_count_added s actor.B sent = counted (s.p ++ s.a ++ s.b) [] sent (s.p ++ s.a ++ s.b) _ (simp append-nil) (simp append_assoc)

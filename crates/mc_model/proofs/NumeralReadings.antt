@@ -1,5 +1,8 @@
 -- What a body says as a number, by the digits that it begins with.
-use Rattle.std.proofs.Common.{◌≡◌, ℕ, ◌<◌, ◌≤◌, ◌^◌, Bool, true, false, not, cond, eqb, ltb, leb, Some, ◌&&◌, List, [], ◌∷◌, ◌++◌, length, take, drop, replicate, refl, sym, ap, ◌∙◌, arith, zero, suc}
+use Rattle.std.proofs.Common.{
+  ◌≡◌, ℕ, ◌<◌, ◌≤◌, ◌^◌, Bool, true, false, not, cond, eqb, ltb, leb, Some, ◌&&◌, List, [], ◌∷◌,
+  ◌++◌, length, take, drop, replicate, refl, sym, ap, ◌∙◌, arith, zero, suc,
+}
 use Rattle.std.specs.List.{list_all, take_while}
 use Rattle.std.specs.Str.Parse.{digits_value}
 use Rattle.std.specs.Fmt.{decimal}
@@ -13,7 +16,10 @@ use Rattle.mc_protocol.specs.Decimals.{are_digits, is_digit}
 use Rattle.mc_protocol.proofs.Digits.{digits as own}
 use Rattle.mc_model.specs.declared.numeral.Numeral.{Numeral}
 use Rattle.mc_model.specs.declared.numeral.Numeral.TheVariants.{NoNumber, Is, MayBe}
-use Rattle.mc_model.specs.Numeral.{numeral_of, numeral_of_parts, leading_digits, after_digits, ends_or_has_space, are_spaces, is_space, is_readable, is_plain_numeral, read_as}
+use Rattle.mc_model.specs.Numeral.{
+  numeral_of, numeral_of_parts, leading_digits, after_digits, ends_or_has_space, are_spaces,
+  is_space, is_readable, is_plain_numeral, read_as,
+}
 use Rattle.mc_model.specs.NumeralLaws.{BeginsWithNumber, IsPlainNumber, WillingReads, StrictReads}
 
 -- one more element before those that pass, where it passes
@@ -56,7 +62,8 @@ said readable plain value = cond (not readable) NoNumber (cond plain (Is value) 
 readable : (digits rest : List ℕ) → 0 < length digits → ends_or_has_space rest ≡ true → digits_value 10 digits < 2 ^ 64 → is_readable digits rest ≡ true
 readable digits rest some ends small =
     and_from (not (eqb (length digits) 0) && ends_or_has_space rest) (ltb (digits_value 10 digits) (2 ^ 64))
-    (and_from (not (eqb (length digits) 0)) (ends_or_has_space rest) (not_from_false (eqb (length digits) 0) (ne_eqb (length digits) 0 (λ e. omega arith))) ends)
+    (and_from (not (eqb (length digits) 0)) (ends_or_has_space rest)
+        (not_from_false (eqb (length digits) 0) (ne_eqb (length digits) 0 (λ e. omega arith))) ends)
     (lt-ltb (digits_value 10 digits) (2 ^ 64) small)
 
 -- a body that begins with a number says that number, plainly or not
@@ -90,13 +97,15 @@ plainly : (digits : List ℕ) (spaces : ℕ) → are_digits digits ≡ true → 
     → numeral_of (digits ++ replicate spaces 32) ≡ Is (digits_value 10 digits)
 plainly digits spaces are some few small =
     says digits (replicate spaces 32) are some (spaces_end spaces) small
-    ∙ ap (λ b. said true b (digits_value 10 digits)) (and_from (leb (length digits) 20) (are_spaces (replicate spaces 32)) (le-leb (length digits) 20 few) (spaces_are spaces))
+    ∙ ap (λ b. said true b (digits_value 10 digits))
+        (and_from (leb (length digits) 20) (are_spaces (replicate spaces 32)) (le-leb (length digits) 20 few) (spaces_are spaces))
 
 -- a decimal, and spaces after it, say the number
 pub decimal_says : (n spaces : ℕ) → n < 2 ^ 64 → numeral_of (decimal n ++ replicate spaces 32) ≡ Is n
 decimal_says n spaces small =
     let value = digits_value-decimal own n small in
-    plainly (decimal n) spaces (digits_decimal own n small) (decimal_nonempty n small) (length-decimal-le 20 n (omega arith) (omega arith) small) (rw value small)
+    plainly (decimal n) spaces (digits_decimal own n small) (decimal_nonempty n small)
+        (length-decimal-le 20 n (omega arith) (omega arith) small) (rw value small)
     ∙ ap Is value
 
 -- what a willing server reads is readable
@@ -135,7 +144,8 @@ readable_parts digits rest is =
     }
 
 -- a body with readable digits begins with a number
-begins : (body : List ℕ) (n : ℕ) → is_readable (leading_digits body) (after_digits body) ≡ true → digits_value 10 (leading_digits body) ≡ n → BeginsWithNumber body n
+begins : (body : List ℕ) (n : ℕ) → is_readable (leading_digits body) (after_digits body) ≡ true → digits_value 10 (leading_digits body) ≡ n
+    → BeginsWithNumber body n
 begins body n is value =
     let parts = readable_parts (leading_digits body) (after_digits body) is in
     record {
@@ -161,7 +171,8 @@ read_willingly body n b =
 pub willing_reads : WillingReads
 willing_reads body n = (
   λ e.
-      let is = willing (is_readable (leading_digits body) (after_digits body)) (is_plain_numeral (leading_digits body) (after_digits body)) (digits_value 10 (leading_digits body)) n e in
+      let is = willing (is_readable (leading_digits body) (after_digits body)) (is_plain_numeral (leading_digits body) (after_digits body))
+          (digits_value 10 (leading_digits body)) n e in
       begins body n is.0 is.1,
   read_willingly body n,
 )
@@ -174,7 +185,8 @@ read_strictly body n p =
     ∙ ap Some p.value
 
 -- a body with readable and plain digits is a plain number
-plain_parts : (body : List ℕ) (n : ℕ) → is_readable (leading_digits body) (after_digits body) ≡ true → is_plain_numeral (leading_digits body) (after_digits body) ≡ true
+plain_parts : (body : List ℕ) (n : ℕ) → is_readable (leading_digits body) (after_digits body) ≡ true
+    → is_plain_numeral (leading_digits body) (after_digits body) ≡ true
     → digits_value 10 (leading_digits body) ≡ n → IsPlainNumber body n
 plain_parts body n is is_plain value =
     let parts = readable_parts (leading_digits body) (after_digits body) is in
@@ -194,7 +206,8 @@ plain_parts body n is is_plain value =
 pub strict_reads : StrictReads
 strict_reads body n = (
   λ e.
-      let is = strict (is_readable (leading_digits body) (after_digits body)) (is_plain_numeral (leading_digits body) (after_digits body)) (digits_value 10 (leading_digits body)) n e in
+      let is = strict (is_readable (leading_digits body) (after_digits body)) (is_plain_numeral (leading_digits body) (after_digits body))
+          (digits_value 10 (leading_digits body)) n e in
       plain_parts body n is.0 is.1 is.2,
   read_strictly body n,
 )
@@ -209,5 +222,6 @@ small_said false plain read value n small e = absurd cc
 -- a number that is read has 64 bits
 pub small_numeral : (read : Bool) (body : List ℕ) (n : ℕ) → read_as read (numeral_of body) ≡ Some n → n < 2 ^ 64
 small_numeral read body n e =
-    small_said (is_readable (leading_digits body) (after_digits body)) (is_plain_numeral (leading_digits body) (after_digits body)) read (digits_value 10 (leading_digits body)) n
+    small_said (is_readable (leading_digits body) (after_digits body)) (is_plain_numeral (leading_digits body) (after_digits body)) read
+        (digits_value 10 (leading_digits body)) n
     (λ is. (readable_parts (leading_digits body) (after_digits body) is).small) e

@@ -1,5 +1,8 @@
 -- What stands before a request of a history is a history.
-use Rattle.std.proofs.Common.{◌≡◌, ℕ, ◌+◌, Bool, true, false, Some, None, List, [], ◌∷◌, ◌++◌, take, drop, slice_get, append_assoc, append-nil, take-append-drop, refl, sym, ap, subst, ◌∙◌}
+use Rattle.std.proofs.Common.{
+  ◌≡◌, ℕ, ◌+◌, Bool, true, false, Some, None, List, [], ◌∷◌, ◌++◌, take, drop, slice_get,
+  append_assoc, append-nil, take-append-drop, refl, sym, ap, subst, ◌∙◌,
+}
 use Rattle.std.proofs.lemmas.Bool.{and_parts, false_from_ne_true}
 use Rattle.std.proofs.lemmas.List.{take_more}
 use Rattle.std.proofs.lemmas.Option.{slice_get_within, get_or_from_slice_get}
@@ -54,16 +57,20 @@ late_with s actor.A xs = refl
 late_with s actor.B xs = refl
 
 -- a section may lose its last requests
-shorter : (s : Sections) (who : Actor) (xs ys : List Sent) → comes_late s who ≡ false → is_history (with_section s who (xs ++ ys)) ≡ true → is_history (with_section s who xs) ≡ true
+shorter : (s : Sections) (who : Actor) (xs ys : List Sent) → comes_late s who ≡ false → is_history (with_section s who (xs ++ ys)) ≡ true
+    → is_history (with_section s who xs) ≡ true
 shorter s who xs [] late h = subst (λ all. is_history (with_section s who all) ≡ true) (append-nil xs) h
 shorter s who xs (y ∷ ys) late h =
-    let moved : is_history (with_section s who ((xs ++ y ∷ []) ++ ys)) ≡ true = subst (λ all. is_history (with_section s who all) ≡ true) (sym (append_assoc xs (y ∷ []) ys)) h in
+    let moved : is_history (with_section s who ((xs ++ y ∷ []) ++ ys)) ≡ true =
+        subst (λ all. is_history (with_section s who all) ≡ true) (sym (append_assoc xs (y ∷ []) ys)) h in
     let one = shorter s who (xs ++ y ∷ []) ys late moved in
     history_before (with_section s who xs) who y (late_with s who xs ∙ late) (sym (ap is_history (added_last s who xs y)) ∙ one)
 
 -- the first requests of a section
-first_of_section : (s : Sections) (who : Actor) (n : ℕ) (xs : List Sent) → comes_late s who ≡ false → is_history (with_section s who xs) ≡ true → is_history (with_section s who (take n xs)) ≡ true
-first_of_section s who n xs late h = shorter s who (take n xs) (drop n xs) late (subst (λ all. is_history (with_section s who all) ≡ true) (sym (take-append-drop n xs)) h)
+first_of_section : (s : Sections) (who : Actor) (n : ℕ) (xs : List Sent) → comes_late s who ≡ false → is_history (with_section s who xs) ≡ true
+    → is_history (with_section s who (take n xs)) ≡ true
+first_of_section s who n xs late h =
+    shorter s who (take n xs) (drop n xs) late (subst (λ all. is_history (with_section s who all) ≡ true) (sym (take-append-drop n xs)) h)
 
 -- what stands before a request of a history is a history
 pub history_before_place : (s : Sections) (who : Actor) (n : ℕ) → is_history s ≡ true → is_history (before s who n) ≡ true
@@ -80,7 +87,8 @@ next_of : (xs : List Sent) (n : ℕ) (sent : Sent) → slice_get xs n ≡ Some s
 next_of xs n sent at = take_more xs n sent (slice_get_within xs n sent at) ∙ ap (λ x. take n xs ++ x ∷ []) (get_or_from_slice_get xs n sent sent at)
 
 -- the request at a place, after those before it
-before_next : (s : Sections) (who : Actor) (n : ℕ) (sent : Sent) → slice_get (section_of s who) n ≡ Some sent → before s who (n + 1) ≡ with_sent (before s who n) who sent
+before_next : (s : Sections) (who : Actor) (n : ℕ) (sent : Sent) → slice_get (section_of s who) n ≡ Some sent
+    → before s who (n + 1) ≡ with_sent (before s who n) who sent
 before_next s actor.P n sent at = rw (next_of s.p n sent at) refl
 before_next s actor.A n sent at = rw (next_of s.a n sent at) refl
 before_next s actor.B n sent at = rw (next_of s.b n sent at) refl
@@ -95,7 +103,8 @@ pub no_history : (s : Sections) (kind : HistoryKind) (who : Actor) (place : ℕ)
 no_history s kind who place f =
     false_from_ne_true (is_history s)
     (λ h.
-    let next : is_history (with_sent (before s who place) who f.sent) ≡ true = sym (ap is_history (before_next s who place f.sent f.request)) ∙ history_before_place s who (place + 1) h in
+    let next : is_history (with_sent (before s who place) who f.sent) ≡ true =
+        sym (ap is_history (before_next s who place f.sent f.request)) ∙ history_before_place s who (place + 1) h in
     let none = no_fault_of (before s who place) who f.sent (not_late_before s who place) next in
     let both : None ≡ Some kind = sym none ∙ f.fault in
     cc)

@@ -11,7 +11,10 @@ use Rattle.mc_protocol.specs.Decimals.{SpellsNumber, MAX_32, MAX_64}
 use Rattle.mc_protocol.specs.Words.{all_classes}
 use Rattle.mc_protocol.proofs.Found.{find-passes}
 use Rattle.mc_model.specs.Words.{SpellsShown, SpellsReply, class_word}
-use Rattle.mc_model.specs.Reading.{◌>>=◌, at_end, last_number_in, flags_and_body_in, class_of_word, flags_in, body_in, shown_number_in, hit_in, count_in, after_class, reply_in}
+use Rattle.mc_model.specs.Reading.{
+  ◌>>=◌, at_end, last_number_in, flags_and_body_in, class_of_word, flags_in, body_in,
+  shown_number_in, hit_in, count_in, after_class, reply_in,
+}
 use Rattle.mc_model.proofs.Outcomes.{steps-ok, ok-same}
 use Rattle.mc_model.proofs.NumberWords.{number-read}
 use Rattle.mc_model.proofs.BodyWords.{body-read}
@@ -39,7 +42,8 @@ word-of_class word c h = (bytes_eq-Decides (class_word c) word).0 (find-passes (
 
 -- ---- replies with nothing after their word
 
-bare-spelled : (c : Class) (made : Reply) → ((words : List Word) → words ≡ class_word c ∷ [] → SpellsReply words made) → (word : Word) (words : List Word) (r : Reply) → class_word c ≡ word → at_end made words ≡ Ok r → SpellsReply (word ∷ words) r
+bare-spelled : (c : Class) (made : Reply) → ((words : List Word) → words ≡ class_word c ∷ [] → SpellsReply words made)
+    → (word : Word) (words : List Word) (r : Reply) → class_word c ≡ word → at_end made words ≡ Ok r → SpellsReply (word ∷ words) r
 bare-spelled c made spells word words r w h =
     let e = at_end-ok made words r h in
     subst (SpellsReply (word ∷ words)) e.1 (spells (word ∷ words) (rw (w, e.0) refl))
@@ -64,7 +68,8 @@ hit-spelled word words r w h =
     subst (SpellsReply (word ∷ words)) (ok-same (reply.Hit p.0.0 p.0.1 s.0) r s.2)
     (i.flags, i.body, p.0.2, ap (λ x. x ∷ words) (sym w) ∙ ap (λ o. class_word class.Hit ∷ o) i.split, i.number, i.bytes, shown-spelled p.0.2 s.0 s.1)
 
-hit-read : (f b : Word) (shown : List Word) (flags : ℕ) (body : List ℕ) (cas : Option ℕ) → flags_in f ≡ Ok flags → body_in b ≡ Ok body → shown_number_in shown ≡ Ok cas → hit_in (f ∷ b ∷ shown) ≡ Ok (reply.Hit flags body cas)
+hit-read : (f b : Word) (shown : List Word) (flags : ℕ) (body : List ℕ) (cas : Option ℕ) → flags_in f ≡ Ok flags → body_in b ≡ Ok body
+    → shown_number_in shown ≡ Ok cas → hit_in (f ∷ b ∷ shown) ≡ Ok (reply.Hit flags body cas)
 hit-read f b shown flags body cas p q s = rw (p, q, s) refl
 
 -- ---- numbers that were counted
@@ -80,18 +85,22 @@ count-read word n s = rw (number-read MAX_64 word n s) refl
 
 -- ---- replies
 
-after-spelled : (word : Word) (c : Option Class) (words : List Word) (r : Reply) → class_of_word word ≡ c → after_class c words ≡ Ok r → SpellsReply (word ∷ words) r
+after-spelled : (word : Word) (c : Option Class) (words : List Word) (r : Reply) → class_of_word word ≡ c → after_class c words ≡ Ok r
+    → SpellsReply (word ∷ words) r
 after-spelled word None words r e h = absurd (cc)
 after-spelled word (Some class.Stored) words r e h = bare-spelled class.Stored reply.Stored (λ _ p. p) word words r (word-of_class word class.Stored e) h
-after-spelled word (Some class.NotStored) words r e h = bare-spelled class.NotStored reply.NotStored (λ _ p. p) word words r (word-of_class word class.NotStored e) h
+after-spelled word (Some class.NotStored) words r e h =
+    bare-spelled class.NotStored reply.NotStored (λ _ p. p) word words r (word-of_class word class.NotStored e) h
 after-spelled word (Some class.Exists) words r e h = bare-spelled class.Exists reply.Exists (λ _ p. p) word words r (word-of_class word class.Exists e) h
-after-spelled word (Some class.NotFound) words r e h = bare-spelled class.NotFound reply.NotFound (λ _ p. p) word words r (word-of_class word class.NotFound e) h
+after-spelled word (Some class.NotFound) words r e h =
+    bare-spelled class.NotFound reply.NotFound (λ _ p. p) word words r (word-of_class word class.NotFound e) h
 after-spelled word (Some class.Hit) words r e h = hit-spelled word words r (word-of_class word class.Hit e) h
 after-spelled word (Some class.Miss) words r e h = bare-spelled class.Miss reply.Miss (λ _ p. p) word words r (word-of_class word class.Miss e) h
 after-spelled word (Some class.Deleted) words r e h = bare-spelled class.Deleted reply.Deleted (λ _ p. p) word words r (word-of_class word class.Deleted e) h
 after-spelled word (Some class.Touched) words r e h = bare-spelled class.Touched reply.Touched (λ _ p. p) word words r (word-of_class word class.Touched e) h
 after-spelled word (Some class.Number) words r e h = count-spelled word words r (word-of_class word class.Number e) h
-after-spelled word (Some class.NotNumber) words r e h = bare-spelled class.NotNumber reply.NotNumber (λ _ p. p) word words r (word-of_class word class.NotNumber e) h
+after-spelled word (Some class.NotNumber) words r e h =
+    bare-spelled class.NotNumber reply.NotNumber (λ _ p. p) word words r (word-of_class word class.NotNumber e) h
 
 pub reply-spelled : (words : List Word) (r : Reply) → reply_in words ≡ Ok r → SpellsReply words r
 unfolding reply_in
@@ -109,7 +118,8 @@ reply-read words reply.NotStored e = class-read class.NotStored words [] reply.N
 reply-read words reply.Exists e = class-read class.Exists words [] reply.Exists e refl
 reply-read words reply.NotFound e = class-read class.NotFound words [] reply.NotFound e refl
 reply-read words (reply.Hit flags body cas) (f, b, shown, e, p, q, s) =
-    class-read class.Hit words (f ∷ b ∷ shown) (reply.Hit flags body cas) e (hit-read f b shown flags body cas (number-read MAX_32 f flags p) (body-read b body q) (shown-read shown cas s))
+    class-read class.Hit words (f ∷ b ∷ shown) (reply.Hit flags body cas) e
+        (hit-read f b shown flags body cas (number-read MAX_32 f flags p) (body-read b body q) (shown-read shown cas s))
 reply-read words reply.Miss e = class-read class.Miss words [] reply.Miss e refl
 reply-read words reply.Deleted e = class-read class.Deleted words [] reply.Deleted e refl
 reply-read words reply.Touched e = class-read class.Touched words [] reply.Touched e refl

@@ -13,7 +13,10 @@ use Rattle.mc_protocol.specs.Decimals.{are_digits, MAX_32, MAX_64}
 use Rattle.mc_protocol.proofs.OfWords.{verb_of-word, word-of_verb}
 use Rattle.mc_model.specs.declared.words.WordsFault.TheVariants as fault
 use Rattle.mc_model.specs.Words.{SpellsBody, SpellsFields, SpellsRequest}
-use Rattle.mc_model.specs.Reading.{◌>>=◌, at_end, last_number_in, flags_and_body_in, fields_in, key_alone_in, item_in, after_verb, request_in, swap_in, amount_in}
+use Rattle.mc_model.specs.Reading.{
+  ◌>>=◌, at_end, last_number_in, flags_and_body_in, fields_in, key_alone_in, item_in, after_verb,
+  request_in, swap_in, amount_in,
+}
 use Rattle.mc_model.proofs.Outcomes.{then-ok, steps-ok, ok-same}
 use Rattle.mc_model.proofs.NumberWords.{number-read}
 use Rattle.mc_model.proofs.BodyWords.{body-read}
@@ -25,7 +28,8 @@ use Rattle.mc_model.proofs.FieldWords.{at_end-ok, last_number-spelled, flags_and
 abbrev SpellsAfter : Fields → Verb → List ℕ → List Word → Request → Type 0
 SpellsAfter shape verb key words r = (r.verb ≡ verb) × (r.key ≡ key) × SpellsFields shape words r
 
-key_alone-spelled : (verb : Verb) (key : List ℕ) (words : List Word) (r : Request) → key_alone_in verb key words ≡ Ok r → SpellsAfter fields.KeyAlone verb key words r
+key_alone-spelled : (verb : Verb) (key : List ℕ) (words : List Word) (r : Request) → key_alone_in verb key words ≡ Ok r
+    → SpellsAfter fields.KeyAlone verb key words r
 key_alone-spelled verb key words r h =
     let e = at_end-ok _ words r h in
     subst (SpellsAfter fields.KeyAlone verb key words) e.1 (refl, refl, (e.0, refl, refl, refl))
@@ -55,7 +59,8 @@ amount-spelled verb key words r h =
     let n = last_number-spelled words q.0 q.1 in
     subst (SpellsAfter fields.Amount verb key words) (ok-same (made q.0) r q.2) (refl, refl, (n.0, n.1, refl, refl, n.2))
 
-fields-spelled : (shape : Fields) (verb : Verb) (key : List ℕ) (words : List Word) (r : Request) → fields_in shape verb key words ≡ Ok r → SpellsAfter shape verb key words r
+fields-spelled : (shape : Fields) (verb : Verb) (key : List ℕ) (words : List Word) (r : Request) → fields_in shape verb key words ≡ Ok r
+    → SpellsAfter shape verb key words r
 fields-spelled fields.KeyAlone verb key words r h = key_alone-spelled verb key words r h
 fields-spelled fields.Expiry verb key words r h = key_alone-spelled verb key words r h
 fields-spelled fields.Item verb key words r h = item-spelled verb key words r h
@@ -63,7 +68,8 @@ fields-spelled fields.Swap verb key words r h = swap-spelled verb key words r h
 fields-spelled fields.Amount verb key words r h = amount-spelled verb key words r h
 
 -- a request is what its parts make
-same_request : (r : Request) (flags : ℕ) (body : List ℕ) (number : ℕ) → r.flags ≡ flags → r.body ≡ body → r.number ≡ number → ◌≡◌ {A = Request} (record { verb = r.verb; key = r.key; flags = flags; body = body; number = number }) r
+same_request : (r : Request) (flags : ℕ) (body : List ℕ) (number : ℕ) → r.flags ≡ flags → r.body ≡ body → r.number ≡ number
+    → ◌≡◌ {A = Request} (record { verb = r.verb; key = r.key; flags = flags; body = body; number = number }) r
 same_request r flags body number f b n = rw (← f, ← b, ← n) refl
 
 fields-read : (shape : Fields) (r : Request) (words : List Word) → SpellsFields shape words r → fields_in shape r.verb r.key words ≡ Ok r
@@ -72,13 +78,15 @@ fields-read fields.Expiry r words (e, f, b, n) = rw e (ap Ok (same_request r 0 [
 fields-read fields.Item r words (flags, body, e, f, b, n) =
     rw (e, number-read MAX_32 flags r.flags f, body-read body r.body b) (ap Ok (same_request r r.flags r.body 0 refl refl n))
 fields-read fields.Swap r words (flags, body, number, e, f, b, n) =
-    rw (e, number-read MAX_32 flags r.flags f, body-read body r.body b, number-read MAX_64 number r.number n) (ap Ok (same_request r r.flags r.body r.number refl refl refl))
+    rw (e, number-read MAX_32 flags r.flags f, body-read body r.body b, number-read MAX_64 number r.number n)
+        (ap Ok (same_request r r.flags r.body r.number refl refl refl))
 fields-read fields.Amount r words (number, e, f, b, n) =
     rw (e, number-read MAX_64 number r.number n) (ap Ok (same_request r 0 [] r.number f b refl))
 
 -- ---- requests
 
-after-spelled : (word : Word) (verb : Option Verb) (words : List Word) (r : Request) → verb_of word ≡ verb → after_verb verb words ≡ Ok r → SpellsRequest (word ∷ words) r
+after-spelled : (word : Word) (verb : Option Verb) (words : List Word) (r : Request) → verb_of word ≡ verb → after_verb verb words ≡ Ok r
+    → SpellsRequest (word ∷ words) r
 after-spelled word None words r e h = absurd (cc)
 after-spelled word (Some verb) [] r e h = absurd (cc)
 after-spelled word (Some verb) (key ∷ others) r e h =

@@ -23,7 +23,8 @@ and_assoc false y z = refl
 pub seen_added : (earlier xs : List Sent) (sent : Sent) → are_seen earlier (xs ++ sent ∷ []) ≡ (are_seen earlier xs && is_seen (earlier ++ xs) sent)
 seen_added earlier [] sent = and_once (is_seen earlier sent) ∙ ap (λ all. is_seen all sent) (sym (append-nil earlier))
 seen_added earlier (x ∷ xs) sent =
-    ap (λ b. is_seen earlier x && b) (seen_added (earlier ++ x ∷ []) xs sent ∙ ap (λ all. are_seen (earlier ++ x ∷ []) xs && is_seen all sent) (append_assoc earlier (x ∷ []) xs))
+    ap (λ b. is_seen earlier x && b)
+        (seen_added (earlier ++ x ∷ []) xs sent ∙ ap (λ all. are_seen (earlier ++ x ∷ []) xs && is_seen all sent) (append_assoc earlier (x ∷ []) xs))
     ∙ and_assoc (is_seen earlier x) (are_seen (earlier ++ x ∷ []) xs) (is_seen (earlier ++ x ∷ xs) sent)
 
 or_either : (x y z : Bool) → (x || (y || z)) ≡ ((x || y) || (x || z))
@@ -34,7 +35,8 @@ or_either false y z = refl
 seen-append : (xs ys : List Sent) (sent : Sent) → is_seen (xs ++ ys) sent ≡ (is_seen xs sent || is_seen ys sent)
 seen-append xs ys sent =
     rw (list_any-append (shows sent.request.key sent.request.number) xs ys)
-    (or_either (not (is_cas sent.request.verb)) (list_any (shows sent.request.key sent.request.number) xs) (list_any (shows sent.request.key sent.request.number) ys))
+    (or_either (not (is_cas sent.request.verb)) (list_any (shows sent.request.key sent.request.number) xs)
+        (list_any (shows sent.request.key sent.request.number) ys))
 
 -- whatever a request of the first shows, one of the second shows
 abbrev ShowsNoLess : List Sent → List Sent → Type 0
@@ -53,7 +55,8 @@ seen_with_more : (less more xs : List Sent) → ShowsNoLess less more → are_se
 seen_with_more less more [] keeps all = refl
 seen_with_more less more (x ∷ xs) keeps all =
     let parts = and_parts (is_seen less x) (are_seen (less ++ x ∷ []) xs) all in
-    and_from (is_seen more x) (are_seen (more ++ x ∷ []) xs) (keeps x parts.0) (seen_with_more (less ++ x ∷ []) (more ++ x ∷ []) xs (no_less_after less more (x ∷ []) keeps) parts.1)
+    and_from (is_seen more x) (are_seen (more ++ x ∷ []) xs) (keeps x parts.0)
+        (seen_with_more (less ++ x ∷ []) (more ++ x ∷ []) xs (no_less_after less more (x ∷ []) keeps) parts.1)
 
 -- a branch sees what comes at P's end
 seen_after : (p xs : List Sent) (sent : Sent) → are_seen p xs ≡ true → are_seen (p ++ sent ∷ []) xs ≡ true
@@ -93,7 +96,8 @@ seen_front : (earlier xs : List Sent) (sent : Sent) → are_seen earlier (xs ++ 
 seen_front earlier xs sent all = (and_parts (are_seen earlier xs) (is_seen (earlier ++ xs) sent) (sym (seen_added earlier xs sent) ∙ all)).0
 
 -- each number was shown before the last request too
-pub numbers_before : (s : Sections) (who : Actor) (sent : Sent) → comes_late s who ≡ false → numbers_are_seen (with_sent s who sent) ≡ true → numbers_are_seen s ≡ true
+pub numbers_before : (s : Sections) (who : Actor) (sent : Sent) → comes_late s who ≡ false → numbers_are_seen (with_sent s who sent) ≡ true
+    → numbers_are_seen s ≡ true
 numbers_before s actor.P sent late all =
     let none = and_parts (is_none_sent s.a) (is_none_sent s.b) (no_branch s late) in
     rw (none_sent s.a none.0, none_sent s.b none.1, seen_front [] s.p sent (seen_parts (with_sent s actor.P sent) all).0) refl

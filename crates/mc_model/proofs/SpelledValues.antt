@@ -13,7 +13,8 @@ use Rattle.mc_model.specs.History.{lacks_the_others}
 use Rattle.mc_model.specs.WordLaws.{SpelledRequestsHaveWords, SpelledRepliesHaveShortBodies}
 
 -- the words after the key spell a body within the limit, and what the shape lacks is 0 or empty
-fields-kept : (shape : Fields) (words : List Word) (r : Request) → SpellsFields shape words r → (nat_le (length r.body) REPLY_BODY_LIMIT ≡ true) × (lacks_the_others shape r ≡ true)
+fields-kept : (shape : Fields) (words : List Word) (r : Request) → SpellsFields shape words r
+    → (nat_le (length r.body) REPLY_BODY_LIMIT ≡ true) × (lacks_the_others shape r ≡ true)
 fields-kept fields.KeyAlone words r (e, f, b, n) = (rw b refl, rw (f, b, n) refl)
 fields-kept fields.Expiry words r (e, f, b, n) = (rw b refl, rw (f, b, n) refl)
 fields-kept fields.Item words r (f, b, e, flags, (text, w, spelled, small), n) = (le-leb (length r.body) REPLY_BODY_LIMIT small, rw n refl)

@@ -28,7 +28,8 @@ open-answered (x ∷ y ∷ xs) all =
     and_from (is_some x.reply) (is_open_at_the_end (y ∷ xs)) parts.0 (open-answered (y ∷ xs) parts.1)
 
 -- the parts of a turn
-pub turn_parts : (s : Sections) → is_in_turn s ≡ true → (is_open_at_the_end s.p ≡ true) × (is_open_at_the_end s.a ≡ true) × (is_open_at_the_end s.b ≡ true) × ((are_answered s.p || has_no_branch s) ≡ true)
+pub turn_parts : (s : Sections) → is_in_turn s ≡ true
+    → (is_open_at_the_end s.p ≡ true) × (is_open_at_the_end s.a ≡ true) × (is_open_at_the_end s.b ≡ true) × ((are_answered s.p || has_no_branch s) ≡ true)
 turn_parts s turn =
     let whole = and_parts (is_open_at_the_end s.p && is_open_at_the_end s.a && is_open_at_the_end s.b) (are_answered s.p || has_no_branch s) turn in
     let three = and_parts (is_open_at_the_end s.p && is_open_at_the_end s.a) (is_open_at_the_end s.b) whole.0 in
@@ -55,7 +56,8 @@ turn_b false true false = refl
 turn_b false false a = refl
 
 -- a request is out of turn exactly if it may not come
-pub turn_added : (s : Sections) (who : Actor) (sent : Sent) → is_in_turn s ≡ true → (comes_late s who || not (is_in_turn (with_sent s who sent))) ≡ not (may_come s who)
+pub turn_added : (s : Sections) (who : Actor) (sent : Sent) → is_in_turn s ≡ true
+    → (comes_late s who || not (is_in_turn (with_sent s who sent))) ≡ not (may_come s who)
 turn_added s actor.P sent turn =
     let parts = turn_parts s turn in
     rw (open_added s.p sent, parts.1, parts.2) (late_or_not (has_no_branch s) (are_answered s.p) (are_answered (s.p ++ sent ∷ [])))

@@ -1,5 +1,8 @@
 -- Words that spell something are whole, and whole words that were joined fall apart again.
-use Rattle.std.proofs.Common.{◌≡◌, ℕ, ◌==◌, nat_le, Bool, true, false, not, ◌&&◌, ◌||◌, cond, Option, Some, None, List, [], ◌∷◌, length, filter, refl, ap, ◌∙◌, inl, inr, arith}
+use Rattle.std.proofs.Common.{
+  ◌≡◌, ℕ, ◌==◌, nat_le, Bool, true, false, not, ◌&&◌, ◌||◌, cond, Option, Some, None, List, [], ◌∷◌,
+  length, filter, refl, ap, ◌∙◌, inl, inr, arith,
+}
 use Rattle.std.specs.List.{All, list_all, slice_split}
 use Rattle.std.proofs.lemmas.Bool.{and_parts, and_from}
 use Rattle.std.proofs.lemmas.Bool.Decides.{nat_tests}
@@ -148,7 +151,8 @@ none-separates by word visible =
     All-weaker (λ byte. is_visible byte ≡ true) (λ byte. separates by byte ≡ false) (visible-apart by) word (AllPass-from_list_all is_visible word visible)
 
 -- the pieces between the spaces are the words
-splits : (by : Separator) (word : Word) (words : List Word) → are_whole (word ∷ words) ≡ true → slice_split (separates by) (join_words (word ∷ words)) ≡ word ∷ words
+splits : (by : Separator) (word : Word) (words : List Word) → are_whole (word ∷ words) ≡ true
+    → slice_split (separates by) (join_words (word ∷ words)) ≡ word ∷ words
 splits by word [] all =
     let p = and_parts (is_whole word) true all in
     let q = and_parts (not (length word == 0)) (list_all is_visible word) p.0 in

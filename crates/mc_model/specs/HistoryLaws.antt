@@ -18,7 +18,8 @@ PlacesEndHistories = (s : Sections) (who : Actor) (place : ℕ) → is_history s
 -- a request has no fault exactly if it is not late and the sections with it are a history
 abbrev pub FaultlessMakeHistories : Type 0
 FaultlessMakeHistories =
-    (s : Sections) (who : Actor) (sent : Sent) → (fault_at s who sent ≡ None) ↔ ((comes_late s who ≡ false) × (is_history (with_sent s who sent) ≡ true))
+    (s : Sections) (who : Actor) (sent : Sent)
+        → (fault_at s who sent ≡ None) ↔ ((comes_late s who ≡ false) × (is_history (with_sent s who sent) ≡ true))
 
 -- sections that have a first fault are no history
 abbrev pub FaultyAreNoHistories : Type 0
@@ -32,5 +33,6 @@ OthersHaveAFirstFault =
 -- and only one
 abbrev pub FirstFaultsAreOne : Type 0
 FirstFaultsAreOne =
-    (s : Sections) (kind other : HistoryKind) (who whose : Actor) (place elsewhere : ℕ) → IsFirstFault s kind who place → IsFirstFault s other whose elsewhere
+    (s : Sections) (kind other : HistoryKind) (who whose : Actor) (place elsewhere : ℕ) → IsFirstFault s kind who place
+        → IsFirstFault s other whose elsewhere
     → (kind ≡ other) × (who ≡ whose) × (place ≡ elsewhere)

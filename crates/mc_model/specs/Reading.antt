@@ -81,7 +81,8 @@ abbrev pub bytes_in : List ℕ → Result (List ℕ) WordsFault
 bytes_in [] = Ok []
 bytes_in (a ∷ []) = plain_before a (Ok [])
 bytes_in (a ∷ b ∷ []) = plain_before a (bytes_in (b ∷ []))
-bytes_in (a ∷ b ∷ c ∷ rest) = if a == 37 then hex_before (hex_value b) (hex_value c) (bytes_in rest) else plain_before a (bytes_in (b ∷ c ∷ rest))
+bytes_in (a ∷ b ∷ c ∷ rest) = if a == 37 then hex_before (hex_value b) (hex_value c) (bytes_in rest) else plain_before a
+    (bytes_in (b ∷ c ∷ rest))
 
 abbrev pub within_limit : List ℕ → Result (List ℕ) WordsFault
 within_limit bytes = if nat_le (length bytes) REPLY_BODY_LIMIT then Ok bytes else Err fault.Form

@@ -16,10 +16,13 @@ digits = numerals_by_value _ (search rules)
 
 -- digits are a text
 pub IsUtf8-digits : (ds : List ℕ) → are_digits ds ≡ true → IsUtf8 ds
-IsUtf8-digits ds p = IsUtf8-from_ascii ds (λ i. ⊎_elim (λ below. let d = digit_at ds i (digits.to ds p) below in omega arith) (λ past. omega (arith, get_or_past ds i 0 past)) (cases_lt i (length ds)))
+IsUtf8-digits ds p = IsUtf8-from_ascii ds
+    (λ i. ⊎_elim (λ below. let d = digit_at ds i (digits.to ds p) below in omega arith) (λ past. omega (arith, get_or_past ds i 0 past))
+    (cases_lt i (length ds)))
 
 -- what parsing them gives: their number, or nothing where 64 bits don't hold it
-pub parsed_digits : {E : Type 0} (ds : List ℕ) (r : Result ℕ E) → ParsesUnsigned 64 10 ds r → are_digits ds ≡ true → 0 < length ds → MatchOption (result_ok r) (MAX_64 < digits_value 10 ds) (λ n. n ≡ digits_value 10 ds)
+pub parsed_digits : {E : Type 0} (ds : List ℕ) (r : Result ℕ E) → ParsesUnsigned 64 10 ds r → are_digits ds ≡ true → 0 < length ds
+    → MatchOption (result_ok r) (MAX_64 < digits_value 10 ds) (λ n. n ≡ digits_value 10 ds)
 parsed_digits {E} ds (Ok n) h p some = (parse_digits digits {E = E} 64 ds (Ok n) h p).1
 parsed_digits {E} ds (Err e) h p some =
     ⊎_elim (λ small. absurd (parse_digits digits {E = E} 64 ds (Err e) h p (some, small))) (λ large. omega arith) (cases_lt (digits_value 10 ds) (2 ^ 64))

@@ -1,5 +1,8 @@
 -- A line of a section is read exactly where it spells an entry.
-use Rattle.std.proofs.Common.{◌≡◌, ℕ, ◌+◌, ◌-◌, ◌<◌, ◌≤◌, ◌==◌, true, false, Option, Some, None, List, [], ◌∷◌, ◌++◌, length, take, drop, get_or, codes, refl, sym, ap, subst, ◌∙◌, arith, drop-cons, length-append, suc}
+use Rattle.std.proofs.Common.{
+  ◌≡◌, ℕ, ◌+◌, ◌-◌, ◌<◌, ◌≤◌, ◌==◌, true, false, Option, Some, None, List, [], ◌∷◌, ◌++◌, length,
+  take, drop, get_or, codes, refl, sym, ap, subst, ◌∙◌, arith, drop-cons, length-append, suc,
+}
 use Rattle.std.specs.List.{list_any}
 use Rattle.std.specs.Str.{bytes_eq}
 use Rattle.std.proofs.lemmas.Bool.{eqb-true}
@@ -24,7 +27,10 @@ use Rattle.mc_script.specs.Script.{Names}
 use Rattle.mc_script.specs.ScriptWords.{is_label_name, label_word}
 use Rattle.mc_script.specs.SectionText.{SpellsEntry, SpellsRequest}
 use Rattle.mc_script.specs.Steps.{◌>>=◌}
-use Rattle.mc_script.specs.Reading.{entry_in, label_of, line_entry, keyword_of, request_word, step_words, before_colon, bind_in, goto_in, request_in, fields_in, field_count, marks_in, binds, template_of}
+use Rattle.mc_script.specs.Reading.{
+  entry_in, label_of, line_entry, keyword_of, request_word, step_words, before_colon, bind_in,
+  goto_in, request_in, fields_in, field_count, marks_in, binds, template_of,
+}
 use Rattle.mc_script.proofs.Outcomes.{then-some, cond-cases, some-same, only-then, only-else}
 use Rattle.mc_script.proofs.FieldWords.{fields-spelled, fields-read}
 use Rattle.mc_script.proofs.MarkLists.{marks-spelled, marks-read}
@@ -181,7 +187,8 @@ pub same-template : (t : Template) (a b c d : ℕ) → t.require_set ≡ a → t
     (record { verb = t.verb; key = t.key; flags = t.flags; argument = t.argument; body = t.body; require_set = a; require_clear = b; sets = c; clears = d }) t
 same-template t a b c d e f g h = rw (← e, ← f, ← g, ← h) refl
 
-request-read : (names : Names) (line : Words) (t : Template) (marks : List Mark) → SpellsRequest names line t marks → entry_in names line ≡ Some (entry.Send t marks)
+request-read : (names : Names) (line : Words) (t : Template) (marks : List Mark) → SpellsRequest names line t marks
+    → entry_in names line ≡ Some (entry.Send t marks)
 unfolding entry_in
 request-read names line t marks s =
     let f = fields-read names (fields_of t.verb) s.fields s.others t s.spelled in

@@ -1,5 +1,8 @@
 -- A line is a label exactly where what it says is one.
-use Rattle.std.proofs.Common.{◌≡◌, ℕ, ◌+◌, ◌≤◌, nat_lt, Bool, true, false, cond, Option, Some, None, Result, Ok, Err, List, [], ◌∷◌, ◌++◌, drop, refl, sym, ap, subst, ◌∙◌, arith}
+use Rattle.std.proofs.Common.{
+  ◌≡◌, ℕ, ◌+◌, ◌≤◌, nat_lt, Bool, true, false, cond, Option, Some, None, Result, Ok, Err, List, [],
+  ◌∷◌, ◌++◌, drop, refl, sym, ap, subst, ◌∙◌, arith,
+}
 use Rattle.std.proofs.lemmas.Bool.{ltb-true}
 use Rattle.std.specs.List.{list_any}
 use Rattle.std.specs.Result.{IfOk}
@@ -17,7 +20,10 @@ use Rattle.mc_script.specs.declared.read_entry.Keyword.TheVariants as keyword
 use Rattle.mc_script.specs.Script.{Names}
 use Rattle.mc_script.specs.ScriptWords.{is_label_name}
 use Rattle.mc_script.specs.Steps.{◌>>=◌}
-use Rattle.mc_script.specs.Reading.{Gives, entry_in, label_of, label_named, line_entry, keyword_of, step_words, bind_in, goto_in, request_in, fields_in, field_count, marks_in, binds, template_of}
+use Rattle.mc_script.specs.Reading.{
+  Gives, entry_in, label_of, label_named, line_entry, keyword_of, step_words, bind_in, goto_in,
+  request_in, fields_in, field_count, marks_in, binds, template_of,
+}
 use Rattle.mc_script.specs.TextReading.{label_named_by, may_follow, following, step_count, with_label}
 use Rattle.mc_script.proofs.Outcomes.{then-some, some-same, only-then}
 
@@ -98,7 +104,8 @@ step_adds limit count labels names line (Err fault) none h = tt
 step_adds limit count labels names line (Ok e) none h =
     sym (step-follows limit count labels e (entry-no-label names line e none (only-then (nat_lt count limit) (entry_in names line) e h).1)).1
 
-line-labelled : (names : Names) (o : Option Word) (word : Word) (others : Words) (name : Word) → o ≡ Some name → line_entry names o word others ≡ label_named name
+line-labelled : (names : Names) (o : Option Word) (word : Word) (others : Words) (name : Word) → o ≡ Some name
+    → line_entry names o word others ≡ label_named name
 line-labelled names None word others name h = absurd (cc)
 line-labelled names (Some x) word others name h = ap label_named (some-same x name h)
 

@@ -1,5 +1,8 @@
 -- Marks are read exactly where words spell them.
-use Rattle.std.proofs.Common.{◌≡◌, ℕ, ◌+◌, ◌<◌, ◌==◌, Bool, true, false, not, Option, Some, None, [], ◌∷◌, ◌++◌, length, take, drop, get_or, refl, sym, ap, subst, ◌∙◌, arith, drop-cons, length-append, suc}
+use Rattle.std.proofs.Common.{
+  ◌≡◌, ℕ, ◌+◌, ◌<◌, ◌==◌, Bool, true, false, not, Option, Some, None, [], ◌∷◌, ◌++◌, length, take,
+  drop, get_or, refl, sym, ap, subst, ◌∙◌, arith, drop-cons, length-append, suc,
+}
 use Rattle.std.specs.List.{list_all, position, position_or_len}
 use Rattle.std.proofs.lemmas.Bool.{eqb-true, lt-ltb, and_parts}
 use Rattle.std.proofs.lemmas.List.{take-append-drop}
@@ -75,7 +78,8 @@ split-at word i below colon =
     sym (take-append-drop i word) ∙ ap (λ bytes. take i word ++ bytes)
     (drop-cons word i 0 below ∙ ap (λ byte. byte ∷ drop (suc i) word) colon ∙ ap (λ k. 58 ∷ drop k word) n)
 
-jump-spelled-at : (names : Names) (word : Word) (o : Option ℕ) (m : Mark) → position (λ byte. byte == 58) word ≡ o → jump_at word o ≡ Some m → SpellsMark names word m
+jump-spelled-at : (names : Names) (word : Word) (o : Option ℕ) (m : Mark) → position (λ byte. byte == 58) word ≡ o → jump_at word o ≡ Some m
+    → SpellsMark names word m
 jump-spelled-at names word None m found h = absurd (cc)
 jump-spelled-at names word (Some i) m found h =
     let at = position-Some (λ byte. byte == 58) word i 0 found in
@@ -86,7 +90,8 @@ jump-spelled-at names word (Some i) m found h =
 
 -- ---- flags
 
-flag-spelled : (names : Names) (s : Sign) (first : ℕ) (name : Word) (m : Mark) → first ≡ sign_byte s → flag_in names s name ≡ Some m → SpellsMark names (first ∷ name) m
+flag-spelled : (names : Names) (s : Sign) (first : ℕ) (name : Word) (m : Mark) → first ≡ sign_byte s → flag_in names s name ≡ Some m
+    → SpellsMark names (first ∷ name) m
 flag-spelled names s first name m e h =
     let q = then-some (index_of names.flags name) (λ f. Some (mark.Flag s f)) m h in
     let P : Mark → Type 0 = SpellsMark names (first ∷ name) in
@@ -94,7 +99,8 @@ flag-spelled names s first name m e h =
 
 sign-byte : (byte : ℕ) (s : Sign) → sign_of byte ≡ Some s → byte ≡ sign_byte s
 sign-byte byte s h =
-    let same : (t : Sign) (n : ℕ) → (byte == n) ≡ true → n ≡ sign_byte t → Some t ≡ Some s → byte ≡ sign_byte s = λ t n b k e. eqb-true byte n b ∙ k ∙ ap sign_byte (some-same t s e) in
+    let same : (t : Sign) (n : ℕ) → (byte == n) ≡ true → n ≡ sign_byte t → Some t ≡ Some s → byte ≡ sign_byte s =
+        λ t n b k e. eqb-true byte n b ∙ k ∙ ap sign_byte (some-same t s e) in
     cond-cases (byte == 63) _ _ s (byte ≡ sign_byte s) h (λ b e. same sign.RequireSet 63 b refl e)
     (λ _ g. cond-cases (byte == 33) _ _ s (byte ≡ sign_byte s) g (λ b e. same sign.RequireClear 33 b refl e)
     (λ _ k. cond-cases (byte == 43) _ _ s (byte ≡ sign_byte s) k (λ b e. same sign.Sets 43 b refl e)

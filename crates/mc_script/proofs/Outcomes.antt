@@ -11,7 +11,8 @@ pub cond-some : {A : Type 0} (b : Bool) (x y : Option A) (a : A) (P : Type 0) �
 cond-some true x y a P e f g = f e
 cond-some false x y a P e f g = g e
 
-pub cond-cases : {A : Type 0} (b : Bool) (x y : Option A) (a : A) (P : Type 0) → cond b x y ≡ Some a → (b ≡ true → x ≡ Some a → P) → (b ≡ false → y ≡ Some a → P) → P
+pub cond-cases : {A : Type 0} (b : Bool) (x y : Option A) (a : A) (P : Type 0) → cond b x y ≡ Some a → (b ≡ true → x ≡ Some a → P)
+    → (b ≡ false → y ≡ Some a → P) → P
 cond-cases true x y a P e f g = f refl e
 cond-cases false x y a P e f g = g refl e
 

@@ -1,8 +1,14 @@
 -- The flags of a template as marks: they say its masks, and none are twins.
-use Rattle.std.proofs.Common.{◌≡◌, ℕ, ◌+◌, ◌*◌, ◌%◌, ◌<◌, ◌==◌, ◌^◌, Bool, true, false, not, cond, Some, None, List, [], ◌∷◌, ◌++◌, length, get_or, bit_and, bit_or, min, refl, sym, ap, ◌∙◌, arith, suc}
+use Rattle.std.proofs.Common.{
+  ◌≡◌, ℕ, ◌+◌, ◌*◌, ◌%◌, ◌<◌, ◌==◌, ◌^◌, Bool, true, false, not, cond, Some, None, List, [], ◌∷◌,
+  ◌++◌, length, get_or, bit_and, bit_or, min, refl, sym, ap, ◌∙◌, arith, suc,
+}
 use Rattle.std.specs.Int.{bit_at}
 use Rattle.std.specs.List.{list_all, list_any}
-use Rattle.std.proofs.lemmas.Bool.{and_parts, and_from, and_left, and_right, or_from, or_parts, not-true, not_from_false, eqb-true, eq-eqb, ne_eqb, both_ways, cond_both}
+use Rattle.std.proofs.lemmas.Bool.{
+  and_parts, and_from, and_left, and_right, or_from, or_parts, not-true, not_from_false, eqb-true,
+  eq-eqb, ne_eqb, both_ways, cond_both,
+}
 use Rattle.std.proofs.lemmas.List.Folds.{list_all-append}
 use Rattle.std.proofs.lemmas.Nat.{mod-pow-add, or_shifted, or_comm, pow_pos, mod_below}
 use Rattle.std.proofs.Math.Nat.{mod-eq_of_lt}
@@ -23,7 +29,8 @@ use Rattle.mc_script.proofs.Masks.{gathered}
 
 -- ---- lists
 
-pub each-append : {X V : Type 0} (S : X → V → Type 0) (xs ys : List X) (us vs : List V) → SpellEach S xs us → SpellEach S ys vs → SpellEach S (xs ++ ys) (us ++ vs)
+pub each-append : {X V : Type 0} (S : X → V → Type 0) (xs ys : List X) (us vs : List V) → SpellEach S xs us → SpellEach S ys vs
+    → SpellEach S (xs ++ ys) (us ++ vs)
 each-append S [] ys [] vs h k = k
 each-append S [] ys (u ∷ us) vs h k = absurd h
 each-append S (x ∷ xs) ys [] vs h k = absurd h
@@ -48,7 +55,8 @@ no-twins-append (x ∷ xs) ys h k a =
     let p = and_parts (not (list_any (are_twins x) xs)) (have_no_twins xs) h in
     let q = and_parts (not (list_any (are_twins x) ys)) (are_apart xs ys) a in
     and_from (not (list_any (are_twins x) (xs ++ ys))) (have_no_twins (xs ++ ys))
-    (not_from_false (list_any (are_twins x) (xs ++ ys)) (any-append (are_twins x) xs ys (not-true (list_any (are_twins x) xs) p.0) (not-true (list_any (are_twins x) ys) q.0)))
+    (not_from_false (list_any (are_twins x) (xs ++ ys))
+        (any-append (are_twins x) xs ys (not-true (list_any (are_twins x) xs) p.0) (not-true (list_any (are_twins x) ys) q.0)))
     (no-twins-append xs ys p.1 k q.1)
 
 pub apart-append : (xs ys zs : List Mark) → are_apart xs zs ≡ true → are_apart ys zs ≡ true → are_apart (xs ++ ys) zs ≡ true
@@ -153,7 +161,8 @@ flags-say s mask ns small =
 -- ---- none are twins
 
 -- a flag of another kind
-pub other-kind : (s t : Sign) (f mask k : ℕ) (ns : List Word) → same (is_need s) (is_need t) ≡ false → list_any (are_twins (mark.Flag s f)) (flag_marks t mask k ns) ≡ false
+pub other-kind : (s t : Sign) (f mask k : ℕ) (ns : List Word) → same (is_need s) (is_need t) ≡ false
+    → list_any (are_twins (mark.Flag s f)) (flag_marks t mask k ns) ≡ false
 other-kind s t f mask k [] d = refl
 other-kind s t f mask k (name ∷ ns) d =
     let rest = other-kind s t f mask (k + 1) ns d in
@@ -192,11 +201,13 @@ flags-distinct s mask k (name ∷ ns) =
     let others = flag_marks s mask (k + 1) ns in
     let twin = are_twins (mark.Flag s k) in
     cond_both (bit_at mask k == 1) (mark.Flag s k ∷ others) others (λ ms. have_no_twins ms ≡ true)
-    (λ _. and_from (not (list_any twin others)) (have_no_twins others) (not_from_false (list_any twin others) (earlier-flag s s k mask (k + 1) ns (omega arith))) rest)
+    (λ _. and_from (not (list_any twin others)) (have_no_twins others)
+        (not_from_false (list_any twin others) (earlier-flag s s k mask (k + 1) ns (omega arith))) rest)
     (λ _. rest)
 
 -- flags of two kinds are apart
-pub kinds-apart : (s t : Sign) (a b k l : ℕ) (ns ms : List Word) → same (is_need s) (is_need t) ≡ false → are_apart (flag_marks s a k ns) (flag_marks t b l ms) ≡ true
+pub kinds-apart : (s t : Sign) (a b k l : ℕ) (ns ms : List Word) → same (is_need s) (is_need t) ≡ false
+    → are_apart (flag_marks s a k ns) (flag_marks t b l ms) ≡ true
 kinds-apart s t a b k l ns ms d =
     flags-all (λ m. not (list_any (are_twins m) (flag_marks t b l ms))) s a k ns (λ f _. not_from_false _ (other-kind s t f b l ms d))
 
@@ -227,13 +238,15 @@ all-flags-spell names t found =
     let cl = flags-spell names sign.Clears t.clears 0 ns found in
     each-append S _ _ _ _ (each-append S _ _ _ _ (each-append S _ _ _ _ rs rc) se) cl
 
-pub all-flags-all : (p : Mark → Bool) (ns : List Word) (t : Template) → ((s : Sign) (f : ℕ) → p (mark.Flag s f) ≡ true) → list_all p (all_flag_marks ns t) ≡ true
+pub all-flags-all : (p : Mark → Bool) (ns : List Word) (t : Template) → ((s : Sign) (f : ℕ) → p (mark.Flag s f) ≡ true)
+    → list_all p (all_flag_marks ns t) ≡ true
 all-flags-all p ns t h =
     let F : Sign → ℕ → List Mark = λ s mask. flag_marks s mask 0 ns in
     let one : (s : Sign) (mask : ℕ) → list_all p (F s mask) ≡ true = λ s mask. flags-all p s mask 0 ns (λ f _. h s f) in
     all-append p (F sign.RequireSet t.require_set ++ F sign.RequireClear t.require_clear ++ F sign.Sets t.sets) (F sign.Clears t.clears)
     (all-append p (F sign.RequireSet t.require_set ++ F sign.RequireClear t.require_clear) (F sign.Sets t.sets)
-    (all-append p (F sign.RequireSet t.require_set) (F sign.RequireClear t.require_clear) (one sign.RequireSet t.require_set) (one sign.RequireClear t.require_clear))
+    (all-append p (F sign.RequireSet t.require_set) (F sign.RequireClear t.require_clear) (one sign.RequireSet t.require_set)
+        (one sign.RequireClear t.require_clear))
     (one sign.Sets t.sets)) (one sign.Clears t.clears)
 
 pub all-flags-distinct : (ns : List Word) (t : Template) → bit_and t.require_set t.require_clear ≡ 0 → bit_and t.sets t.clears ≡ 0

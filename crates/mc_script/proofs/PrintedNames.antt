@@ -1,5 +1,8 @@
 -- Names, numbers and bodies that are printed: they are whole words, and spell what they were printed of.
-use Rattle.std.proofs.Common.{◌≡◌, ℕ, ◌+◌, ◌<◌, ◌≤◌, ◌==◌, nat_le, nat_lt, Bool, true, false, not, ◌&&◌, Some, List, [], ◌∷◌, ◌++◌, length, slice_get, decimal, refl, ap, ◌∙◌, arith, suc, zero}
+use Rattle.std.proofs.Common.{
+  ◌≡◌, ℕ, ◌+◌, ◌<◌, ◌≤◌, ◌==◌, nat_le, nat_lt, Bool, true, false, not, ◌&&◌, Some, List, [], ◌∷◌,
+  ◌++◌, length, slice_get, decimal, refl, ap, ◌∙◌, arith, suc, zero,
+}
 use Rattle.std.specs.List.{list_all, list_any, position_or_len}
 use Rattle.std.specs.Str.{bytes_eq}
 use Rattle.std.proofs.lemmas.Bool.{and_parts, and_from, or_parts, not-true, lt-ltb}
@@ -53,7 +56,8 @@ named-whole limit name h =
 
 -- a plain byte in front of plain bytes
 pub front-whole : (byte : ℕ) (name : Word) → is_plain byte ≡ true → are_plain name ≡ true → is_whole (byte ∷ name) ≡ true
-front-whole byte name p h = and_from (not (length (byte ∷ name) == 0)) (are_plain (byte ∷ name)) (some-byte byte name) (and_from (is_plain byte) (are_plain name) p h)
+front-whole byte name p h = and_from (not (length (byte ∷ name) == 0)) (are_plain (byte ∷ name)) (some-byte byte name)
+    (and_from (is_plain byte) (are_plain name) p h)
 
 pub body-whole : (body : List ℕ) → is_body body ≡ true → is_whole (body_word body) ≡ true
 body-whole body h = front-whole 61 body refl (all-weaker is_body_byte is_plain body-plain body (and_parts _ _ h).1)

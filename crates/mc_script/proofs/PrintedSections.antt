@@ -1,5 +1,8 @@
 -- The lines of sections as they are printed, and the whole text: they spell the section, and the script.
-use Rattle.std.proofs.Common.{◌≡◌, ℕ, ◌+◌, ◌<◌, ◌≤◌, ◌==◌, nat_le, Bool, true, false, cond, ⊎_elim, Some, List, [], ◌∷◌, ◌++◌, length, codes, decimal, refl, sym, ap, subst, ◌∙◌, arith}
+use Rattle.std.proofs.Common.{
+  ◌≡◌, ℕ, ◌+◌, ◌<◌, ◌≤◌, ◌==◌, nat_le, Bool, true, false, cond, ⊎_elim, Some, List, [], ◌∷◌, ◌++◌,
+  length, codes, decimal, refl, sym, ap, subst, ◌∙◌, arith,
+}
 use Rattle.std.specs.List.{list_all}
 use Rattle.std.proofs.lemmas.Bool.{and_parts, and_from, eqb-true, eq-eqb, ne_eqb, le-leb, lt-leb, cond_both, cases_order}
 use Rattle.mc_protocol.specs.declared.actor.Actor.{Actor}
@@ -27,7 +30,10 @@ use Rattle.mc_script.specs.ScriptText.{SpellsBudget, header, names_line, names_l
 use Rattle.mc_script.specs.SectionText.{SpellsEntry, SpellsSection, label_names}
 use Rattle.mc_script.specs.Steps.{in_front, labels_from, steps_from}
 use Rattle.mc_script.specs.WellFormed.{AreSteps, AreLabels, IsSection, IsScript}
-use Rattle.mc_script.specs.PrintedScript.{label_lines, step_words, step_lines, section_lines, bodies_of, budget_line, script_lines, script_text, PrintedScriptsAreSpelled, PrintedScriptsAreReadAgain}
+use Rattle.mc_script.specs.PrintedScript.{
+  label_lines, step_words, step_lines, section_lines, bodies_of, budget_line, script_lines,
+  script_text, PrintedScriptsAreSpelled, PrintedScriptsAreReadAgain,
+}
 use Rattle.mc_script.proofs.Declared.{declared-few, least-has-room}
 use Rattle.mc_script.proofs.PrintedLines.{is_whole, are_whole, is_line, are_lines, all-weaker, lines_fall_apart}
 use Rattle.mc_script.proofs.PrintedNames.{decimal-whole, named-whole, label-whole}
@@ -53,7 +59,8 @@ labels-spell names place [] all = tt
 labels-spell names place (label ∷ labels) all =
     let p = and_parts (is_label_name label.name) (list_all is_label_name (label_names labels)) all in
     let rest = labels-spell names place labels p.1 in
-    go (label.place == place) names (label_word label.name ∷ []) (entry.Label label.name) (label_lines place labels) (label_entries place labels) (refl, p.0) rest
+    go (label.place == place) names (label_word label.name ∷ []) (entry.Label label.name) (label_lines place labels)
+        (label_entries place labels) (refl, p.0) rest
   where
     go : (b : Bool) (names : Names) (w : Words) (m : Entry) (ws : List Words) (ms : List Entry) → SpellsEntry names w m → SpellEach (SpellsEntry names) ws ms
         → SpellEach (SpellsEntry names) (cond b (w ∷ ws) ws) (cond b (m ∷ ms) ms)
@@ -91,7 +98,8 @@ labels-before place (label ∷ labels) rest = go (label.place == place) refl (la
     go : (b : Bool) → (label.place == place) ≡ b → labels_from place (label_entries place labels ++ rest) ≡ labels_at place labels ++ labels_from place rest
         → labels_from place (cond b (entry.Label label.name ∷ label_entries place labels) (label_entries place labels) ++ rest)
         ≡ cond b (label ∷ labels_at place labels) (labels_at place labels) ++ labels_from place rest
-    go true e h = ap (λ l. record { name = label.name; place = place } ∷ l) h ∙ ap (λ l. l ∷ (labels_at place labels ++ labels_from place rest)) (label-made place label (eqb-true label.place place e))
+    go true e h = ap (λ l. record { name = label.name; place = place } ∷ l) h
+        ∙ ap (λ l. l ∷ (labels_at place labels ++ labels_from place rest)) (label-made place label (eqb-true label.place place e))
     go false e h = h
 
 append-nil : {X : Type 0} (xs : List X) → xs ++ [] ≡ xs
@@ -198,7 +206,8 @@ steps-before : (labels : List Label) (place at : ℕ) (some : List Label) (rest 
 steps-before labels place at [] rest = refl
 steps-before labels place at (label ∷ some) rest =
     cond_both (label.place == at) (entry.Label label.name ∷ label_entries at some) (label_entries at some)
-    (λ es. steps_from labels place (es ++ rest) ≡ steps_from labels place rest) (λ _. steps-before labels place at some rest) (λ _. steps-before labels place at some rest)
+    (λ es. steps_from labels place (es ++ rest) ≡ steps_from labels place rest) (λ _. steps-before labels place at some rest)
+        (λ _. steps-before labels place at some rest)
 
 steps-again : (names : Names) (labels : List Label) (place : ℕ) (steps : List Step) → are_distinct (label_names labels) ≡ true
     → AreSteps names labels place steps → steps_from labels place (step_entries names labels place steps) ≡ Some steps
@@ -261,7 +270,8 @@ budget-is-line a names s h =
 names-whole : (limit : ℕ) (names : List Word) → list_all (is_name limit) names ≡ true → are_whole names ≡ true
 names-whole limit names h = all-weaker (is_name limit) is_whole (named-whole limit) names h
 
-names-are-lines : (word : Word) (limit : ℕ) (names : List Word) → is_whole word ≡ true → list_all (is_name limit) names ≡ true → are_lines (names_line word names) ≡ true
+names-are-lines : (word : Word) (limit : ℕ) (names : List Word) → is_whole word ≡ true → list_all (is_name limit) names ≡ true
+    → are_lines (names_line word names) ≡ true
 names-are-lines word limit [] w h = refl
 names-are-lines word limit (name ∷ names) w h =
     and_from (is_line (word ∷ name ∷ names)) true (line-from word (name ∷ names) (more word (name ∷ names) w (names-whole limit (name ∷ names) h))) refl
@@ -288,7 +298,8 @@ script-are-lines s h =
     let ba = budget_line actor.A s.sections.a.budget in
     let bb = budget_line actor.B s.sections.b.budget in
     let budgets = cons bp (ba ∷ bb ∷ body_lines (bodies_of s)) (budget-is-line actor.P s.names s.sections.p h.p)
-    (cons ba (bb ∷ body_lines (bodies_of s)) (budget-is-line actor.A s.names s.sections.a h.a) (cons bb (body_lines (bodies_of s)) (budget-is-line actor.B s.names s.sections.b h.b) body)) in
+    (cons ba (bb ∷ body_lines (bodies_of s)) (budget-is-line actor.A s.names s.sections.a h.a)
+        (cons bb (body_lines (bodies_of s)) (budget-is-line actor.B s.names s.sections.b h.b) body)) in
     let keys = names_line (codes "keys") s.names.keys in
     let flags = names_line (codes "flags") s.names.flags in
     let vars = names_line (codes "vars") s.names.vars in
@@ -306,7 +317,8 @@ printed_scripts s h =
     let p = h.p.few in
     let a = h.a.few in
     let b = h.b.few in
-    let within = least-has-room (length s.names.flags) (longest s) (declared-few FLAGS_LIMIT NAME_BYTES_LIMIT s.names.flags h.declared.flags) (omega (arith, p, a, b)) in
+    let within = least-has-room (length s.names.flags) (longest s) (declared-few FLAGS_LIMIT NAME_BYTES_LIMIT s.names.flags h.declared.flags)
+        (omega (arith, p, a, b)) in
     let long = within.1 in
     let lines : Sections Words = record {
       p = budget_line actor.P s.sections.p.budget;

@@ -1,5 +1,8 @@
 -- The lines of a section are read exactly where they spell it.
-use Rattle.std.proofs.Common.{◌≡◌, ℕ, ◌+◌, ◌≤◌, nat_lt, Bool, true, false, not, ◌&&◌, ◌||◌, cond, Option, Some, None, List, [], ◌∷◌, ◌++◌, refl, sym, ap, subst, ◌∙◌, arith}
+use Rattle.std.proofs.Common.{
+  ◌≡◌, ℕ, ◌+◌, ◌≤◌, nat_lt, Bool, true, false, not, ◌&&◌, ◌||◌, cond, Option, Some, None, List, [],
+  ◌∷◌, ◌++◌, refl, sym, ap, subst, ◌∙◌, arith,
+}
 use Rattle.std.specs.List.{list_any, list_all}
 use Rattle.std.specs.Str.{bytes_eq}
 use Rattle.std.proofs.lemmas.Bool.{and_parts, and_from, ltb-true, lt-ltb}
@@ -37,7 +40,8 @@ false-unless : (b : Bool) → (b ≡ true → ⊥) → b ≡ false
 false-unless true h = absurd (h refl)
 false-unless false h = refl
 
-other-line : (names : Names) (stop : Word) (line : Words) (e : Entry) → entry_in names (stop ∷ []) ≡ None → entry_in names line ≡ Some e → is_only stop line ≡ false
+other-line : (names : Names) (stop : Word) (line : Words) (e : Entry) → entry_in names (stop ∷ []) ≡ None → entry_in names line ≡ Some e
+    → is_only stop line ≡ false
 other-line names stop line e none read =
     false-unless (is_only stop line) (λ h. let same = sym none ∙ ap (entry_in names) (sym (only-line stop line h)) ∙ read in cc)
 
@@ -47,7 +51,8 @@ pub may_follow_all : ℕ → ℕ → List Word → List Entry → Bool
 may_follow_all limit count labels [] = true
 may_follow_all limit count labels (e ∷ entries) = may_follow limit count labels e && may_follow_all limit (count + step_count e) (with_label labels e) entries
 
-pub record SpelledEntries (limit : ℕ) (names : Names) (stop : Word) (done : List Entry) (count : ℕ) (labels : List Word) (lines : List Words) (all : List Entry) (rest : List Words) : Type 0 where
+pub record SpelledEntries (limit : ℕ) (names : Names) (stop : Word) (done : List Entry) (count : ℕ) (labels : List Word) (lines : List Words)
+    (all : List Entry) (rest : List Words) : Type 0 where
   pub entries : List Entry
   pub body : List Words
   pub all_are : all ≡ done ++ entries
@@ -72,12 +77,14 @@ followed limit count labels read e h =
     let P : Entry → Type 0 = λ x. (read ≡ Some x) × (may_follow limit count labels x ≡ true) in
     subst P (some-same p.0 e q.1) (p.1, q.0)
 
-pub entries-spelled : (limit : ℕ) (names : Names) (stop : Word) (done : List Entry) (count : ℕ) (labels : List Word) (lines : List Words) (all : List Entry) (rest : List Words)
+pub entries-spelled : (limit : ℕ) (names : Names) (stop : Word) (done : List Entry) (count : ℕ) (labels : List Word) (lines : List Words)
+    (all : List Entry) (rest : List Words)
     → entries_in limit names stop done count labels lines ≡ Some (all, rest) → SpelledEntries limit names stop done count labels lines all rest
 unfolding may_follow_all
 entries-spelled limit names stop done count labels [] all rest h = absurd (cc)
 entries-spelled limit names stop done count labels (line ∷ lines) all rest h =
-    let next : Entry → Option (List Entry × List Words) = λ e. entries_in limit names stop (done ++ e ∷ []) (count + step_count e) (with_label labels e) lines in
+    let next : Entry → Option (List Entry × List Words) =
+        λ e. entries_in limit names stop (done ++ e ∷ []) (count + step_count e) (with_label labels e) lines in
     let onward : Option (List Entry × List Words) = following limit count labels (entry_in names line) >>= next in
     cond-cases (is_only stop line) (Some (done, lines)) onward (all, rest) (SpelledEntries limit names stop done count labels (line ∷ lines) all rest) h
     (λ b g.
@@ -103,7 +110,8 @@ entries-spelled limit names stop done count labels (line ∷ lines) all rest h =
       follow = and_from (may_follow limit count labels p.0) (may_follow_all limit (count + step_count p.0) (with_label labels p.0) r.entries) may r.follow;
     })
 
-pub entries-read : (limit : ℕ) (names : Names) (stop : Word) (done : List Entry) (count : ℕ) (labels : List Word) (body : List Words) (entries : List Entry) (rest : List Words)
+pub entries-read : (limit : ℕ) (names : Names) (stop : Word) (done : List Entry) (count : ℕ) (labels : List Word) (body : List Words)
+    (entries : List Entry) (rest : List Words)
     → entry_in names (stop ∷ []) ≡ None → SpellEach (SpellsEntry names) body entries → may_follow_all limit count labels entries ≡ true
     → entries_in limit names stop done count labels (body ++ (stop ∷ []) ∷ rest) ≡ Some (done ++ entries, rest)
 unfolding may_follow_all
@@ -178,7 +186,8 @@ new-split labels name [] h = (refl, refl)
 new-split labels name (x ∷ names) h =
     let p = and_parts (is_new (labels ++ name ∷ []) x) (list_all (is_new (labels ++ name ∷ [])) names) h in
     let q = new-split labels name names p.1 in
-    let o = or-parts (list_any (bytes_eq x) labels) (bytes_eq x name) (sym (any-push (bytes_eq x) labels name) ∙ no-true (list_any (bytes_eq x) (labels ++ name ∷ [])) p.0) in (
+    let o = or-parts (list_any (bytes_eq x) labels) (bytes_eq x name)
+        (sym (any-push (bytes_eq x) labels name) ∙ no-true (list_any (bytes_eq x) (labels ++ name ∷ [])) p.0) in (
       and_from (is_new labels x) (list_all (is_new labels) names) (ap not o.0) q.0,
       or-false (bytes_eq name x) (list_any (bytes_eq name) names) (bytes-swap name x ∙ o.1) q.1,
     )
@@ -189,7 +198,8 @@ new-join labels name [] h k = refl
 new-join labels name (x ∷ names) h k =
     let p = and_parts (is_new labels x) (list_all (is_new labels) names) h in
     let q = or-parts (bytes_eq name x) (list_any (bytes_eq name) names) k in
-    let o = any-push (bytes_eq x) labels name ∙ or-false (list_any (bytes_eq x) labels) (bytes_eq x name) (no-true (list_any (bytes_eq x) labels) p.0) (bytes-swap x name ∙ q.0) in
+    let o = any-push (bytes_eq x) labels name
+        ∙ or-false (list_any (bytes_eq x) labels) (bytes_eq x name) (no-true (list_any (bytes_eq x) labels) p.0) (bytes-swap x name ∙ q.0) in
     and_from (is_new (labels ++ name ∷ []) x) (list_all (is_new (labels ++ name ∷ [])) names) (ap not o) (new-join labels name names p.1 q.1)
 
 pub all-new : (names : List Word) → list_all (is_new []) names ≡ true
@@ -201,7 +211,8 @@ step-rules : (limit count : ℕ) (labels : List Word) (entries : List Entry) →
     → (count + (1 + step_total entries) ≤ limit)
 step-rules limit count labels entries h r = let f = r.few in omega arith
 
-pub rules-from : (limit count : ℕ) (labels : List Word) (entries : List Entry) → count ≤ limit → may_follow_all limit count labels entries ≡ true → Rules limit count labels entries
+pub rules-from : (limit count : ℕ) (labels : List Word) (entries : List Entry) → count ≤ limit → may_follow_all limit count labels entries ≡ true
+    → Rules limit count labels entries
 unfolding may_follow_all step_total entry_names
 rules-from limit count labels [] small h = record { few = omega arith; apart = refl; distinct = refl }
 rules-from limit count labels (entry.Label name ∷ entries) small h =
@@ -241,7 +252,8 @@ follow-step : (limit count : ℕ) (labels : List Word) (entries : List Entry) �
 follow-step limit count labels entries few apart distinct =
     (lt-ltb count limit (omega arith), record { few = omega arith; apart = apart; distinct = distinct })
 
-pub follow-from : (limit count : ℕ) (labels : List Word) (entries : List Entry) → Rules limit count labels entries → may_follow_all limit count labels entries ≡ true
+pub follow-from : (limit count : ℕ) (labels : List Word) (entries : List Entry) → Rules limit count labels entries
+    → may_follow_all limit count labels entries ≡ true
 unfolding may_follow_all step_total entry_names
 follow-from limit count labels [] r = refl
 follow-from limit count labels (entry.Label name ∷ entries) r =

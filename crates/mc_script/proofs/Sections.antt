@@ -29,14 +29,16 @@ names-are place (entry.Bind v ∷ entries) = names-are (place + 1) entries
 names-are place (entry.Goto name ∷ entries) = names-are (place + 1) entries
 names-are place (entry.Halt ∷ entries) = names-are (place + 1) entries
 
-front-length : {A : Type 0} (x : Option A) (xs : Option (List A)) (ys : List A) → in_front x xs ≡ Some ys → (zs : List A) × (xs ≡ Some zs) × (length ys ≡ 1 + length zs)
+front-length : {A : Type 0} (x : Option A) (xs : Option (List A)) (ys : List A) → in_front x xs ≡ Some ys
+    → (zs : List A) × (xs ≡ Some zs) × (length ys ≡ 1 + length zs)
 front-length (Some x) (Some xs) ys h =
     let e : length ys ≡ length (x ∷ xs) = ap length (sym (some-same (x ∷ xs) ys h)) in
     (xs, refl, omega (arith, e))
 front-length (Some x) None ys h = absurd (cc)
 front-length None xs ys h = absurd (cc)
 
-pub steps-count : (labels : List Label) (place : ℕ) (entries : List Entry) (steps : List Step) → steps_from labels place entries ≡ Some steps → length steps ≡ step_total entries
+pub steps-count : (labels : List Label) (place : ℕ) (entries : List Entry) (steps : List Step) → steps_from labels place entries ≡ Some steps
+    → length steps ≡ step_total entries
 unfolding step_total
 steps-count labels place [] steps h = ap length (sym (some-same [] steps h))
 steps-count labels place (entry.Label name ∷ entries) steps h =
@@ -68,8 +70,10 @@ pub record SpelledSection (v : Version) (names : Names) (stop : Word) (budget : 
   pub spelled : SpellsSection v names body s
   pub budget_is : s.budget ≡ budget
 
-pub section-spelled : (v : Version) (names : Names) (stop : Word) (budget : Budget) (lines : List Words) (entries : List Entry) (rest : List Words) (s : Section)
-    → entries_in (steps_limit v) names stop [] 0 [] lines ≡ Some (entries, rest) → section_in budget entries ≡ Some s → SpelledSection v names stop budget lines rest s
+pub section-spelled : (v : Version) (names : Names) (stop : Word) (budget : Budget) (lines : List Words) (entries : List Entry)
+    (rest : List Words) (s : Section)
+    → entries_in (steps_limit v) names stop [] 0 [] lines ≡ Some (entries, rest) → section_in budget entries ≡ Some s
+        → SpelledSection v names stop budget lines rest s
 section-spelled v names stop budget lines entries rest s h made =
     let labels = labels_from 0 entries in
     let e = entries-spelled (steps_limit v) names stop [] 0 [] lines entries rest h in
@@ -101,7 +105,8 @@ same-section s labels e = rw (← e) refl
 
 pub section-read : (v : Version) (names : Names) (stop : Word) (body rest : List Words) (s : Section) → entry_in names (stop ∷ []) ≡ None
     → (spelled : SpellsSection v names body s)
-    → (entries_in (steps_limit v) names stop [] 0 [] (body ++ (stop ∷ []) ∷ rest) ≡ Some (spelled.entries, rest)) × (section_in s.budget spelled.entries ≡ Some s)
+    → (entries_in (steps_limit v) names stop [] 0 [] (body ++ (stop ∷ []) ∷ rest) ≡ Some (spelled.entries, rest))
+        × (section_in s.budget spelled.entries ≡ Some s)
 section-read v names stop body rest s none p =
     let entries = p.entries in
     let total = steps-count s.labels 0 entries s.steps p.steps in

@@ -77,7 +77,8 @@ same-index class.Touched = refl
 same-index class.Number = refl
 same-index class.NotNumber = refl
 
-target-twin : (d : Class) (label : Word) (marks : List Mark) (name : Word) → target_of d marks ≡ Some name → list_any (are_twins (mark.Jump d label)) marks ≡ true
+target-twin : (d : Class) (label : Word) (marks : List Mark) (name : Word) → target_of d marks ≡ Some name
+    → list_any (are_twins (mark.Jump d label)) marks ≡ true
 target-twin d label [] name h = absurd (cc)
 target-twin d label (mark.Flag s f ∷ marks) name h = target-twin d label marks name h
 target-twin d label (mark.Bind v ∷ marks) name h = target-twin d label marks name h
@@ -145,7 +146,8 @@ jumps-missing-on : (labels : List Label) (place : ℕ) (marks : List Mark) (c : 
 jumps-missing-on labels place marks c name [] t m h = absurd (cc)
 jumps-missing-on labels place marks c name (d ∷ classes) t m h =
     missing-step labels place marks c name d classes (class_index c == class_index d) refl t m
-    (λ k. jumps-missing-on labels place marks c name classes t m (or-else (class_index c == class_index d) (list_any (λ d. class_index c == class_index d) classes) h k))
+    (λ k. jumps-missing-on labels place marks c name classes t m
+        (or-else (class_index c == class_index d) (list_any (λ d. class_index c == class_index d) classes) h k))
 
 every-class : (c : Class) → list_any (λ d. class_index c == class_index d) all_classes ≡ true
 every-class class.Stored = refl

@@ -20,8 +20,14 @@ use Rattle.mc_script.specs.Script.{Names, Section, Script, AreDeclared, section_
 use Rattle.mc_script.specs.ScriptText.{SpellsInVersion, SpellsScript, SpellsBudget, header, names_line, names_lines, section_line, end_line, body_lines}
 use Rattle.mc_script.specs.SectionText.{SpellsSection}
 use Rattle.mc_script.specs.Steps.{◌>>=◌}
-use Rattle.mc_script.specs.Reading.{entry_in, version_of_word, header_version, header_in, names_in, keys_in, optional_in, then_line, number_in, numbers_in, amounts_in, budget_in}
-use Rattle.mc_script.specs.TextReading.{line_in, names_of, all_names_in, next_budget_in, budgets_of, budgets_in, section_line_in, entries_in, ended_in, bodies_in, section_in, script_of, resolved_in, script_in}
+use Rattle.mc_script.specs.Reading.{
+  entry_in, version_of_word, header_version, header_in, names_in, keys_in, optional_in, then_line,
+  number_in, numbers_in, amounts_in, budget_in,
+}
+use Rattle.mc_script.specs.TextReading.{
+  line_in, names_of, all_names_in, next_budget_in, budgets_of, budgets_in, section_line_in,
+  entries_in, ended_in, bodies_in, section_in, script_of, resolved_in, script_in,
+}
 use Rattle.mc_script.proofs.Outcomes.{then-some, cond-cases, some-same, only-then}
 use Rattle.mc_script.proofs.FieldWords.{number-spelled, number-read}
 use Rattle.mc_script.proofs.Declared.{names-declared, keys-declared, optional-declared, declared-few, declared-within, none-declared, flags-within}
@@ -107,7 +113,8 @@ rejoin : (a b c d : List Words) → a ++ (b ++ (c ++ d)) ≡ ((a ++ b) ++ c) ++ 
 rejoin a b c d = sym (append-assoc (a ++ b) c d ∙ append-assoc a b (c ++ d))
 
 -- the parts of what declares the names
-names-joined : (v : Version) (lines : List Words) (keys flags vars : List Word) (more : List Words) (first second last : Words) (behind onward rest : List Words)
+names-joined : (v : Version) (lines : List Words) (keys flags vars : List Word) (more : List Words) (first second last : Words)
+    (behind onward rest : List Words)
     → keys_in lines ≡ Some (keys, more) → line_in more ≡ Some (first, behind)
     → optional_in (codes "flags") (flags_limit v) first behind ≡ Some (flags, second, onward)
     → optional_in (codes "vars") VARIABLES_LIMIT second onward ≡ Some (vars, last, rest)
@@ -154,7 +161,8 @@ numbers-spelled (r ∷ y ∷ []) b h =
     let made : ℕ → ℕ → Budget = λ n m. record { requests = n; bytes = m } in
     let p = then-some (number_in REQUESTS_LIMIT r) (λ n. number_in REQUEST_BYTES_LIMIT y >>= λ m. Some (made n m)) b h in
     let q = then-some (number_in REQUEST_BYTES_LIMIT y) (λ m. Some (made p.0 m)) b p.2 in
-    let P : Budget → Type 0 = λ x. (r' : Word) × (y' : Word) × (r ∷ y ∷ [] ≡ r' ∷ y' ∷ []) × SpellsNumber REQUESTS_LIMIT r' x.requests × SpellsNumber REQUEST_BYTES_LIMIT y' x.bytes in
+    let P : Budget → Type 0 = λ x. (r' : Word) × (y' : Word) × (r ∷ y ∷ [] ≡ r' ∷ y' ∷ []) × SpellsNumber REQUESTS_LIMIT r' x.requests
+        × SpellsNumber REQUEST_BYTES_LIMIT y' x.bytes in
     subst P (some-same (made p.0 q.0) b q.2) (r, y, refl, number-spelled REQUESTS_LIMIT r p.0 p.1, number-spelled REQUEST_BYTES_LIMIT y q.0 q.1)
 numbers-spelled (r ∷ y ∷ x ∷ words) b h = absurd (cc)
 
@@ -228,7 +236,8 @@ record SpelledBodies (v : Version) (names : Names) (budgets : Sections Budget) (
 
 bodies-joined : (v : Version) (names : Names) (budgets : Sections Budget) (lines l lp la lb : List Words) (p a b : List Entry) (x y z : Section)
     → section_line_in lines ≡ Some l → entries_in (steps_limit v) names (codes "A") [] 0 [] l ≡ Some (p, lp)
-    → entries_in (steps_limit v) names (codes "B") [] 0 [] lp ≡ Some (a, la) → entries_in (steps_limit v) names (codes "end") [] 0 [] la ≡ Some (b, lb) → lb ≡ []
+    → entries_in (steps_limit v) names (codes "B") [] 0 [] lp ≡ Some (a, la)
+        → entries_in (steps_limit v) names (codes "end") [] 0 [] la ≡ Some (b, lb) → lb ≡ []
     → section_in budgets.p p ≡ Some x → section_in budgets.a a ≡ Some y → section_in budgets.b b ≡ Some z
     → SpelledBodies v names budgets lines (script_of names x y z)
 bodies-joined v names budgets lines l lp la lb p a b x y z h i j k e f g m =
@@ -240,7 +249,8 @@ bodies-joined v names budgets lines l lp la lb p a b x y z h i j k e f g m =
     record {
       bodies = bodies;
       lines_are = section-line lines l h ∙ ap (λ ls. section_line actor.P ∷ ls) (P.lines_are
-          ∙ ap (λ ls. P.body ++ section_line actor.A ∷ ls) (A.lines_are ∙ ap (λ ls. A.body ++ section_line actor.B ∷ ls) (B.lines_are ∙ ap (λ ls. B.body ++ end_line ∷ ls) e)));
+          ∙ ap (λ ls. P.body ++ section_line actor.A ∷ ls)
+              (A.lines_are ∙ ap (λ ls. A.body ++ section_line actor.B ∷ ls) (B.lines_are ∙ ap (λ ls. B.body ++ end_line ∷ ls) e)));
       spelled = each (λ k. SpellsSection v names (sections.section_of bodies k) (section_of s k)) P.spelled A.spelled B.spelled;
       budgets_are = each (λ k. (section_of s k).budget ≡ sections.section_of budgets k) P.budget_is A.budget_is B.budget_is;
       names_are = refl;
@@ -249,11 +259,13 @@ bodies-joined v names budgets lines l lp la lb p a b x y z h i j k e f g m =
 bodies-spelled : (v : Version) (names : Names) (budgets : Sections Budget) (lines : List Words) (p a b : List Entry) (s : Script)
     → bodies_in v names lines ≡ Some (p, a, b) → resolved_in names budgets p a b ≡ Some s → SpelledBodies v names budgets lines s
 bodies-spelled v names budgets lines p a b s h made =
-    let l = then-some (section_line_in lines) (λ l. entries_in (steps_limit v) names (codes "A") [] 0 [] l >>= λ p. entries_in (steps_limit v) names (codes "B") [] 0 [] p.1
+    let l = then-some (section_line_in lines)
+        (λ l. entries_in (steps_limit v) names (codes "A") [] 0 [] l >>= λ p. entries_in (steps_limit v) names (codes "B") [] 0 [] p.1
     >>= λ a. entries_in (steps_limit v) names (codes "end") [] 0 [] a.1 >>= λ b. ended_in (p.0, a.0, b.0) b.1) (p, a, b) h in
     let P = then-some (entries_in (steps_limit v) names (codes "A") [] 0 [] l.0) (λ p. entries_in (steps_limit v) names (codes "B") [] 0 [] p.1
     >>= λ a. entries_in (steps_limit v) names (codes "end") [] 0 [] a.1 >>= λ b. ended_in (p.0, a.0, b.0) b.1) (p, a, b) l.2 in
-    let A = then-some (entries_in (steps_limit v) names (codes "B") [] 0 [] P.0.1) (λ a. entries_in (steps_limit v) names (codes "end") [] 0 [] a.1 >>= λ b. ended_in (P.0.0, a.0, b.0) b.1) (p, a, b) P.2 in
+    let A = then-some (entries_in (steps_limit v) names (codes "B") [] 0 [] P.0.1)
+        (λ a. entries_in (steps_limit v) names (codes "end") [] 0 [] a.1 >>= λ b. ended_in (P.0.0, a.0, b.0) b.1) (p, a, b) P.2 in
     let B = then-some (entries_in (steps_limit v) names (codes "end") [] 0 [] A.0.1) (λ b. ended_in (P.0.0, A.0.0, b.0) b.1) (p, a, b) A.2 in
     let E = ended (P.0.0, A.0.0, B.0.0) (p, a, b) B.0.1 B.2 in
     let x = then-some (section_in budgets.p p) (λ x. section_in budgets.a a >>= λ y. section_in budgets.b b >>= λ z. Some (script_of names x y z)) s made in
@@ -272,7 +284,8 @@ budgets-spelled : (line : Words) (lines : List Words) (budgets : Sections Budget
     → (second : Words) × (third : Words) × (lines ≡ second ∷ third ∷ rest)
     × SpellsBudget actor.P line budgets.p × SpellsBudget actor.A second budgets.a × SpellsBudget actor.B third budgets.b
 budgets-spelled line lines budgets rest h =
-    let p = then-some (budget_in actor.P line) (λ p. next_budget_in actor.A lines >>= λ a. next_budget_in actor.B a.1 >>= λ b. Some (budgets_of p a.0 b.0, b.1)) (budgets, rest) h in
+    let p = then-some (budget_in actor.P line)
+        (λ p. next_budget_in actor.A lines >>= λ a. next_budget_in actor.B a.1 >>= λ b. Some (budgets_of p a.0 b.0, b.1)) (budgets, rest) h in
     let a = then-some (next_budget_in actor.A lines) (λ a. next_budget_in actor.B a.1 >>= λ b. Some (budgets_of p.0 a.0 b.0, b.1)) (budgets, rest) p.2 in
     let b = then-some (next_budget_in actor.B a.0.1) (λ b. Some (budgets_of p.0 a.0.0 b.0, b.1)) (budgets, rest) a.2 in
     let (second, e, s) = next-budget actor.A lines a.0.0 a.0.1 a.1 in
@@ -282,7 +295,8 @@ budgets-spelled line lines budgets rest h =
     × SpellsBudget actor.P line x.0.p × SpellsBudget actor.A second x.0.a × SpellsBudget actor.B third x.0.b in
     subst P same (second, third, e ∙ ap (λ ls. second ∷ ls) f, budget-spelled actor.P line p.0 p.1, s, t)
 
-script-joined : (v : Version) (text : List ℕ) (l : List Words) (names : Names) (line : Words) (behind : List Words) (budgets : Sections Budget) (onward : List Words) (s : Script)
+script-joined : (v : Version) (text : List ℕ) (l : List Words) (names : Names) (line : Words) (behind : List Words) (budgets : Sections Budget)
+    (onward : List Words) (s : Script)
     → words_of_text SpaceOrTab text ≡ header v ∷ l → (l ≡ names_lines names ++ line ∷ behind) × AreDeclared names × (length names.flags ≤ flags_limit v)
     → (second : Words) × (third : Words) × (behind ≡ second ∷ third ∷ onward)
     × SpellsBudget actor.P line budgets.p × SpellsBudget actor.A second budgets.a × SpellsBudget actor.B third budgets.b
@@ -290,7 +304,8 @@ script-joined : (v : Version) (text : List ℕ) (l : List Words) (names : Names)
 script-joined v text l names line behind budgets onward s h (n, declared, few) (second, third, e, p, a, b) bodies =
     let N : Names → Type 0 = AreDeclared in
     let read : Sections Words = record { p = line; a = second; b = third } in
-    let spelled : (k : Actor) → SpellsBudget k (sections.section_of read k) (sections.section_of budgets k) = each (λ k. SpellsBudget k (sections.section_of read k) (sections.section_of budgets k)) p a b in
+    let spelled : (k : Actor) → SpellsBudget k (sections.section_of read k) (sections.section_of budgets k) =
+        each (λ k. SpellsBudget k (sections.section_of read k) (sections.section_of budgets k)) p a b in
     record {
       budgets = read;
       bodies = bodies.bodies;
@@ -299,13 +314,15 @@ script-joined v text l names line behind budgets onward s h (n, declared, few) (
       declared = subst N (sym bodies.names_are) declared;
       few_flags = subst (λ (ns : Names). length ns.flags ≤ flags_limit v) (sym bodies.names_are) few;
       allowed = λ k. subst (SpellsBudget k (sections.section_of read k)) (sym (bodies.budgets_are k)) (spelled k);
-      spelled = λ k. subst (λ (ns : Names). SpellsSection v ns (sections.section_of bodies.bodies k) (section_of s k)) (sym bodies.names_are) (bodies.spelled k);
+      spelled = λ k. subst (λ (ns : Names). SpellsSection v ns (sections.section_of bodies.bodies k) (section_of s k))
+          (sym bodies.names_are) (bodies.spelled k);
     }
 
 pub script-spelled : (text : List ℕ) (s : Script) → script_in (words_of_text SpaceOrTab text) ≡ Some s → SpellsScript text s
 script-spelled text s h =
     let lines = words_of_text SpaceOrTab text in
-    let l = then-some (header_in lines) (λ h. all_names_in h.0 h.1 >>= λ n. budgets_in n.1 n.2 >>= λ d. bodies_in h.0 n.0 d.1 >>= λ e. resolved_in n.0 d.0 e.0 e.1 e.2) s h in
+    let l = then-some (header_in lines)
+        (λ h. all_names_in h.0 h.1 >>= λ n. budgets_in n.1 n.2 >>= λ d. bodies_in h.0 n.0 d.1 >>= λ e. resolved_in n.0 d.0 e.0 e.1 e.2) s h in
     let v = l.0.0 in
     let n = then-some (all_names_in v l.0.1) (λ n. budgets_in n.1 n.2 >>= λ d. bodies_in v n.0 d.1 >>= λ e. resolved_in n.0 d.0 e.0 e.1 e.2) s l.2 in
     let d = then-some (budgets_in n.0.1 n.0.2) (λ d. bodies_in v n.0.0 d.1 >>= λ e. resolved_in n.0.0 d.0 e.0 e.1 e.2) s n.2 in

@@ -5,7 +5,8 @@ use Rattle.mc_script.proofs.section_text.read_section.Given as goal
 
 abbrev pub invariant-lines : goal.invariant-lines
 invariant-lines l = record {
-  reads : entries_in (steps_limit l.version) l.names l.stop l.entries.items l.count l.labels l.lines.words ≡ entries_in (steps_limit l.version) l.names l.stop [] 0 [] l.initial.lines.words;
+  reads : entries_in (steps_limit l.version) l.names l.stop l.entries.items l.count l.labels l.lines.words
+      ≡ entries_in (steps_limit l.version) l.names l.stop [] 0 [] l.initial.lines.words;
   few : l.count ≤ steps_limit l.version;
 }
 

@@ -17,6 +17,7 @@ new-names-requires c =
       some = keys.0;
       keys = keys.1;
       flags = declared-within FLAGS_LIMIT limit NAME_BYTES_LIMIT flags (omega (arith, few, within)) read;
-      vars = optional-declared (codes "vars") VARIABLES_LIMIT c.in_ok-flags.line.words c.read_optional.new.lines.words c.in_ok-vars.vars.items c.in_ok-vars.line.words
+      vars = optional-declared (codes "vars") VARIABLES_LIMIT c.in_ok-flags.line.words c.read_optional.new.lines.words c.in_ok-vars.vars.items
+          c.in_ok-vars.line.words
           c.read_optional-2.new.lines.words refl c.in_ok-vars.ensures;
     }
