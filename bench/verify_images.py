@@ -1,5 +1,5 @@
 #!/usr/bin/env python3
-"""Writes the tables of crates/mc_verify_tests: images of code with a fault of structure, and what they are refused for.
+"""Writes the tables of crates/test_verify: images of code with a fault of structure, and what they are refused for.
 
 usage: verify_images.py
 
@@ -392,7 +392,7 @@ use mc_verify::RefusalKind::*;
 
 
 def write(name, about, texts):
-    path = pathlib.Path(__file__).resolve().parents[1] / f"crates/mc_verify_tests/src/{name}.rt"
+    path = pathlib.Path(__file__).resolve().parents[1] / f"crates/test_verify/src/{name}.rt"
     path.write_text(HEAD.format(about=about) + "".join(texts), encoding="utf-8")
 
 

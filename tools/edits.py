@@ -2,7 +2,7 @@
 
 A line `file: src/x.rt` names a file of the crate, and pairs of lines `old: TEXT` and `new: TEXT` say what is changed there.
 A TEXT is part of one line. The old one stands exactly once in what the pairs above it have made of the file. A line
-`test: NAME` names a test that refuses the edit where no contract does, as `test: mc_model_tests::acts`; without a crate it
+`test: NAME` names a test that refuses the edit where no contract does, as `test: test_model::acts`; without a crate it
 is one of the edited crate's own. A line `named: PLAIN WORDS` is in those that this project names (`named.py`): it says what the
 wrong body does.
 """

@@ -142,17 +142,17 @@ EDITS = {
     "a_constant": (["old:     n / 4", "new:     200"], None),
     "caps_above": (["old:         MOST", "new:         MOST + 1"], None),
     "constant_above": (["old: MOST: u8 = 100;", "new: MOST: u8 = 101;"], None),
-    "short_to_ten": (["test: small_tests::tells_short_numbers", "old: n < 10", "new: n <= 10"], None),
+    "short_to_ten": (["test: test_small::tells_short_numbers", "old: n < 10", "new: n <= 10"], None),
     "changes_nothing": (["old:     n / 2", "new:     n / 2 + 0"], "NOT REFUSED: small::half still proved"),
     "weak_contract": (["named: it answers a fifth", "old:     n / 3", "new:     n / 5"], "NOT REFUSED: small::third still proved"),
     # What it calls is wrong in the same check, but not this function.
     "caller_of_a_wrong_one": (["old: larger(two, c)", "new: larger(c, two)"], "NOT REFUSED: small::largest still proved"),
     "wrong_type": (["old:     n / 2", 'new:     "half"'], "it does not compile: src/lib.rt, line 34: "),
     "short_unlike_tested": (
-        ["test: small_tests::tells_short_numbers", "old: n < 10", "new: n < 10 || n == 77"],
-        "NOT REFUSED: the test small_tests::tells_short_numbers passes with it",
+        ["test: test_small::tells_short_numbers", "old: n < 10", "new: n < 10 || n == 77"],
+        "NOT REFUSED: the test test_small::tells_short_numbers passes with it",
     ),
-    "test_that_is_none": (["test: small_tests::tells", "old: n < 10", "new: n < 11"], "there is no one test tells in small_tests"),
+    "test_that_is_none": (["test: test_small::tells", "old: n < 10", "new: n < 11"], "there is no one test tells in test_small"),
     "text_that_is_gone": (["old: n / 8", "new: n / 9"], "bad edit: line 3: its old text stands 0 times in src/lib.rt"),
     "text_that_stands_often": (["old: larger", "new: smaller"], "bad edit: line 3: its old text stands "),
     "named_sixth": (
@@ -200,7 +200,7 @@ FAILED = {**{f"small/{name}": said for name, (_, said) in EDITS.items() if said}
 def make(root):
     """Writes the repository."""
     files = {
-        "crates.txt": "low:\nsmall: low\nsmall_tests: small\n",
+        "crates.txt": "low:\nsmall: low\ntest_small: small\n",
         "crates/low/src/lib.rt": LIBRARY_BELOW,
         "crates/low/proofs/Lib.antt": "pub mod Least\n",
         "crates/low/proofs/Least.antt": LEMMA,
@@ -210,7 +210,7 @@ def make(root):
         "crates/small/proofs/Least.antt": LEMMA,
         "crates/small/src/lib.rt": LIBRARY,
         "crates/small/proofs/quarter/Answers.antt": QUARTER_ANSWERS,
-        "crates/small_tests/src/lib.rt": TESTS,
+        "crates/test_small/src/lib.rt": TESTS,
     }
     for name, (lines, _) in EDITS.items():
         files[f"crates/small/wrong-bodies/{name}.edit"] = "\n".join(["file: src/lib.rt", *lines, ""])

@@ -10,7 +10,7 @@ source_hash() (
     cd "$1" || exit 1
     LC_ALL=C
     shopt -s globstar nullglob
-    sha256sum crates.txt crates/!(*_tests)/@(src|specs|proofs)/**/*.@(rt|antt) | sha256sum | {
+    sha256sum crates.txt crates/!(test_*)/@(src|specs|proofs)/**/*.@(rt|antt) | sha256sum | {
         read -r hash _
         echo "$hash"
     }

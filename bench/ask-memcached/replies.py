@@ -1,5 +1,5 @@
 #!/usr/bin/env python3
-"""Records the replies of a real memcached, byte for byte (crates/mc_reader_tests/src/recorded.rt has them as a table).
+"""Records the replies of a real memcached, byte for byte (crates/test_reader/src/recorded.rt has them as a table).
 
 usage: replies.py [--compare]
 

@@ -1,7 +1,7 @@
 use Rattle.std.proofs.Common.{ap, arith}
 use Rattle.mc_lane.specs.MemoryStreams.{Memory, state_of}
-use Rattle.mc_lane_tests.proofs.Counted.{can_fail, none_counted, read_counted}
-use Rattle.mc_lane_tests.proofs.stream_tests.reads.Goals as goal
+use Rattle.test_lane.proofs.Counted.{can_fail, none_counted, read_counted}
+use Rattle.test_lane.proofs.stream_tests.reads.Goals as goal
 
 pub read-requires-4 : goal.read-requires-4
 read-requires-4 c =

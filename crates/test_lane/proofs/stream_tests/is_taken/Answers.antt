@@ -1,7 +1,7 @@
 use Rattle.std.proofs.Common.{◌∙◌, ◌∷◌, [], ap, arith}
 use Rattle.mc_lane.specs.MemoryStreams.{Memory, state_of}
-use Rattle.mc_lane_tests.proofs.Counted.{can_fail, none_counted, write_counted}
-use Rattle.mc_lane_tests.proofs.stream_tests.is_taken.Goals as goal
+use Rattle.test_lane.proofs.Counted.{can_fail, none_counted, write_counted}
+use Rattle.test_lane.proofs.stream_tests.is_taken.Goals as goal
 
 pub write-requires-4 : goal.write-requires-4
 write-requires-4 c =

@@ -1,5 +1,5 @@
 use Rattle.std.proofs.Common.{length}
-use Rattle.mc_reader_tests.proofs.cuts.last_piece.Given as goal
+use Rattle.test_reader.proofs.cuts.last_piece.Given as goal
 
 abbrev pub decreases-pieces : goal.decreases-pieces
 decreases-pieces l = length l.rest

@@ -1,6 +1,6 @@
 use Rattle.std.proofs.Common.{◌≡◌, None}
 use Rattle.mc_machine.specs.Machine.{Stands, actor_of, outstanding_of}
-use Rattle.mc_machine_tests.proofs.play.follow.Given as goal
+use Rattle.test_machine.proofs.play.follow.Given as goal
 
 abbrev pub invariant-replies : goal.invariant-replies
 invariant-replies l = record {

@@ -1,7 +1,7 @@
 use Rattle.std.proofs.Common.{◌∙◌, ◌∷◌, [], ap, arith}
 use Rattle.mc_lane.specs.MemoryStreams.{Memory, state_of}
-use Rattle.mc_lane_tests.proofs.Counted.{can_fail, none_counted, read_counted, write_counted}
-use Rattle.mc_lane_tests.proofs.stream_tests.is_broken_once.Goals as goal
+use Rattle.test_lane.proofs.Counted.{can_fail, none_counted, read_counted, write_counted}
+use Rattle.test_lane.proofs.stream_tests.is_broken_once.Goals as goal
 
 pub read-requires-2 : goal.read-requires-2
 read-requires-2 c =

@@ -6,7 +6,7 @@ use Rattle.mc_code.specs.Calls.{template_of}
 use Rattle.mc_code.specs.Code.{Code}
 use Rattle.mc_code.proofs.LookUps.{some_is}
 use Rattle.mc_machine.proofs.Standing.{outstanding_is_named}
-use Rattle.mc_machine_tests.proofs.play.exchange.Goals as goal
+use Rattle.test_machine.proofs.play.exchange.Goals as goal
 
 pub template-requires : goal.template-requires
 template-requires c =

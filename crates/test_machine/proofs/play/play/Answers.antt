@@ -4,7 +4,7 @@ use Rattle.mc_protocol.specs.declared.actor.Actor.TheVariants as actor
 use Rattle.mc_code.specs.Code.{Code}
 use Rattle.mc_code.specs.Standing.{no_variables}
 use Rattle.mc_machine.proofs.Standing.{ends_start_branches}
-use Rattle.mc_machine_tests.proofs.play.play.Goals as goal
+use Rattle.test_machine.proofs.play.play.Goals as goal
 
 is_branch : (branch : Actor) → (branch ≡ actor.A) ⊎ (branch ≡ actor.B) → branch ≢ actor.P
 is_branch branch (inl a) e = let clash : actor.P ≡ actor.A = sym e ∙ a in absurd (cc)
