@@ -1,5 +1,5 @@
 #!/usr/bin/env python3
-"""Asks a real memcached what the tests of `act` expect of a server (crates/mc_model/src/act_tests.rt).
+"""Asks a real memcached what the tests of `act` expect of a server (crates/test_model/src/acts.rt).
 
 usage: ask.py [--compare]
 

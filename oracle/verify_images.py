@@ -383,7 +383,7 @@ def table_text(table):
     return f"\n/// Of the same: {table.about}.\npub(crate) static {table.name}: &[Row] = &[\n{''.join(rows)}];\n"
 
 
-HEAD = """//! {about}. `bench/verify_images.py` writes this file.
+HEAD = """//! {about}. `oracle/verify_images.py` writes this file.
 
 use crate::row::Row;
 use mc_protocol::Actor::*;
