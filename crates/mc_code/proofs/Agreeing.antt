@@ -37,7 +37,7 @@ comes_to_same s is k variables exchanges st outcome = (there, back)
     back : CodeComesTo s k variables exchanges st outcome → ScriptComesTo s k variables exchanges st outcome
     back (r, run, met) =
         comes_to_too (all_labels s k) (all_steps s k) (templates_of s) (first_template s k) (script_laid s is k) (initial_state variables) st
-            exchanges outcome r run met
+        exchanges outcome r run met
 
 -- the layout of a script agrees with it
 pub code_agrees : (s : script.Script) → IsScript s → Agrees s (code_of s)

@@ -1,8 +1,6 @@
 -- A run of a script's code is one of the script.
-use Rattle.std.proofs.Common.{
-  ◌≡◌, ◌⊎◌, inl, inr, ℕ, ◌+◌, Bool, true, false, Option, Some, None, List, [], ◌∷◌, slice_get, refl,
-  ap, sym, subst, ◌∙◌, if◌then◌else◌, arith,
-}
+use Rattle.std.proofs.Common.{◌≡◌, ◌⊎◌, inl, inr, ℕ, ◌+◌, Bool, true, false, Option, Some, None, List}
+use Rattle.std.proofs.Common.{[], ◌∷◌, slice_get, refl, ap, sym, subst, ◌∙◌, if◌then◌else◌, arith}
 use Rattle.mc_protocol.specs.Legal.{class_of, is_fit_for}
 use Rattle.mc_protocol.specs.declared.reply.Class.{Class}
 use Rattle.mc_protocol.specs.declared.reply.Reply.{Reply}
@@ -116,7 +114,7 @@ landed labels steps first p q t jumps r (Some v) (Some index) st at fit labelled
 
 sent_from_request : (labels : List Label) (steps : List Step) (templates : List Template) (first : ℕ) → IsLaid labels steps templates first
     → (p q : ℕ) (st st' : State) (exchanges : List Exchange) (outcome : Outcome) (i : Instr) (t : Template) (jumps : List (Class × ℕ))
-        (bind : Option ℕ) (r : Reply)
+    (bind : Option ℕ) (r : Reply)
     → slice_get steps p ≡ Some (step.Send t jumps bind)
     → slice_get (code_of_all labels steps first) (code_place steps p) ≡ Some i → Sends templates i t (class_of r) q → is_fit_for t.verb r ≡ true
     → Follows labels steps first q (after_reply t r st) exchanges st' outcome → Goes labels steps p st ((t, r) ∷ exchanges) st' outcome
@@ -133,7 +131,7 @@ sent_from_request labels steps templates first laid p q st st' exchanges outcome
 
 sent_from_step : (labels : List Label) (steps : List Step) (templates : List Template) (first : ℕ) → IsLaid labels steps templates first
     → (p q : ℕ) (st st' : State) (exchanges : List Exchange) (outcome : Outcome) (i : Instr) (t : Template) (r : Reply) (o : Option Step)
-        → slice_get steps p ≡ o
+    → slice_get steps p ≡ o
     → slice_get (code_of_all labels steps first) (code_place steps p) ≡ Some i → Sends templates i t (class_of r) q → is_fit_for t.verb r ≡ true
     → Follows labels steps first q (after_reply t r st) exchanges st' outcome → Goes labels steps p st ((t, r) ∷ exchanges) st' outcome
 sent_from_step labels steps templates first laid p q st st' exchanges outcome i t r None e at leads fit others =
@@ -198,7 +196,7 @@ backwards labels steps templates first laid outcome (slides {p = p} {q = q} {st 
 backwards labels steps templates first laid outcome
     (sends {p = p} {q = q} {st = st} {st' = st'} {exchanges = exchanges} {t = t} {reply = reply} i at leads fit more) met =
     sent_back labels steps templates first laid p q st st' exchanges outcome i t reply at leads fit
-        (backwards labels steps templates first laid outcome more met)
+    (backwards labels steps templates first laid outcome more met)
 
 -- what the code does from its start, the script does from its start
 pub comes_to_too : (labels : List Label) (steps : List Step) (templates : List Template) (first : ℕ) → IsLaid labels steps templates first

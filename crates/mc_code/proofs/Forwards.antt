@@ -30,7 +30,7 @@ entered labels steps templates first p q r st st' exchanges t jumps c None (Some
 entered labels steps templates first p q r st st' exchanges t jumps c (Some v) None at may on next more =
     by_class (is_number_class c)
     (subst (λ x. IsRun templates (code_of_all labels steps first) (code_place steps x) (bind_reply (Some v) c st) exchanges r st')
-        (sym (some_is (p + 1) q next)) more)
+    (sym (some_is (p + 1) q next)) more)
   where
     by_class : (b : Bool) → IsRun templates (code_of_all labels steps first) (code_place steps (p + 1)) (if b then after_bind v st else st) exchanges r st'
         → IsRun templates (code_of_all labels steps first) (if b then code_place steps p + 1 else code_place steps (p + 1)) st exchanges r st'
@@ -60,7 +60,7 @@ sent labels steps templates first laid p q r st st' exchanges t jumps bind reply
     let legal = fit_is_legal t.verb reply fit in
     let send = instr.Send (number_at steps first p) (entries labels steps p t jumps bind) in
     let on = entered labels steps templates first p q r (after_reply t reply st) st' exchanges t jumps c bind (jump_on c jumps) at
-        (laid.fine p s at).1 refl next more in
+    (laid.fine p s at).1 refl next more in
     run.sends send (first_of_step labels steps first p s at send refl)
     (laid.named p s t at refl, legal, sym (entry_is labels steps p t jumps bind c legal)) fit on
 
@@ -79,4 +79,4 @@ forwards labels steps templates first laid (goes {p = p} {q = q} {label = label}
 forwards labels steps templates first laid
     (sends {p = p} {q = q} {r = r} {st = st} {st' = st'} {exchanges = exchanges} {t = t} {jumps = jumps} {bind = bind} {reply = reply} at fit next more) =
     sent labels steps templates first laid p q (code_place steps r) st st' exchanges t jumps bind reply at fit next
-        (forwards labels steps templates first laid more)
+    (forwards labels steps templates first laid more)

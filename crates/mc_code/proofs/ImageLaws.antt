@@ -1,8 +1,6 @@
 -- The whole image: what is read was written, and is code; and the image of code is read again.
-use Rattle.std.proofs.Common.{
-  ◌≡◌, ℕ, ◌≤◌, ◌==◌, Bool, true, false, not, Some, None, List, [], ◌∷◌, ◌++◌, length, All, cond,
-  refl, sym, ap, subst, ◌∙◌, append_assoc, arith,
-}
+use Rattle.std.proofs.Common.{◌≡◌, ℕ, ◌≤◌, ◌==◌, Bool, true, false, not, Some, None, List, [], ◌∷◌, ◌++◌}
+use Rattle.std.proofs.Common.{length, All, cond, refl, sym, ap, subst, ◌∙◌, append_assoc, arith}
 use Rattle.std.specs.Str.{bytes_eq}
 use Rattle.std.proofs.lemmas.List.{append-nil}
 use Rattle.std.proofs.lemmas.Slice.Eq.{bytes_eq-Decides}
@@ -20,14 +18,10 @@ use Rattle.mc_script.specs.Steps.{◌>>=◌}
 use Rattle.mc_script.specs.Versions.{flags_limit, steps_limit}
 use Rattle.mc_code.specs.declared.instr.Instr.{Instr}
 use Rattle.mc_code.specs.Code.{IsInstr, Section, IsSection, Code, IsCode}
-use Rattle.mc_code.specs.Image.{
-  magic, with_length, with_count, budget_bytes, template_bytes, instr_bytes, section_bytes,
-  image_in, IsWithin, IsImageOf, ImagesAreOfOneCode,
-}
-use Rattle.mc_code.specs.ImageReading.{
-  Field, bytes_in, small_in, keys_in, budget_in, templates_in, instructions_in, version_at,
-  version_in, Declared, declared_in, each_in, code_of, at_end, code_in,
-}
+use Rattle.mc_code.specs.Image.{magic, with_length, with_count, budget_bytes, template_bytes, instr_bytes}
+use Rattle.mc_code.specs.Image.{section_bytes, image_in, IsWithin, IsImageOf, ImagesAreOfOneCode}
+use Rattle.mc_code.specs.ImageReading.{Field, bytes_in, small_in, keys_in, budget_in, templates_in, instructions_in, version_at}
+use Rattle.mc_code.specs.ImageReading.{version_in, Declared, declared_in, each_in, code_of, at_end, code_in}
 use Rattle.mc_code.proofs.FieldLaws.{then-some, only-then, some-same, IsBytes, Takes, Takes-then, bytes_take, bytes_again, small_takes, small_again}
 use Rattle.mc_code.proofs.ImageRoom.{flags-within, steps-within, room-in, is-within}
 use Rattle.mc_code.proofs.KeyLaws.{keys_take, keys_again}
@@ -231,7 +225,7 @@ code-again w c h within =
     let kept-b = h.sections actor.B in
     let regrouped : image_in w c ≡ magic w ++ (with_count with_length c.keys ++ (c.flags ∷ c.vars ∷ budgets)) =
     ap (λ (text : List ℕ). magic w ++ (with_count with_length c.keys
-        ++ (c.flags ∷ c.vars ∷ (budget_bytes p.budget ++ (budget_bytes a.budget ++ (budget_bytes b.budget ++ text))))))
+    ++ (c.flags ∷ c.vars ∷ (budget_bytes p.budget ++ (budget_bytes a.budget ++ (budget_bytes b.budget ++ text))))))
     (spread templates (section_bytes p) (section_bytes a) (section_bytes b)) in
     ap code_in regrouped
     ∙ rw (

@@ -1,8 +1,6 @@
 -- The layout of a script keeps what code keeps, where the counts are within their limits.
-use Rattle.std.proofs.Common.{
-  ◌≡◌, ℕ, zero, suc, ◌+◌, ◌<◌, ◌≤◌, Bool, true, false, Option, Some, None, List, [], ◌∷◌, ◌++◌,
-  length, slice_get, refl, sym, subst, if◌then◌else◌, arith, length-append,
-}
+use Rattle.std.proofs.Common.{◌≡◌, ℕ, zero, suc, ◌+◌, ◌<◌, ◌≤◌, Bool, true, false, Option, Some, None, List, [], ◌∷◌}
+use Rattle.std.proofs.Common.{◌++◌, length, slice_get, refl, sym, subst, if◌then◌else◌, arith, length-append}
 use Rattle.std.specs.List.{All}
 use Rattle.std.proofs.lemmas.List.Elements.{All-nil, All-cons, All-head, All-tail, All-append, All-map}
 use Rattle.std.proofs.lemmas.Grind.{flat_map-append}
@@ -26,11 +24,9 @@ use Rattle.mc_code.specs.declared.limits.TheConstants.{TEMPLATES_LIMIT, INSTRUCT
 use Rattle.mc_code.specs.Agreement.{Agrees}
 use Rattle.mc_code.specs.Code as code
 use Rattle.mc_code.specs.ScriptRuns.{clearing, clearing_steps, front_of, all_steps, all_labels, jump_on}
-use Rattle.mc_code.specs.Layout.{
-  request_of, requests_of, templates_of, size_of, size_of_all, code_place, after_label, label_place,
-  entry, entry_for, entries, bind_code, step_code, code_from, first_template, section_code, code_of,
-  template_count, instruction_count,
-}
+use Rattle.mc_code.specs.Layout.{request_of, requests_of, templates_of, size_of, size_of_all, code_place, after_label}
+use Rattle.mc_code.specs.Layout.{label_place, entry, entry_for, entries, bind_code, step_code, code_from, first_template}
+use Rattle.mc_code.specs.Layout.{section_code, code_of, template_count, instruction_count}
 use Rattle.mc_code.proofs.Agreeing.{code_agrees}
 use Rattle.mc_code.proofs.Bounds.{section-kept, declared-few}
 use Rattle.mc_code.proofs.Rooms.{section-within}

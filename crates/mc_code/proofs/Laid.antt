@@ -1,8 +1,6 @@
 -- What the assembler's functions make is the code of the script.
-use Rattle.std.proofs.Common.{
-  ◌≡◌, ℕ, zero, suc, ◌+◌, ◌<◌, ◌≤◌, Bool, true, false, Option, Some, None, List, [], ◌∷◌, ◌++◌, map,
-  length, take, refl, sym, ap, subst, ◌∙◌, if◌then◌else◌, arith,
-}
+use Rattle.std.proofs.Common.{◌≡◌, ℕ, zero, suc, ◌+◌, ◌<◌, ◌≤◌, Bool, true, false, Option, Some, None, List, []}
+use Rattle.std.proofs.Common.{◌∷◌, ◌++◌, map, length, take, refl, sym, ap, subst, ◌∙◌, if◌then◌else◌, arith}
 use Rattle.std.proofs.Math.Seq.{take-append-add}
 use Rattle.mc_protocol.specs.Legal.{is_legal}
 use Rattle.mc_protocol.specs.declared.actor.Actor.{Actor}
@@ -20,14 +18,10 @@ use Rattle.mc_script.specs.WellFormed.{IsScript, AreLabels, is_number_class}
 use Rattle.mc_code.specs.declared.instr.Instr.TheVariants as instr
 use Rattle.mc_code.specs.declared.limits.TheConstants.{NO_ENTRY}
 use Rattle.mc_code.specs.ScriptRuns.{clearing, clearing_steps, shift_label, jump_on}
-use Rattle.mc_code.specs.Layout.{
-  request_of, size_of, size_of_all, code_place, label_place, entry, entry_for, entries, bind_code,
-  step_code, code_from, first_template, instructions_of,
-}
-use Rattle.mc_code.specs.Assembling.{
-  cleared_keys, Places, place_in, places_from, label_places, places_of, onward_from, entry_by,
-  legal_entry, legal_entries, instructions_for, instructions_from, clearing_send, clearing_code,
-}
+use Rattle.mc_code.specs.Layout.{request_of, size_of, size_of_all, code_place, label_place, entry, entry_for}
+use Rattle.mc_code.specs.Layout.{entries, bind_code, step_code, code_from, first_template, instructions_of}
+use Rattle.mc_code.specs.Assembling.{cleared_keys, Places, place_in, places_from, label_places, places_of, onward_from, entry_by, legal_entry}
+use Rattle.mc_code.specs.Assembling.{legal_entries, instructions_for, instructions_from, clearing_send, clearing_code}
 use Rattle.mc_code.proofs.Fronts.{clearing-length}
 
 map-same : {X Y : Type 0} (f g : X → Y) → ((x : X) → f x ≡ g x) → (xs : List X) → map f xs ≡ map g xs
@@ -184,7 +178,7 @@ section-laid s actor.P h first e =
     let P : ℕ → Type 0 = λ k. clearing_code (places_of (length s.names.keys) s.sections.p.steps s.sections.p.labels).labels 0 s.names.keys
     ++ instructions_from (places_of (length s.names.keys) s.sections.p.steps s.sections.p.labels) first 0 s.sections.p.steps
     ≡ code_from (map (shift_label k) s.sections.p.labels) (clearing_steps 0 s.names.keys ++ s.sections.p.steps) 0 0
-        (clearing_steps 0 s.names.keys ++ s.sections.p.steps) in
+    (clearing_steps 0 s.names.keys ++ s.sections.p.steps) in
     subst P (sym n) (sym (laid s.names.keys s.sections.p.steps s.sections.p.labels first h.p.labels (omega (arith, e))))
 section-laid s actor.A h first e =
     let same : first ≡ first_template s actor.A = omega (arith, e) in

@@ -1,9 +1,6 @@
 -- The layout of a script leads forwards.
-use Rattle.std.proofs.Common.{
-  ◌==◌, ◌≡◌, ◌⊎◌, inl, inr, ℕ, ◌+◌, ◌<◌, ◌≤◌, zero, suc, Bool, true, false, Option, Some, None,
-  List, [], ◌∷◌, ◌++◌, map, option_map, length, take, slice_get, refl, ap, sym, subst, ◌∙◌,
-  if◌then◌else◌, arith,
-}
+use Rattle.std.proofs.Common.{◌==◌, ◌≡◌, ◌⊎◌, inl, inr, ℕ, ◌+◌, ◌<◌, ◌≤◌, zero, suc, Bool, true, false, Option, Some, None, List, []}
+use Rattle.std.proofs.Common.{◌∷◌, ◌++◌, map, option_map, length, take, slice_get, refl, ap, sym, subst, ◌∙◌, if◌then◌else◌, arith}
 use Rattle.std.proofs.lemmas.List.{length-append}
 use Rattle.std.proofs.lemmas.Option.{slice_get-map}
 use Rattle.mc_protocol.specs.Legal.{is_legal}
@@ -22,10 +19,8 @@ use Rattle.mc_script.specs.WellFormed.{AreJumps, AreSteps, IsBehind, IsScript, I
 use Rattle.mc_code.specs.declared.instr.Instr.{Instr}
 use Rattle.mc_code.specs.declared.instr.Instr.TheVariants as instr
 use Rattle.mc_code.specs.declared.limits.TheConstants.{NO_ENTRY}
-use Rattle.mc_code.specs.Layout.{
-  request_of, requests_of, size_of, size_of_all, code_place, after_label, label_place, entry_for,
-  entries, step_code, code_from, templates_of, first_template, instructions_of,
-}
+use Rattle.mc_code.specs.Layout.{request_of, requests_of, size_of, size_of_all, code_place, after_label, label_place, entry_for}
+use Rattle.mc_code.specs.Layout.{entries, step_code, code_from, templates_of, first_template, instructions_of}
 use Rattle.mc_code.specs.LayoutLaws.{EntriesAreLegal, LayoutsLeadForwards}
 use Rattle.mc_code.specs.Paths.{LeadsForwards, Slides, Sends, entry_of}
 use Rattle.mc_code.specs.ScriptRuns.{clearing_steps, front_of, all_steps, shift_label, all_labels, jump_on}
@@ -273,7 +268,7 @@ section_forwards s is k i x y at leads =
     let steps = all_steps s k in
     let first = first_template s k in
     let ahead = all_ahead labels steps (templates_of s) first (script_laid s is k) (section_onward s is k) i x y leads
-        (part_of labels steps first 0 steps x i at) in
+    (part_of labels steps first 0 steps x i at) in
     let size = code-length labels steps first 0 steps in
     (ahead.0, omega (arith, ahead.1, size))
 
@@ -290,7 +285,7 @@ part_entry : (labels : List Label) (steps : List Step) (templates : List Templat
     → slice_get templates n ≡ Some t → is_legal t.verb c ≡ false → entry_of next c ≡ NO_ENTRY
 part_entry labels steps templates m p (step.Send u jumps bind) named zero n next t c is there legal =
     let same : instr.Send m (entries labels steps p u jumps bind) ≡ instr.Send n next =
-        some_is (instr.Send m (entries labels steps p u jumps bind)) (instr.Send n next) is in
+    some_is (instr.Send m (entries labels steps p u jumps bind)) (instr.Send n next) is in
     let number : m ≡ n = cc in
     let entries_are : entries labels steps p u jumps bind ≡ next = cc in
     let template : u ≡ t = some_is u t (sym (named u refl) ∙ ap (slice_get templates) number ∙ there) in

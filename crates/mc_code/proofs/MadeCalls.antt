@@ -1,8 +1,6 @@
 -- The calls that a section makes, with their replies, are exchanges of a run.
-use Rattle.std.proofs.Common.{
-  ◌≡◌, ℕ, zero, suc, Bool, true, false, ◌&&◌, Some, List, [], ◌∷◌, ◌++◌, map, slice_get,
-  slice_index_or, refl, ap, sym, subst, ◌∙◌, if◌then◌else◌,
-}
+use Rattle.std.proofs.Common.{◌≡◌, ℕ, zero, suc, Bool, true, false, ◌&&◌, Some, List, [], ◌∷◌, ◌++◌, map}
+use Rattle.std.proofs.Common.{slice_get, slice_index_or, refl, ap, sym, subst, ◌∙◌, if◌then◌else◌}
 use Rattle.std.proofs.lemmas.List.{append-nil, append_assoc}
 use Rattle.mc_protocol.specs.Legal.{class_of, is_fit_for}
 use Rattle.mc_protocol.specs.declared.actor.Actor.{Actor}
@@ -21,10 +19,8 @@ use Rattle.mc_code.specs.Paths.{Sends, entry_of}
 use Rattle.mc_code.specs.Runs.{Exchange, IsRun, met_at, met_by_send, rests, slides, sends}
 use Rattle.mc_code.specs.Standing.{ComesTo, IsRightAlong, StandsAt, is_right, met_in}
 use Rattle.mc_code.specs.StandingLaws.{CallsStand, RightRunsAreCalled}
-use Rattle.mc_code.specs.States.{
-  Tagged, nothing, State, initial_state, after_reply, Outcome, call, wrong_kind, call_with,
-  with_argument, send_outcome, wanted_by, is_same,
-}
+use Rattle.mc_code.specs.States.{Tagged, nothing, State, initial_state, after_reply, Outcome, call, wrong_kind}
+use Rattle.mc_code.specs.States.{call_with, with_argument, send_outcome, wanted_by, is_same}
 use Rattle.mc_code.proofs.LookUps.{some_is}
 use Rattle.mc_code.proofs.RunLemmas.{run_sends, run_slides}
 use Rattle.mc_code.proofs.StandingLemmas.{template_is}

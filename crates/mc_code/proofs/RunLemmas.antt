@@ -1,8 +1,6 @@
 -- Runs: joined, longer by a move, what holds along them, and which are paths.
-use Rattle.std.proofs.Common.{
-  ◌≡◌, ℕ, Bool, true, false, Option, Some, None, List, [], ◌∷◌, ◌++◌, slice_get, slice_index_or,
-  refl, ap, sym, subst, ◌∙◌, if◌then◌else◌,
-}
+use Rattle.std.proofs.Common.{◌≡◌, ℕ, Bool, true, false, Option, Some, None, List, [], ◌∷◌, ◌++◌, slice_get}
+use Rattle.std.proofs.Common.{slice_index_or, refl, ap, sym, subst, ◌∙◌, if◌then◌else◌}
 use Rattle.mc_protocol.specs.Legal.{class_of, is_legal, is_fit_for}
 use Rattle.mc_protocol.specs.declared.request.Verb.{Verb}
 use Rattle.mc_protocol.specs.declared.request.Verb.TheVariants as verb
@@ -21,10 +19,8 @@ use Rattle.mc_code.specs.Paths.{Edge, Slides, Sends, IsPath, IsComplete}
 use Rattle.mc_code.specs.Paths as path
 use Rattle.mc_code.specs.Runs.{Exchange, after_slide, IsRun, rests, slides, sends, met_by_send, met_at}
 use Rattle.mc_code.specs.RunLaws.{edges_of, CompletePathsEnd, EndsAreComplete, PathsAreRuns}
-use Rattle.mc_code.specs.States.{
-  Tagged, nothing, is_number, State, initial_state, after_reply, call, wrong_kind, nothing_to_bind,
-  ended, call_with, with_argument, send_outcome, wanted_by, is_same,
-}
+use Rattle.mc_code.specs.States.{Tagged, nothing, is_number, State, initial_state, after_reply, call, wrong_kind, nothing_to_bind}
+use Rattle.mc_code.specs.States.{ended, call_with, with_argument, send_outcome, wanted_by, is_same}
 use Rattle.mc_protocol.proofs.FirstItems.{head_is, rest_is}
 
 -- ---- longer runs

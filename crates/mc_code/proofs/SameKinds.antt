@@ -1,8 +1,6 @@
 -- The kinds of numbers follow the edges of a run.
-use Rattle.std.proofs.Common.{
-  ◌≡◌, ℕ, zero, suc, ◌≤◌, Bool, true, false, not, ◌&&◌, Some, None, List, [], ◌∷◌, slice_get,
-  slice_set, refl, ap, sym, subst, ◌∙◌, inl, inr, if◌then◌else◌, arith,
-}
+use Rattle.std.proofs.Common.{◌≡◌, ℕ, zero, suc, ◌≤◌, Bool, true, false, not, ◌&&◌, Some, None, List, [], ◌∷◌, slice_get}
+use Rattle.std.proofs.Common.{slice_set, refl, ap, sym, subst, ◌∙◌, inl, inr, if◌then◌else◌, arith}
 use Rattle.std.specs.List.{All}
 use Rattle.std.proofs.lemmas.List.Elements.{All-head, All-tail}
 use Rattle.mc_protocol.specs.Legal.{class_of, shows_number, is_fit_for}
@@ -175,11 +173,11 @@ ends_alike templates section forwards (rests {p = p} {st = st}) other end' ys sa
     when_rested templates section forwards p st other end' ys same (run_begins run)
 ends_alike templates section forwards (slides {p = p} {q = q} {r = s} {st = st} {st' = end} {exchanges = xs} i at leads more) other end' ys same edges run =
     when_slid templates section forwards i p q s st end xs at leads (goes_on forwards more) (ends_alike templates section forwards more) other end' ys same
-        edges (run_begins run)
+    edges (run_begins run)
 ends_alike templates section forwards (sends {p = p} {q = q} {r = s} {st = st} {st' = end} {exchanges = xs} {t = t} {reply = r} i at leads fit more) other
     end' ys same edges run =
     when_sent templates section forwards i p q s st end t r xs at leads fit (ends_alike templates section forwards more) other end' ys same
-        edges (run_begins run)
+    edges (run_begins run)
 
 pub kinds_follow_edges : KindsFollowEdges
 kinds_follow_edges templates section p q st other end end' xs ys forwards same edges run run' =

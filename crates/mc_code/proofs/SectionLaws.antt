@@ -14,10 +14,8 @@ use Rattle.mc_code.specs.declared.limits.TheConstants.{CLASS_COUNT}
 use Rattle.mc_code.specs.Code.{is_byte, IsInstr}
 use Rattle.mc_code.specs.Image.{budget_bytes, instr_bytes, with_count}
 use Rattle.mc_code.specs.ImageReading.{bytes_in, byte_in, number_in, small_in, budget_in, send_in, bind_in, goto_in, after_sort, instr_in, instructions_in}
-use Rattle.mc_code.proofs.FieldLaws.{
-  then-some, only-then, some-same, IsBytes, Takes, Takes-then, bytes_take, bytes_again, byte_takes,
-  byte_again, wide16, number_takes, number_again, small_takes, small_again,
-}
+use Rattle.mc_code.proofs.FieldLaws.{then-some, only-then, some-same, IsBytes, Takes, Takes-then, bytes_take, bytes_again, byte_takes}
+use Rattle.mc_code.proofs.FieldLaws.{byte_again, wide16, number_takes, number_again, small_takes, small_again}
 use Rattle.mc_code.proofs.ItemLaws.{IsItem, counted_takes, counted_again}
 use Rattle.mc_code.proofs.TemplateLaws.{middle}
 
@@ -35,7 +33,7 @@ budget_takes bytes x fits e =
     let tb = number_takes w16 (2 ^ 16) wide16 r.0.1 b.0 tr.0.fits b.1 in
     let both = Takes-then bytes (r.0.0 ∷ []) r.0.1 (to_be_bytes w16 b.0.0) b.0.1 tr.0 tb.0 in
     subst (λ (y : Budget × List ℕ). Takes bytes (budget_bytes y.0) y.1 × (y.0.requests ≤ REQUESTS_LIMIT) × (y.0.bytes ≤ REQUEST_BYTES_LIMIT))
-        (some-same made x g.1)
+    (some-same made x g.1)
     (both, tr.2, leb-true _ _ g.0)
 
 pub budget_again : (budget : Budget) (rest : List ℕ) → budget.requests ≤ REQUESTS_LIMIT → budget.bytes ≤ REQUEST_BYTES_LIMIT
@@ -103,7 +101,7 @@ instr_again : (i : Instr) (rest : List ℕ) → IsInstr i → instr_in (instr_by
 unfolding instr_in after_sort send_in bind_in goto_in
 instr_again (instr.Send template next) rest h =
     rw (small_again 0 3 0 (template ∷ (next ++ rest)) (omega arith) (omega arith), byte_again template (next ++ rest), bytes_again CLASS_COUNT next rest h.1)
-        refl
+    refl
 instr_again (instr.Bind variable) rest h = rw (small_again 0 3 1 (variable ∷ rest) (omega arith) (omega arith), byte_again variable rest) refl
 instr_again (instr.Goto place) rest h = rw (small_again 0 3 2 (place ∷ rest) (omega arith) (omega arith), byte_again place rest) refl
 instr_again instr.Halt rest h = rw (small_again 0 3 3 rest (omega arith) (omega arith)) refl

@@ -87,7 +87,7 @@ when_rested templates section p st stop r end (sent_first i q t given rest at le
 
 when_slid : (templates : List Template) (section : List Instr) (i : Instr) (p q s : ℕ) (st mid : State) (exchanges : List Exchange)
     → slice_get section p ≡ Some i → Slides i p q → IsOnlyStop templates section q (after_slide i st) exchanges s mid
-        → (r : ℕ) (end : State) → StopsAt section r
+    → (r : ℕ) (end : State) → StopsAt section r
     → RunBegins templates section p st exchanges r end → IsSame s r mid end
 when_slid templates section i p q s st mid exchanges at leads comes r end stop (rested e f g) =
     absurd (stop i q (ap (slice_get section) (sym e) ∙ at) (subst (λ p. Slides i p q) e leads))

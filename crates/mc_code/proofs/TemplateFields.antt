@@ -1,8 +1,6 @@
 -- The fields of a template: what is read was written, and what was written is read again.
-use Rattle.std.proofs.Common.{
-  ◌≡◌, ℕ, zero, suc, ◌+◌, ◌^◌, ◌<◌, ◌≤◌, true, ltb, leb, eqb, ◌&&◌, Option, Some, List, [], ◌∷◌,
-  ◌++◌, length, slice_get, refl, sym, ap, subst, ◌∙◌, append_assoc, arith,
-}
+use Rattle.std.proofs.Common.{◌≡◌, ℕ, zero, suc, ◌+◌, ◌^◌, ◌<◌, ◌≤◌, true, ltb, leb, eqb, ◌&&◌, Option, Some, List}
+use Rattle.std.proofs.Common.{[], ◌∷◌, ◌++◌, length, slice_get, refl, sym, ap, subst, ◌∙◌, append_assoc, arith}
 use Rattle.std.specs.Int.{w64, to_be_bytes}
 use Rattle.std.proofs.lemmas.Bool.{ltb-true, lt-ltb, leb-true, eqb-true, and_parts}
 use Rattle.mc_protocol.specs.declared.request.Fields.{Fields}
@@ -24,10 +22,8 @@ use Rattle.mc_code.specs.declared.read_template.Masks.{Masks}
 use Rattle.mc_code.specs.Image.{verb_index, argument_bytes, mask_width, mask_bytes}
 use Rattle.mc_code.specs.ImageReading.{byte_in, number_in, small_in, verb_at, verb_in, argument_of, argument_in, mask_in, masks_in}
 use Rattle.mc_code.specs.ImageWriting.{FitsMask}
-use Rattle.mc_code.proofs.FieldLaws.{
-  then-some, only-then, some-same, IsBytes, Takes, Takes-then, byte_takes, byte_again, wide64,
-  wide-mask, number_takes, number_again, small_takes, small_again,
-}
+use Rattle.mc_code.proofs.FieldLaws.{then-some, only-then, some-same, IsBytes, Takes, Takes-then, byte_takes, byte_again}
+use Rattle.mc_code.proofs.FieldLaws.{wide64, wide-mask, number_takes, number_again, small_takes, small_again}
 
 -- ---- verbs
 
@@ -118,8 +114,11 @@ argument_again vars argument.Nothing rest few h =
 argument_again vars (argument.Number n) rest few h =
     rw (small_again 0 2 1 (to_be_bytes w64 n ++ rest) (omega arith) (omega arith), number_again w64 (2 ^ 64) wide64 n rest h) refl
 argument_again vars (argument.Variable v) rest few h =
-    rw (small_again 0 2 2 (to_be_bytes w64 v ++ rest) (omega arith) (omega arith), number_again w64 (2 ^ 64) wide64 v rest (omega (arith, few, h)),
-        lt-ltb v vars h) refl
+    rw (
+      small_again 0 2 2 (to_be_bytes w64 v ++ rest) (omega arith) (omega arith),
+      number_again w64 (2 ^ 64) wide64 v rest (omega (arith, few, h)),
+      lt-ltb v vars h,
+    ) refl
 
 -- ---- masks
 

@@ -1,8 +1,6 @@
 -- Templates: what is read was written, and may stand; and what was written is read again.
-use Rattle.std.proofs.Common.{
-  ◌≡◌, ℕ, ◌^◌, ◌<◌, ◌≤◌, true, ltb, eqb, ◌&&◌, Option, Some, None, List, [], ◌∷◌, ◌++◌, length, All,
-  refl, ap, subst, ◌∙◌, append_assoc, arith,
-}
+use Rattle.std.proofs.Common.{◌≡◌, ℕ, ◌^◌, ◌<◌, ◌≤◌, true, ltb, eqb, ◌&&◌, Option, Some, None, List, []}
+use Rattle.std.proofs.Common.{◌∷◌, ◌++◌, length, All, refl, ap, subst, ◌∙◌, append_assoc, arith}
 use Rattle.std.specs.Int.{w32, to_be_bytes}
 use Rattle.std.specs.Int.Bits.{bit_and}
 use Rattle.std.proofs.lemmas.Bool.{ltb-true, lt-ltb, eqb-true, eq-eqb, and_parts}
@@ -19,14 +17,10 @@ use Rattle.mc_script.specs.Versions.{flags_limit}
 use Rattle.mc_code.specs.declared.limits.TheConstants.{TEMPLATES_LIMIT}
 use Rattle.mc_code.specs.declared.read_template.Masks.{Masks}
 use Rattle.mc_code.specs.Image.{verb_index, argument_bytes, masks_bytes, template_bytes, with_length, with_count}
-use Rattle.mc_code.specs.ImageReading.{
-  byte_in, number_in, sized_in, verb_in, argument_in, masks_in, template_of, are_masks, is_template,
-  template_if_valid, template_in, templates_in,
-}
-use Rattle.mc_code.proofs.FieldLaws.{
-  then-some, only-then, some-same, IsBytes, Takes, Takes-then, byte_takes, byte_again, wide32,
-  number_takes, number_again, sized_takes, sized_again,
-}
+use Rattle.mc_code.specs.ImageReading.{byte_in, number_in, sized_in, verb_in, argument_in, masks_in, template_of}
+use Rattle.mc_code.specs.ImageReading.{are_masks, is_template, template_if_valid, template_in, templates_in}
+use Rattle.mc_code.proofs.FieldLaws.{then-some, only-then, some-same, IsBytes, Takes, Takes-then, byte_takes, byte_again}
+use Rattle.mc_code.proofs.FieldLaws.{wide32, number_takes, number_again, sized_takes, sized_again}
 use Rattle.mc_code.proofs.ItemLaws.{IsItem, counted_takes, counted_again}
 use Rattle.mc_code.proofs.ImageRoom.{mask-fits}
 use Rattle.mc_code.proofs.TemplateFields.{verb_takes, verb_again, argument_takes, argument_again, masks_text, masks_take, masks_again, fields-suit}
@@ -122,7 +116,7 @@ spread : (w : Version) (t : Template) (rest : List ℕ) → template_bytes w t +
     ≡ verb_index t.verb ∷ t.key ∷ (to_be_bytes w32 t.flags ++ (argument_bytes t.argument ++ (with_length t.body ++ (masks_bytes w t ++ rest))))
 spread w t rest =
     ap (λ (text : List ℕ). verb_index t.verb ∷ t.key ∷ (to_be_bytes w32 t.flags ++ text))
-        (spread4 (argument_bytes t.argument) (with_length t.body) (masks_bytes w t) rest)
+    (spread4 (argument_bytes t.argument) (with_length t.body) (masks_bytes w t) rest)
 
 template_again : (w : Version) (keys flags vars : ℕ) (t : Template) (rest : List ℕ) → flags ≤ flags_limit w → vars ≤ VARIABLES_LIMIT
     → IsTemplate keys flags vars t
@@ -160,15 +154,15 @@ pub templates_take : (w : Version) (keys flags vars : ℕ) (bytes : List ℕ) (x
 unfolding templates_in
 templates_take w keys flags vars bytes x few-flags few-vars fits e =
     let t = counted_takes (λ _. template_in w keys flags vars) (template_bytes w) (All (IsTemplate keys flags vars))
-        (templates_law w keys flags vars few-flags few-vars)
+    (templates_law w keys flags vars few-flags few-vars)
     0 TEMPLATES_LIMIT bytes x fits (All-nil (IsTemplate keys flags vars)) e in
     (t.0, t.2, t.3)
 
 pub templates_again : (w : Version) (keys flags vars : ℕ) (ts : List Template) (rest : List ℕ) → flags ≤ flags_limit w → vars ≤ VARIABLES_LIMIT
     → length ts ≤ TEMPLATES_LIMIT → All (IsTemplate keys flags vars) ts
-        → templates_in w keys flags vars (with_count (template_bytes w) ts ++ rest) ≡ Some (ts, rest)
+    → templates_in w keys flags vars (with_count (template_bytes w) ts ++ rest) ≡ Some (ts, rest)
 unfolding templates_in
 templates_again w keys flags vars ts rest few-flags few-vars few h =
     counted_again (λ _. template_in w keys flags vars) (template_bytes w) (All (IsTemplate keys flags vars))
-        (templates_law w keys flags vars few-flags few-vars)
+    (templates_law w keys flags vars few-flags few-vars)
     0 TEMPLATES_LIMIT ts rest h (omega arith) few

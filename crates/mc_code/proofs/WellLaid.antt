@@ -1,8 +1,6 @@
 -- The steps of a script are laid out with their labels and templates there.
-use Rattle.std.proofs.Common.{
-  ◌≡◌, ℕ, ◌+◌, ◌==◌, zero, suc, Bool, true, false, ◌||◌, Option, Some, None, List, [], ◌∷◌, ◌++◌,
-  map, option_map, length, slice_get, refl, ap, sym, subst, ◌∙◌, if◌then◌else◌, arith,
-}
+use Rattle.std.proofs.Common.{◌≡◌, ℕ, ◌+◌, ◌==◌, zero, suc, Bool, true, false, ◌||◌, Option, Some, None, List, [], ◌∷◌, ◌++◌}
+use Rattle.std.proofs.Common.{map, option_map, length, slice_get, refl, ap, sym, subst, ◌∙◌, if◌then◌else◌, arith}
 use Rattle.std.proofs.lemmas.List.{length-append}
 use Rattle.std.proofs.lemmas.Option.{slice_get-map}
 use Rattle.mc_protocol.specs.declared.actor.Actor.{Actor}

@@ -1,18 +1,15 @@
 -- What the reader of images answers, field by field. No public contract cites these: `Image` says what an image is, and
 -- the proofs join the two.
-use Rattle.std.specs.Prelude.{
-  ◌≡◌, ◌≢◌, ℕ, zero, suc, ◌^◌, ◌==◌, nat_le, nat_lt, Bool, ◌&&◌, Option, Some, None, Result, Ok,
-  Err, List, [], ◌∷◌, ◌++◌, length, take, drop, slice_get, if◌then◌else◌,
-}
+use Rattle.std.specs.Prelude.{◌≡◌, ◌≢◌, ℕ, zero, suc, ◌^◌, ◌==◌, nat_le, nat_lt, Bool, ◌&&◌, Option, Some, None, Result}
+use Rattle.std.specs.Prelude.{Ok, Err, List, [], ◌∷◌, ◌++◌, length, take, drop, slice_get, if◌then◌else◌}
 use Rattle.std.specs.Int.{Width, w16, w32, w64, byte_len, from_be_bytes}
 use Rattle.std.specs.Int.Bits.{bit_and}
 use Rattle.std.specs.Str.{bytes_eq}
 use Rattle.mc_protocol.specs.Fields.{fields_of}
 use Rattle.mc_protocol.specs.declared.request.Verb.{Verb}
 use Rattle.mc_protocol.specs.declared.sections.Sections.{Sections}
-use Rattle.mc_protocol.specs.declared.limits.TheConstants.{
-  KEYS_LIMIT, KEY_BYTES_LIMIT, REQUESTS_LIMIT, REQUEST_BYTES_LIMIT, SCRIPT_BODY_LIMIT,
-}
+use Rattle.mc_protocol.specs.declared.limits.TheConstants.{KEYS_LIMIT, KEY_BYTES_LIMIT, REQUESTS_LIMIT}
+use Rattle.mc_protocol.specs.declared.limits.TheConstants.{REQUEST_BYTES_LIMIT, SCRIPT_BODY_LIMIT}
 use Rattle.mc_script.specs.declared.limits.TheConstants.{VARIABLES_LIMIT}
 use Rattle.mc_script.specs.declared.section.Budget.{Budget}
 use Rattle.mc_script.specs.declared.step.Argument.{Argument}
@@ -152,7 +149,7 @@ unfoldable pub template_if_valid : ℕ → ℕ → ℕ → Verb → ℕ → ℕ 
 template_if_valid keys flags vars v key item_flags None body masks = None
 template_if_valid keys flags vars v key item_flags (Some a) body masks =
     if is_template keys flags vars (template_of v key item_flags a body masks) then Some
-        (template_of v key item_flags a body masks) else None
+    (template_of v key item_flags a body masks) else None
 
 unfoldable pub template_in : Version → ℕ → ℕ → ℕ → List ℕ → Field Template
 template_in v keys flags vars bytes =

@@ -58,7 +58,7 @@ stops _ = true
 abbrev pub StopsOnce : Type 0
 StopsOnce = (c : Code) (actor : Actor) (variables : List Tagged) (exchanges : List Exchange) (st st' : State) (outcome outcome' : Outcome)
     → ComesTo c actor variables exchanges st outcome → ComesTo c actor variables exchanges st' outcome' → stops outcome ≡ true
-        → stops outcome' ≡ true
+    → stops outcome' ≡ true
     → (st ≡ st') × (outcome ≡ outcome')
 
 -- every script agrees with its layout

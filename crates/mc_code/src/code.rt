@@ -43,9 +43,21 @@ impl Model for Code {
 
     ghost Value = { spec.Code };
 
-    ghost view = { λ c. record { keys = c.keys.items; flags = c.flags; vars = c.vars; templates = c.templates.items; sections = c.sections } };
+    ghost view = { λ c. record {
+      keys = c.keys.items;
+      flags = c.flags;
+      vars = c.vars;
+      templates = c.templates.items;
+      sections = c.sections;
+    } };
 
-    ghost invariant = { λ c. spec.IsCode (record { keys = c.keys.items; flags = c.flags; vars = c.vars; templates = c.templates.items; sections = c.sections }) };
+    ghost invariant = { λ c. spec.IsCode (record {
+      keys = c.keys.items;
+      flags = c.flags;
+      vars = c.vars;
+      templates = c.templates.items;
+      sections = c.sections;
+    }) };
 }
 
 impl Code {

@@ -1,10 +1,8 @@
 -- What clap finds in the program's command line, and what it says of a fault.
 use Rattle.std.proofs.Common.{arith, [], ◌∷◌, refl, sym, ap, inl, inr, codes, true, Option, ℕ, List, ◌≡◌, ◌≢◌, ◌⊎◌, ◌∙◌, Some, None, option_map}
 use Rattle.std.specs.Prelude.{option_and_then}
-use Rattle.clap.specs.Words.{
-  App, HasKind, IsAmong, Row, Text, fault_of, first_of, first_value, found_of, is_simple_and_free,
-  kind_of, rows_of, subcommand_name_of, subcommand_of, subcommand_rows_of, HasMatchesOf, is_simple,
-}
+use Rattle.clap.specs.Words.{App, HasKind, IsAmong, Row, Text, fault_of, first_of, first_value, found_of, is_simple_and_free, kind_of}
+use Rattle.clap.specs.Words.{rows_of, subcommand_name_of, subcommand_of, subcommand_rows_of, HasMatchesOf, is_simple}
 use Rattle.clap.specs.declared.parser.matches.ArgMatches.{ArgMatches}
 use Rattle.clap.specs.declared.error.Error.{Error}
 use Rattle.clap.specs.declared.error.kind.ErrorKind.{ErrorKind}
@@ -15,10 +13,8 @@ use Rattle.mc_command.specs.declared.arguments.Asked.{Asked}
 use Rattle.mc_command.specs.declared.arguments.Asked.TheVariants as asked
 use Rattle.mc_command.specs.Command.{AsksFor, IsAskedBy, IsFaultOf, IsLimit, IsShown, NamesMeeting}
 use Rattle.mc_command.specs.LineLaws.{HasLimit}
-use Rattle.mc_command.specs.CommandLine.{
-  given_limit, given_meeting, given_name, given_target, line_command, line_faults, line_limit,
-  line_meeting, line_target, program_app,
-}
+use Rattle.mc_command.specs.CommandLine.{given_limit, given_meeting, given_name, given_target, line_command}
+use Rattle.mc_command.specs.CommandLine.{line_faults, line_limit, line_meeting, line_target, program_app}
 
 -- the faults of the command that the program makes
 pub line_faults-is : (app : App) (words : List (List ℕ)) → app ≡ program_app

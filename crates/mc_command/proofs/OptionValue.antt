@@ -6,10 +6,8 @@ use Rattle.clap.specs.Lexer.{long_of, short_of}
 use Rattle.clap.specs.Kinds.{or_else}
 use Rattle.clap.specs.Simple.{Shape}
 use Rattle.clap.specs.Faults.{bundle_fault, flag_word_fault, step_fault, turn_fault}
-use Rattle.clap.specs.Walk.{
-  Held, Rule, Step, Text, Walk, after_step, arg_by_id, long_or_other, next, option, option_word,
-  short_or_plain, trailing, walked, word_met,
-}
+use Rattle.clap.specs.Walk.{Held, Rule, Step, Text, Walk, after_step, arg_by_id, long_or_other, next}
+use Rattle.clap.specs.Walk.{option, option_word, short_or_plain, trailing, walked, word_met}
 
 -- the word is no flag, and not `--`
 pub record IsNoFlag (word : Text) : Type 0 where

@@ -1,8 +1,6 @@
 -- The answer to what was read is right for the whole input.
-use Rattle.std.proofs.Common.{
-  Bool, false, arith, refl, ap, sym, subst, inl, inr, ◌≡◌, ◌∙◌, ℕ, ◌<◌, ◌≤◌, List, [], ◌++◌, length,
-  Option, Some, None, length-append, append-nil,
-}
+use Rattle.std.proofs.Common.{Bool, false, arith, refl, ap, sym, subst, inl, inr, ◌≡◌, ◌∙◌, ℕ, ◌<◌, ◌≤◌}
+use Rattle.std.proofs.Common.{List, [], ◌++◌, length, Option, Some, None, length-append, append-nil}
 use Rattle.mc_command.specs.declared.arguments.Asked.{Asked}
 use Rattle.mc_command.specs.Answers.{Does, IsAnswer, INPUT_LIMIT, out_of_memory_text}
 use Rattle.mc_command.specs.Command.{Answers, IsWhole}

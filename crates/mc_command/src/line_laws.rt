@@ -1,5 +1,12 @@
 //! What the definition of a line says of the lines that are mostly written, and of any line.
-ghost use Rattle.mc_command.specs.LineLaws.{HelpIsShown, LinesAskOnce, PlainLinesAsk, RunLinesMeet, RunLinesNameServers, SignedLimitsAreFaulty};
+ghost use Rattle.mc_command.specs.LineLaws.{
+  HelpIsShown,
+  LinesAskOnce,
+  PlainLinesAsk,
+  RunLinesMeet,
+  RunLinesNameServers,
+  SignedLimitsAreFaulty,
+};
 
 /// `mcrace judge`, `mcrace judge --limit N` and `mcrace judge --limit=N`, the same of `mcrace drive`, `mcrace check` and `mcrace
 /// asm` have no fault, and ask for what they say.

@@ -1,8 +1,6 @@
 -- The cas unique of a call was shown before it, in its own section or in P.
-use Rattle.std.proofs.Common.{
-  ◌≡◌, ◌⊎◌, inl, inr, ℕ, zero, suc, ◌==◌, nat_le, Bool, true, false, not, ◌&&◌, ◌||◌, Some, List,
-  [], ◌∷◌, replicate, slice_get, slice_index_or, refl, ap, sym, subst, ◌∙◌, if◌then◌else◌,
-}
+use Rattle.std.proofs.Common.{◌≡◌, ◌⊎◌, inl, inr, ℕ, zero, suc, ◌==◌, nat_le, Bool, true, false, not, ◌&&◌, ◌||◌, Some, List}
+use Rattle.std.proofs.Common.{[], ◌∷◌, replicate, slice_get, slice_index_or, refl, ap, sym, subst, ◌∙◌, if◌then◌else◌}
 use Rattle.std.specs.List.{list_any}
 use Rattle.std.proofs.lemmas.Bool.{and_parts, eqb-true}
 use Rattle.mc_protocol.specs.Decimals.{MAX_32}

@@ -1,8 +1,6 @@
 -- The numbers of calls are as long as their templates allow, where each number that was shown has at most 64 bits.
-use Rattle.std.proofs.Common.{
-  ◌≡◌, ℕ, zero, suc, ◌<◌, ◌≤◌, ◌^◌, Bool, true, false, Some, None, List, [], ◌∷◌, length, decimal,
-  replicate, slice_index_or, slice_set, refl, ap, arith, length-append, if◌then◌else◌,
-}
+use Rattle.std.proofs.Common.{◌≡◌, ℕ, zero, suc, ◌<◌, ◌≤◌, ◌^◌, Bool, true, false, Some, None, List, [], ◌∷◌, length, decimal}
+use Rattle.std.proofs.Common.{replicate, slice_index_or, slice_set, refl, ap, arith, length-append, if◌then◌else◌}
 use Rattle.std.specs.Fmt.{digits}
 use Rattle.std.specs.List.{concat}
 use Rattle.std.proofs.lemmas.Fmt.{length-decimal-le}
@@ -20,10 +18,8 @@ use Rattle.mc_code.specs.Code.{Code}
 use Rattle.mc_code.specs.Requests.{request_with}
 use Rattle.mc_code.specs.Runs.{Exchange, IsRun, rests, slides, sends, after_slide}
 use Rattle.mc_code.specs.Standing.{no_variables}
-use Rattle.mc_code.specs.States.{
-  Tagged, nothing, State, initial_state, is_number, shown_of, after_bind, call, wrong_kind,
-  call_with, with_argument, wanted_by, is_same,
-}
+use Rattle.mc_code.specs.States.{Tagged, nothing, State, initial_state, is_number, shown_of, after_bind}
+use Rattle.mc_code.specs.States.{call, wrong_kind, call_with, with_argument, wanted_by, is_same}
 use Rattle.mc_code.specs.declared.instr.Instr.{Instr}
 use Rattle.mc_code.specs.declared.instr.Instr.TheVariants as instr
 use Rattle.mc_code.specs.declared.kind.Kind.TheVariants as kind

@@ -81,8 +81,12 @@ started c numbers s t p new begins (same_p, begin, stay) = by_end (is_done p.end
     not_yet goes_on done = goes_on (ends_once c new_world actor.P p.ending ending.Done in_p.stands (tt, done))
 
     when_still : p.ending ≢ ending.Done → IsStart c still
-    when_still goes_on = record { new = is; held =
-        held_at c (world_in still []) (held_in still []).endings (held_in still []).machines is stand has; kept = kept }
+    when_still goes_on = record {
+      new = is;
+      held =
+          held_at c (world_in still []) (held_in still []).endings (held_in still []).machines is stand has;
+      kept = kept;
+    }
       where
         is : world_in still [] ≡ new_world
         is = world_is _ _ _ _ _ _ [] p_log (new_logged actor.A s.a (new.news actor.A)) (new_logged actor.B s.b (new.news actor.B))

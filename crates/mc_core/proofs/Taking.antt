@@ -1,8 +1,6 @@
 -- What a world's fields must be for an event to be taken, and what they keep.
-use Rattle.std.proofs.Common.{
-  ◌≡◌, ◌≢◌, ◌⊎◌, inl, inr, ℕ, ◌<◌, Bool, true, false, Option, Some, None, List, [], ◌∷◌, ◌++◌,
-  length, map, slice_get, refl, ap, sym, subst, ◌∙◌, arith, length-append,
-}
+use Rattle.std.proofs.Common.{◌≡◌, ◌≢◌, ◌⊎◌, inl, inr, ℕ, ◌<◌, Bool, true, false, Option, Some, None, List, [], ◌∷◌}
+use Rattle.std.proofs.Common.{◌++◌, length, map, slice_get, refl, ap, sym, subst, ◌∙◌, arith, length-append}
 use Rattle.std.specs.Option.{option_to_list}
 use Rattle.std.specs.Vec.{vec_len, vec_capacity}
 use Rattle.std.proofs.lemmas.List.{append-nil, length-map}
@@ -30,10 +28,8 @@ use Rattle.mc_history.specs.declared.event.Event.{Event}
 use Rattle.mc_history.specs.declared.event.Event.TheVariants as event
 use Rattle.mc_core.specs.declared.section.Section.{Section}
 use Rattle.mc_core.specs.declared.step_refusal.StepRefusal.TheVariants as refusal
-use Rattle.mc_core.specs.Fields.{
-  replies_of, waiting_in, log_in, world_in, IsKept, NamesATemplate, MayTake, Takes, SameCalls,
-  Begins, LeavesNumbers, BranchesBegin, BranchesFollow, AllTake,
-}
+use Rattle.mc_core.specs.Fields.{replies_of, waiting_in, log_in, world_in, IsKept, NamesATemplate, MayTake, Takes}
+use Rattle.mc_core.specs.Fields.{SameCalls, Begins, LeavesNumbers, BranchesBegin, BranchesFollow, AllTake}
 use Rattle.mc_core.specs.Held.{Stands, HasMachine}
 use Rattle.mc_core.specs.Logs.{Log, call_of}
 use Rattle.mc_core.specs.Worlds.{World, Noted, new_world, log_of, with_note, exchanges_of, IsEnding}

@@ -1,8 +1,6 @@
 -- What the fields of a world say. No public contract cites these.
-use Rattle.std.specs.Prelude.{
-  ◌≡◌, ◌≢◌, ◌⊎◌, ℕ, ◌+◌, ◌*◌, ◌^◌, ◌<◌, ◌≤◌, Option, Some, None, List, [], ◌∷◌, ◌++◌, length, zip,
-  flat_map, option_to_list, slice_index_or, if◌then◌else◌,
-}
+use Rattle.std.specs.Prelude.{◌≡◌, ◌≢◌, ◌⊎◌, ℕ, ◌+◌, ◌*◌, ◌^◌, ◌<◌, ◌≤◌, Option, Some, None, List, [], ◌∷◌}
+use Rattle.std.specs.Prelude.{◌++◌, length, zip, flat_map, option_to_list, slice_index_or, if◌then◌else◌}
 use Rattle.std.specs.Vec.{vec_capacity, vec_len}
 use Rattle.mc_protocol.specs.Legal.{is_fit_for}
 use Rattle.mc_protocol.specs.Sections.{section_of}

@@ -1,5 +1,23 @@
 //! What happens in three sections of sound code, event by event.
-ghost use Rattle.std.specs.Prelude.{◌≡◌, ◌↔◌, ◌<◌, ◌≤◌, Some, None, ◌∷◌, [], ◌++◌, length, OnOk, OnErr, IfOk, IfErr, IfSome, vec_len, vec_capacity};
+ghost use Rattle.std.specs.Prelude.{
+  ◌≡◌,
+  ◌↔◌,
+  ◌<◌,
+  ◌≤◌,
+  Some,
+  None,
+  ◌∷◌,
+  [],
+  ◌++◌,
+  length,
+  OnOk,
+  OnErr,
+  IfOk,
+  IfErr,
+  IfSome,
+  vec_len,
+  vec_capacity,
+};
 ghost use Rattle.mc_code.specs.Code.{Code, IsCode};
 ghost use Rattle.mc_core.specs.Held.{IsHeldBy};
 ghost use Rattle.mc_core.specs.Safety.{AreSmall, IsSmallEvent};

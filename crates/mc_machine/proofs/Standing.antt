@@ -1,9 +1,6 @@
 -- Where a machine starts, the call that it makes, and its end.
-use Rattle.std.proofs.Common.{
-  ◌≡◌, ◌≢◌, ◌↔◌, ◌⊎◌, inl, inr, ℕ, zero, suc, ◌<◌, Bool, true, false, Option, Some, None, IfSome,
-  List, [], length, replicate, slice_get, slice_index, slice_index_or, refl, ap, sym, subst, ◌∙◌,
-  arith, if◌then◌else◌,
-}
+use Rattle.std.proofs.Common.{◌≡◌, ◌≢◌, ◌↔◌, ◌⊎◌, inl, inr, ℕ, zero, suc, ◌<◌, Bool, true, false, Option, Some, None, IfSome, List, [], length}
+use Rattle.std.proofs.Common.{replicate, slice_get, slice_index, slice_index_or, refl, ap, sym, subst, ◌∙◌, arith, if◌then◌else◌}
 use Rattle.std.proofs.lemmas.List.{get_or-replicate, length-replicate}
 use Rattle.std.proofs.lemmas.Option.{get_or_from_slice_get, slice_get-get_or}
 use Rattle.mc_protocol.specs.declared.actor.Actor.{Actor}
@@ -19,10 +16,8 @@ use Rattle.mc_code.specs.Calls.{IsCalling, no_template}
 use Rattle.mc_code.specs.Code.{Code, IsCode, instructions_in}
 use Rattle.mc_code.specs.Runs.{Exchange, met_at, met_by_send, rests}
 use Rattle.mc_code.specs.Standing.{ComesTo, BeginsAfter, BeginsWith, is_right, met_in, no_variables}
-use Rattle.mc_code.specs.States.{
-  Tagged, nothing, State, initial_state, call, wrong_kind, nothing_to_bind, ended, call_with,
-  with_argument, send_outcome, wanted_by, is_same, is_number,
-}
+use Rattle.mc_code.specs.States.{Tagged, nothing, State, initial_state, call, wrong_kind, nothing_to_bind, ended}
+use Rattle.mc_code.specs.States.{call_with, with_argument, send_outcome, wanted_by, is_same, is_number}
 use Rattle.mc_code.proofs.LookUps.{some_is}
 use Rattle.mc_code.proofs.StandingLemmas.{calls_open}
 use Rattle.mc_code.proofs.Stopping.{one_stop}

@@ -13,11 +13,8 @@ use Rattle.mc_model.specs.declared.act.Choice.{Choice}
 use Rattle.mc_model.specs.Contents.{Contents}
 use Rattle.mc_model.specs.Numeral.{numeral_of}
 use Rattle.mc_model.specs.Act.{Puts, Effect, effect_by, effect_of, item_after, act}
-use Rattle.mc_model.specs.ActLaws.{
-  OtherKeysStay, RepliesFit, BodiesStayShort, JoinedBodiesAddUp, DeletedIsGone,
-  ReportedVersionIsMade, MadeVersionIsReported, AnsweredNumberIsThere, is_short, body_length, joins,
-  reports_version,
-}
+use Rattle.mc_model.specs.ActLaws.{OtherKeysStay, RepliesFit, BodiesStayShort, JoinedBodiesAddUp, DeletedIsGone, ReportedVersionIsMade}
+use Rattle.mc_model.specs.ActLaws.{MadeVersionIsReported, AnsweredNumberIsThere, is_short, body_length, joins, reports_version}
 use Rattle.mc_model.proofs.Changes.{get_changed, get_other}
 use Rattle.mc_model.proofs.Effects.{NewBody, own, joining, counting, Does, answering, removing, putting, does}
 

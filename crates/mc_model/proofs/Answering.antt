@@ -1,9 +1,7 @@
 -- A history in which the last request of a section gets its reply.
-use Rattle.std.proofs.Common.{
-  ◌≡◌, ◌⊎◌, inl, inr, ℕ, ◌-◌, ◌<◌, Bool, true, false, not, ◌&&◌, ◌||◌, if◌then◌else◌, Option, Some,
-  None, is_some, Result, Ok, Err, OnOk, IfOk, OnErr, List, [], ◌∷◌, ◌++◌, length, slice_get,
-  slice_index_or, arith, refl, sym, ap, ◌∙◌, length-append,
-}
+use Rattle.std.proofs.Common.{◌≡◌, ◌⊎◌, inl, inr, ℕ, ◌-◌, ◌<◌, Bool, true, false, not, ◌&&◌, ◌||◌, if◌then◌else◌}
+use Rattle.std.proofs.Common.{Option, Some, None, is_some, Result, Ok, Err, OnOk, IfOk, OnErr, List, [], ◌∷◌, ◌++◌}
+use Rattle.std.proofs.Common.{length, slice_get, slice_index_or, arith, refl, sym, ap, ◌∙◌, length-append}
 use Rattle.std.specs.Ordering.{nat_cmp}
 use Rattle.std.specs.Cmp.Lexicographic.{slice_cmp}
 use Rattle.std.specs.FinSet as set
@@ -66,7 +64,7 @@ set_last xs n sent reply len is =
           let same : last ≡ sent = same_Some last sent (sym (last_of-push front last) ∙ sym (ap last_of e) ∙ is) in
           let place : n - 1 ≡ length front = ap (λ m. m - 1) (len ∙ ap length e ∙ length_push front last) ∙ omega arith in
           rw (place, e, ← same) (set-append_seam front last [] (record { request = last.request; reply = Some reply })
-              ∙ sym (with_last_reply-push front last reply))
+          ∙ sym (with_last_reply-push front last reply))
     ]
   where
     nothing : None ≡ Some sent → ⊥
@@ -208,13 +206,13 @@ waits_for s who reply h none =
         → (request : Request) × IsWaiting s who request reply × (is_fit request reply ≡ true)
     by front sent e (Some other) o f =
         let same : reply_fault (Some sent) reply ≡ Some kind.Order =
-            ap (λ r. if is_some r then Some kind.Order else (if is_fit sent.request reply then None else Some kind.WrongReply)) o in
+        ap (λ r. if is_some r then Some kind.Order else (if is_fit sent.request reply then None else Some kind.WrongReply)) o in
         absurd (nothing (sym same ∙ f))
     by front sent e None o f =
         let same : reply_fault (Some sent) reply ≡ (if is_fit sent.request reply then None else Some kind.WrongReply) =
-            ap (λ r. if is_some r then Some kind.Order else (if is_fit sent.request reply then None else Some kind.WrongReply)) o in
+        ap (λ r. if is_some r then Some kind.Order else (if is_fit sent.request reply then None else Some kind.WrongReply)) o in
         let last : section_of s who ≡ front ++ record { request = sent.request; reply = None } ∷ [] =
-            e ∙ ap (λ r. front ++ record { request = sent.request; reply = r } ∷ []) o in
+        e ∙ ap (λ r. front ++ record { request = sent.request; reply = r } ∷ []) o in
         let open_end = ap are_answered e ∙ unanswered front sent o in
         (sent.request, waits s who front sent.request reply (awaited_in_time s who h open_end) last, fits (is_fit sent.request reply) (sym same ∙ f))
 
@@ -227,11 +225,11 @@ unanswered_history s who request reply late h =
     let whole : Sent = record { request = request; reply = Some reply } in
     let before = history_before s who whole late h in
     let none : first_failed (has_words request) (is_full s who open_one) (may_come s who) (clears s who open_one) (number_is_seen s who open_one)
-        (is_fit request reply) ≡ None =
+    (is_fit request reply) ≡ None =
     sym (fault_by_tests s who whole before) ∙ no_fault_of s who whole late h in
     (no_fault s who open_one (fault_by_tests s who open_one before
-        ∙ without (has_words request) (is_full s who open_one) (may_come s who) (clears s who open_one) (number_is_seen s who open_one)
-        (is_fit request reply) none)).1
+    ∙ without (has_words request) (is_full s who open_one) (may_come s who) (clears s who open_one) (number_is_seen s who open_one)
+    (is_fit request reply) none)).1
   where
     without : (words full turn cleared seen fits : Bool) → first_failed words full turn cleared seen fits ≡ None
         → first_failed words full turn cleared seen true ≡ None

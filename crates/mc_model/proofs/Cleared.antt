@@ -1,8 +1,6 @@
 -- Keys that are cleared: a request in P is on them, and the first is a delete.
-use Rattle.std.proofs.Common.{
-  ◌≡◌, ℕ, Bool, true, false, cond, ◌&&◌, ◌||◌, inl, inr, Option, Some, None, List, [], ◌∷◌, ◌++◌,
-  append_assoc, refl, sym, ap, subst, ◌∙◌,
-}
+use Rattle.std.proofs.Common.{◌≡◌, ℕ, Bool, true, false, cond, ◌&&◌, ◌||◌, inl, inr, Option, Some, None}
+use Rattle.std.proofs.Common.{List, [], ◌∷◌, ◌++◌, append_assoc, refl, sym, ap, subst, ◌∙◌}
 use Rattle.std.specs.List.{list_all, list_any, find}
 use Rattle.std.specs.Option.{option_or}
 use Rattle.std.proofs.lemmas.Bool.{cases_Bool, and_parts, and_from, false≢true}
@@ -81,7 +79,7 @@ cleared-append p more [] all = refl
 cleared-append p more (x ∷ xs) all =
     let parts = and_parts (clears p x.request.key) (list_all (λ sent. clears p sent.request.key) xs) all in
     and_from (clears (p ++ more) x.request.key) (list_all (λ sent. clears (p ++ more) sent.request.key) xs) (clears-append p more x.request.key parts.0)
-        (cleared-append p more xs parts.1)
+    (cleared-append p more xs parts.1)
 
 -- the three sections, each of whose keys is cleared
 pub cleared_parts : (s : Sections) → is_cleared s ≡ true
@@ -138,8 +136,14 @@ pub cleared_added : (s : Sections) (who : Actor) (sent : Sent) → is_cleared s 
 cleared_added s actor.P sent all =
     let more = s.p ++ sent ∷ [] in
     let parts = cleared_parts s all in
-    rw (list_all-append (λ x. clears more x.request.key) s.p (sent ∷ []), cleared-append s.p (sent ∷ []) s.p parts.0, cleared-append s.p (sent ∷ []) s.a
-        parts.1, cleared-append s.p (sent ∷ []) s.b parts.2, cleared_next s.p sent parts.0)
+    rw (
+      list_all-append (λ x. clears more x.request.key) s.p (sent ∷ []),
+      cleared-append s.p (sent ∷ []) s.p parts.0,
+      cleared-append s.p (sent ∷ []) s.a
+          parts.1,
+      cleared-append s.p (sent ∷ []) s.b parts.2,
+      cleared_next s.p sent parts.0,
+    )
     (thrice (has_key sent.request.key s.p || is_delete sent.request.verb))
 cleared_added s actor.A sent all =
     every_added (λ x. clears s.p x.request.key) s actor.A sent
@@ -186,4 +190,4 @@ cleared_before p sent all =
     let both : (list_all (λ x. clears more x.request.key) p && list_all (λ x. clears more x.request.key) (sent ∷ [])) ≡ true =
     sym (list_all-append (λ x. clears more x.request.key) p (sent ∷ [])) ∙ all in
     cleared_front p (sent ∷ []) p (keys_within [] p)
-        (and_parts (list_all (λ x. clears more x.request.key) p) (list_all (λ x. clears more x.request.key) (sent ∷ [])) both).0
+    (and_parts (list_all (λ x. clears more x.request.key) p) (list_all (λ x. clears more x.request.key) (sent ∷ [])) both).0

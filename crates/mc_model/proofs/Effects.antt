@@ -1,8 +1,6 @@
 -- Every effect is an answer alone, a removal, or a version that the reply reports.
-use Rattle.std.proofs.Common.{
-  ◌≡◌, ℕ, ◌+◌, ◌-◌, ◌^◌, ◌<◌, ◌≤◌, Bool, true, false, ◌&&◌, cond, eqb, ltb, Option, Some, None,
-  List, ◌++◌, length, replicate, max, refl, sym, ap, ◌∙◌, arith,
-}
+use Rattle.std.proofs.Common.{◌≡◌, ℕ, ◌+◌, ◌-◌, ◌^◌, ◌<◌, ◌≤◌, Bool, true, false, ◌&&◌, cond, eqb, ltb, Option}
+use Rattle.std.proofs.Common.{Some, None, List, ◌++◌, length, replicate, max, refl, sym, ap, ◌∙◌, arith}
 use Rattle.std.specs.Fmt.{decimal}
 use Rattle.std.proofs.lemmas.List.{append-nil, length-append, length-replicate}
 use Rattle.std.proofs.lemmas.Nat.{mod_below}
@@ -46,7 +44,7 @@ does_stored request number found fit alone = putting (version request number) re
 -- a join makes a version of both bodies
 does_joined : (request : Request) (number : ℕ) (item : Item) (body : List ℕ) → is_fit request reply.Stored ≡ true → joins request.verb ≡ true
     → length body ≡ length item.body + length request.body
-        → Does request number (Some item) (puts (record { flags = item.flags; body = body; number = number }) reply.Stored)
+    → Does request number (Some item) (puts (record { flags = item.flags; body = body; number = number }) reply.Stored)
 does_joined request number item body fit both long =
     putting (record { flags = item.flags; body = body; number = number }) reply.Stored refl refl fit (λ n. no_number n body) (joining body both long)
 
@@ -96,7 +94,7 @@ does_counted : (new : ℕ → ℕ → ℕ) (request : Request) (choice : Choice)
 does_counted new request choice number None as_count small = answering reply.NotFound refl (λ short. as_count.absent)
 does_counted new request choice number (Some item) as_count small =
     does_counted_from new request choice number item (read_as choice.read (numeral_of item.body)) as_count
-        (λ n e. small n (small_numeral choice.read item.body n e))
+    (λ n e. small n (small_numeral choice.read item.body n e))
 
 -- a sum that wraps has 64 bits
 small_sum : (n amount : ℕ) → n < 2 ^ 64 → increment n amount < 2 ^ 64
@@ -128,10 +126,10 @@ does verb.Gets request choice number None e = answering reply.Miss refl (λ shor
 does verb.Gets request choice number (Some item) e = answering (reply.Hit item.flags item.body (Some item.number)) refl (λ short. rw e short)
 does verb.Incr request choice number found e =
     does_counted increment request choice number found (record { absent = rw e refl; refused = rw e refl; number = λ n. rw e refl; alone = rw e refl })
-        (λ n. small_sum n request.number)
+    (λ n. small_sum n request.number)
 does verb.Decr request choice number found e =
     does_counted decrement request choice number found (record { absent = rw e refl; refused = rw e refl; number = λ n. rw e refl; alone = rw e refl })
-        (λ n. small_rest n request.number)
+    (λ n. small_rest n request.number)
 does verb.Delete request choice number None e = answering reply.NotFound refl (λ short. rw e refl)
 does verb.Delete request choice number (Some item) e = removing (rw e refl)
 does verb.Touch request choice number None e = answering reply.NotFound refl (λ short. rw e refl)

@@ -7,10 +7,8 @@ use Rattle.std.specs.List.{find, filter}
 use Rattle.std.specs.Option.{option_map}
 use Rattle.std.specs.Str.{bytes_eq}
 use Rattle.std.specs.FinMap as finite_map
-use Rattle.std.specs.FinMap.{
-  FinMap, IsAntisymmetric, nat_cmp-IsAntisymmetric, slice_cmp-IsAntisymmetric, same_map,
-  from_entries_push, get-from_entries, get-insert, get-remove,
-}
+use Rattle.std.specs.FinMap.{FinMap, IsAntisymmetric, nat_cmp-IsAntisymmetric, slice_cmp-IsAntisymmetric}
+use Rattle.std.specs.FinMap.{same_map, from_entries_push, get-from_entries, get-insert, get-remove}
 use Rattle.std.specs.FinMap.Entries as entries
 use Rattle.std.specs.FinMap.Entries.{find-where_key}
 
@@ -37,8 +35,8 @@ module _ {X : Type 0} where
   found_value key (e ∷ es) =
       ap (λ b. option_map (λ (e : List ℕ × X). e.1) (cond b (Some e) (find (λ e. bytes_eq e.0 key) es))) (bytes_tie e.0 key)
       ∙ elim (eq_by_cmp (slice_cmp nat_cmp) key e.0) as
-          (λ b. option_map (λ (e : List ℕ × X). e.1) (cond b (Some e) (find (λ e. bytes_eq e.0 key) es))
-          ≡ cond b (Some e.1) (entries.find (slice_cmp nat_cmp) key es)) [
+      (λ b. option_map (λ (e : List ℕ × X). e.1) (cond b (Some e) (find (λ e. bytes_eq e.0 key) es))
+      ≡ cond b (Some e.1) (entries.find (slice_cmp nat_cmp) key es)) [
         | true ↦ refl
         | false ↦ found_value key es
       ]

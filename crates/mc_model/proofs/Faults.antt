@@ -10,11 +10,8 @@ use Rattle.mc_model.specs.declared.sent.Sent.{Sent}
 use Rattle.mc_model.specs.declared.rules.HistoryKind.{HistoryKind}
 use Rattle.mc_model.specs.declared.rules.HistoryKind.TheVariants as kind
 use Rattle.mc_model.specs.Sections.{Sections, no_sections, with_sent}
-use Rattle.mc_model.specs.History.{
-  has_words, all_have_words, has_few_requests, has_few_keys, is_within_limits, is_in_turn,
-  is_cleared, numbers_are_seen, is_answered_rightly, are_answered_rightly, is_history, fault_at,
-  comes_late, key_count,
-}
+use Rattle.mc_model.specs.History.{has_words, all_have_words, has_few_requests, has_few_keys, is_within_limits, is_in_turn, is_cleared, numbers_are_seen}
+use Rattle.mc_model.specs.History.{is_answered_rightly, are_answered_rightly, is_history, fault_at, comes_late, key_count}
 use Rattle.mc_model.specs.Next.{is_full, may_come, clears, number_is_seen, keys_with}
 use Rattle.mc_model.proofs.Added.{every_added}
 use Rattle.mc_model.proofs.Limits.{limits_added}
@@ -75,8 +72,16 @@ fault_by_tests s who sent h =
     let words : all_have_words (with_sent s who sent) ≡ has_words sent.request = every_added (λ x. has_words x.request) s who sent ∙ rw (r.words) refl in
     let replies : are_answered_rightly (with_sent s who sent) ≡ is_answered_rightly sent = every_added is_answered_rightly s who sent ∙ rw (r.replies) refl in
     let limits = limits_added s who sent r.few r.few_keys r.cleared in
-    rw (words, limits, turn_added s who sent r.turn, cleared_added s who sent r.cleared, numbers_added s who sent r.numbers, replies, not_twice
-        (is_full s who sent)) refl
+    rw (
+      words,
+      limits,
+      turn_added s who sent r.turn,
+      cleared_added s who sent r.cleared,
+      numbers_added s who sent r.numbers,
+      replies,
+      not_twice
+          (is_full s who sent),
+    ) refl
 
 -- all rules are kept where none is broken
 pub none_failed : (words limits late turn cleared seen replies : Bool)

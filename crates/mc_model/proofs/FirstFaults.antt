@@ -1,9 +1,6 @@
 -- The first fault of sections: there is one where they are no history, and only one.
-use Rattle.std.proofs.Common.{
-  ◌≡◌, ◌⊎◌, inl, inr, ℕ, ◌<◌, true, false, Option, Some, None, List, [], ◌∷◌, ◌++◌, length, take,
-  slice_get, append_assoc, append-nil, length-take, length-append, take-take, arith, refl, sym, ap,
-  subst, ◌∙◌,
-}
+use Rattle.std.proofs.Common.{◌≡◌, ◌⊎◌, inl, inr, ℕ, ◌<◌, true, false, Option, Some, None, List, [], ◌∷◌, ◌++◌, length, take, slice_get}
+use Rattle.std.proofs.Common.{append_assoc, append-nil, length-take, length-append, take-take, arith, refl, sym, ap, subst, ◌∙◌}
 use Rattle.std.proofs.lemmas.Bool.{both_ways, cases_order}
 use Rattle.std.proofs.lemmas.List.{take_at, get_or_at, get_or-take}
 use Rattle.std.proofs.lemmas.Option.{slice_get_within, slice_get-get_or, get_or_from_slice_get, same_Some}
@@ -83,14 +80,14 @@ walk : (s : Sections) (who : Actor) (done rest : List Sent) → comes_late s who
 walk s who done [] late h = inl (rw (append-nil done) h)
 walk s who done (x ∷ xs) late h =
     let at_x : (fault : Option HistoryKind) → fault_at (with_section s who done) who x ≡ fault
-        → (is_history (with_section s who (done ++ x ∷ xs)) ≡ true) ⊎ ((kind : HistoryKind) × (place : ℕ) × FailsAt s who (done ++ x ∷ xs) kind place) =
+    → (is_history (with_section s who (done ++ x ∷ xs)) ≡ true) ⊎ ((kind : HistoryKind) × (place : ℕ) × FailsAt s who (done ++ x ∷ xs) kind place) =
     λ fault. elim fault as (λ o. fault_at (with_section s who done) who x ≡ o
-        → (is_history (with_section s who (done ++ x ∷ xs)) ≡ true) ⊎ ((kind : HistoryKind) × (place : ℕ) × FailsAt s who (done ++ x ∷ xs) kind place)) [
+    → (is_history (with_section s who (done ++ x ∷ xs)) ≡ true) ⊎ ((kind : HistoryKind) × (place : ℕ) × FailsAt s who (done ++ x ∷ xs) kind place)) [
       | None ↦ λ none.
           let next : is_history (with_section s who (done ++ x ∷ [])) ≡ true =
-              ap is_history (added_last s who done x) ∙ (no_fault (with_section s who done) who x none).1 in
+          ap is_history (added_last s who done x) ∙ (no_fault (with_section s who done) who x none).1 in
           subst (λ all. (is_history (with_section s who all) ≡ true) ⊎ ((kind : HistoryKind) × (place : ℕ) × FailsAt s who all kind place))
-              (append_assoc done (x ∷ []) xs)
+          (append_assoc done (x ∷ []) xs)
           (walk s who (done ++ x ∷ []) xs late next)
       | Some kind ↦ λ fault.
           let front : take (length done) (done ++ x ∷ xs) ≡ done = take_at done (x ∷ xs) (length done) refl in

@@ -1,9 +1,7 @@
 -- The fault of a note that comes next, by the tests of the sections before it.
-use Rattle.std.proofs.Common.{
-  ◌≡◌, ◌≢◌, inl, inr, ℕ, Bool, true, false, not, ◌&&◌, ◌||◌, if◌then◌else◌, Some, None, Result, Ok,
-  Err, is_err, OnOk, IfOk, IfErr, List, [], ◌∷◌, ◌++◌, ◌+◌, take, drop, append-nil, append_assoc,
-  take-append-drop, subst, refl, sym, ap, ap₂, ◌∙◌, arith,
-}
+use Rattle.std.proofs.Common.{◌≡◌, ◌≢◌, inl, inr, ℕ, Bool, true, false, not, ◌&&◌, ◌||◌, if◌then◌else◌, Some, None}
+use Rattle.std.proofs.Common.{Result, Ok, Err, is_err, OnOk, IfOk, IfErr, List, [], ◌∷◌, ◌++◌, ◌+◌, take, drop, append-nil}
+use Rattle.std.proofs.Common.{append_assoc, take-append-drop, subst, refl, sym, ap, ap₂, ◌∙◌, arith}
 use Rattle.std.proofs.lemmas.Bool.{cases_Bool, and_parts, and_from, false_from_ne_true}
 use Rattle.std.proofs.lemmas.List.{take_more}
 use Rattle.std.proofs.lemmas.Option.{slice_get_within, get_or_from_slice_get}
@@ -17,23 +15,17 @@ use Rattle.mc_model.specs.declared.note.Note.TheVariants as note
 use Rattle.mc_model.specs.declared.rules.HistoryKind.{HistoryKind}
 use Rattle.mc_model.specs.declared.rules.HistoryKind.TheVariants as kind
 use Rattle.mc_model.specs.Sections.{Sections, section_of, with_sent}
-use Rattle.mc_model.specs.History.{
-  all_have_words, is_within_limits, is_in_turn, is_cleared, numbers_are_seen, are_answered_rightly,
-  are_answered, is_none_sent, is_history, first_broken, fault_at, comes_late,
-}
+use Rattle.mc_model.specs.History.{all_have_words, is_within_limits, is_in_turn, is_cleared, numbers_are_seen, are_answered_rightly}
+use Rattle.mc_model.specs.History.{are_answered, is_none_sent, is_history, first_broken, fault_at, comes_late}
 use Rattle.mc_model.specs.Next.{may_come, last_of, reply_fault, after_note, note_fault}
-use Rattle.mc_model.specs.Notes.{
-  Noted, requests_in, replies_in, sections_in, is_waiting, is_out_of_order, are_in_order, is_record,
-  fault_of, IsFirstFaultOfNotes,
-}
+use Rattle.mc_model.specs.Notes.{Noted, requests_in, replies_in, sections_in, is_waiting, is_out_of_order}
+use Rattle.mc_model.specs.Notes.{are_in_order, is_record, fault_of, IsFirstFaultOfNotes}
 use Rattle.mc_model.proofs.Faults.{rules_of, none_failed, nothing_sent}
 use Rattle.mc_model.proofs.Turns.{turn_added}
 use Rattle.mc_model.proofs.Prefixes.{history_before}
 use Rattle.mc_model.proofs.Answering.{ends, last_of-push, answered_push, awaited_in_time, waits, fault_with_reply, unanswered_history}
-use Rattle.mc_model.proofs.Noting.{
-  IsBalanced, section_in, balanced_along, waiting_last, waits_for_one, sections-begin,
-  sections-reply, sections-no_reply, no_more_requests,
-}
+use Rattle.mc_model.proofs.Noting.{IsBalanced, section_in, balanced_along, waiting_last, waits_for_one, sections-begin}
+use Rattle.mc_model.proofs.Noting.{sections-reply, sections-no_reply, no_more_requests}
 
 -- ---- notes that make a history
 
@@ -66,10 +58,10 @@ not-true false e = refl
 first_broken-order : (x y : Bool) (s : Sections) → (x || not (is_in_turn s)) ≡ (y || not (is_in_turn s)) → first_broken x s ≡ first_broken y s
 first_broken-order x y s e =
     ap (λ order. if not (all_have_words s) then Some kind.Line
-        else (if not (is_within_limits s) then Some kind.TooMany
-        else (if order then Some kind.Order
-        else (if not (is_cleared s) then Some kind.NotCleared
-        else (if not (numbers_are_seen s) then Some kind.UnseenNumber else (if not (are_answered_rightly s) then Some kind.WrongReply else None)))))) e
+    else (if not (is_within_limits s) then Some kind.TooMany
+    else (if order then Some kind.Order
+    else (if not (is_cleared s) then Some kind.NotCleared
+    else (if not (numbers_are_seen s) then Some kind.UnseenNumber else (if not (are_answered_rightly s) then Some kind.WrongReply else None)))))) e
 
 or_moved : (x late turn may : Bool) → (late || turn) ≡ not may → (x || not may) ≡ not may → ((x || late) || turn) ≡ (late || turn)
 or_moved true late turn true e f = cc
@@ -191,10 +183,10 @@ order-push earlier [] next = and_once (not (is_out_of_order (sections_in earlier
     ∙ ap (λ l. not (is_out_of_order (sections_in l) next)) (sym (append-nil earlier))
 order-push earlier (x ∷ notes) next =
     ap (λ b. not (is_out_of_order (sections_in earlier) x) && b)
-        (order-push (earlier ++ x ∷ []) notes next
-        ∙ ap (λ l. are_in_order (earlier ++ x ∷ []) notes && not (is_out_of_order (sections_in l) next)) (append_assoc earlier (x ∷ []) notes))
+    (order-push (earlier ++ x ∷ []) notes next
+    ∙ ap (λ l. are_in_order (earlier ++ x ∷ []) notes && not (is_out_of_order (sections_in l) next)) (append_assoc earlier (x ∷ []) notes))
     ∙ and_assoc (not (is_out_of_order (sections_in earlier) x)) (are_in_order (earlier ++ x ∷ []) notes)
-        (not (is_out_of_order (sections_in (earlier ++ x ∷ notes)) next))
+    (not (is_out_of_order (sections_in (earlier ++ x ∷ notes)) next))
 
 -- notes make a history with a note that has no fault
 pub record_push : (notes : List Noted) (next : Noted) → is_record notes ≡ true → fault_of notes next ≡ None → is_record (notes ++ next ∷ []) ≡ true
@@ -202,7 +194,7 @@ unfolding fault_of is_history
 record_push notes next r none =
     let t = sections_in (notes ++ next ∷ []) in
     let both = none_failed (all_have_words t) (is_within_limits t) (is_out_of_order (sections_in notes) next) (is_in_turn t) (is_cleared t)
-        (numbers_are_seen t) (are_answered_rightly t) none in
+    (numbers_are_seen t) (are_answered_rightly t) none in
     record_of (notes ++ next ∷ [])
     (order-push [] notes next ∙ and_from (are_in_order [] notes) (not (is_out_of_order (sections_in notes) next)) (record_parts notes r).0 (ap not both.0))
     both.1
@@ -238,7 +230,7 @@ in_order_before : (notes : List Noted) (next : Noted) → is_record (notes ++ ne
     → (are_in_order [] notes ≡ true) × (is_out_of_order (sections_in notes) next ≡ false)
 in_order_before notes next r =
     let both = and_parts (are_in_order [] notes) (not (is_out_of_order (sections_in notes) next))
-        (sym (order-push [] notes next) ∙ (record_parts (notes ++ next ∷ []) r).0) in
+    (sym (order-push [] notes next) ∙ (record_parts (notes ++ next ∷ []) r).0) in
     (both.0, not-true (is_out_of_order (sections_in notes) next) both.1)
 
 history_before_note : (notes : List Noted) (next : Noted) → are_in_order [] notes ≡ true → is_out_of_order (sections_in notes) next ≡ false
@@ -247,7 +239,7 @@ history_before_note notes (who, note.Begin request) in_order free h =
     let s = sections_in notes in
     let late : comes_late s who ≡ false = last (is_waiting s who || is_waiting s actor.P) (comes_late s who) free in
     history_before s who (record { request = request; reply = None }) late
-        (sym (ap is_history (sections-begin notes who request (balanced_in_order notes who in_order))) ∙ h)
+    (sym (ap is_history (sections-begin notes who request (balanced_in_order notes who in_order))) ∙ h)
   where
     last : (x y : Bool) → (x || y) ≡ false → y ≡ false
     last true y e = cc
@@ -289,9 +281,9 @@ no_record notes k who place f =
     (λ r.
     let next : take (place + 1) notes ≡ take place notes ++ (who, f.note) ∷ [] =
     take_more notes place (who, f.note) (slice_get_within notes place (who, f.note) f.noted)
-        ∙ ap (λ x. take place notes ++ x ∷ []) (get_or_from_slice_get notes place (who, f.note) (who, f.note) f.noted) in
+    ∙ ap (λ x. take place notes ++ x ∷ []) (get_or_from_slice_get notes place (who, f.note) (who, f.note) f.noted) in
     let front = record_shorter (take (place + 1) notes) (drop (place + 1) notes)
-        (subst (λ l. is_record l ≡ true) (sym (take-append-drop (place + 1) notes)) r) in
+    (subst (λ l. is_record l ≡ true) (sym (take-append-drop (place + 1) notes)) r) in
     let none = no_fault_within (take place notes) (who, f.note) (sym (ap is_record next) ∙ front) in
     let both : None ≡ Some k = sym none ∙ f.fault in
     cc)

@@ -1,9 +1,6 @@
 -- The sections that notes spell, with one more note.
-use Rattle.std.proofs.Common.{
-  ◌≡◌, inl, inr, ℕ, ◌+◌, ◌<◌, ◌≤◌, Bool, true, false, not, ◌||◌, Some, None, List, [], ◌∷◌, ◌++◌,
-  length, map, if◌then◌else◌, arith, refl, sym, ap, ap₂, subst, ◌∙◌, length-append, append-nil,
-  append_assoc,
-}
+use Rattle.std.proofs.Common.{◌≡◌, inl, inr, ℕ, ◌+◌, ◌<◌, ◌≤◌, Bool, true, false, not, ◌||◌, Some, None, List, [], ◌∷◌, ◌++◌, length}
+use Rattle.std.proofs.Common.{map, if◌then◌else◌, arith, refl, sym, ap, ap₂, subst, ◌∙◌, length-append, append-nil, append_assoc}
 use Rattle.std.proofs.lemmas.Bool.{and_parts, cases_lt}
 use Rattle.std.proofs.lemmas.List.{map-append}
 use Rattle.std.proofs.lemmas.List.Concat.{flat_map-append}
@@ -16,11 +13,8 @@ use Rattle.mc_model.specs.declared.note.Note.TheVariants as note
 use Rattle.mc_model.specs.Sections.{Sections, section_of, with_sent}
 use Rattle.mc_model.specs.History.{are_answered, comes_late}
 use Rattle.mc_model.specs.Next.{with_last_reply, after_reply}
-use Rattle.mc_model.specs.Notes.{
-  Noted, begun_by, replied_by, requests_in, replies_in, with_replies, sent_in, sections_in,
-  is_waiting, is_out_of_order, are_in_order, is_same_section, begins, notes_before_each,
-  answered_before_each,
-}
+use Rattle.mc_model.specs.Notes.{Noted, begun_by, replied_by, requests_in, replies_in, with_replies, sent_in, sections_in, is_waiting}
+use Rattle.mc_model.specs.Notes.{is_out_of_order, are_in_order, is_same_section, begins, notes_before_each, answered_before_each}
 
 -- ---- requests and replies with one more note
 
@@ -125,8 +119,13 @@ section_in actor.B notes = refl
 balanced_push : (section : Actor) (notes : List Noted) (noted : Noted) → IsBalanced notes section → is_out_of_order (sections_in notes) noted ≡ false
     → IsBalanced (notes ++ noted ∷ []) section
 balanced_push section notes (who, note.Begin request) both in_order =
-    rw (requests-push section notes (who, note.Begin request), replies-push section notes (who, note.Begin request), append-nil
-        (replies_in section notes), length-append)
+    rw (
+      requests-push section notes (who, note.Begin request),
+      replies-push section notes (who, note.Begin request),
+      append-nil
+          (replies_in section notes),
+      length-append,
+    )
     (by section who both in_order)
   where
     idle : (w wp late : Bool) → (w || wp || late) ≡ false → not w ≡ true
@@ -158,8 +157,13 @@ balanced_push section notes (who, note.Begin request) both in_order =
     by actor.B actor.P both e = (omega (arith, both.0), omega (arith, both.1))
     by actor.B actor.A both e = (omega (arith, both.0), omega (arith, both.1))
 balanced_push section notes (who, note.Reply reply) both in_order =
-    rw (requests-push section notes (who, note.Reply reply), replies-push section notes (who, note.Reply reply), append-nil
-        (requests_in section notes), length-append)
+    rw (
+      requests-push section notes (who, note.Reply reply),
+      replies-push section notes (who, note.Reply reply),
+      append-nil
+          (requests_in section notes),
+      length-append,
+    )
     (by section who both in_order)
   where
     waits : (w late : Bool) → (not w || late) ≡ false → w ≡ true
@@ -211,7 +215,7 @@ own_request : (section : Actor) (notes : List Noted) (noted : Noted) (request : 
     → sent_in section (notes ++ noted ∷ []) ≡ sent_in section notes ++ record { request = request; reply = None } ∷ []
 own_request section notes noted request one none few =
     ap₂ with_replies (requests-push section notes noted ∙ ap (λ l. requests_in section notes ++ l) one)
-        (replies-push section notes noted ∙ ap (λ l. replies_in section notes ++ l) none ∙ append-nil (replies_in section notes))
+    (replies-push section notes noted ∙ ap (λ l. replies_in section notes ++ l) none ∙ append-nil (replies_in section notes))
     ∙ request_more (requests_in section notes) (replies_in section notes) request few
 
 -- a request that begins is the last of its section
@@ -219,19 +223,19 @@ pub sections-begin : (notes : List Noted) (who : Actor) (request : Request) → 
     → sections_in (notes ++ (who, note.Begin request) ∷ []) ≡ with_sent (sections_in notes) who (record { request = request; reply = None })
 sections-begin notes actor.P request both =
     same_sections _ _ _ _ _ _ (own_request actor.P notes _ request refl refl both.0) (sent-other actor.A notes _ refl refl)
-        (sent-other actor.B notes _ refl refl)
+    (sent-other actor.B notes _ refl refl)
 sections-begin notes actor.A request both =
     same_sections _ _ _ _ _ _ (sent-other actor.P notes _ refl refl) (own_request actor.A notes _ request refl refl both.0)
-        (sent-other actor.B notes _ refl refl)
+    (sent-other actor.B notes _ refl refl)
 sections-begin notes actor.B request both =
     same_sections _ _ _ _ _ _ (sent-other actor.P notes _ refl refl) (sent-other actor.A notes _ refl refl)
-        (own_request actor.B notes _ request refl refl both.0)
+    (own_request actor.B notes _ request refl refl both.0)
 
 own_reply : (section : Actor) (notes : List Noted) (noted : Noted) (reply : Reply) → begun_by section noted ≡ [] → replied_by section noted ≡ reply ∷ []
     → sent_in section (notes ++ noted ∷ []) ≡ with_replies (requests_in section notes) (replies_in section notes ++ reply ∷ [])
 own_reply section notes noted reply none one =
     ap₂ with_replies (requests-push section notes noted ∙ ap (λ l. requests_in section notes ++ l) none ∙ append-nil (requests_in section notes))
-        (replies-push section notes noted ∙ ap (λ l. replies_in section notes ++ l) one)
+    (replies-push section notes noted ∙ ap (λ l. replies_in section notes ++ l) one)
 
 -- the section waits for one reply
 abbrev pub WaitsForOne : List Noted → Actor → Type 0
@@ -248,28 +252,28 @@ pub sections-reply : (notes : List Noted) (who : Actor) (reply : Reply) → Wait
     → sections_in (notes ++ (who, note.Reply reply) ∷ []) ≡ after_reply (sections_in notes) who reply
 sections-reply notes actor.P reply one =
     same_sections _ _ _ _ _ _ (own_reply actor.P notes _ reply refl refl ∙ reply_more (requests_in actor.P notes) (replies_in actor.P notes) reply one)
-        (sent-other actor.A notes _ refl refl) (sent-other actor.B notes _ refl refl)
+    (sent-other actor.A notes _ refl refl) (sent-other actor.B notes _ refl refl)
 sections-reply notes actor.A reply one =
     same_sections _ _ _ _ _ _ (sent-other actor.P notes _ refl refl)
-        (own_reply actor.A notes _ reply refl refl ∙ reply_more (requests_in actor.A notes) (replies_in actor.A notes) reply one)
-        (sent-other actor.B notes _ refl refl)
+    (own_reply actor.A notes _ reply refl refl ∙ reply_more (requests_in actor.A notes) (replies_in actor.A notes) reply one)
+    (sent-other actor.B notes _ refl refl)
 sections-reply notes actor.B reply one =
     same_sections _ _ _ _ _ _ (sent-other actor.P notes _ refl refl) (sent-other actor.A notes _ refl refl)
-        (own_reply actor.B notes _ reply refl refl ∙ reply_more (requests_in actor.B notes) (replies_in actor.B notes) reply one)
+    (own_reply actor.B notes _ reply refl refl ∙ reply_more (requests_in actor.B notes) (replies_in actor.B notes) reply one)
 
 -- a reply for which its section doesn't wait changes nothing
 pub sections-no_reply : (notes : List Noted) (who : Actor) (reply : Reply) → length (requests_in who notes) ≤ length (replies_in who notes)
     → sections_in (notes ++ (who, note.Reply reply) ∷ []) ≡ sections_in notes
 sections-no_reply notes actor.P reply many =
     same_sections _ _ _ _ _ _ (own_reply actor.P notes _ reply refl refl ∙ reply_late (requests_in actor.P notes) (replies_in actor.P notes) reply many)
-        (sent-other actor.A notes _ refl refl) (sent-other actor.B notes _ refl refl)
+    (sent-other actor.A notes _ refl refl) (sent-other actor.B notes _ refl refl)
 sections-no_reply notes actor.A reply many =
     same_sections _ _ _ _ _ _ (sent-other actor.P notes _ refl refl)
-        (own_reply actor.A notes _ reply refl refl ∙ reply_late (requests_in actor.A notes) (replies_in actor.A notes) reply many)
-        (sent-other actor.B notes _ refl refl)
+    (own_reply actor.A notes _ reply refl refl ∙ reply_late (requests_in actor.A notes) (replies_in actor.A notes) reply many)
+    (sent-other actor.B notes _ refl refl)
 sections-no_reply notes actor.B reply many =
     same_sections _ _ _ _ _ _ (sent-other actor.P notes _ refl refl) (sent-other actor.A notes _ refl refl)
-        (own_reply actor.B notes _ reply refl refl ∙ reply_late (requests_in actor.B notes) (replies_in actor.B notes) reply many)
+    (own_reply actor.B notes _ reply refl refl ∙ reply_late (requests_in actor.B notes) (replies_in actor.B notes) reply many)
 
 -- ---- counts
 
@@ -283,7 +287,7 @@ before_each-push section (x ∷ notes) noted =
     (map-append (λ (earlier : List Noted). x ∷ earlier) (notes_before_each section notes) (if begins section noted then notes ∷ [] else [])
     ∙ ap (λ l. map (λ earlier. x ∷ earlier) (notes_before_each section notes) ++ l) (in_if (begins section noted)))
     ∙ sym (append_assoc (if begins section x then [] ∷ [] else []) (map (λ earlier. x ∷ earlier) (notes_before_each section notes))
-        (if begins section noted then (x ∷ notes) ∷ [] else []))
+    (if begins section noted then (x ∷ notes) ∷ [] else []))
   where
     in_if : (b : Bool) → map (λ (earlier : List Noted). x ∷ earlier) (if b then notes ∷ [] else []) ≡ (if b then (x ∷ notes) ∷ [] else [])
     in_if true = refl
@@ -292,7 +296,7 @@ before_each-push section (x ∷ notes) noted =
 -- the counts with one more note
 pub answered_before-push : (section other : Actor) (notes : List Noted) (noted : Noted)
     → answered_before_each section other (notes ++ noted ∷ [])
-        ≡ answered_before_each section other notes ++ (if begins section noted then length (replies_in other notes) ∷ [] else [])
+    ≡ answered_before_each section other notes ++ (if begins section noted then length (replies_in other notes) ∷ [] else [])
 answered_before-push section other notes noted =
     ap (map count) (before_each-push section notes noted)
     ∙ map-append count (notes_before_each section notes) (if begins section noted then notes ∷ [] else [])
@@ -323,7 +327,7 @@ pub counts-begin : (section other : Actor) (notes : List Noted) (n : ℕ) (count
 counts-begin section other notes n counts more answered noted request c is added = record {
   each = added ∙ ap₂ (λ l a. l ++ (if is_same_section section noted.0 then a ∷ [] else [])) c.each c.replies
       ∙ ap (λ b. answered_before_each section other notes ++ (if b then length (replies_in other notes) ∷ [] else []))
-          (sym (ap (λ x. begins section (noted.0, x)) is))
+      (sym (ap (λ x. begins section (noted.0, x)) is))
       ∙ sym (answered_before-push section other notes noted);
   replies = c.replies ∙ sym (reply_count-push other notes noted
       ∙ ap (λ x. length (replies_in other notes) + length (replied_by other (noted.0, x))) is ∙ omega arith);
@@ -338,11 +342,11 @@ pub counts-reply : (section other : Actor) (notes : List Noted) (n : ℕ) (count
 counts-reply section other notes n counts answered more noted reply c is added = record {
   each = c.each ∙ sym (append-nil (answered_before_each section other notes))
       ∙ ap (λ b. answered_before_each section other notes ++ (if b then length (replies_in other notes) ∷ [] else []))
-          (sym (ap (λ x. begins section (noted.0, x)) is))
+      (sym (ap (λ x. begins section (noted.0, x)) is))
       ∙ sym (answered_before-push section other notes noted);
   replies = added ∙ ap (λ a. a + (if is_same_section other noted.0 then 1 else 0)) c.replies
       ∙ sym (reply_count-push other notes noted ∙ ap (λ x. length (replies_in other notes) + length (replied_by other (noted.0, x))) is
-          ∙ ap (λ x. length (replies_in other notes) + x) (in_if (is_same_section other noted.0)));
+      ∙ ap (λ x. length (replies_in other notes) + x) (in_if (is_same_section other noted.0)));
   within = rw added (few (is_same_section other noted.0));
 }
   where

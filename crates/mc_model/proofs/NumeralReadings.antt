@@ -1,8 +1,6 @@
 -- What a body says as a number, by the digits that it begins with.
-use Rattle.std.proofs.Common.{
-  ◌≡◌, ℕ, ◌<◌, ◌≤◌, ◌^◌, Bool, true, false, not, cond, eqb, ltb, leb, Some, ◌&&◌, List, [], ◌∷◌,
-  ◌++◌, length, take, drop, replicate, refl, sym, ap, ◌∙◌, arith, zero, suc,
-}
+use Rattle.std.proofs.Common.{◌≡◌, ℕ, ◌<◌, ◌≤◌, ◌^◌, Bool, true, false, not, cond, eqb, ltb, leb, Some, ◌&&◌, List}
+use Rattle.std.proofs.Common.{[], ◌∷◌, ◌++◌, length, take, drop, replicate, refl, sym, ap, ◌∙◌, arith, zero, suc}
 use Rattle.std.specs.List.{list_all, take_while}
 use Rattle.std.specs.Str.Parse.{digits_value}
 use Rattle.std.specs.Fmt.{decimal}
@@ -16,10 +14,8 @@ use Rattle.mc_protocol.specs.Decimals.{are_digits, is_digit}
 use Rattle.mc_protocol.proofs.Digits.{digits as own}
 use Rattle.mc_model.specs.declared.numeral.Numeral.{Numeral}
 use Rattle.mc_model.specs.declared.numeral.Numeral.TheVariants.{NoNumber, Is, MayBe}
-use Rattle.mc_model.specs.Numeral.{
-  numeral_of, numeral_of_parts, leading_digits, after_digits, ends_or_has_space, are_spaces,
-  is_space, is_readable, is_plain_numeral, read_as,
-}
+use Rattle.mc_model.specs.Numeral.{numeral_of, numeral_of_parts, leading_digits, after_digits, ends_or_has_space}
+use Rattle.mc_model.specs.Numeral.{are_spaces, is_space, is_readable, is_plain_numeral, read_as}
 use Rattle.mc_model.specs.NumeralLaws.{BeginsWithNumber, IsPlainNumber, WillingReads, StrictReads}
 
 -- one more element before those that pass, where it passes
@@ -63,7 +59,7 @@ readable : (digits rest : List ℕ) → 0 < length digits → ends_or_has_space 
 readable digits rest some ends small =
     and_from (not (eqb (length digits) 0) && ends_or_has_space rest) (ltb (digits_value 10 digits) (2 ^ 64))
     (and_from (not (eqb (length digits) 0)) (ends_or_has_space rest)
-        (not_from_false (eqb (length digits) 0) (ne_eqb (length digits) 0 (λ e. omega arith))) ends)
+    (not_from_false (eqb (length digits) 0) (ne_eqb (length digits) 0 (λ e. omega arith))) ends)
     (lt-ltb (digits_value 10 digits) (2 ^ 64) small)
 
 -- a body that begins with a number says that number, plainly or not
@@ -98,14 +94,14 @@ plainly : (digits : List ℕ) (spaces : ℕ) → are_digits digits ≡ true → 
 plainly digits spaces are some few small =
     says digits (replicate spaces 32) are some (spaces_end spaces) small
     ∙ ap (λ b. said true b (digits_value 10 digits))
-        (and_from (leb (length digits) 20) (are_spaces (replicate spaces 32)) (le-leb (length digits) 20 few) (spaces_are spaces))
+    (and_from (leb (length digits) 20) (are_spaces (replicate spaces 32)) (le-leb (length digits) 20 few) (spaces_are spaces))
 
 -- a decimal, and spaces after it, say the number
 pub decimal_says : (n spaces : ℕ) → n < 2 ^ 64 → numeral_of (decimal n ++ replicate spaces 32) ≡ Is n
 decimal_says n spaces small =
     let value = digits_value-decimal own n small in
     plainly (decimal n) spaces (digits_decimal own n small) (decimal_nonempty n small)
-        (length-decimal-le 20 n (omega arith) (omega arith) small) (rw value small)
+    (length-decimal-le 20 n (omega arith) (omega arith) small) (rw value small)
     ∙ ap Is value
 
 -- what a willing server reads is readable
@@ -172,7 +168,7 @@ pub willing_reads : WillingReads
 willing_reads body n = (
   λ e.
       let is = willing (is_readable (leading_digits body) (after_digits body)) (is_plain_numeral (leading_digits body) (after_digits body))
-          (digits_value 10 (leading_digits body)) n e in
+      (digits_value 10 (leading_digits body)) n e in
       begins body n is.0 is.1,
   read_willingly body n,
 )
@@ -207,7 +203,7 @@ pub strict_reads : StrictReads
 strict_reads body n = (
   λ e.
       let is = strict (is_readable (leading_digits body) (after_digits body)) (is_plain_numeral (leading_digits body) (after_digits body))
-          (digits_value 10 (leading_digits body)) n e in
+      (digits_value 10 (leading_digits body)) n e in
       plain_parts body n is.0 is.1 is.2,
   read_strictly body n,
 )
@@ -223,5 +219,5 @@ small_said false plain read value n small e = absurd cc
 pub small_numeral : (read : Bool) (body : List ℕ) (n : ℕ) → read_as read (numeral_of body) ≡ Some n → n < 2 ^ 64
 small_numeral read body n e =
     small_said (is_readable (leading_digits body) (after_digits body)) (is_plain_numeral (leading_digits body) (after_digits body)) read
-        (digits_value 10 (leading_digits body)) n
+    (digits_value 10 (leading_digits body)) n
     (λ is. (readable_parts (leading_digits body) (after_digits body) is).small) e

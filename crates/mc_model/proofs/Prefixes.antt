@@ -1,8 +1,6 @@
 -- What stands before a request of a history is a history.
-use Rattle.std.proofs.Common.{
-  ◌≡◌, ℕ, ◌+◌, Bool, true, false, Some, None, List, [], ◌∷◌, ◌++◌, take, drop, slice_get,
-  append_assoc, append-nil, take-append-drop, refl, sym, ap, subst, ◌∙◌,
-}
+use Rattle.std.proofs.Common.{◌≡◌, ℕ, ◌+◌, Bool, true, false, Some, None, List, [], ◌∷◌, ◌++◌, take, drop, slice_get}
+use Rattle.std.proofs.Common.{append_assoc, append-nil, take-append-drop, refl, sym, ap, subst, ◌∙◌}
 use Rattle.std.proofs.lemmas.Bool.{and_parts, false_from_ne_true}
 use Rattle.std.proofs.lemmas.List.{take_more}
 use Rattle.std.proofs.lemmas.Option.{slice_get_within, get_or_from_slice_get}
@@ -62,7 +60,7 @@ shorter : (s : Sections) (who : Actor) (xs ys : List Sent) → comes_late s who 
 shorter s who xs [] late h = subst (λ all. is_history (with_section s who all) ≡ true) (append-nil xs) h
 shorter s who xs (y ∷ ys) late h =
     let moved : is_history (with_section s who ((xs ++ y ∷ []) ++ ys)) ≡ true =
-        subst (λ all. is_history (with_section s who all) ≡ true) (sym (append_assoc xs (y ∷ []) ys)) h in
+    subst (λ all. is_history (with_section s who all) ≡ true) (sym (append_assoc xs (y ∷ []) ys)) h in
     let one = shorter s who (xs ++ y ∷ []) ys late moved in
     history_before (with_section s who xs) who y (late_with s who xs ∙ late) (sym (ap is_history (added_last s who xs y)) ∙ one)
 
@@ -104,7 +102,7 @@ no_history s kind who place f =
     false_from_ne_true (is_history s)
     (λ h.
     let next : is_history (with_sent (before s who place) who f.sent) ≡ true =
-        sym (ap is_history (before_next s who place f.sent f.request)) ∙ history_before_place s who (place + 1) h in
+    sym (ap is_history (before_next s who place f.sent f.request)) ∙ history_before_place s who (place + 1) h in
     let none = no_fault_of (before s who place) who f.sent (not_late_before s who place) next in
     let both : None ≡ Some kind = sym none ∙ f.fault in
     cc)

@@ -1,8 +1,6 @@
 -- What is printed spells the value.
-use Rattle.std.proofs.Common.{
-  ◌≡◌, ℕ, ◌/◌, ◌%◌, ◌<◌, ◌≤◌, ◌==◌, ◌++◌, nat_le, Bool, true, false, ◌&&◌, cond, Option, Some, None,
-  List, [], ◌∷◌, length, decimal, refl, sym, subst, inl, inr, arith,
-}
+use Rattle.std.proofs.Common.{◌≡◌, ℕ, ◌/◌, ◌%◌, ◌<◌, ◌≤◌, ◌==◌, ◌++◌, nat_le, Bool, true, false, ◌&&◌, cond, Option}
+use Rattle.std.proofs.Common.{Some, None, List, [], ◌∷◌, length, decimal, refl, sym, subst, inl, inr, arith}
 use Rattle.std.specs.List.{flat_map}
 use Rattle.std.specs.Fmt.{digit_glyph}
 use Rattle.std.specs.Option.{IfSome}
@@ -19,11 +17,8 @@ use Rattle.mc_protocol.specs.declared.reply.Reply.TheVariants as reply
 use Rattle.mc_protocol.specs.Decimals.{MAX_32, MAX_64}
 use Rattle.mc_protocol.specs.Names.{is_key}
 use Rattle.mc_protocol.proofs.Decimals.{decimal-spells}
-use Rattle.mc_model.specs.Words.{
-  SpellsByte, SpellsBytes, SpellsBody, SpellsFields, SpellsRequest, SpellsShown, SpellsReply,
-  is_plain, hex_value, escaped_byte, printed_byte, body_word, field_words, request_words,
-  shown_words, reply_words,
-}
+use Rattle.mc_model.specs.Words.{SpellsByte, SpellsBytes, SpellsBody, SpellsFields, SpellsRequest, SpellsShown, SpellsReply, is_plain, hex_value}
+use Rattle.mc_model.specs.Words.{escaped_byte, printed_byte, body_word, field_words, request_words, shown_words, reply_words}
 use Rattle.mc_model.specs.History.{has_words, has_its_fields, lacks_the_others, is_empty}
 use Rattle.mc_model.specs.WordLaws.{AreBytes, FitsRequest, FitsReply, has_short_body, PrintedWordsSpellTheRequest, PrintedWordsSpellTheReply}
 
@@ -38,14 +33,26 @@ byte-spelled : (plain : Bool) (byte : ℕ) (rest : List ℕ) → byte < 256 → 
     → SpellsByte (cond plain (byte ∷ []) (escaped_byte byte) ++ rest) byte rest
 byte-spelled true byte rest small p = inl (refl, p)
 byte-spelled false byte rest small p =
-    inr (digit_glyph false (byte / 16), digit_glyph false (byte % 16), byte / 16, byte % 16, refl, glyph-value (byte / 16) (omega arith), glyph-value
-        (byte % 16) (omega arith), omega arith)
+    inr (
+      digit_glyph false (byte / 16),
+      digit_glyph false (byte % 16),
+      byte / 16,
+      byte % 16,
+      refl,
+      glyph-value (byte / 16) (omega arith),
+      glyph-value
+          (byte % 16) (omega arith),
+      omega arith,
+    )
 
 bytes-spelled : (body : List ℕ) → AreBytes body → SpellsBytes (flat_map printed_byte body) body
 bytes-spelled [] all = refl
-bytes-spelled (byte ∷ body) all =
-    (flat_map printed_byte body, byte-spelled (is_plain byte) byte (flat_map printed_byte body) (All-head (λ b. b < 256) byte body all) refl, bytes-spelled
-        body (All-tail (λ b. b < 256) byte body all))
+bytes-spelled (byte ∷ body) all = (
+  flat_map printed_byte body,
+  byte-spelled (is_plain byte) byte (flat_map printed_byte body) (All-head (λ b. b < 256) byte body all) refl,
+  bytes-spelled
+      body (All-tail (λ b. b < 256) byte body all),
+)
 
 pub body-spells : (body : List ℕ) → AreBytes body → length body ≤ REPLY_BODY_LIMIT → SpellsBody (body_word body) body
 body-spells body all small = (flat_map printed_byte body, refl, bytes-spelled body all, small)
@@ -71,12 +78,23 @@ fields-spell : (shape : Fields) (r : Request) → lacks_the_others shape r ≡ t
     → SpellsFields shape (field_words shape r) r
 fields-spell fields.KeyAlone r lacks short fits = let p = lacks_all r lacks in (refl, p.0, p.1, p.2)
 fields-spell fields.Expiry r lacks short fits = let p = lacks_all r lacks in (refl, p.0, p.1, p.2)
-fields-spell fields.Item r lacks short fits =
-    (decimal r.flags, body_word r.body, refl, decimal-spells MAX_32 r.flags (omega arith) fits.flags, body-spells r.body fits.body short,
-        eqb-true r.number 0 lacks)
-fields-spell fields.Swap r lacks short fits =
-    (decimal r.flags, body_word r.body, decimal r.number, refl, decimal-spells MAX_32 r.flags (omega arith) fits.flags, body-spells r.body fits.body short,
-        decimal-spells MAX_64 r.number (omega arith) fits.number)
+fields-spell fields.Item r lacks short fits = (
+  decimal r.flags,
+  body_word r.body,
+  refl,
+  decimal-spells MAX_32 r.flags (omega arith) fits.flags,
+  body-spells r.body fits.body short,
+  eqb-true r.number 0 lacks,
+)
+fields-spell fields.Swap r lacks short fits = (
+  decimal r.flags,
+  body_word r.body,
+  decimal r.number,
+  refl,
+  decimal-spells MAX_32 r.flags (omega arith) fits.flags,
+  body-spells r.body fits.body short,
+  decimal-spells MAX_64 r.number (omega arith) fits.number,
+)
 fields-spell fields.Amount r lacks short fits =
     let p = lacks_item r lacks in
     (decimal r.number, refl, p.0, p.1, decimal-spells MAX_64 r.number (omega arith) fits.number)

@@ -11,10 +11,8 @@ use Rattle.mc_protocol.specs.Decimals.{SpellsNumber, MAX_32, MAX_64}
 use Rattle.mc_protocol.specs.Words.{all_classes}
 use Rattle.mc_protocol.proofs.Found.{find-passes}
 use Rattle.mc_model.specs.Words.{SpellsShown, SpellsReply, class_word}
-use Rattle.mc_model.specs.Reading.{
-  ◌>>=◌, at_end, last_number_in, flags_and_body_in, class_of_word, flags_in, body_in,
-  shown_number_in, hit_in, count_in, after_class, reply_in,
-}
+use Rattle.mc_model.specs.Reading.{◌>>=◌, at_end, last_number_in, flags_and_body_in, class_of_word, flags_in}
+use Rattle.mc_model.specs.Reading.{body_in, shown_number_in, hit_in, count_in, after_class, reply_in}
 use Rattle.mc_model.proofs.Outcomes.{steps-ok, ok-same}
 use Rattle.mc_model.proofs.NumberWords.{number-read}
 use Rattle.mc_model.proofs.BodyWords.{body-read}
@@ -119,7 +117,7 @@ reply-read words reply.Exists e = class-read class.Exists words [] reply.Exists 
 reply-read words reply.NotFound e = class-read class.NotFound words [] reply.NotFound e refl
 reply-read words (reply.Hit flags body cas) (f, b, shown, e, p, q, s) =
     class-read class.Hit words (f ∷ b ∷ shown) (reply.Hit flags body cas) e
-        (hit-read f b shown flags body cas (number-read MAX_32 f flags p) (body-read b body q) (shown-read shown cas s))
+    (hit-read f b shown flags body cas (number-read MAX_32 f flags p) (body-read b body q) (shown-read shown cas s))
 reply-read words reply.Miss e = class-read class.Miss words [] reply.Miss e refl
 reply-read words reply.Deleted e = class-read class.Deleted words [] reply.Deleted e refl
 reply-read words reply.Touched e = class-read class.Touched words [] reply.Touched e refl

@@ -13,10 +13,8 @@ use Rattle.mc_protocol.specs.Decimals.{are_digits, MAX_32, MAX_64}
 use Rattle.mc_protocol.proofs.OfWords.{verb_of-word, word-of_verb}
 use Rattle.mc_model.specs.declared.words.WordsFault.TheVariants as fault
 use Rattle.mc_model.specs.Words.{SpellsBody, SpellsFields, SpellsRequest}
-use Rattle.mc_model.specs.Reading.{
-  ◌>>=◌, at_end, last_number_in, flags_and_body_in, fields_in, key_alone_in, item_in, after_verb,
-  request_in, swap_in, amount_in,
-}
+use Rattle.mc_model.specs.Reading.{◌>>=◌, at_end, last_number_in, flags_and_body_in, fields_in, key_alone_in}
+use Rattle.mc_model.specs.Reading.{item_in, after_verb, request_in, swap_in, amount_in}
 use Rattle.mc_model.proofs.Outcomes.{then-ok, steps-ok, ok-same}
 use Rattle.mc_model.proofs.NumberWords.{number-read}
 use Rattle.mc_model.proofs.BodyWords.{body-read}
@@ -79,7 +77,7 @@ fields-read fields.Item r words (flags, body, e, f, b, n) =
     rw (e, number-read MAX_32 flags r.flags f, body-read body r.body b) (ap Ok (same_request r r.flags r.body 0 refl refl n))
 fields-read fields.Swap r words (flags, body, number, e, f, b, n) =
     rw (e, number-read MAX_32 flags r.flags f, body-read body r.body b, number-read MAX_64 number r.number n)
-        (ap Ok (same_request r r.flags r.body r.number refl refl refl))
+    (ap Ok (same_request r r.flags r.body r.number refl refl refl))
 fields-read fields.Amount r words (number, e, f, b, n) =
     rw (e, number-read MAX_64 number r.number n) (ap Ok (same_request r 0 [] r.number f b refl))
 

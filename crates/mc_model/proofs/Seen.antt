@@ -24,7 +24,7 @@ pub seen_added : (earlier xs : List Sent) (sent : Sent) → are_seen earlier (xs
 seen_added earlier [] sent = and_once (is_seen earlier sent) ∙ ap (λ all. is_seen all sent) (sym (append-nil earlier))
 seen_added earlier (x ∷ xs) sent =
     ap (λ b. is_seen earlier x && b)
-        (seen_added (earlier ++ x ∷ []) xs sent ∙ ap (λ all. are_seen (earlier ++ x ∷ []) xs && is_seen all sent) (append_assoc earlier (x ∷ []) xs))
+    (seen_added (earlier ++ x ∷ []) xs sent ∙ ap (λ all. are_seen (earlier ++ x ∷ []) xs && is_seen all sent) (append_assoc earlier (x ∷ []) xs))
     ∙ and_assoc (is_seen earlier x) (are_seen (earlier ++ x ∷ []) xs) (is_seen (earlier ++ x ∷ xs) sent)
 
 or_either : (x y z : Bool) → (x || (y || z)) ≡ ((x || y) || (x || z))
@@ -36,7 +36,7 @@ seen-append : (xs ys : List Sent) (sent : Sent) → is_seen (xs ++ ys) sent ≡ 
 seen-append xs ys sent =
     rw (list_any-append (shows sent.request.key sent.request.number) xs ys)
     (or_either (not (is_cas sent.request.verb)) (list_any (shows sent.request.key sent.request.number) xs)
-        (list_any (shows sent.request.key sent.request.number) ys))
+    (list_any (shows sent.request.key sent.request.number) ys))
 
 -- whatever a request of the first shows, one of the second shows
 abbrev ShowsNoLess : List Sent → List Sent → Type 0
@@ -56,7 +56,7 @@ seen_with_more less more [] keeps all = refl
 seen_with_more less more (x ∷ xs) keeps all =
     let parts = and_parts (is_seen less x) (are_seen (less ++ x ∷ []) xs) all in
     and_from (is_seen more x) (are_seen (more ++ x ∷ []) xs) (keeps x parts.0)
-        (seen_with_more (less ++ x ∷ []) (more ++ x ∷ []) xs (no_less_after less more (x ∷ []) keeps) parts.1)
+    (seen_with_more (less ++ x ∷ []) (more ++ x ∷ []) xs (no_less_after less more (x ∷ []) keeps) parts.1)
 
 -- a branch sees what comes at P's end
 seen_after : (p xs : List Sent) (sent : Sent) → are_seen p xs ≡ true → are_seen (p ++ sent ∷ []) xs ≡ true

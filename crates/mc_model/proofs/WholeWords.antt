@@ -1,8 +1,6 @@
 -- Words that spell something are whole, and whole words that were joined fall apart again.
-use Rattle.std.proofs.Common.{
-  ◌≡◌, ℕ, ◌==◌, nat_le, Bool, true, false, not, ◌&&◌, ◌||◌, cond, Option, Some, None, List, [], ◌∷◌,
-  length, filter, refl, ap, ◌∙◌, inl, inr, arith,
-}
+use Rattle.std.proofs.Common.{◌≡◌, ℕ, ◌==◌, nat_le, Bool, true, false, not, ◌&&◌, ◌||◌, cond, Option, Some}
+use Rattle.std.proofs.Common.{None, List, [], ◌∷◌, length, filter, refl, ap, ◌∙◌, inl, inr, arith}
 use Rattle.std.specs.List.{All, list_all, slice_split}
 use Rattle.std.proofs.lemmas.Bool.{and_parts, and_from}
 use Rattle.std.proofs.lemmas.Bool.Decides.{nat_tests}

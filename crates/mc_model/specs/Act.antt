@@ -1,8 +1,6 @@
 -- What a server does with a request (protocol.txt).
-use Rattle.std.specs.Prelude.{
-  ℕ, ◌+◌, ◌-◌, ◌%◌, ◌^◌, ◌==◌, nat_lt, Bool, ◌&&◌, Option, Some, None, List, ◌++◌, length, decimal,
-  replicate, if◌then◌else◌,
-}
+use Rattle.std.specs.Prelude.{ℕ, ◌+◌, ◌-◌, ◌%◌, ◌^◌, ◌==◌, nat_lt, Bool, ◌&&◌, Option, Some}
+use Rattle.std.specs.Prelude.{None, List, ◌++◌, length, decimal, replicate, if◌then◌else◌}
 use Rattle.std.specs.FinMap as finite_map
 use Rattle.mc_protocol.specs.declared.request.Request.{Request}
 use Rattle.mc_protocol.specs.declared.request.Verb.{Verb}

@@ -19,7 +19,7 @@ PlacesEndHistories = (s : Sections) (who : Actor) (place : ℕ) → is_history s
 abbrev pub FaultlessMakeHistories : Type 0
 FaultlessMakeHistories =
     (s : Sections) (who : Actor) (sent : Sent)
-        → (fault_at s who sent ≡ None) ↔ ((comes_late s who ≡ false) × (is_history (with_sent s who sent) ≡ true))
+    → (fault_at s who sent ≡ None) ↔ ((comes_late s who ≡ false) × (is_history (with_sent s who sent) ≡ true))
 
 -- sections that have a first fault are no history
 abbrev pub FaultyAreNoHistories : Type 0
@@ -34,5 +34,5 @@ OthersHaveAFirstFault =
 abbrev pub FirstFaultsAreOne : Type 0
 FirstFaultsAreOne =
     (s : Sections) (kind other : HistoryKind) (who whose : Actor) (place elsewhere : ℕ) → IsFirstFault s kind who place
-        → IsFirstFault s other whose elsewhere
+    → IsFirstFault s other whose elsewhere
     → (kind ≡ other) × (who ≡ whose) × (place ≡ elsewhere)

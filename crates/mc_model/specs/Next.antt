@@ -1,9 +1,7 @@
 -- What is tested of a request that comes next. No public contract cites these: they say of one request what the rules
 -- of `History.antt` say of all.
-use Rattle.std.specs.Prelude.{
-  ◌≡◌, ℕ, ◌+◌, nat_le, ◌-◌, Bool, true, false, not, ◌&&◌, ◌||◌, Option, Some, None, is_some, List,
-  [], ◌∷◌, length, take, if◌then◌else◌, slice_get,
-}
+use Rattle.std.specs.Prelude.{◌≡◌, ℕ, ◌+◌, nat_le, ◌-◌, Bool, true, false, not, ◌&&◌, ◌||◌, Option, Some}
+use Rattle.std.specs.Prelude.{None, is_some, List, [], ◌∷◌, length, take, if◌then◌else◌, slice_get}
 use Rattle.mc_protocol.specs.declared.actor.Actor.{Actor}
 use Rattle.mc_protocol.specs.declared.actor.Actor.TheVariants as actor
 use Rattle.mc_protocol.specs.declared.limits.TheConstants.{KEYS_LIMIT, REQUESTS_LIMIT}

@@ -1,8 +1,6 @@
 -- Histories that keep their recorded order: what was noted of the sections, in the order in which it happened.
-use Rattle.std.specs.Prelude.{
-  ◌≡◌, ℕ, Bool, true, false, not, ◌&&◌, ◌||◌, Option, Some, None, List, [], ◌∷◌, ◌++◌, length, map,
-  take, slice_get, get_or, if◌then◌else◌,
-}
+use Rattle.std.specs.Prelude.{◌≡◌, ℕ, Bool, true, false, not, ◌&&◌, ◌||◌, Option, Some, None, List}
+use Rattle.std.specs.Prelude.{[], ◌∷◌, ◌++◌, length, map, take, slice_get, get_or, if◌then◌else◌}
 use Rattle.std.specs.List.{flat_map}
 use Rattle.mc_protocol.specs.declared.actor.Actor.{Actor}
 use Rattle.mc_protocol.specs.declared.actor.Actor.TheVariants as actor

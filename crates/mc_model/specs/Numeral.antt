@@ -1,8 +1,6 @@
 -- What a body says as a number: what incr and decr make of it.
-use Rattle.std.specs.Prelude.{
-  ℕ, ◌==◌, ◌^◌, nat_le, nat_lt, Bool, true, false, not, ◌&&◌, Option, Some, None, List, [], ◌∷◌,
-  length, drop, take_while, if◌then◌else◌,
-}
+use Rattle.std.specs.Prelude.{ℕ, ◌==◌, ◌^◌, nat_le, nat_lt, Bool, true, false, not, ◌&&◌, Option, Some}
+use Rattle.std.specs.Prelude.{None, List, [], ◌∷◌, length, drop, take_while, if◌then◌else◌}
 use Rattle.std.specs.List.{list_all}
 use Rattle.std.specs.Str.Parse.{digits_value}
 use Rattle.mc_protocol.specs.Decimals.{is_digit}

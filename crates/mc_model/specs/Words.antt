@@ -1,8 +1,6 @@
 -- The words of requests and replies, as histories and step lists have them.
-use Rattle.std.specs.Prelude.{
-  ◌≡◌, ℕ, ◌+◌, ◌-◌, ◌*◌, ◌≤◌, ◌==◌, nat_le, Bool, true, not, ◌&&◌, ◌⊎◌, Option, Some, None, List,
-  [], ◌∷◌, length, codes, if◌then◌else◌, ◌/◌, ◌%◌, false, decimal,
-}
+use Rattle.std.specs.Prelude.{◌≡◌, ℕ, ◌+◌, ◌-◌, ◌*◌, ◌≤◌, ◌==◌, nat_le, Bool, true, not, ◌&&◌, ◌⊎◌, Option, Some}
+use Rattle.std.specs.Prelude.{None, List, [], ◌∷◌, length, codes, if◌then◌else◌, ◌/◌, ◌%◌, false, decimal}
 use Rattle.std.specs.List.{flat_map, join_with_byte}
 use Rattle.std.specs.Fmt.{digit_glyph}
 use Rattle.mc_protocol.specs.Lines.{Word}

@@ -1,7 +1,19 @@
 //! What holds of every request that a server acts on. Each function here does nothing: its contract is a law over
 //! `specs/Act.antt`, and `Cache::act` does what that file says.
 
-ghost use Rattle.mc_model.specs.ActLaws.{OtherKeysStay, RepliesFit, BodiesStayShort, JoinedBodiesAddUp, DeletedIsGone, ReportedVersionIsMade, MadeVersionIsReported, AnsweredNumberIsThere, OnlyCountsChoose, OnlyDoubtfulAreChosen, PaddingIsUnseen};
+ghost use Rattle.mc_model.specs.ActLaws.{
+  OtherKeysStay,
+  RepliesFit,
+  BodiesStayShort,
+  JoinedBodiesAddUp,
+  DeletedIsGone,
+  ReportedVersionIsMade,
+  MadeVersionIsReported,
+  AnsweredNumberIsThere,
+  OnlyCountsChoose,
+  OnlyDoubtfulAreChosen,
+  PaddingIsUnseen,
+};
 
 /// A request changes at most the item at its own key.
 pub fn other_keys_stay()

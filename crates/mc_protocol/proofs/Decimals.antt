@@ -1,8 +1,6 @@
 -- A word is read as a number exactly where it spells it.
-use Rattle.std.proofs.Common.{
-  ◌≡◌, ℕ, ◌==◌, ◌<◌, ◌≤◌, ◌^◌, decimal, arith, nat_le, Bool, true, false, not, ◌&&◌, cond, Result,
-  Ok, Err, length, refl, sym, ap, ◌∙◌,
-}
+use Rattle.std.proofs.Common.{◌≡◌, ℕ, ◌==◌, ◌<◌, ◌≤◌, ◌^◌, decimal, arith, nat_le, Bool, true, false}
+use Rattle.std.proofs.Common.{not, ◌&&◌, cond, Result, Ok, Err, length, refl, sym, ap, ◌∙◌}
 use Rattle.std.specs.Str.Parse.{digits_value}
 use Rattle.std.proofs.lemmas.Bool.{leb-true, le-leb, and_parts}
 use Rattle.std.proofs.lemmas.Bool.Decides.{nat_tests}

@@ -1,9 +1,8 @@
 -- Which replies a request may have (protocol.txt).
 use Rattle.std.specs.Prelude.{Bool, true, false, not, ◌&&◌, is_some, length, nat_le}
 use Rattle.mc_protocol.specs.declared.request.Verb.{Verb}
-use Rattle.mc_protocol.specs.declared.request.Verb.TheVariants.{
-  Set, Add, Replace, Append, Prepend, Cas, Get, Gets, Incr, Decr, Delete, Touch,
-}
+use Rattle.mc_protocol.specs.declared.request.Verb.TheVariants.{Set, Add, Replace, Append, Prepend, Cas}
+use Rattle.mc_protocol.specs.declared.request.Verb.TheVariants.{Get, Gets, Incr, Decr, Delete, Touch}
 use Rattle.mc_protocol.specs.declared.request.Request.{Request}
 use Rattle.mc_protocol.specs.declared.reply.Class.{Class}
 use Rattle.mc_protocol.specs.declared.reply.Class.TheVariants as class

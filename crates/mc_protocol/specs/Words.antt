@@ -8,9 +8,8 @@ use Rattle.mc_protocol.specs.declared.actor.Actor.TheVariants as actor
 use Rattle.mc_protocol.specs.declared.reply.Class.{Class}
 use Rattle.mc_protocol.specs.declared.reply.Class.TheVariants as class
 use Rattle.mc_protocol.specs.declared.request.Verb.{Verb}
-use Rattle.mc_protocol.specs.declared.request.Verb.TheVariants.{
-  Set, Add, Replace, Append, Prepend, Cas, Get, Gets, Incr, Decr, Delete, Touch,
-}
+use Rattle.mc_protocol.specs.declared.request.Verb.TheVariants.{Set, Add, Replace, Append, Prepend, Cas}
+use Rattle.mc_protocol.specs.declared.request.Verb.TheVariants.{Get, Gets, Incr, Decr, Delete, Touch}
 
 -- the value with this word, or none where no value has it
 abbrev pub IsOfWord : {V : Type 0} → (V → Word) → Word → Option V → Type 0

@@ -1,5 +1,6 @@
 -- What is spelled fits.
-use Rattle.std.proofs.Common.{◌≡◌, ℕ, ◌≤◌, nat_le, Bool, true, false, ◌&&◌, ◌||◌, not, cond, is_some, Option, Some, None, Result, Ok, Err, List, [], ◌∷◌, length, drop, codes, refl, ap, ◌∙◌, subst}
+use Rattle.std.proofs.Common.{◌≡◌, ℕ, ◌≤◌, nat_le, Bool, true, false, ◌&&◌, ◌||◌, not, cond, is_some, Option, Some}
+use Rattle.std.proofs.Common.{None, Result, Ok, Err, List, [], ◌∷◌, length, drop, codes, refl, ap, ◌∙◌, subst}
 use Rattle.std.proofs.lemmas.Bool.{leb-true, le-leb, and_parts}
 use Rattle.std.specs.Option.{option_map}
 use Rattle.std.specs.Str.{bytes_eq}
@@ -15,7 +16,9 @@ use Rattle.mc_protocol.specs.declared.request.Verb.{Verb}
 use Rattle.mc_reader.specs.Laws.{SpelledRepliesFit}
 use Rattle.mc_reader.specs.Lines.{text_of, line_says, says_of_text, end_fault_of_text, outcome_after}
 use Rattle.mc_reader.specs.Replies.{hit_of, LastLineEnds, long_last, last_line, BodyEnds, not_cr, not_lf, after_crlf, too_long, one_line, with_block}
-use Rattle.mc_reader.specs.Words.{reply_of_word, error_of, error_says, number_says, item_says, hit_says, others_say, text_says, says_after_word, says_after_words, words_of, first_word, are_spaces, are_item_words, is_too_large, end_fault, end_fault_after}
+use Rattle.mc_reader.specs.Words.{reply_of_word, error_of, error_says, number_says, item_says, hit_says, others_say}
+use Rattle.mc_reader.specs.Words.{text_says, says_after_word, says_after_words, words_of, first_word, are_spaces}
+use Rattle.mc_reader.specs.Words.{are_item_words, is_too_large, end_fault, end_fault_after}
 use Rattle.mc_reader.specs.declared.fault.ErrorKind.{ErrorKind}
 use Rattle.mc_reader.specs.declared.fault.ErrorKind.TheVariants.{Error, Client, Server}
 use Rattle.mc_reader.specs.declared.fault.ReadFault.{ReadFault}

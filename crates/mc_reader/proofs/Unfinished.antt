@@ -1,11 +1,13 @@
 -- Texts of which no prefix ends.
-use Rattle.std.proofs.Common.{◌≡◌, ℕ, ◌≤◌, ◌==◌, Bool, true, false, ◌||◌, Some, Ok, List, [], ◌∷◌, ◌++◌, length, refl, sym, ap, ◌∙◌, subst, arith, length-append, append_assoc, append-nil}
+use Rattle.std.proofs.Common.{◌≡◌, ℕ, ◌≤◌, ◌==◌, Bool, true, false, ◌||◌, Some, Ok, List, [], ◌∷◌, ◌++◌, length}
+use Rattle.std.proofs.Common.{refl, sym, ap, ◌∙◌, subst, arith, length-append, append_assoc, append-nil}
 use Rattle.mc_protocol.specs.Lines.{Word}
 use Rattle.mc_protocol.specs.declared.reply.Reply.{Reply}
 use Rattle.mc_protocol.specs.declared.request.Verb.{Verb}
 use Rattle.mc_reader.specs.Block.{IsBlock, IsEnding, block_read, ending_read}
 use Rattle.mc_reader.specs.Lines.{CR, LF, has_end, IsLine, IsTooLong, line_says}
-use Rattle.mc_reader.specs.Replies.{Outcome, hit_of, LastLineEnds, long_last, last_line, BodyEnds, not_cr, not_lf, after_crlf, BlockEnds, Ends, too_long, one_line, with_block, IsUnfinished}
+use Rattle.mc_reader.specs.Replies.{Outcome, hit_of, LastLineEnds, long_last, last_line, BodyEnds, not_cr, not_lf}
+use Rattle.mc_reader.specs.Replies.{after_crlf, BlockEnds, Ends, too_long, one_line, with_block, IsUnfinished}
 use Rattle.mc_reader.specs.Stages.{IsStage, stage_fed}
 use Rattle.mc_reader.specs.declared.block.Block.{Block}
 use Rattle.mc_reader.specs.declared.block.Ending.{Ending}

@@ -5,7 +5,8 @@ use Rattle.mc_protocol.specs.declared.reply.Reply.{Reply}
 use Rattle.mc_protocol.specs.declared.request.Verb.{Verb}
 use Rattle.mc_reader.specs.Laws.{OneReply}
 use Rattle.mc_reader.specs.Lines.{CR, LF, IsLine, IsTooLong, line_says, end_says}
-use Rattle.mc_reader.specs.Replies.{Outcome, said_whole, hit_of, LastLineEnds, long_last, last_line, BodyEnds, not_cr, not_lf, after_crlf, BlockEnds, Ends, too_long, one_line, with_block}
+use Rattle.mc_reader.specs.Replies.{Outcome, said_whole, hit_of, LastLineEnds, long_last, last_line, BodyEnds, not_cr}
+use Rattle.mc_reader.specs.Replies.{not_lf, after_crlf, BlockEnds, Ends, too_long, one_line, with_block}
 use Rattle.mc_reader.specs.declared.fault.ReadFault.{ReadFault}
 use Rattle.mc_reader.specs.declared.said.HitLine.{HitLine}
 use Rattle.mc_reader.specs.declared.said.Said.{Said}

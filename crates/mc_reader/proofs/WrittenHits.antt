@@ -1,5 +1,7 @@
 -- The text of a hit spells it.
-use Rattle.std.proofs.Common.{◌≡◌, ℕ, ◌<◌, ◌≤◌, ◌^◌, ◌==◌, nat_le, Bool, true, false, ◌&&◌, ◌||◌, not, cond, is_some, Option, Some, None, Ok, Err, List, [], ◌∷◌, ◌++◌, length, get_or, codes, decimal, refl, ap, ◌∙◌, arith, append_assoc, append-nil, length-append}
+use Rattle.std.proofs.Common.{◌≡◌, ℕ, ◌<◌, ◌≤◌, ◌^◌, ◌==◌, nat_le, Bool, true, false, ◌&&◌, ◌||◌, not, cond}
+use Rattle.std.proofs.Common.{is_some, Option, Some, None, Ok, Err, List, [], ◌∷◌, ◌++◌, length, get_or, codes}
+use Rattle.std.proofs.Common.{decimal, refl, ap, ◌∙◌, arith, append_assoc, append-nil, length-append}
 use Rattle.std.specs.List.{All, list_any}
 use Rattle.std.specs.Option.{option_map}
 use Rattle.std.specs.Str.{bytes_eq}
@@ -23,7 +25,8 @@ use Rattle.mc_reader.specs.Items.{word_list}
 use Rattle.mc_reader.specs.Laws.{IsKeyText}
 use Rattle.mc_reader.specs.Lines.{CR, LF, has_end, IsLine, line_says, says_of_text}
 use Rattle.mc_reader.specs.Replies.{BlockEnds, after_crlf, last_line, with_block, Spells}
-use Rattle.mc_reader.specs.Words.{is_space, words_of, reply_of_word, error_of, hit_says, item_says, others_say, number_says, are_item_words, is_cas_word, is_too_large, end_fault}
+use Rattle.mc_reader.specs.Words.{is_space, words_of, reply_of_word, error_of, hit_says, item_says, others_say}
+use Rattle.mc_reader.specs.Words.{number_says, are_item_words, is_cas_word, is_too_large, end_fault}
 use Rattle.mc_reader.specs.declared.fault.ReadFault.TheVariants.{NotAReply, WrongKey, NumberTooLarge, DataTooLong}
 use Rattle.mc_reader.specs.declared.limits.TheConstants.{LINE_LIMIT}
 use Rattle.mc_reader.specs.declared.said.Said.TheVariants.{Hit}

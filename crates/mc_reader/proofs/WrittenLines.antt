@@ -1,5 +1,7 @@
 -- The texts of replies of one line spell them.
-use Rattle.std.proofs.Common.{◌≡◌, ℕ, ◌+◌, ◌<◌, ◌≤◌, ◌^◌, ◌==◌, nat_le, Bool, true, false, ◌&&◌, not, cond, Some, None, Ok, Err, List, [], ◌∷◌, ◌++◌, length, take, drop, codes, decimal, suc, refl, sym, ap, ◌∙◌, subst, arith, append_assoc, length-append}
+use Rattle.std.proofs.Common.{◌≡◌, ℕ, ◌+◌, ◌<◌, ◌≤◌, ◌^◌, ◌==◌, nat_le, Bool, true, false, ◌&&◌, not, cond}
+use Rattle.std.proofs.Common.{Some, None, Ok, Err, List, [], ◌∷◌, ◌++◌, length, take, drop, codes, decimal}
+use Rattle.std.proofs.Common.{suc, refl, sym, ap, ◌∙◌, subst, arith, append_assoc, length-append}
 use Rattle.std.specs.List.{list_any, position_or_len}
 use Rattle.std.specs.Str.{bytes_eq}
 use Rattle.std.specs.Str.Parse.{digits_value}
@@ -18,7 +20,8 @@ use Rattle.mc_protocol.specs.declared.reply.Reply.TheVariants as reply
 use Rattle.mc_protocol.specs.declared.request.Verb.{Verb}
 use Rattle.mc_reader.specs.Lines.{CR, LF, has_end, line_says, says_of_text}
 use Rattle.mc_reader.specs.Replies.{one_line, Spells}
-use Rattle.mc_reader.specs.Words.{is_space, first_word, words_of, are_spaces, reply_of_word, error_of, error_says, number_says, others_say, text_says, says_after_word, says_after_words, hit_says}
+use Rattle.mc_reader.specs.Words.{is_space, first_word, words_of, are_spaces, reply_of_word, error_of, error_says, number_says}
+use Rattle.mc_reader.specs.Words.{others_say, text_says, says_after_word, says_after_words, hit_says}
 use Rattle.mc_reader.specs.declared.limits.TheConstants.{NUMBER_SPACES_LIMIT}
 use Rattle.mc_reader.specs.declared.fault.ReadFault.TheVariants.{NotAReply, NumberTooLarge, ErrorLine}
 use Rattle.mc_reader.specs.declared.fault.ErrorKind.TheVariants.{Error, Client, Server}

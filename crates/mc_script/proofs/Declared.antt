@@ -60,7 +60,7 @@ optional-declared word limit line lines names next rest none h =
 pub declared-few : (limit bytes : ℕ) (names : List Word) → may_be_declared limit bytes names ≡ true → length names ≤ limit
 declared-few limit bytes names h =
     leb-true (length names) limit (and_parts (nat_le (length names) limit) (list_all (is_name bytes) names)
-        (and_parts (nat_le (length names) limit && list_all (is_name bytes) names) (are_distinct names) h).0).0
+    (and_parts (nat_le (length names) limit && list_all (is_name bytes) names) (are_distinct names) h).0).0
 
 -- declared within one limit, and so within another one that their number keeps
 pub declared-within : (limit other bytes : ℕ) (names : List Word) → length names ≤ limit → may_be_declared other bytes names ≡ true

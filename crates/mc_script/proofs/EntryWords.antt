@@ -1,8 +1,6 @@
 -- A line of a section is read exactly where it spells an entry.
-use Rattle.std.proofs.Common.{
-  ◌≡◌, ℕ, ◌+◌, ◌-◌, ◌<◌, ◌≤◌, ◌==◌, true, false, Option, Some, None, List, [], ◌∷◌, ◌++◌, length,
-  take, drop, get_or, codes, refl, sym, ap, subst, ◌∙◌, arith, drop-cons, length-append, suc,
-}
+use Rattle.std.proofs.Common.{◌≡◌, ℕ, ◌+◌, ◌-◌, ◌<◌, ◌≤◌, ◌==◌, true, false, Option, Some, None, List, [], ◌∷◌, ◌++◌, length}
+use Rattle.std.proofs.Common.{take, drop, get_or, codes, refl, sym, ap, subst, ◌∙◌, arith, drop-cons, length-append, suc}
 use Rattle.std.specs.List.{list_any}
 use Rattle.std.specs.Str.{bytes_eq}
 use Rattle.std.proofs.lemmas.Bool.{eqb-true}
@@ -27,10 +25,8 @@ use Rattle.mc_script.specs.Script.{Names}
 use Rattle.mc_script.specs.ScriptWords.{is_label_name, label_word}
 use Rattle.mc_script.specs.SectionText.{SpellsEntry, SpellsRequest}
 use Rattle.mc_script.specs.Steps.{◌>>=◌}
-use Rattle.mc_script.specs.Reading.{
-  entry_in, label_of, line_entry, keyword_of, request_word, step_words, before_colon, bind_in,
-  goto_in, request_in, fields_in, field_count, marks_in, binds, template_of,
-}
+use Rattle.mc_script.specs.Reading.{entry_in, label_of, line_entry, keyword_of, request_word, step_words, before_colon, bind_in}
+use Rattle.mc_script.specs.Reading.{goto_in, request_in, fields_in, field_count, marks_in, binds, template_of}
 use Rattle.mc_script.proofs.Outcomes.{then-some, cond-cases, some-same, only-then, only-else}
 use Rattle.mc_script.proofs.FieldWords.{fields-spelled, fields-read}
 use Rattle.mc_script.proofs.MarkLists.{marks-spelled, marks-read}

@@ -192,16 +192,16 @@ labels-formed names (l ∷ lines) (entry.Label name ∷ entries) steps place e h
     (e.0.1, omega arith, omega (arith, h), labels-formed names lines entries steps place e.1 (omega (arith, h)))
 labels-formed names (l ∷ lines) (entry.Send t marks ∷ entries) steps place e h =
     labels-weaker steps place (place + 1) (labels_from (place + 1) entries) (omega arith)
-        (labels-formed names lines entries steps (place + 1) e.1 (omega (arith, h)))
+    (labels-formed names lines entries steps (place + 1) e.1 (omega (arith, h)))
 labels-formed names (l ∷ lines) (entry.Bind v ∷ entries) steps place e h =
     labels-weaker steps place (place + 1) (labels_from (place + 1) entries) (omega arith)
-        (labels-formed names lines entries steps (place + 1) e.1 (omega (arith, h)))
+    (labels-formed names lines entries steps (place + 1) e.1 (omega (arith, h)))
 labels-formed names (l ∷ lines) (entry.Goto name ∷ entries) steps place e h =
     labels-weaker steps place (place + 1) (labels_from (place + 1) entries) (omega arith)
-        (labels-formed names lines entries steps (place + 1) e.1 (omega (arith, h)))
+    (labels-formed names lines entries steps (place + 1) e.1 (omega (arith, h)))
 labels-formed names (l ∷ lines) (entry.Halt ∷ entries) steps place e h =
     labels-weaker steps place (place + 1) (labels_from (place + 1) entries) (omega arith)
-        (labels-formed names lines entries steps (place + 1) e.1 (omega (arith, h)))
+    (labels-formed names lines entries steps (place + 1) e.1 (omega (arith, h)))
 
 -- ---- the whole
 

@@ -252,9 +252,11 @@ marks-spelled names v words marks h =
     let b = binds-any names words s.marks s.spelled in
     let free : not (list_any is_bind s.marks && list_any is_number_jump s.marks) ≡ true = rw (← b) (ap not r.free) in
     let P : List Mark → Type 0 = λ ms. SpellEach (SpellsMark names) words ms × (may_stand_together v ms ≡ true) in
-    subst P (sym s.all_are)
-    (s.spelled, from-three (list_all (may_stand v) s.marks) (have_no_twins s.marks) (not (list_any is_bind s.marks && list_any is_number_jump s.marks))
-        r.stand r.distinct free)
+    subst P (sym s.all_are) (
+      s.spelled,
+      from-three (list_all (may_stand v) s.marks) (have_no_twins s.marks) (not (list_any is_bind s.marks && list_any is_number_jump s.marks))
+          r.stand r.distinct free,
+    )
 
 pub marks-read : (names : Names) (v : Verb) (words : Words) (marks : List Mark) → SpellEach (SpellsMark names) words marks
     → may_stand_together v marks ≡ true → marks_in names v (list_any binds words) [] words ≡ Some marks

@@ -1,8 +1,6 @@
 -- Marks are read exactly where words spell them.
-use Rattle.std.proofs.Common.{
-  ◌≡◌, ℕ, ◌+◌, ◌<◌, ◌==◌, Bool, true, false, not, Option, Some, None, [], ◌∷◌, ◌++◌, length, take,
-  drop, get_or, refl, sym, ap, subst, ◌∙◌, arith, drop-cons, length-append, suc,
-}
+use Rattle.std.proofs.Common.{◌≡◌, ℕ, ◌+◌, ◌<◌, ◌==◌, Bool, true, false, not, Option, Some, None, [], ◌∷◌, ◌++◌, length}
+use Rattle.std.proofs.Common.{take, drop, get_or, refl, sym, ap, subst, ◌∙◌, arith, drop-cons, length-append, suc}
 use Rattle.std.specs.List.{list_all, position, position_or_len}
 use Rattle.std.proofs.lemmas.Bool.{eqb-true, lt-ltb, and_parts}
 use Rattle.std.proofs.lemmas.List.{take-append-drop}
@@ -100,7 +98,7 @@ flag-spelled names s first name m e h =
 sign-byte : (byte : ℕ) (s : Sign) → sign_of byte ≡ Some s → byte ≡ sign_byte s
 sign-byte byte s h =
     let same : (t : Sign) (n : ℕ) → (byte == n) ≡ true → n ≡ sign_byte t → Some t ≡ Some s → byte ≡ sign_byte s =
-        λ t n b k e. eqb-true byte n b ∙ k ∙ ap sign_byte (some-same t s e) in
+    λ t n b k e. eqb-true byte n b ∙ k ∙ ap sign_byte (some-same t s e) in
     cond-cases (byte == 63) _ _ s (byte ≡ sign_byte s) h (λ b e. same sign.RequireSet 63 b refl e)
     (λ _ g. cond-cases (byte == 33) _ _ s (byte ≡ sign_byte s) g (λ b e. same sign.RequireClear 33 b refl e)
     (λ _ k. cond-cases (byte == 43) _ _ s (byte ≡ sign_byte s) k (λ b e. same sign.Sets 43 b refl e)

@@ -1,8 +1,6 @@
 -- The marks of a step as they are printed say the step again: its masks, its jumps, and what is bound.
-use Rattle.std.proofs.Common.{
-  ◌≡◌, ℕ, ◌+◌, ◌<◌, ◌≤◌, ◌==◌, ◌^◌, Bool, true, not, cond, ◌⊎◌, inl, inr, ⊎_elim, Option, Some,
-  None, List, [], ◌∷◌, ◌++◌, length, refl, sym, ap, subst, ◌∙◌, arith,
-}
+use Rattle.std.proofs.Common.{◌≡◌, ℕ, ◌+◌, ◌<◌, ◌≤◌, ◌==◌, ◌^◌, Bool, true, not, cond, ◌⊎◌, inl, inr, ⊎_elim, Option}
+use Rattle.std.proofs.Common.{Some, None, List, [], ◌∷◌, ◌++◌, length, refl, sym, ap, subst, ◌∙◌, arith}
 use Rattle.std.specs.List.{list_all}
 use Rattle.std.proofs.lemmas.Bool.{not-true, eq-eqb, ne_eqb, cond-true, cond-false, cases_order}
 use Rattle.mc_protocol.specs.declared.request.Verb.{Verb}
@@ -109,7 +107,7 @@ says-sets flags labels t jumps bind small =
     rest-silent s flags labels t jumps bind
     ∙ gathered-behind s 0 (a ++ b ++ c) d (flags-silent s sign.Clears t.clears flags refl)
     ∙ gathered-front s 0 (a ++ b) c
-        (all-append (silent s) a b (flags-silent s sign.RequireSet t.require_set flags refl) (flags-silent s sign.RequireClear t.require_clear flags refl))
+    (all-append (silent s) a b (flags-silent s sign.RequireSet t.require_set flags refl) (flags-silent s sign.RequireClear t.require_clear flags refl))
     ∙ flags-say s t.sets flags small
 
 pub says-clears : (flags : List Word) (labels : List Label) (t : Template) (jumps : List (Class × ℕ)) (bind : Option ℕ) → t.clears < 2 ^ length flags
@@ -204,7 +202,7 @@ below-ten class.NotNumber = omega arith
 -- a jump that comes first, or none on this class
 first-jump : (v : Verb) (labels : List Label) (place n : ℕ) (c : Class) (jumps : List (Class × ℕ)) → class_index c ≡ n → AreJumps v labels place n jumps
     → AreJumps v labels place (n + 1) jumps
-        ⊎ ((index : ℕ) × (js : List (Class × ℕ)) × (jumps ≡ (c, index) ∷ js) × IsBehind labels place index × AreJumps v labels place (n + 1) js)
+    ⊎ ((index : ℕ) × (js : List (Class × ℕ)) × (jumps ≡ (c, index) ∷ js) × IsBehind labels place index × AreJumps v labels place (n + 1) js)
 first-jump v labels place n c [] e h = inl tt
 first-jump v labels place n c ((d, index) ∷ js) e h =
     let from = h.0 in
@@ -244,7 +242,7 @@ jumps-again v labels place n marks (c ∷ classes) jumps distinct numbered h tar
     let others = jumps-again v labels place (n + 1) marks classes js distinct numbered.1 rest
     (λ d lt. target d (omega (arith, lt)) ∙ ap (λ l. target_of d (jump_marks labels l)) e
     ∙ cond-false (class_index d == class_index c) (Some name) (target_of d (jump_marks labels js))
-        (ne_eqb (class_index d) (class_index c) (λ k. absurd (omega (arith, k, lt, here))))) in
+    (ne_eqb (class_index d) (class_index c) (λ k. absurd (omega (arith, k, lt, here))))) in
     ap (λ o. jump_before labels place c o (jumps_on labels place marks classes)) some
     ∙ ap (λ o. with_jump c o (jumps_on labels place marks classes)) found
     ∙ ap (λ o. with_jump c (Some index) o) others ∙ ap Some (sym e))
@@ -255,4 +253,4 @@ pub says-jumps : (v : Verb) (flags : List Word) (labels : List Label) (place : �
     → jumps_on labels place (marks_of flags labels t jumps bind) all_classes ≡ Some jumps
 says-jumps v flags labels place t jumps bind distinct h =
     jumps-again v labels place 0 (marks_of flags labels t jumps bind) all_classes jumps distinct all-numbered h
-        (λ c _. marks-target c flags labels t jumps bind)
+    (λ c _. marks-target c flags labels t jumps bind)

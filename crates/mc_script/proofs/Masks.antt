@@ -1,8 +1,6 @@
 -- The flags that marks say, as bits of masks.
-use Rattle.std.proofs.Common.{
-  ◌≡◌, ℕ, ◌<◌, ◌==◌, ◌^◌, Bool, true, false, cond, ◌⊎◌, inl, inr, ⊎_elim, Option, Some, None, List,
-  [], ◌∷◌, length, refl, sym, ap, ◌∙◌, arith, bit_and,
-}
+use Rattle.std.proofs.Common.{◌≡◌, ℕ, ◌<◌, ◌==◌, ◌^◌, Bool, true, false, cond, ◌⊎◌, inl, inr, ⊎_elim, Option}
+use Rattle.std.proofs.Common.{Some, None, List, [], ◌∷◌, length, refl, sym, ap, ◌∙◌, arith, bit_and}
 use Rattle.std.specs.Int.{bit_at}
 use Rattle.std.specs.List.{list_any, fold}
 use Rattle.std.specs.Str.{bytes_eq}

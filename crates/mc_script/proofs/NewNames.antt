@@ -1,14 +1,10 @@
 -- Names that differ, and whether one more may be declared after others.
-use Rattle.std.proofs.Common.{
-  ◌≡◌, ◌≢◌, Bor, Some, None, ℕ, ◌+◌, ◌<◌, ◌≤◌, true, false, Bool, ◌&&◌, nat_le, nat_lt, List, [],
-  ◌∷◌, ◌++◌, length, get_or, take, drop, map, refl, sym, ap, subst, ◌∙◌, arith, length-append,
-}
+use Rattle.std.proofs.Common.{◌≡◌, ◌≢◌, Bor, Some, None, ℕ, ◌+◌, ◌<◌, ◌≤◌, true, false, Bool, ◌&&◌, nat_le, nat_lt, List, []}
+use Rattle.std.proofs.Common.{◌∷◌, ◌++◌, length, get_or, take, drop, map, refl, sym, ap, subst, ◌∙◌, arith, length-append}
 use Rattle.std.specs.List.{list_all, list_any}
 use Rattle.std.specs.Str.{bytes_eq}
-use Rattle.std.proofs.lemmas.Bool.{
-  leb-true, le-leb, lt-ltb, ltb-true, not-true, not_from_false, false_from_ne_true, both_ways,
-  or_parts, or_from, and_parts, and_from,
-}
+use Rattle.std.proofs.lemmas.Bool.{leb-true, le-leb, lt-ltb, ltb-true, not-true, not_from_false, false_from_ne_true}
+use Rattle.std.proofs.lemmas.Bool.{both_ways, or_parts, or_from, and_parts, and_from}
 use Rattle.std.proofs.lemmas.List.{take-append-drop, map-append, drop_more}
 use Rattle.std.proofs.lemmas.List.Folds.{list_all-append}
 use Rattle.std.proofs.lemmas.Slice.Eq.{bytes_eq-Decides}
@@ -77,7 +73,7 @@ declared_push limit bytes names name d f =
     three-from (nat_le (length (names ++ name ∷ [])) limit) (list_all (is_name bytes) (names ++ name ∷ [])) (are_distinct (names ++ name ∷ []))
     (le-leb (length (names ++ name ∷ [])) limit within)
     (list_all-append (is_name bytes) names (name ∷ [])
-        ∙ and_from (list_all (is_name bytes) names) (list_all (is_name bytes) (name ∷ [])) named (and_from (is_name bytes name) true one refl))
+    ∙ and_from (list_all (is_name bytes) names) (list_all (is_name bytes) (name ∷ [])) named (and_from (is_name bytes name) true one refl))
     (distinct-push names name distinct fresh)
 
 -- those that are declared follow those before them
@@ -89,7 +85,7 @@ declared-follow limit bytes names name others d =
     let within : length all ≤ limit = leb-true (length all) limit few in
     let below : length names < limit = omega (arith, within, length-append names (name ∷ others)) in
     let both = and_parts (list_all (is_name bytes) names) (list_all (is_name bytes) (name ∷ others))
-        (sym (list_all-append (is_name bytes) names (name ∷ others)) ∙ named) in
+    (sym (list_all-append (is_name bytes) names (name ∷ others)) ∙ named) in
     let one = and_parts (is_name bytes name) (list_all (is_name bytes) others) both.1 in
     three-from (is_name bytes name) (is_new names name) (nat_lt (length names) limit)
     one.0 (distinct-new names name others distinct) (lt-ltb (length names) limit below)

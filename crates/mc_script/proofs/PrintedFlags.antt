@@ -1,14 +1,10 @@
 -- The flags of a template as marks: they say its masks, and none are twins.
-use Rattle.std.proofs.Common.{
-  ◌≡◌, ℕ, ◌+◌, ◌*◌, ◌%◌, ◌<◌, ◌==◌, ◌^◌, Bool, true, false, not, cond, Some, None, List, [], ◌∷◌,
-  ◌++◌, length, get_or, bit_and, bit_or, min, refl, sym, ap, ◌∙◌, arith, suc,
-}
+use Rattle.std.proofs.Common.{◌≡◌, ℕ, ◌+◌, ◌*◌, ◌%◌, ◌<◌, ◌==◌, ◌^◌, Bool, true, false, not, cond, Some, None, List}
+use Rattle.std.proofs.Common.{[], ◌∷◌, ◌++◌, length, get_or, bit_and, bit_or, min, refl, sym, ap, ◌∙◌, arith, suc}
 use Rattle.std.specs.Int.{bit_at}
 use Rattle.std.specs.List.{list_all, list_any}
-use Rattle.std.proofs.lemmas.Bool.{
-  and_parts, and_from, and_left, and_right, or_from, or_parts, not-true, not_from_false, eqb-true,
-  eq-eqb, ne_eqb, both_ways, cond_both,
-}
+use Rattle.std.proofs.lemmas.Bool.{and_parts, and_from, and_left, and_right, or_from, or_parts, not-true}
+use Rattle.std.proofs.lemmas.Bool.{not_from_false, eqb-true, eq-eqb, ne_eqb, both_ways, cond_both}
 use Rattle.std.proofs.lemmas.List.Folds.{list_all-append}
 use Rattle.std.proofs.lemmas.Nat.{mod-pow-add, or_shifted, or_comm, pow_pos, mod_below}
 use Rattle.std.proofs.Math.Nat.{mod-eq_of_lt}
@@ -56,7 +52,7 @@ no-twins-append (x ∷ xs) ys h k a =
     let q = and_parts (not (list_any (are_twins x) ys)) (are_apart xs ys) a in
     and_from (not (list_any (are_twins x) (xs ++ ys))) (have_no_twins (xs ++ ys))
     (not_from_false (list_any (are_twins x) (xs ++ ys))
-        (any-append (are_twins x) xs ys (not-true (list_any (are_twins x) xs) p.0) (not-true (list_any (are_twins x) ys) q.0)))
+    (any-append (are_twins x) xs ys (not-true (list_any (are_twins x) xs) p.0) (not-true (list_any (are_twins x) ys) q.0)))
     (no-twins-append xs ys p.1 k q.1)
 
 pub apart-append : (xs ys zs : List Mark) → are_apart xs zs ≡ true → are_apart ys zs ≡ true → are_apart (xs ++ ys) zs ≡ true
@@ -202,7 +198,7 @@ flags-distinct s mask k (name ∷ ns) =
     let twin = are_twins (mark.Flag s k) in
     cond_both (bit_at mask k == 1) (mark.Flag s k ∷ others) others (λ ms. have_no_twins ms ≡ true)
     (λ _. and_from (not (list_any twin others)) (have_no_twins others)
-        (not_from_false (list_any twin others) (earlier-flag s s k mask (k + 1) ns (omega arith))) rest)
+    (not_from_false (list_any twin others) (earlier-flag s s k mask (k + 1) ns (omega arith))) rest)
     (λ _. rest)
 
 -- flags of two kinds are apart
@@ -246,7 +242,7 @@ all-flags-all p ns t h =
     all-append p (F sign.RequireSet t.require_set ++ F sign.RequireClear t.require_clear ++ F sign.Sets t.sets) (F sign.Clears t.clears)
     (all-append p (F sign.RequireSet t.require_set ++ F sign.RequireClear t.require_clear) (F sign.Sets t.sets)
     (all-append p (F sign.RequireSet t.require_set) (F sign.RequireClear t.require_clear) (one sign.RequireSet t.require_set)
-        (one sign.RequireClear t.require_clear))
+    (one sign.RequireClear t.require_clear))
     (one sign.Sets t.sets)) (one sign.Clears t.clears)
 
 pub all-flags-distinct : (ns : List Word) (t : Template) → bit_and t.require_set t.require_clear ≡ 0 → bit_and t.sets t.clears ≡ 0

@@ -1,8 +1,6 @@
 -- The marks of a step as they are printed: words spell them, and they may stand together.
-use Rattle.std.proofs.Common.{
-  ◌≡◌, ℕ, ◌+◌, ◌<◌, ◌==◌, Bool, true, false, not, ◌&&◌, ◌||◌, Option, Some, None, List, [], ◌∷◌,
-  ◌++◌, length, map, refl, ap, ◌∙◌, arith,
-}
+use Rattle.std.proofs.Common.{◌≡◌, ℕ, ◌+◌, ◌<◌, ◌==◌, Bool, true, false, not, ◌&&◌, ◌||◌, Option, Some}
+use Rattle.std.proofs.Common.{None, List, [], ◌∷◌, ◌++◌, length, map, refl, ap, ◌∙◌, arith}
 use Rattle.std.specs.List.{list_all, list_any}
 use Rattle.std.proofs.lemmas.Bool.{and_from, or_from, not_from_false, ne_eqb}
 use Rattle.mc_protocol.specs.Legal.{is_legal}
@@ -24,10 +22,8 @@ use Rattle.mc_script.specs.Templates.{IsTemplate}
 use Rattle.mc_script.specs.PrintedScript.{name_at, label_at, jump_words, bind_words, all_flag_words, mark_words}
 use Rattle.mc_script.proofs.JumpLists.{number-jump}
 use Rattle.mc_script.proofs.PrintedNames.{index-found}
-use Rattle.mc_script.proofs.PrintedFlags.{
-  each-append, any-append, all-append, are_apart, no-twins-append, apart-append, all_flag_marks,
-  all-flags-spell, all-flags-all, all-flags-distinct,
-}
+use Rattle.mc_script.proofs.PrintedFlags.{each-append, any-append, all-append, are_apart, no-twins-append, apart-append}
+use Rattle.mc_script.proofs.PrintedFlags.{all_flag_marks, all-flags-spell, all-flags-all, all-flags-distinct}
 
 -- ---- jumps and `>`
 
@@ -59,9 +55,9 @@ marks-spell names labels t jumps bind f v b =
     let S = SpellsMark names in
     let flags = all-flags-spell names t (λ j lt. let e : j ≡ 0 + j = omega arith in index-found names.flags j f lt ∙ ap Some e) in
     each-append S (all_flag_words names.flags t ++ jump_words labels jumps) (bind_words names bind)
-        (all_flag_marks names.flags t ++ jump_marks labels jumps) (bind_marks bind)
+    (all_flag_marks names.flags t ++ jump_marks labels jumps) (bind_marks bind)
     (each-append S (all_flag_words names.flags t) (jump_words labels jumps) (all_flag_marks names.flags t) (jump_marks labels jumps) flags
-        (jumps-spell names labels jumps))
+    (jumps-spell names labels jumps))
     (bind-spells names t.verb jumps bind v b)
 
 -- ---- they may stand together
@@ -161,7 +157,7 @@ marks-free names labels v t jumps None h =
     let F = all_flag_marks names.flags t in
     let J = jump_marks labels jumps in
     let none = any-append is_bind (F ++ J) []
-        (any-append is_bind F J (none-of-flags is_bind F (λ s f. refl) (flags-are-flags names.flags t)) (jumps-no-bind labels jumps)) refl in
+    (any-append is_bind F J (none-of-flags is_bind F (λ s f. refl) (flags-are-flags names.flags t)) (jumps-no-bind labels jumps)) refl in
     ap (λ b. b && list_any is_number_jump (marks_of names.flags labels t jumps None)) none
 marks-free names labels v t jumps (Some variable) h =
     let F = all_flag_marks names.flags t in
@@ -183,7 +179,7 @@ marks-together names keys labels place t jumps bind h j b =
     let M = marks_of names.flags labels t jumps bind in
     from-three (list_all (may_stand v) M) (have_no_twins M) (not (list_any is_bind M && list_any is_number_jump M))
     (all-append (may_stand v) (F ++ J) (bind_marks bind)
-        (all-append (may_stand v) F J (all-flags-all (may_stand v) names.flags t (λ s f. refl)) (jumps-stand v labels place 0 jumps j))
+    (all-append (may_stand v) F J (all-flags-all (may_stand v) names.flags t (λ s f. refl)) (jumps-stand v labels place 0 jumps j))
     (bind-stands names v jumps bind b))
     (marks-distinct names.flags v labels place t jumps bind (all-flags-distinct names.flags t h.needs_apart h.changes_apart) j)
     (not_from_false _ (marks-free names labels v t jumps bind b))

@@ -1,8 +1,6 @@
 -- The lines of sections as they are printed, and the whole text: they spell the section, and the script.
-use Rattle.std.proofs.Common.{
-  ◌≡◌, ℕ, ◌+◌, ◌<◌, ◌≤◌, ◌==◌, nat_le, Bool, true, false, cond, ⊎_elim, Some, List, [], ◌∷◌, ◌++◌,
-  length, codes, decimal, refl, sym, ap, subst, ◌∙◌, arith,
-}
+use Rattle.std.proofs.Common.{◌≡◌, ℕ, ◌+◌, ◌<◌, ◌≤◌, ◌==◌, nat_le, Bool, true, false, cond, ⊎_elim, Some, List}
+use Rattle.std.proofs.Common.{[], ◌∷◌, ◌++◌, length, codes, decimal, refl, sym, ap, subst, ◌∙◌, arith}
 use Rattle.std.specs.List.{list_all}
 use Rattle.std.proofs.lemmas.Bool.{and_parts, and_from, eqb-true, eq-eqb, ne_eqb, le-leb, lt-leb, cond_both, cases_order}
 use Rattle.mc_protocol.specs.declared.actor.Actor.{Actor}
@@ -30,10 +28,8 @@ use Rattle.mc_script.specs.ScriptText.{SpellsBudget, header, names_line, names_l
 use Rattle.mc_script.specs.SectionText.{SpellsEntry, SpellsSection, label_names}
 use Rattle.mc_script.specs.Steps.{in_front, labels_from, steps_from}
 use Rattle.mc_script.specs.WellFormed.{AreSteps, AreLabels, IsSection, IsScript}
-use Rattle.mc_script.specs.PrintedScript.{
-  label_lines, step_words, step_lines, section_lines, bodies_of, budget_line, script_lines,
-  script_text, PrintedScriptsAreSpelled, PrintedScriptsAreReadAgain,
-}
+use Rattle.mc_script.specs.PrintedScript.{label_lines, step_words, step_lines, section_lines, bodies_of, budget_line, script_lines}
+use Rattle.mc_script.specs.PrintedScript.{script_text, PrintedScriptsAreSpelled, PrintedScriptsAreReadAgain}
 use Rattle.mc_script.proofs.Declared.{declared-few, least-has-room}
 use Rattle.mc_script.proofs.PrintedLines.{is_whole, are_whole, is_line, are_lines, all-weaker, lines_fall_apart}
 use Rattle.mc_script.proofs.PrintedNames.{decimal-whole, named-whole, label-whole}
@@ -60,7 +56,7 @@ labels-spell names place (label ∷ labels) all =
     let p = and_parts (is_label_name label.name) (list_all is_label_name (label_names labels)) all in
     let rest = labels-spell names place labels p.1 in
     go (label.place == place) names (label_word label.name ∷ []) (entry.Label label.name) (label_lines place labels)
-        (label_entries place labels) (refl, p.0) rest
+    (label_entries place labels) (refl, p.0) rest
   where
     go : (b : Bool) (names : Names) (w : Words) (m : Entry) (ws : List Words) (ms : List Entry) → SpellsEntry names w m → SpellEach (SpellsEntry names) ws ms
         → SpellEach (SpellsEntry names) (cond b (w ∷ ws) ws) (cond b (m ∷ ms) ms)
@@ -207,7 +203,7 @@ steps-before labels place at [] rest = refl
 steps-before labels place at (label ∷ some) rest =
     cond_both (label.place == at) (entry.Label label.name ∷ label_entries at some) (label_entries at some)
     (λ es. steps_from labels place (es ++ rest) ≡ steps_from labels place rest) (λ _. steps-before labels place at some rest)
-        (λ _. steps-before labels place at some rest)
+    (λ _. steps-before labels place at some rest)
 
 steps-again : (names : Names) (labels : List Label) (place : ℕ) (steps : List Step) → are_distinct (label_names labels) ≡ true
     → AreSteps names labels place steps → steps_from labels place (step_entries names labels place steps) ≡ Some steps
@@ -299,7 +295,7 @@ script-are-lines s h =
     let bb = budget_line actor.B s.sections.b.budget in
     let budgets = cons bp (ba ∷ bb ∷ body_lines (bodies_of s)) (budget-is-line actor.P s.names s.sections.p h.p)
     (cons ba (bb ∷ body_lines (bodies_of s)) (budget-is-line actor.A s.names s.sections.a h.a)
-        (cons bb (body_lines (bodies_of s)) (budget-is-line actor.B s.names s.sections.b h.b) body)) in
+    (cons bb (body_lines (bodies_of s)) (budget-is-line actor.B s.names s.sections.b h.b) body)) in
     let keys = names_line (codes "keys") s.names.keys in
     let flags = names_line (codes "flags") s.names.flags in
     let vars = names_line (codes "vars") s.names.vars in
@@ -318,7 +314,7 @@ printed_scripts s h =
     let a = h.a.few in
     let b = h.b.few in
     let within = least-has-room (length s.names.flags) (longest s) (declared-few FLAGS_LIMIT NAME_BYTES_LIMIT s.names.flags h.declared.flags)
-        (omega (arith, p, a, b)) in
+    (omega (arith, p, a, b)) in
     let long = within.1 in
     let lines : Sections Words = record {
       p = budget_line actor.P s.sections.p.budget;

@@ -1,8 +1,6 @@
 -- The lines of steps as they are printed: they spell entries, of which the steps are made again.
-use Rattle.std.proofs.Common.{
-  ◌≡◌, ℕ, ◌+◌, ◌<◌, ◌≤◌, ◌==◌, nat_le, Bool, true, false, not, cond, Option, Some, None, List, [],
-  ◌∷◌, ◌++◌, length, codes, decimal, refl, sym, ap, ◌∙◌, arith,
-}
+use Rattle.std.proofs.Common.{◌≡◌, ℕ, ◌+◌, ◌<◌, ◌≤◌, ◌==◌, nat_le, Bool, true, false, not, cond, Option, Some}
+use Rattle.std.proofs.Common.{None, List, [], ◌∷◌, ◌++◌, length, codes, decimal, refl, sym, ap, ◌∙◌, arith}
 use Rattle.std.specs.Int.{bit_at}
 use Rattle.std.specs.List.{list_all}
 use Rattle.std.proofs.lemmas.Bool.{and_parts, and_from, eqb-true, leb-true, ltb-true}
@@ -39,10 +37,8 @@ use Rattle.mc_script.specs.SectionText.{SpellsEntry, SpellsFields, SpellsUnique,
 use Rattle.mc_script.specs.Steps.{in_front, sends, goes, with_marks, steps_from}
 use Rattle.mc_script.specs.Templates.{IsTemplate, has_fields, is_nothing, is_variable, is_amount, is_empty}
 use Rattle.mc_script.specs.WellFormed.{IsBehind, AreJumps, MayBind, IsStep}
-use Rattle.mc_script.specs.PrintedScript.{
-  name_at, label_at, item_words, argument_words, flag_words, all_flag_words, jump_words, bind_words,
-  mark_words, field_words, step_words,
-}
+use Rattle.mc_script.specs.PrintedScript.{name_at, label_at, item_words, argument_words, flag_words, all_flag_words}
+use Rattle.mc_script.specs.PrintedScript.{jump_words, bind_words, mark_words, field_words, step_words}
 use Rattle.mc_script.proofs.MarkLists.{three}
 use Rattle.mc_script.proofs.EntryWords.{same-template}
 use Rattle.mc_script.proofs.PrintedLines.{is_plain, are_plain, is_whole, are_whole, is_line}
@@ -213,7 +209,7 @@ more word words one others = and_from (is_whole word) (are_whole words) one othe
 variable-whole : (names : Names) (v : ℕ) → Known names → v < length names.vars → is_whole (variable_word (name_at names.vars v)) ≡ true
 variable-whole names v k lt =
     front-whole 36 (name_at names.vars v) refl
-        (named-plain NAME_BYTES_LIMIT (name_at names.vars v) (name-has (is_name NAME_BYTES_LIMIT) names.vars v k.var_names lt))
+    (named-plain NAME_BYTES_LIMIT (name_at names.vars v) (name-has (is_name NAME_BYTES_LIMIT) names.vars v k.var_names lt))
 
 unique-whole : (names : Names) (a : Argument) → Known names → is_variable (length names.vars) a ≡ true → are_whole (argument_words names a) ≡ true
 unique-whole names argument.Nothing k h = absurd (cc)
@@ -329,7 +325,7 @@ bind-whole names v jumps None k h = refl
 bind-whole names v jumps (Some x) k h =
     more (bind_word (name_at names.vars x)) []
     (front-whole 62 (name_at names.vars x) refl
-        (named-plain NAME_BYTES_LIMIT (name_at names.vars x) (name-has (is_name NAME_BYTES_LIMIT) names.vars x k.var_names h.0))) refl
+    (named-plain NAME_BYTES_LIMIT (name_at names.vars x) (name-has (is_name NAME_BYTES_LIMIT) names.vars x k.var_names h.0))) refl
 
 some-words : (word : Word) (words : Words) → not (length (word ∷ words) == 0) ≡ true
 some-words word words = grind (arith, nat_tests)
@@ -343,7 +339,7 @@ step-line names labels place (step.Send t jumps bind) k all (h, j, b) =
     let key = name_at names.keys t.key in
     let marks = all-append is_whole (all_flag_words names.flags t ++ jump_words labels jumps) (bind_words names bind)
     (all-append is_whole (all_flag_words names.flags t) (jump_words labels jumps) (all-flags-whole names.flags t k.flag_names)
-        (jumps-whole t.verb labels place 0 jumps all j))
+    (jumps-whole t.verb labels place 0 jumps all j))
     (bind-whole names t.verb jumps bind k b) in
     let others = all-append is_whole (field_words names t) (mark_words names labels t jumps bind) (fields-whole names (fields_of t.verb) t k h.fields) marks in
     line-from (verb_word t.verb) (key ∷ field_words names t ++ mark_words names labels t jumps bind)
@@ -353,7 +349,7 @@ step-line names labels place (step.Send t jumps bind) k all (h, j, b) =
 step-line names labels place (step.Bind v) k all h =
     line-from (codes "bind") (name_at names.vars v ∷ []) (more (codes "bind") (name_at names.vars v ∷ []) refl
     (more (name_at names.vars v) []
-        (named-whole NAME_BYTES_LIMIT (name_at names.vars v) (name-has (is_name NAME_BYTES_LIMIT) names.vars v k.var_names h)) refl))
+    (named-whole NAME_BYTES_LIMIT (name_at names.vars v) (name-has (is_name NAME_BYTES_LIMIT) names.vars v k.var_names h)) refl))
 step-line names labels place (step.Goto l) k all h =
     line-from (codes "goto") (label_at labels l ∷ []) (more (codes "goto") (label_at labels l ∷ []) refl
     (more (label_at labels l) [] (named-whole NAME_BYTES_LIMIT (label_at labels l) (behind-named labels place l all h)) refl))

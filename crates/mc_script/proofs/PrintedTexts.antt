@@ -30,14 +30,14 @@ groups-joined names p a b first x y z sp sa sb last =
 -- the header and the names, the budgets, the sections, and `end`, one after the other
 script_text-parts : (s : Script)
     → ((((((lines_text (header (version_of s) ∷ names_lines s.names) ++ line_text (budget_line actor.P s.sections.p.budget))
-        ++ line_text (budget_line actor.A s.sections.a.budget))
+    ++ line_text (budget_line actor.A s.sections.a.budget))
     ++ line_text (budget_line actor.B s.sections.b.budget)) ++ lines_text (section_line actor.P ∷ section_lines s.names s.sections.p))
     ++ lines_text (section_line actor.A ∷ section_lines s.names s.sections.a)) ++ lines_text (section_line actor.B ∷ section_lines s.names s.sections.b))
-        ++ codes "end\n"
+    ++ codes "end\n"
     ≡ script_text s
 script_text-parts s =
     groups-joined (names_lines s.names) (section_lines s.names s.sections.p) (section_lines s.names s.sections.a) (section_lines s.names s.sections.b)
-        (header (version_of s))
+    (header (version_of s))
     (budget_line actor.P s.sections.p.budget) (budget_line actor.A s.sections.a.budget) (budget_line actor.B s.sections.b.budget)
     (section_line actor.P) (section_line actor.A) (section_line actor.B) end_line
 
@@ -53,13 +53,13 @@ script_text-from s t0 t1 t2 t3 t4 t5 t6 t7 t8 e0 e1 e2 e3 e4 e5 e6 e7 e8 =
     (e5 ∙ ap (λ t. t ++ lines_text (section_line actor.P ∷ section_lines s.names s.sections.p))
     (e4 ∙ ap (λ t. t ++ line_text (budget_line actor.B s.sections.b.budget)) (e3 ∙ ap (λ t. t ++ line_text (budget_line actor.A s.sections.a.budget))
     (e2 ∙ ap (λ t. t ++ line_text (budget_line actor.P s.sections.p.budget))
-        (e1 ∙ ap (λ t. t ++ lines_text (header (version_of s) ∷ names_lines s.names)) e0)))))))
+    (e1 ∙ ap (λ t. t ++ lines_text (header (version_of s) ∷ names_lines s.names)) e0)))))))
     ∙ script_text-parts s
 
 -- the same, of the script's parts
 pub script_text-made : (s : Script) (v : Version) (names : Names) (x y z : Budget) (p a b : Section) (t0 t1 t2 t3 t4 t5 t6 t7 t8 : List ℕ)
     → v ≡ version_of s → names ≡ s.names → x ≡ s.sections.p.budget → y ≡ s.sections.a.budget → z ≡ s.sections.b.budget → p ≡ s.sections.p
-        → a ≡ s.sections.a → b ≡ s.sections.b
+    → a ≡ s.sections.a → b ≡ s.sections.b
     → t0 ≡ [] → t1 ≡ t0 ++ lines_text (header v ∷ names_lines names) → t2 ≡ t1 ++ line_text (budget_line actor.P x)
     → t3 ≡ t2 ++ line_text (budget_line actor.A y) → t4 ≡ t3 ++ line_text (budget_line actor.B z)
     → t5 ≡ t4 ++ lines_text (section_line actor.P ∷ section_lines names p) → t6 ≡ t5 ++ lines_text (section_line actor.A ∷ section_lines names a)

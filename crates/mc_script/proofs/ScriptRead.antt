@@ -29,7 +29,7 @@ names-read : (v : Version) (keys flags vars : List Word) (others : Words) (rest 
     → may_be_declared KEYS_LIMIT KEY_BYTES_LIMIT keys ≡ true → may_be_declared (flags_limit v) NAME_BYTES_LIMIT flags ≡ true
     → may_be_declared VARIABLES_LIMIT NAME_BYTES_LIMIT vars ≡ true
     → all_names_in v (names_lines (names_of keys flags vars) ++ (codes "budget" ∷ others) ∷ rest)
-        ≡ Some (names_of keys flags vars, codes "budget" ∷ others, rest)
+    ≡ Some (names_of keys flags vars, codes "budget" ∷ others, rest)
 names-read v [] flags vars others rest some k f w = absurd (cc)
 names-read v (key ∷ keys) [] [] others rest some k f w = rw (names-in KEYS_LIMIT KEY_BYTES_LIMIT key keys k) refl
 names-read v (key ∷ keys) (flag ∷ flags) [] others rest some k f w =
@@ -37,8 +37,12 @@ names-read v (key ∷ keys) (flag ∷ flags) [] others rest some k f w =
 names-read v (key ∷ keys) [] (var ∷ vars) others rest some k f w =
     rw (names-in KEYS_LIMIT KEY_BYTES_LIMIT key keys k, names-in VARIABLES_LIMIT NAME_BYTES_LIMIT var vars w) refl
 names-read v (key ∷ keys) (flag ∷ flags) (var ∷ vars) others rest some k f w =
-    rw (names-in KEYS_LIMIT KEY_BYTES_LIMIT key keys k, names-in (flags_limit v) NAME_BYTES_LIMIT flag flags f, names-in VARIABLES_LIMIT
-        NAME_BYTES_LIMIT var vars w) refl
+    rw (
+      names-in KEYS_LIMIT KEY_BYTES_LIMIT key keys k,
+      names-in (flags_limit v) NAME_BYTES_LIMIT flag flags f,
+      names-in VARIABLES_LIMIT
+          NAME_BYTES_LIMIT var vars w,
+    ) refl
 
 names-read-at : (v : Version) (names : Names) (line : Words) (budget : Budget) (rest : List Words) → AreDeclared names → length names.flags ≤ flags_limit v
     → SpellsBudget actor.P line budget
@@ -47,7 +51,7 @@ names-read-at v names line budget rest d few (r, y, e, n, m) =
     let behind = actor_word actor.P ∷ r ∷ y ∷ [] in
     let P : Words → Type 0 = λ l. all_names_in v (names_lines names ++ l ∷ rest) ≡ Some (names, l, rest) in
     subst P (sym e) (names-read v names.keys names.flags names.vars behind rest d.some d.keys
-        (declared-within (flags_limit v) FLAGS_LIMIT NAME_BYTES_LIMIT names.flags few d.flags) d.vars)
+    (declared-within (flags_limit v) FLAGS_LIMIT NAME_BYTES_LIMIT names.flags few d.flags) d.vars)
 
 budgets-read : (line second third : Words) (p a b : Budget) (rest : List Words) → SpellsBudget actor.P line p → SpellsBudget actor.A second a
     → SpellsBudget actor.B third b → budgets_in line (second ∷ third ∷ rest) ≡ Some (budgets_of p a b, rest)
@@ -68,11 +72,11 @@ script-read-lines v text s h =
     let B = section-read v s.names (codes "end") h.bodies.b [] s.sections.b (no-entry-end s.names) b in
     let A = section-read v s.names (codes "B") h.bodies.a (h.bodies.b ++ end_line ∷ []) s.sections.a (no-entry-b s.names) a in
     let P = section-read v s.names (codes "A") h.bodies.p (h.bodies.a ++ section_line actor.B ∷ (h.bodies.b ++ end_line ∷ [])) s.sections.p
-        (no-entry-a s.names) p in
+    (no-entry-a s.names) p in
     let body = body_lines h.bodies in
     let names = names-read-at v s.names lines.p s.sections.p.budget (lines.a ∷ lines.b ∷ body) h.declared h.few_flags (h.allowed actor.P) in
     let budgets = budgets-read lines.p lines.a lines.b s.sections.p.budget s.sections.a.budget s.sections.b.budget body (h.allowed actor.P) (h.allowed actor.A)
-        (h.allowed actor.B) in
+    (h.allowed actor.B) in
     let bodies : bodies_in v s.names body ≡ Some (p.entries, a.entries, b.entries) = rw (P.0, A.0, B.0) refl in
     let made : resolved_in s.names (budgets_of s.sections.p.budget s.sections.a.budget s.sections.b.budget) p.entries a.entries b.entries ≡ Some s =
     rw (P.1, A.1, B.1) refl in

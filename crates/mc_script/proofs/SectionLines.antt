@@ -1,8 +1,6 @@
 -- The lines of a section are read exactly where they spell it.
-use Rattle.std.proofs.Common.{
-  ◌≡◌, ℕ, ◌+◌, ◌≤◌, nat_lt, Bool, true, false, not, ◌&&◌, ◌||◌, cond, Option, Some, None, List, [],
-  ◌∷◌, ◌++◌, refl, sym, ap, subst, ◌∙◌, arith,
-}
+use Rattle.std.proofs.Common.{◌≡◌, ℕ, ◌+◌, ◌≤◌, nat_lt, Bool, true, false, not, ◌&&◌, ◌||◌, cond, Option}
+use Rattle.std.proofs.Common.{Some, None, List, [], ◌∷◌, ◌++◌, refl, sym, ap, subst, ◌∙◌, arith}
 use Rattle.std.specs.List.{list_any, list_all}
 use Rattle.std.specs.Str.{bytes_eq}
 use Rattle.std.proofs.lemmas.Bool.{and_parts, and_from, ltb-true, lt-ltb}
@@ -84,7 +82,7 @@ unfolding may_follow_all
 entries-spelled limit names stop done count labels [] all rest h = absurd (cc)
 entries-spelled limit names stop done count labels (line ∷ lines) all rest h =
     let next : Entry → Option (List Entry × List Words) =
-        λ e. entries_in limit names stop (done ++ e ∷ []) (count + step_count e) (with_label labels e) lines in
+    λ e. entries_in limit names stop (done ++ e ∷ []) (count + step_count e) (with_label labels e) lines in
     let onward : Option (List Entry × List Words) = following limit count labels (entry_in names line) >>= next in
     cond-cases (is_only stop line) (Some (done, lines)) onward (all, rest) (SpelledEntries limit names stop done count labels (line ∷ lines) all rest) h
     (λ b g.
@@ -187,7 +185,7 @@ new-split labels name (x ∷ names) h =
     let p = and_parts (is_new (labels ++ name ∷ []) x) (list_all (is_new (labels ++ name ∷ [])) names) h in
     let q = new-split labels name names p.1 in
     let o = or-parts (list_any (bytes_eq x) labels) (bytes_eq x name)
-        (sym (any-push (bytes_eq x) labels name) ∙ no-true (list_any (bytes_eq x) (labels ++ name ∷ [])) p.0) in (
+    (sym (any-push (bytes_eq x) labels name) ∙ no-true (list_any (bytes_eq x) (labels ++ name ∷ [])) p.0) in (
       and_from (is_new labels x) (list_all (is_new labels) names) (ap not o.0) q.0,
       or-false (bytes_eq name x) (list_any (bytes_eq name) names) (bytes-swap name x ∙ o.1) q.1,
     )
@@ -199,7 +197,7 @@ new-join labels name (x ∷ names) h k =
     let p = and_parts (is_new labels x) (list_all (is_new labels) names) h in
     let q = or-parts (bytes_eq name x) (list_any (bytes_eq name) names) k in
     let o = any-push (bytes_eq x) labels name
-        ∙ or-false (list_any (bytes_eq x) labels) (bytes_eq x name) (no-true (list_any (bytes_eq x) labels) p.0) (bytes-swap x name ∙ q.0) in
+    ∙ or-false (list_any (bytes_eq x) labels) (bytes_eq x name) (no-true (list_any (bytes_eq x) labels) p.0) (bytes-swap x name ∙ q.0) in
     and_from (is_new (labels ++ name ∷ []) x) (list_all (is_new (labels ++ name ∷ [])) names) (ap not o) (new-join labels name names p.1 q.1)
 
 pub all-new : (names : List Word) → list_all (is_new []) names ≡ true

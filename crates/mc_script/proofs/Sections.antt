@@ -73,7 +73,7 @@ pub record SpelledSection (v : Version) (names : Names) (stop : Word) (budget : 
 pub section-spelled : (v : Version) (names : Names) (stop : Word) (budget : Budget) (lines : List Words) (entries : List Entry)
     (rest : List Words) (s : Section)
     → entries_in (steps_limit v) names stop [] 0 [] lines ≡ Some (entries, rest) → section_in budget entries ≡ Some s
-        → SpelledSection v names stop budget lines rest s
+    → SpelledSection v names stop budget lines rest s
 section-spelled v names stop budget lines entries rest s h made =
     let labels = labels_from 0 entries in
     let e = entries-spelled (steps_limit v) names stop [] 0 [] lines entries rest h in
@@ -106,7 +106,7 @@ same-section s labels e = rw (← e) refl
 pub section-read : (v : Version) (names : Names) (stop : Word) (body rest : List Words) (s : Section) → entry_in names (stop ∷ []) ≡ None
     → (spelled : SpellsSection v names body s)
     → (entries_in (steps_limit v) names stop [] 0 [] (body ++ (stop ∷ []) ∷ rest) ≡ Some (spelled.entries, rest))
-        × (section_in s.budget spelled.entries ≡ Some s)
+    × (section_in s.budget spelled.entries ≡ Some s)
 section-read v names stop body rest s none p =
     let entries = p.entries in
     let total = steps-count s.labels 0 entries s.steps p.steps in

@@ -147,7 +147,7 @@ jumps-missing-on labels place marks c name [] t m h = absurd (cc)
 jumps-missing-on labels place marks c name (d ∷ classes) t m h =
     missing-step labels place marks c name d classes (class_index c == class_index d) refl t m
     (λ k. jumps-missing-on labels place marks c name classes t m
-        (or-else (class_index c == class_index d) (list_any (λ d. class_index c == class_index d) classes) h k))
+    (or-else (class_index c == class_index d) (list_any (λ d. class_index c == class_index d) classes) h k))
 
 every-class : (c : Class) → list_any (λ d. class_index c == class_index d) all_classes ≡ true
 every-class class.Stored = refl

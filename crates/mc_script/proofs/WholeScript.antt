@@ -20,14 +20,10 @@ use Rattle.mc_script.specs.Script.{Names, Section, Script, AreDeclared, section_
 use Rattle.mc_script.specs.ScriptText.{SpellsInVersion, SpellsScript, SpellsBudget, header, names_line, names_lines, section_line, end_line, body_lines}
 use Rattle.mc_script.specs.SectionText.{SpellsSection}
 use Rattle.mc_script.specs.Steps.{◌>>=◌}
-use Rattle.mc_script.specs.Reading.{
-  entry_in, version_of_word, header_version, header_in, names_in, keys_in, optional_in, then_line,
-  number_in, numbers_in, amounts_in, budget_in,
-}
-use Rattle.mc_script.specs.TextReading.{
-  line_in, names_of, all_names_in, next_budget_in, budgets_of, budgets_in, section_line_in,
-  entries_in, ended_in, bodies_in, section_in, script_of, resolved_in, script_in,
-}
+use Rattle.mc_script.specs.Reading.{entry_in, version_of_word, header_version, header_in, names_in, keys_in}
+use Rattle.mc_script.specs.Reading.{optional_in, then_line, number_in, numbers_in, amounts_in, budget_in}
+use Rattle.mc_script.specs.TextReading.{line_in, names_of, all_names_in, next_budget_in, budgets_of, budgets_in, section_line_in}
+use Rattle.mc_script.specs.TextReading.{entries_in, ended_in, bodies_in, section_in, script_of, resolved_in, script_in}
 use Rattle.mc_script.proofs.Outcomes.{then-some, cond-cases, some-same, only-then}
 use Rattle.mc_script.proofs.FieldWords.{number-spelled, number-read}
 use Rattle.mc_script.proofs.Declared.{names-declared, keys-declared, optional-declared, declared-few, declared-within, none-declared, flags-within}
@@ -162,7 +158,7 @@ numbers-spelled (r ∷ y ∷ []) b h =
     let p = then-some (number_in REQUESTS_LIMIT r) (λ n. number_in REQUEST_BYTES_LIMIT y >>= λ m. Some (made n m)) b h in
     let q = then-some (number_in REQUEST_BYTES_LIMIT y) (λ m. Some (made p.0 m)) b p.2 in
     let P : Budget → Type 0 = λ x. (r' : Word) × (y' : Word) × (r ∷ y ∷ [] ≡ r' ∷ y' ∷ []) × SpellsNumber REQUESTS_LIMIT r' x.requests
-        × SpellsNumber REQUEST_BYTES_LIMIT y' x.bytes in
+    × SpellsNumber REQUEST_BYTES_LIMIT y' x.bytes in
     subst P (some-same (made p.0 q.0) b q.2) (r, y, refl, number-spelled REQUESTS_LIMIT r p.0 p.1, number-spelled REQUEST_BYTES_LIMIT y q.0 q.1)
 numbers-spelled (r ∷ y ∷ x ∷ words) b h = absurd (cc)
 
@@ -237,7 +233,7 @@ record SpelledBodies (v : Version) (names : Names) (budgets : Sections Budget) (
 bodies-joined : (v : Version) (names : Names) (budgets : Sections Budget) (lines l lp la lb : List Words) (p a b : List Entry) (x y z : Section)
     → section_line_in lines ≡ Some l → entries_in (steps_limit v) names (codes "A") [] 0 [] l ≡ Some (p, lp)
     → entries_in (steps_limit v) names (codes "B") [] 0 [] lp ≡ Some (a, la)
-        → entries_in (steps_limit v) names (codes "end") [] 0 [] la ≡ Some (b, lb) → lb ≡ []
+    → entries_in (steps_limit v) names (codes "end") [] 0 [] la ≡ Some (b, lb) → lb ≡ []
     → section_in budgets.p p ≡ Some x → section_in budgets.a a ≡ Some y → section_in budgets.b b ≡ Some z
     → SpelledBodies v names budgets lines (script_of names x y z)
 bodies-joined v names budgets lines l lp la lb p a b x y z h i j k e f g m =
@@ -250,7 +246,7 @@ bodies-joined v names budgets lines l lp la lb p a b x y z h i j k e f g m =
       bodies = bodies;
       lines_are = section-line lines l h ∙ ap (λ ls. section_line actor.P ∷ ls) (P.lines_are
           ∙ ap (λ ls. P.body ++ section_line actor.A ∷ ls)
-              (A.lines_are ∙ ap (λ ls. A.body ++ section_line actor.B ∷ ls) (B.lines_are ∙ ap (λ ls. B.body ++ end_line ∷ ls) e)));
+          (A.lines_are ∙ ap (λ ls. A.body ++ section_line actor.B ∷ ls) (B.lines_are ∙ ap (λ ls. B.body ++ end_line ∷ ls) e)));
       spelled = each (λ k. SpellsSection v names (sections.section_of bodies k) (section_of s k)) P.spelled A.spelled B.spelled;
       budgets_are = each (λ k. (section_of s k).budget ≡ sections.section_of budgets k) P.budget_is A.budget_is B.budget_is;
       names_are = refl;
@@ -260,12 +256,12 @@ bodies-spelled : (v : Version) (names : Names) (budgets : Sections Budget) (line
     → bodies_in v names lines ≡ Some (p, a, b) → resolved_in names budgets p a b ≡ Some s → SpelledBodies v names budgets lines s
 bodies-spelled v names budgets lines p a b s h made =
     let l = then-some (section_line_in lines)
-        (λ l. entries_in (steps_limit v) names (codes "A") [] 0 [] l >>= λ p. entries_in (steps_limit v) names (codes "B") [] 0 [] p.1
+    (λ l. entries_in (steps_limit v) names (codes "A") [] 0 [] l >>= λ p. entries_in (steps_limit v) names (codes "B") [] 0 [] p.1
     >>= λ a. entries_in (steps_limit v) names (codes "end") [] 0 [] a.1 >>= λ b. ended_in (p.0, a.0, b.0) b.1) (p, a, b) h in
     let P = then-some (entries_in (steps_limit v) names (codes "A") [] 0 [] l.0) (λ p. entries_in (steps_limit v) names (codes "B") [] 0 [] p.1
     >>= λ a. entries_in (steps_limit v) names (codes "end") [] 0 [] a.1 >>= λ b. ended_in (p.0, a.0, b.0) b.1) (p, a, b) l.2 in
     let A = then-some (entries_in (steps_limit v) names (codes "B") [] 0 [] P.0.1)
-        (λ a. entries_in (steps_limit v) names (codes "end") [] 0 [] a.1 >>= λ b. ended_in (P.0.0, a.0, b.0) b.1) (p, a, b) P.2 in
+    (λ a. entries_in (steps_limit v) names (codes "end") [] 0 [] a.1 >>= λ b. ended_in (P.0.0, a.0, b.0) b.1) (p, a, b) P.2 in
     let B = then-some (entries_in (steps_limit v) names (codes "end") [] 0 [] A.0.1) (λ b. ended_in (P.0.0, A.0.0, b.0) b.1) (p, a, b) A.2 in
     let E = ended (P.0.0, A.0.0, B.0.0) (p, a, b) B.0.1 B.2 in
     let x = then-some (section_in budgets.p p) (λ x. section_in budgets.a a >>= λ y. section_in budgets.b b >>= λ z. Some (script_of names x y z)) s made in
@@ -285,7 +281,7 @@ budgets-spelled : (line : Words) (lines : List Words) (budgets : Sections Budget
     × SpellsBudget actor.P line budgets.p × SpellsBudget actor.A second budgets.a × SpellsBudget actor.B third budgets.b
 budgets-spelled line lines budgets rest h =
     let p = then-some (budget_in actor.P line)
-        (λ p. next_budget_in actor.A lines >>= λ a. next_budget_in actor.B a.1 >>= λ b. Some (budgets_of p a.0 b.0, b.1)) (budgets, rest) h in
+    (λ p. next_budget_in actor.A lines >>= λ a. next_budget_in actor.B a.1 >>= λ b. Some (budgets_of p a.0 b.0, b.1)) (budgets, rest) h in
     let a = then-some (next_budget_in actor.A lines) (λ a. next_budget_in actor.B a.1 >>= λ b. Some (budgets_of p.0 a.0 b.0, b.1)) (budgets, rest) p.2 in
     let b = then-some (next_budget_in actor.B a.0.1) (λ b. Some (budgets_of p.0 a.0.0 b.0, b.1)) (budgets, rest) a.2 in
     let (second, e, s) = next-budget actor.A lines a.0.0 a.0.1 a.1 in
@@ -305,7 +301,7 @@ script-joined v text l names line behind budgets onward s h (n, declared, few) (
     let N : Names → Type 0 = AreDeclared in
     let read : Sections Words = record { p = line; a = second; b = third } in
     let spelled : (k : Actor) → SpellsBudget k (sections.section_of read k) (sections.section_of budgets k) =
-        each (λ k. SpellsBudget k (sections.section_of read k) (sections.section_of budgets k)) p a b in
+    each (λ k. SpellsBudget k (sections.section_of read k) (sections.section_of budgets k)) p a b in
     record {
       budgets = read;
       bodies = bodies.bodies;
@@ -322,7 +318,7 @@ pub script-spelled : (text : List ℕ) (s : Script) → script_in (words_of_text
 script-spelled text s h =
     let lines = words_of_text SpaceOrTab text in
     let l = then-some (header_in lines)
-        (λ h. all_names_in h.0 h.1 >>= λ n. budgets_in n.1 n.2 >>= λ d. bodies_in h.0 n.0 d.1 >>= λ e. resolved_in n.0 d.0 e.0 e.1 e.2) s h in
+    (λ h. all_names_in h.0 h.1 >>= λ n. budgets_in n.1 n.2 >>= λ d. bodies_in h.0 n.0 d.1 >>= λ e. resolved_in n.0 d.0 e.0 e.1 e.2) s h in
     let v = l.0.0 in
     let n = then-some (all_names_in v l.0.1) (λ n. budgets_in n.1 n.2 >>= λ d. bodies_in v n.0 d.1 >>= λ e. resolved_in n.0 d.0 e.0 e.1 e.2) s l.2 in
     let d = then-some (budgets_in n.0.1 n.0.2) (λ d. bodies_in v n.0.0 d.1 >>= λ e. resolved_in n.0.0 d.0 e.0 e.1 e.2) s n.2 in

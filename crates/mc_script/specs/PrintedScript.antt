@@ -133,7 +133,7 @@ bodies_of s = record {
 abbrev pub script_lines : Script → List Words
 script_lines s =
     header (version_of s) ∷ (names_lines s.names
-        ++ budget_line actor.P s.sections.p.budget ∷ budget_line actor.A s.sections.a.budget ∷ budget_line actor.B s.sections.b.budget
+    ++ budget_line actor.P s.sections.p.budget ∷ budget_line actor.A s.sections.a.budget ∷ budget_line actor.B s.sections.b.budget
     ∷ body_lines (bodies_of s))
 
 abbrev pub script_text : Script → List ℕ

@@ -1,9 +1,7 @@
 -- What the readers of words and lines answer. No public contract cites these: the other definitions say what a text
 -- spells, and the proofs join the two.
-use Rattle.std.specs.Prelude.{
-  ◌≡◌, ◌≢◌, ℕ, ◌+◌, ◌-◌, ◌==◌, nat_lt, Bool, false, not, ◌&&◌, Option, Some, None, Result, Ok, Err,
-  List, [], ◌∷◌, ◌++◌, length, take, drop, get_or, codes, if◌then◌else◌,
-}
+use Rattle.std.specs.Prelude.{◌≡◌, ◌≢◌, ℕ, ◌+◌, ◌-◌, ◌==◌, nat_lt, Bool, false, not, ◌&&◌, Option, Some, None, Result}
+use Rattle.std.specs.Prelude.{Ok, Err, List, [], ◌∷◌, ◌++◌, length, take, drop, get_or, codes, if◌then◌else◌}
 use Rattle.std.specs.List.{list_any, position}
 use Rattle.std.specs.Result.{result_ok}
 use Rattle.std.specs.Str.{bytes_eq}
@@ -146,7 +144,7 @@ item_in _ = None
 abbrev pub swap_in : Names → Words → Option Parts
 swap_in names (flags ∷ body ∷ unique ∷ _) =
     number_in MAX_32 flags >>= λ f. body_in body >>= λ b. unique_in names unique >>= λ u. Some
-        (record { flags = f; argument = u; body = b })
+    (record { flags = f; argument = u; body = b })
 swap_in names _ = None
 
 abbrev pub increment_in : Names → Words → Option Parts

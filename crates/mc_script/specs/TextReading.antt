@@ -1,8 +1,6 @@
 -- What the readers of sections and of whole texts answer. No public contract cites these.
-use Rattle.std.specs.Prelude.{
-  ℕ, ◌+◌, ◌==◌, nat_lt, Bool, true, false, Option, Some, None, List, [], ◌∷◌, ◌++◌, flat_map, codes,
-  if◌then◌else◌,
-}
+use Rattle.std.specs.Prelude.{ℕ, ◌+◌, ◌==◌, nat_lt, Bool, true, false, Option, Some, None}
+use Rattle.std.specs.Prelude.{List, [], ◌∷◌, ◌++◌, flat_map, codes, if◌then◌else◌}
 use Rattle.mc_protocol.specs.declared.actor.Actor.{Actor}
 use Rattle.mc_protocol.specs.declared.actor.Actor.TheVariants as actor
 use Rattle.mc_protocol.specs.declared.sections.Sections.{Sections}
@@ -98,7 +96,7 @@ jumps_to jumps classes = flat_map (λ c. one_jump c (label_for c jumps)) classes
 abbrev pub section_in : Budget → List Entry → Option Section
 section_in budget entries =
     steps_from (labels_from 0 entries) 0 entries >>= λ steps. Some
-        (record { budget = budget; steps = steps; labels = labels_from 0 entries })
+    (record { budget = budget; steps = steps; labels = labels_from 0 entries })
 
 -- the name of the label that an entry is, if it is one
 abbrev pub label_named_by : Entry → Option Word

@@ -1,5 +1,6 @@
 -- What a call costs is little, and where it is looked up.
-use Rattle.std.proofs.Common.{◌≡◌, ⊎_elim, ℕ, ◌<◌, ◌≤◌, ◌==◌, nat_le, true, Some, List, [], ◌++◌, length, codes, decimal, slice_get, slice_index_or, lit≤, ap, sym, subst, ◌∙◌, arith, length-append}
+use Rattle.std.proofs.Common.{◌≡◌, ⊎_elim, ℕ, ◌<◌, ◌≤◌, ◌==◌, nat_le, true, Some, List, [], ◌++◌, length, codes, decimal}
+use Rattle.std.proofs.Common.{slice_get, slice_index_or, lit≤, ap, sym, subst, ◌∙◌, arith, length-append}
 use Rattle.std.specs.List.{All, concat}
 use Rattle.std.specs.Option.{option_map}
 use Rattle.std.proofs.lemmas.Bool.{cases_lt, leb-true, eqb-true, and_parts}

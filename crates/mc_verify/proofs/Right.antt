@@ -12,7 +12,8 @@ use Rattle.mc_code.specs.Calls.{no_template}
 use Rattle.mc_code.specs.Code.{Code, instructions_in}
 use Rattle.mc_code.specs.Runs.{met_by_send, met_at}
 use Rattle.mc_code.specs.Standing.{met_in, is_right}
-use Rattle.mc_code.specs.States.{Tagged, nothing, State, Outcome, call, unbound, wrong_kind, nothing_to_bind, outside, ended, call_with, send_outcome, with_argument, wanted_by, is_same, is_number}
+use Rattle.mc_code.specs.States.{Tagged, nothing, State, Outcome, call, unbound, wrong_kind, nothing_to_bind, outside}
+use Rattle.mc_code.specs.States.{ended, call_with, send_outcome, with_argument, wanted_by, is_same, is_number}
 use Rattle.mc_code.proofs.LookUps.{some_is}
 use Rattle.mc_verify.specs.Faults.{IsSound, IsStructured, MayComeTo}
 use Rattle.mc_verify.specs.Laws.{SoundIsRight}

@@ -1,5 +1,6 @@
 -- Tables of what the paths of a section cost. Private contracts cite it.
-use Rattle.std.specs.Prelude.{◌≡◌, ◌⊎◌, ◌↔◌, ℕ, ◌+◌, ◌≤◌, nat_le, Bool, true, false, Option, Some, None, List, length, map, slice_get, slice_index_or}
+use Rattle.std.specs.Prelude.{◌≡◌, ◌⊎◌, ◌↔◌, ℕ, ◌+◌, ◌≤◌, nat_le, Bool, true, false, Option}
+use Rattle.std.specs.Prelude.{Some, None, List, length, map, slice_get, slice_index_or}
 use Rattle.mc_protocol.specs.Sections as sections
 use Rattle.mc_protocol.specs.declared.actor.Actor.{Actor}
 use Rattle.mc_protocol.specs.declared.reply.Class.{Class}

@@ -29,4 +29,4 @@ returns-clause-ok c =
     (rw (← c.code.view_is) templates) (rw (← c.code.view_is) c.in_ok-push_section.ensures) (rw (← c.code.view_is) c.in_ok-push_section-2.ensures)
     (rw (← c.code.view_is) c.in_ok-push_section-3.ensures) in
     rw (c.in_ok-extend_from_slice-3.ensures.items, c.as_slice-3.ensures.value, written)
-        (ap (λ v. c.args.out.now.items ++ image_in v c.args.code.now) c.version-version.ensures)
+    (ap (λ v. c.args.out.now.items ++ image_in v c.args.code.now) c.version-version.ensures)

@@ -1,9 +1,7 @@
 use Rattle.std.proofs.Common.{codes, inl, inr, map, refl, rules, string_bytes, sym, Some, ◌≡◌, ◌∙◌}
 use Rattle.std.proofs.lemmas.Result.{err_from_is_err_and}
-use Rattle.mc_command.proofs.Line.{
-  command_is, fault_by_clap, limit_is, line_faults-is, meeting_is, no_limit, no_limit_of_run,
-  no_meeting, no_subcommand, program_is_simple,
-}
+use Rattle.mc_command.proofs.Line.{command_is, fault_by_clap, limit_is, line_faults-is, meeting_is, no_limit}
+use Rattle.mc_command.proofs.Line.{no_limit_of_run, no_meeting, no_subcommand, program_is_simple}
 use Rattle.mc_command.proofs.arguments.read_line.Goals as goal
 
 pub returns-in_err-matches-clause-fault : goal.returns-in_err-matches-clause-fault

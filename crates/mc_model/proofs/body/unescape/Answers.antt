@@ -8,7 +8,7 @@ pub bytes-preserved : goal.bytes-preserved
 bytes-preserved c =
     let e = rw c.in-Some.is at c.in_ok-byte.ensures.exact in
     rw c.in_ok-push.ensures.items (onto-byte c.bytes.bytes.items c.bytes.rest.now c.in-Some.after.now c.in-Some.byte (bytes_in c.args.text.now)
-        c.bytes.invariant e)
+    c.bytes.invariant e)
 
 pub bytes-smaller : goal.bytes-smaller
 bytes-smaller c = shorter-byte c.bytes.rest.now c.in-Some.after.now c.in-Some.byte (rw c.in-Some.is at c.in_ok-byte.ensures.exact)
@@ -16,5 +16,7 @@ bytes-smaller c = shorter-byte c.bytes.rest.now c.in-Some.after.now c.in-Some.by
 pub returns-in_err-byte : goal.returns-in_err-byte
 returns-in_err-byte c =
     let p = err_from_is_err_and c.from_residual.result c.from_residual.ensures.1 in
-    rw (p.1, p.2) (record { exact =
-        onto-fails c.bytes.bytes.items c.bytes.rest.now (bytes_in c.args.text.now) c.in_err-byte.field-0.0 c.bytes.invariant c.in_err-byte.ensures.exact })
+    rw (p.1, p.2) (record {
+      exact =
+          onto-fails c.bytes.bytes.items c.bytes.rest.now (bytes_in c.args.text.now) c.in_err-byte.field-0.0 c.bytes.invariant c.in_err-byte.ensures.exact;
+    })

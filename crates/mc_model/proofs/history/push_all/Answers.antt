@@ -26,14 +26,14 @@ pub returns-in-Err-clause-fault : goal.returns-in-Err-clause-fault
 returns-in-Err-clause-fault c = λ other.
     let road = YieldsList-from_vec c.args.section.items (cc) (cc) in
     let turn = YieldsList-turn road c.requests.yielded c.requests.sent-iterator c.requests.yielded_by c.next.result c.next.new.self c.in-Some.sent c.in-Some.is
-        c.next.ensures.steps in
+    c.next.ensures.steps in
     let front = YieldsList-so_far road c.requests.yielded c.requests.sent-iterator c.requests.yielded_by in
     let h : is_history (with_section c.args.builder.now c.args.actor c.requests.yielded) ≡ true =
-        rw (← c.requests.invariant.sections, ← c.in-Err.ensures.err) c.push.ensures.keeps in
+    rw (← c.requests.invariant.sections, ← c.in-Err.ensures.err) c.push.ensures.keeps in
     let kind : c.in-Err.kind ≢ OutOfMemory = rw c.fault_at.ensures.kind at other in
     let fault : fault_at (with_section c.args.builder.now c.args.actor c.requests.yielded) c.args.actor c.in-Some.sent ≡ Some c.in-Err.kind =
-        rw (← c.requests.invariant.sections) (c.in-Err.ensures.fault kind) in
+    rw (← c.requests.invariant.sections) (c.in-Err.ensures.fault kind) in
     let located = c.fault_at.ensures.place kind in
     let there = fails c.args.builder.now c.args.actor c.args.section.items c.requests.yielded c.in-Some.sent c.in-Err.kind c.requests.place
-        c.requests.invariant.place (sym (map-id c.requests.yielded) ∙ front) turn h fault in
+    c.requests.invariant.place (sym (map-id c.requests.yielded) ∙ front) turn h fault in
     (located.0, rw (c.fault_at.ensures.kind, located.1) there)

@@ -8,7 +8,7 @@ pub returns-in-Hit-clause-spells : goal.returns-in-Hit-clause-spells
 returns-in-Hit-clause-spells c =
     let hit = c.in-Hit in
     on_ok_weaker c.append_item.result (λ fits. printed_hit c.args.reply.now hit.flags hit.body hit.cas hit.is (rw c.as_slice.ensures at fits))
-        c.append_item.ensures.fits
+    c.append_item.ensures.fits
 
 pub returns-in-Number-clause-spells : goal.returns-in-Number-clause-spells
 returns-in-Number-clause-spells c =

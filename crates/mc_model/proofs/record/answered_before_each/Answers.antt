@@ -3,10 +3,8 @@ use Rattle.std.proofs.lemmas.List.{take_more}
 use Rattle.mc_model.specs.Notes.{replies_in, answered_before_each}
 use Rattle.mc_model.proofs.Noting.{Counts, counts-begin, counts-reply}
 use Rattle.mc_model.proofs.record.answered_before_each.Goals as goal
-use Rattle.mc_model.proofs.record.answered_before_each.Goals.{
-  in-Begin+then-is_same_section+in_ok-push-in-Begin, in-Begin+else-is_same_section,
-  in-Reply+then-is_same_section-2, in-Reply+else-is_same_section-2,
-}
+use Rattle.mc_model.proofs.record.answered_before_each.Goals.{in-Begin+then-is_same_section+in_ok-push-in-Begin, in-Begin+else-is_same_section}
+use Rattle.mc_model.proofs.record.answered_before_each.Goals.{in-Reply+then-is_same_section-2, in-Reply+else-is_same_section-2}
 
 -- the counts before the note
 before : (c : goal.Joined-note)
@@ -36,7 +34,7 @@ pub counting-preserved : goal.counting-preserved
 counting-preserved c =
     let next : take (c.counting.actor-index + 1) c.args.notes.now ≡ take c.counting.actor-index c.args.notes.now ++ c.counting-item.result ∷ [] =
     take_more c.args.notes.now c.counting.actor-index c.counting-item.result c.counting-test.true
-        ∙ ap (λ x. take c.counting.actor-index c.args.notes.now ++ x ∷ []) (sym c.counting-item.is) in
+    ∙ ap (λ x. take c.counting.actor-index c.args.notes.now ++ x ∷ []) (sym c.counting-item.is) in
     let all = after c in
     record {
       counts = all.each ∙ ap (answered_before_each c.args.section c.args.other) (sym next);

@@ -11,5 +11,5 @@ returns c =
     (YieldsList-from_filter _ (λ word. not (length word == 0))
     (YieldsList-at c.filter.ensures.source
     (YieldsList-from_slice_split _ (spec.separates c.args.separator) _ c.split.ensures.rest c.split.ensures.done c.split.ensures.closure
-        (λ x b q h. search rules)))
+    (λ x b q h. search rules)))
     c.filter.ensures.closure (λ x b q h. search rules))

@@ -9,6 +9,6 @@ use Rattle.mc_protocol.proofs.render.append_all.Goals as goal
 pub returns-clause-ok : goal.returns-clause-ok
 returns-clause-ok c =
     let same : c.in_ok-text.text.items ≡ flat_map (λ p. p.now) c.args.pieces.now =
-        same_from_all_zip _ _ c.in_ok-text.text.items c.in_ok-text.ensures.ok (λ x y e. e) in
+    same_from_all_zip _ _ c.in_ok-text.text.items c.in_ok-text.ensures.ok (λ x y e. e) in
     let whole = concat_is (map (λ p. p.now) c.args.pieces.now) ∙ flat_map-map (λ x. x) (λ p. p.now) c.args.pieces.now in
     rw (whole, ← same, ← c.as_slice.ensures.value) (search rules)

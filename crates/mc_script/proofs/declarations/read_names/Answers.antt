@@ -8,7 +8,7 @@ pub returns-in_err-check_name : goal.returns-in_err-check_name
 returns-in_err-check_name c =
     let stop = rw c.deref.ensures.value at c.in_err-check_name.ensures.err in
     let none = names_stopped c.args.limit c.args.bytes c.words.names.items c.args.words.now c.words.word-index _ c.words-test.true
-        c.words.invariant.names stop in
+    c.words.invariant.names stop in
     rw none (search rules)
 
 pub words-preserved : goal.words-preserved

@@ -5,4 +5,4 @@ use Rattle.mc_script.proofs.marks.read_marks.Given as goal
 abbrev pub invariant-words : goal.invariant-words
 invariant-words l =
     marks_in l.names l.verb l.bound l.marks.items (map (λ w. w.now) (drop l.word-index l.words))
-        ≡ marks_in l.names l.verb l.bound [] (map (λ w. w.now) l.fn.words)
+    ≡ marks_in l.names l.verb l.bound [] (map (λ w. w.now) l.fn.words)

@@ -8,17 +8,17 @@ use Rattle.mc_core.proofs.world.World.upcoming.Goals as goal
 pub refusal-requires : goal.refusal-requires
 refusal-requires c =
     let fields = fields_of c.args.checked.now.code c.self.inside.sections c.self.inside.notes.items _ c.args.self.now c.requires.held
-        c.self.view_is c.self.invariant in
+    c.self.view_is c.self.invariant in
     named c.args.checked.now.code c.code.result.now c.self.inside.sections c.self.inside.notes.items c.args.actor c.get-section.result.now
-        fields c.code.ensures.code
+    fields c.code.ensures.code
     c.get-section.ensures
 
 pub upcoming-requires : goal.upcoming-requires
 upcoming-requires c =
     let fields = fields_of c.args.checked.now.code c.self.inside.sections c.self.inside.notes.items _ c.args.self.now c.requires.held
-        c.self.view_is c.self.invariant in
+    c.self.view_is c.self.invariant in
     let may = may_step c.args.checked.now.code c.code.result.now c.self.inside.sections c.self.inside.notes.items c.args.actor
-        c.get-section.result.now event.Begin
+    c.get-section.result.now event.Begin
     c.refusal.result fields c.code.ensures.code c.get-section.ensures c.refusal.ensures c.in-None.is in
     subst (λ own. MayTake c.args.checked.now.code own event.Begin) (sym c.get-section.ensures)
     (step_may_take _ _ _ _ _ may c.know_code.ensures.kept c.know_code.ensures.sound)
@@ -26,7 +26,7 @@ upcoming-requires c =
 pub returns-in-Some-clause-none : goal.returns-in-Some-clause-none
 returns-in-Some-clause-none c none =
     let fields = fields_of c.args.checked.now.code c.self.inside.sections c.self.inside.notes.items _ c.args.self.now c.requires.held
-        c.self.view_is c.self.invariant in
+    c.self.view_is c.self.invariant in
     let refused =
     refused_by c.args.checked.now.code c.code.result.now c.self.inside.sections c.self.inside.notes.items c.args.actor c.get-section.result.now event.Begin
     c.args.self.now c.refusal.result c.in-Some.field-0 fields c.self.view_is c.code.ensures.code c.get-section.ensures c.refusal.ensures c.in-Some.is in
@@ -35,7 +35,7 @@ returns-in-Some-clause-none c none =
 pub returns-in-Some-clause-call : goal.returns-in-Some-clause-call
 returns-in-Some-clause-call c =
     let fields = fields_of c.args.checked.now.code c.self.inside.sections c.self.inside.notes.items _ c.args.self.now c.requires.held
-        c.self.view_is c.self.invariant in
+    c.self.view_is c.self.invariant in
     begins_none c.args.checked.now.code c.args.self.now.world c.args.actor c.in-Some.field-0
     (refused_by c.args.checked.now.code c.code.result.now c.self.inside.sections c.self.inside.notes.items c.args.actor c.get-section.result.now event.Begin
     c.args.self.now c.refusal.result c.in-Some.field-0 fields c.self.view_is c.code.ensures.code c.get-section.ensures c.refusal.ensures c.in-Some.is)
@@ -43,9 +43,9 @@ returns-in-Some-clause-call c =
 pub returns-in-None-clause-call : goal.returns-in-None-clause-call
 returns-in-None-clause-call c =
     let fields = fields_of c.args.checked.now.code c.self.inside.sections c.self.inside.notes.items _ c.args.self.now c.requires.held
-        c.self.view_is c.self.invariant in
+    c.self.view_is c.self.invariant in
     let may = may_step c.args.checked.now.code c.code.result.now c.self.inside.sections c.self.inside.notes.items c.args.actor
-        c.get-section.result.now event.Begin
+    c.get-section.result.now event.Begin
     c.refusal.result fields c.code.ensures.code c.get-section.ensures c.refusal.ensures c.in-None.is in
     begins_exactly _ _ _ _ (begins_upcoming _ _ _ _ _ c.upcoming.result c.args.self.now may c.get-section.ensures c.upcoming.ensures c.self.view_is)
 
@@ -56,8 +56,8 @@ returns-in-None-clause-none c none =
 pub returns-in-None-clause-template : goal.returns-in-None-clause-template
 returns-in-None-clause-template c =
     let fields = fields_of c.args.checked.now.code c.self.inside.sections c.self.inside.notes.items _ c.args.self.now c.requires.held
-        c.self.view_is c.self.invariant in
+    c.self.view_is c.self.invariant in
     let may = may_step c.args.checked.now.code c.code.result.now c.self.inside.sections c.self.inside.notes.items c.args.actor
-        c.get-section.result.now event.Begin
+    c.get-section.result.now event.Begin
     c.refusal.result fields c.code.ensures.code c.get-section.ensures c.refusal.ensures c.in-None.is in
     begins_named _ _ _ _ (begins_upcoming _ _ _ _ _ c.upcoming.result c.args.self.now may c.get-section.ensures c.upcoming.ensures c.self.view_is)

@@ -20,6 +20,6 @@ returns-in_default c variables exchanges st at = (λ e. absurd (cc), λ comes. a
     is_halt : ComesTo code m.actor variables exchanges st ended → c.instruction.result ≡ instr.Halt
     is_halt comes =
         let here = subst (λ code. slice_get (instructions_in code m.actor) c.from.result ≡ Some c.instruction.result) c.code.ensures.code
-            c.instruction.ensures.instruction in
+        c.instruction.ensures.instruction in
         let there = (halts_at_end code m variables exchanges st at).1 comes in
         some_is c.instruction.result instr.Halt (sym here ∙ ap (slice_get (instructions_in code m.actor)) c.from.ensures ∙ there)

@@ -47,7 +47,7 @@ returns-in-Send-clause-end c variables exchanges st at = (
     here : slice_get (instructions_in code m.actor) m.place ≡ Some c.instruction.result
     here = sym (ap (slice_get (instructions_in code m.actor)) c.from.ensures)
         ∙ subst (λ code. slice_get (instructions_in code m.actor) c.from.result ≡ Some c.instruction.result) c.code-code.ensures.code
-            c.instruction.ensures.instruction
+        c.instruction.ensures.instruction
 
 pub returns-in-Bind-clause-end : goal.returns-in-Bind-clause-end
 returns-in-Bind-clause-end c variables exchanges st at =
@@ -62,4 +62,4 @@ returns-in-Bind-clause-end c variables exchanges st at =
     here : slice_get (instructions_in code m.actor) m.place ≡ Some c.instruction.result
     here = sym (ap (slice_get (instructions_in code m.actor)) c.from.ensures)
         ∙ subst (λ code. slice_get (instructions_in code m.actor) c.from.result ≡ Some c.instruction.result) c.code-code.ensures.code
-            c.instruction.ensures.instruction
+        c.instruction.ensures.instruction

@@ -23,6 +23,6 @@ returns c =
     let entries = c.self.inside.entries.items in
     let found = found_entry key entries c.find.result
     (find_from_yields_List (λ e. bytes_eq e.0 key) _ _ c.find.result c.find.ensures.ran (YieldsList-from_slice entries cc)
-        (λ x b q k. search (rules, tests))) in
+    (λ x b q k. search (rules, tests))) in
     let item = part_of _ (λ e. e.1) c.find.result c.map.result (λ x y l. search (rules, tests)) c.map.ensures.cases in
     item ∙ found ∙ ap (λ m. finite_map.get m key) c.self.view_is

@@ -25,16 +25,16 @@ pub returns-in-Err-clause-fault : goal.returns-in-Err-clause-fault
 returns-in-Err-clause-fault c = λ other.
     let road = YieldsList-from_vec c.args.notes.items (cc) (cc) in
     let turn = YieldsList-turn road c.noting.yielded c.noting.actor-iterator c.noting.yielded_by c.next.result c.next.new.self
-        (c.in-Some.actor, c.in-Some.note) c.in-Some.is c.next.ensures.steps in
+    (c.in-Some.actor, c.in-Some.note) c.in-Some.is c.next.ensures.steps in
     let front = YieldsList-so_far road c.noting.yielded c.noting.actor-iterator c.noting.yielded_by in
     let kind : c.in-Err.kind ≢ OutOfMemory = rw c.fault_at.ensures.kind at other in
     let h : is_record c.noting.yielded ≡ true = rw (← c.noting.invariant.notes, ← c.in-Err.ensures.err) c.push.ensures.keeps in
     let fault : fault_of c.noting.yielded (c.in-Some.actor, c.in-Some.note) ≡ Some c.in-Err.kind =
-        rw (← c.noting.invariant.notes) (c.in-Err.ensures.fault kind) in
+    rw (← c.noting.invariant.notes) (c.in-Err.ensures.fault kind) in
     let located = c.fault_at.ensures.place kind in
     rw (c.fault_at.ensures.kind, located.0, located.1)
     (fails c.args.notes.items c.noting.yielded c.in-Some.actor c.in-Some.note c.in-Err.kind c.noting.place c.noting.invariant.place
-        (sym (map-id c.noting.yielded) ∙ front) turn h fault)
+    (sym (map-id c.noting.yielded) ∙ front) turn h fault)
 
 pub returns-in-Err-clause-none : goal.returns-in-Err-clause-none
 returns-in-Err-clause-none c = λ other. no_record c.args.notes.items c.fault_at.result.0 c.fault_at.result.1 c.fault_at.result.2

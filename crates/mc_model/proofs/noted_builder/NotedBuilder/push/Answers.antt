@@ -18,7 +18,7 @@ pub returns-then-is_err-clause-fault : goal.returns-then-is_err-clause-fault
 returns-then-is_err-clause-fault c =
     rw (← c.self.view_is)
     (refused_note c.add-added.result c.self.inside.notes.items (c.args.actor, c.args.note) c.self.inside.sections c.self.invariant.0 c.self.invariant.1
-        c.add-added.ensures.fault)
+    c.add-added.ensures.fault)
 
 pub returns-else-is_err-clause-history : goal.returns-else-is_err-clause-history
 returns-else-is_err-clause-history c = rw (← c.self.view_is) (after c).2
