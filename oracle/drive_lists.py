@@ -245,7 +245,8 @@ class Cache:
 
 def reply_at_random(rng, word, verb):
     if word == "HIT":
-        return Reply(word, rng.choice([0, 0, 7]), rng.choice(["", "0", "5", "6", "x"]), rng.randint(1, 4) if (verb == "gets") != (rng.random() < 0.1) else None)
+        flags, body = rng.choice([0, 0, 7]), rng.choice(["", "0", "5", "6", "x"])
+        return Reply(word, flags, body, rng.randint(1, 4) if (verb == "gets") != (rng.random() < 0.1) else None)
     return Reply(word, number=rng.choice([0, 6, 7, LARGEST])) if word == "NUMBER" else Reply(word)
 
 

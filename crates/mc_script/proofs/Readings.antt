@@ -15,19 +15,19 @@ use Rattle.mc_script.proofs.ScriptRead.{script-read}
 use Rattle.mc_script.proofs.WholeScript.{script-spelled}
 
 -- the script that is read is spelled
-pub read_is_spelled : (text : List ℕ) (result : Result Script ScriptFault) → Says (λ s. s) result (script_in (words_of_text SpaceOrTab text))
+pub is_spelled : (text : List ℕ) (result : Result Script ScriptFault) → Says (λ s. s) result (script_in (words_of_text SpaceOrTab text))
     → IfOk result (SpellsScript text)
-read_is_spelled text (Ok s) h = script-spelled text s h
-read_is_spelled text (Err fault) h = tt
+is_spelled text (Ok s) h = script-spelled text s h
+is_spelled text (Err fault) h = tt
 
 -- and it is well formed
-pub read_is_formed : (text : List ℕ) (result : Result Script ScriptFault) → Says (λ s. s) result (script_in (words_of_text SpaceOrTab text))
+pub is_formed : (text : List ℕ) (result : Result Script ScriptFault) → Says (λ s. s) result (script_in (words_of_text SpaceOrTab text))
     → IfOk result IsScript
-read_is_formed text (Ok s) h = script-formed text s (script-spelled text s h)
-read_is_formed text (Err fault) h = tt
+is_formed text (Ok s) h = script-formed text s (script-spelled text s h)
+is_formed text (Err fault) h = tt
 
 -- where reading failed, and not for want of memory, no script is spelled
-pub unread_is_unspelled : (text : List ℕ) (result : Result Script ScriptFault) → Says (λ s. s) result (script_in (words_of_text SpaceOrTab text))
+pub is_unspelled : (text : List ℕ) (result : Result Script ScriptFault) → Says (λ s. s) result (script_in (words_of_text SpaceOrTab text))
     → IfErr result (λ fault. fault.kind ≢ kind.OutOfMemory → (s : Script) → SpellsScript text s → ⊥)
-unread_is_unspelled text (Ok s) h = tt
-unread_is_unspelled text (Err fault) h = λ real s spelled. let none = h real in let some = script-read text s spelled in cc
+is_unspelled text (Ok s) h = tt
+is_unspelled text (Err fault) h = λ real s spelled. let none = h real in let some = script-read text s spelled in cc

@@ -21,7 +21,7 @@ use std::alloc::Global;
 /// Reads a script of either version. The fault is that of the first faulty line, on it of the leftmost faulty word, and of
 /// that the kind that comes first; that a label is unknown or stands before its use is reported only where nothing else is
 /// wrong. Want of memory is the fault of line 0.
-#[tactic(auto, using(crate::proofs::Readings::read_is_spelled, crate::proofs::Readings::read_is_formed, crate::proofs::Readings::unread_is_unspelled))]
+#[tactic(auto, using(crate::proofs::Readings::is_spelled, crate::proofs::Readings::is_formed, crate::proofs::Readings::is_unspelled))]
 pub fn parse(alloc: Global, text: &[u8]) -> Result<Script, ScriptFault>
     ensures found { IfOk result (SpellsScript text.now) }
     ensures kept { IfOk result IsScript }

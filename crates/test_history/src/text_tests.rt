@@ -12,11 +12,14 @@ use std::test::Fail;
 static PRINTED: [(&str, &str); 4] = [
     ("", ""),
     (
-        "P delete k -> NOT_FOUND\nP set k 7 =a%20b -> STORED\nA gets k -> HIT 7 =a%20b 18\nA cas k 0 =%25 18 -> ?\nB incr k 5 -> NOT_A_NUMBER\n",
+        "P delete k -> NOT_FOUND\nP set k 7 =a%20b -> STORED\nA gets k -> HIT 7 =a%20b 18\n\
+         A cas k 0 =%25 18 -> ?\nB incr k 5 -> NOT_A_NUMBER\n",
         "start x 9\nP 1\nA 0 refuse\n",
     ),
     (
-        "P delete a-1 -> DELETED\nP delete 2 -> NOT_FOUND\nA set a-1 4294967295 =%00~ -> STORED\nA decr 2 18446744073709551615 -> NOT_FOUND\nA touch a-1 -> TOUCHED\nB get a-1 -> HIT 0 =\nB append 2 0 = -> ?\n",
+        "P delete a-1 -> DELETED\nP delete 2 -> NOT_FOUND\nA set a-1 4294967295 =%00~ -> STORED\n\
+         A decr 2 18446744073709551615 -> NOT_FOUND\nA touch a-1 -> TOUCHED\nB get a-1 -> HIT 0 =\n\
+         B append 2 0 = -> ?\n",
         "start b 1\nstart a 18446744073709551615\nP 0\nA 2 pad refuse\nB 30 pad\nB 18446744073709551615 refuse\n",
     ),
     ("P delete a -> ?\n", "P 0\n"),
@@ -120,7 +123,8 @@ fn noted_again(alloc: Global) -> Result<Vec<u8>, Fail> {
 }
 
 const CLAIMED: &[u8] =
-    b"history 1\nP delete a -> NOT_FOUND\nB set a 1 =%00 -> STORED\nA get a -> ?\nexplain\nstart b 2\nstart a 18446744073709551615\nP 1 pad refuse\nA 0 pad\nB 7 refuse\nB 8\nend\n";
+    b"history 1\nP delete a -> NOT_FOUND\nB set a 1 =%00 -> STORED\nA get a -> ?\nexplain\nstart b 2\n\
+      start a 18446744073709551615\nP 1 pad refuse\nA 0 pad\nB 7 refuse\nB 8\nend\n";
 
 // The sections' only requests, and whether they were answered.
 static SENT: [(Actor, Verb, bool); 3] = [
