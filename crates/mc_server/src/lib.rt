@@ -5,8 +5,12 @@
 //! any of its callers may answer (`Caller`, by `specs/Callers.antt`).
 #![tactic(auto)]
 
+mod caller;
 mod items;
+mod shared;
 mod store;
 mod version;
 
+pub use caller::Caller;
+pub use shared::{Shared, shard_of};
 pub use store::{Store, StoreFault};
