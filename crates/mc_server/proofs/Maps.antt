@@ -11,7 +11,7 @@ use Rattle.std.specs.FinMap as finite_map
 use Rattle.std.specs.FinMap.{FinMap, IsAntisymmetric, nat_cmp-IsAntisymmetric, slice_cmp-IsAntisymmetric, same_map, get-from_entries, get-insert, get-remove}
 use Rattle.std.specs.FinMap.Entries as entries
 use Rattle.mc_model.specs.declared.cache.Item.{Item}
-use Rattle.mc_server.specs.Stores.{with_made}
+use Rattle.mc_server.specs.Made.{with_made}
 
 same_keys : IsAntisymmetric (slice_cmp nat_cmp)
 same_keys = slice_cmp-IsAntisymmetric nat_cmp-IsAntisymmetric

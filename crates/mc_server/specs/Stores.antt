@@ -1,5 +1,5 @@
 -- A store: what a cache holds, and the number of the next version.
-use Rattle.std.specs.Prelude.{◌≡◌, ℕ, ◌+◌, ◌<◌, ◌==◌, Bool, true, false, is_some, Option, Some, None, Result, Ok, Err, List, IfSome, ◌&&◌, if◌then◌else◌, refl}
+use Rattle.std.specs.Prelude.{◌≡◌, ℕ, ◌+◌, ◌<◌, ◌==◌, Bool, true, false, is_some, Result, Ok, Err, List, IfSome, ◌&&◌, if◌then◌else◌, refl}
 use Rattle.std.specs.Coded.{Coded, code_by, coded×, coded_ℕ}
 use Rattle.std.specs.FinMap as finite_map
 use Rattle.mc_protocol.specs.declared.reply.Reply.{Reply}
@@ -9,7 +9,6 @@ use Rattle.mc_model.specs.Act as act
 use Rattle.mc_model.specs.Contents.{Contents, coded_contents}
 use Rattle.mc_model.specs.Decide.{made_by}
 use Rattle.mc_model.specs.declared.act.Choice.{Choice}
-use Rattle.mc_model.specs.declared.cache.Item.{Item}
 use Rattle.mc_server.specs.declared.store.StoreFault.{StoreFault}
 use Rattle.mc_server.specs.declared.store.StoreFault.TheVariants.{OutOfMemory, NumbersUsedUp}
 
@@ -55,8 +54,3 @@ Calls old request new (Ok reply) =
     × (new ≡ with_change old request.key (effect_on old request).change)
 Calls old request new (Err OutOfMemory) = new ≡ old
 Calls old request new (Err NumbersUsedUp) = (is_used_up old (effect_on old request).change ≡ true) × (new ≡ old)
-
--- the items with the version that was made, if one was, at the key
-abbrev pub with_made : Contents → List ℕ → Option Item → Contents
-with_made contents key None = contents
-with_made contents key (Some item) = finite_map.insert contents key item

@@ -4,7 +4,7 @@ ghost use Rattle.std.specs.FinMap as finite_map;
 ghost use Rattle.std.specs.Option.{option_copied};
 ghost use Rattle.mc_model.specs.Act as act;
 ghost use Rattle.mc_model.specs.Decide.{change_at, made_by};
-ghost use Rattle.mc_server.specs.Stores.{with_made};
+ghost use Rattle.mc_server.specs.Made.{with_made};
 
 use crate::version::renew;
 use mc_model::{Change, Item, make_version};
