@@ -5,8 +5,7 @@ ghost use Rattle.std.specs.Option.{option_copied};
 ghost use Rattle.mc_model.specs.Act.{act, effect_of, with_change};
 ghost use Rattle.mc_model.specs.Decide.{answer_at, change_at, effect_at};
 
-use crate::making::make;
-use crate::{Answer, Cache, Change, Decision, Found, Item, decide};
+use crate::{Answer, Cache, Change, Decision, Item, make_version};
 use mc_protocol::{OutOfMemory, Reply, Request};
 use std::alloc::Global;
 
@@ -41,11 +40,7 @@ impl Cache {
         ensures { (number : ℕ) → effect_at request.now choice.pad number (finite_map.get self.now request.now.key) result
             ≡ effect_of self.now request.now choice number }
     {
-        let found = match self.find(request.key.as_slice()) {
-            Some(item) => Some(Found::of(item, request.number)),
-            None => None,
-        };
-        decide(request.verb, request.number, choice, found)
+        Decision::of(request, choice, self.find(request.key.as_slice()))
     }
 
     /// Does what was decided of the request, and answers. If a version is made, it has this `number`; `pad` says whether a count
@@ -66,7 +61,7 @@ impl Cache {
         let key = request.key.as_slice();
         let found = self.find(key);
         let reply = reply_with(alloc, decision.answer, found)?;
-        let made = make(alloc, request, decision.change, pad, number, found)?;
+        let made = make_version(alloc, request, decision.change, pad, number, found)?;
         if let Some(item) = made {
             self.put(request.key.copy(alloc)?, item)?;
         } else if decision.change == Change::Removes {
@@ -77,7 +72,7 @@ impl Cache {
 }
 
 /// The reply where this item is there, or none.
-fn reply_with(alloc: Global, answer: Answer, found: Option<&Item>) -> Result<Reply, OutOfMemory>
+pub fn reply_with(alloc: Global, answer: Answer, found: Option<&Item>) -> Result<Reply, OutOfMemory>
     ensures { IfOk result (λ reply. reply ≡ answer_at (option_copied found.entry) answer) }
 {
     match (answer, found) {

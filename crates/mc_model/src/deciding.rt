@@ -1,9 +1,11 @@
 //! What a request does, by what is known of the item that is there: what is answered, and what becomes of the item.
-ghost use Rattle.std.specs.Prelude.{◌≡◌};
-ghost use Rattle.mc_model.specs.Decide.{Decides, found_of};
+ghost use Rattle.std.specs.Prelude.{◌≡◌, ℕ};
+ghost use Rattle.std.specs.Option.{option_copied};
+ghost use Rattle.mc_model.specs.Act.{effect_by};
+ghost use Rattle.mc_model.specs.Decide.{Decides, effect_at, found_of};
 
 use crate::{Choice, Item, Numeral, numeral_of};
-use mc_protocol::{Reply, Verb};
+use mc_protocol::{Reply, Request, Verb};
 
 /// What must be known of the item at a request's key.
 #[derive(Clone, Copy, Debug, PartialEq, Eq)]
@@ -58,6 +60,20 @@ impl Found {
             has_number: item.number == number,
             says: numeral_of(item.body.as_slice()),
         }
+    }
+}
+
+impl Decision {
+    /// What a request does where this item is there, or nothing is.
+    pub fn of(request: &Request, choice: Choice, found: Option<&Item>) -> Self
+        ensures { (number : ℕ) → effect_at request.now choice.pad number (option_copied found.entry) result
+            ≡ effect_by request.now.verb request.now choice number (option_copied found.entry) }
+    {
+        let known = match found {
+            Some(item) => Some(Found::of(item, request.number)),
+            None => None,
+        };
+        decide(request.verb, request.number, choice, known)
     }
 }
 

@@ -27,7 +27,7 @@ mod sent;
 mod word_laws;
 mod words;
 
-pub use act::Choice;
+pub use act::{Choice, reply_with};
 pub use body::read_body;
 pub use builder::HistoryBuilder;
 pub use cache::{Cache, Item};
@@ -41,6 +41,7 @@ pub use laws::{
     answered_numbers_are_there, bodies_stay_short, deleted_is_gone, only_counts_choose,
     other_keys_stay, replies_fit, versions_are_reported,
 };
+pub use making::make_version;
 pub use mc_protocol::is_key;
 pub use note::{Note, copy_reply};
 pub use noted_builder::NotedBuilder;

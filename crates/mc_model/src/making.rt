@@ -11,7 +11,7 @@ use std::alloc::Global;
 
 /// The version that the change makes where this item is there, or none, if it makes one. It has this `number`; `pad` says whether
 /// a count that is shorter than the old body is padded.
-pub(crate) fn make(
+pub fn make_version(
     alloc: Global,
     request: &Request,
     change: Change,

@@ -1,0 +1,4 @@
+pub mod Callers
+pub mod Made
+pub mod Shards
+pub mod Stores

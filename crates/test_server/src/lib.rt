@@ -1,0 +1,10 @@
+//! Tests of `mc_server`: what a store answers to requests, one after another, and what it holds after a call that was refused. The
+//! replies are those of `protocol.txt` and of memcached.
+#![tactic(auto)]
+
+#[cfg(test)]
+mod lines;
+#[cfg(test)]
+mod shared_tests;
+#[cfg(test)]
+mod store_tests;

@@ -1,0 +1,58 @@
+//! What stores answer that threads share, and which store a key is in.
+use crate::lines::{reply_in, request_in};
+use mc_server::{Caller, Shared, shard_of};
+use std::sync::Wait;
+use std::test::Fail;
+
+/// Keys, and the stores that they are in. The byte of `a` is 97, and that of `k` 107.
+static SHARDS: &[(&[u8], usize)] = &[
+    (b"", 0),
+    (b"a", 1),
+    (b"b", 2),
+    (b"q", 1),
+    (b"o", 15),
+    (b"p", 0),
+    (b"kk", 6),
+    (b"\xff\xff\xff", 13),
+];
+
+#[test]
+fn a_key_is_in_one_store(rt: HostRuntime) {
+    for (key, shard) in SHARDS {
+        assert_eq!(rt; shard_of(key), *shard);
+    }
+}
+
+/// Each store counts its own numbers: the keys a and q are in one, and b is in another.
+static ROWS: &[(&str, &str)] = &[
+    ("set a 0 =1", "STORED"),
+    ("set b 0 =1", "STORED"),
+    ("set q 0 =1", "STORED"),
+    ("gets a", "HIT 0 =1 1"),
+    ("gets b", "HIT 0 =1 1"),
+    ("gets q", "HIT 0 =1 2"),
+    ("incr a 5", "NUMBER 6"),
+    ("delete q", "DELETED"),
+    ("gets q", "MISS"),
+    ("gets a", "HIT 0 =6 3"),
+];
+
+/// Whether a caller is answered so.
+fn answers<R: Wait + AllocGlobal, C: Caller>(
+    rt: &R,
+    caller: &C,
+    line: &str,
+    reply: &str,
+) -> Result<bool, Fail> {
+    let answer = caller.call(rt, &request_in(rt.alloc(), line)?)?;
+    Ok(answer == reply_in(rt.alloc(), reply)?)
+}
+
+#[test]
+fn each_store_counts_its_own_numbers(rt: HostRuntime) -> Result<(), Fail> {
+    let shared = Shared::new(rt.alloc())?;
+    for (line, reply) in ROWS {
+        assert!(rt; answers(&rt, &shared, line, reply)?, "{line}");
+    }
+    Ok(())
+}

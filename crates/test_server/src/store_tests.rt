@@ -1,0 +1,194 @@
+//! What a store answers, and what it holds then. Requests and replies are written as in the lines of a history.
+use crate::lines::{reply_in, request_in};
+use mc_server::{Store, StoreFault};
+use std::alloc::Global;
+use std::test::Fail;
+
+/// What stands in place of the reply where there is no number left.
+const USED_UP: &str = "used up";
+
+/// Whether the store answers so.
+fn answers(alloc: Global, store: &mut Store, line: &str, reply: &str) -> Result<bool, Fail> {
+    match store.call(&request_in(alloc, line)?) {
+        Ok(answer) => Ok(reply != USED_UP && answer == reply_in(alloc, reply)?),
+        Err(StoreFault::NumbersUsedUp) => Ok(reply == USED_UP),
+        Err(fault) => Err(Fail::from(fault)),
+    }
+}
+
+/// Requests with the replies to them.
+type Rows = &'static [(&'static str, &'static str)];
+
+/// Each verb, where something is at the key and where nothing is. A number isn't given again after a delete.
+const VERBS: Rows = &[
+    ("get k", "MISS"),
+    ("gets k", "MISS"),
+    ("replace k 6 =x", "NOT_STORED"),
+    ("append k 6 =x", "NOT_STORED"),
+    ("prepend k 6 =x", "NOT_STORED"),
+    ("cas k 6 =x 1", "NOT_FOUND"),
+    ("incr k 1", "NOT_FOUND"),
+    ("decr k 1", "NOT_FOUND"),
+    ("touch k", "NOT_FOUND"),
+    ("delete k", "NOT_FOUND"),
+    ("add k 5 =old", "STORED"),
+    ("gets k", "HIT 5 =old 1"),
+    ("add k 7 =new", "NOT_STORED"),
+    ("touch k", "TOUCHED"),
+    ("gets k", "HIT 5 =old 1"),
+    ("replace k 6 =x", "STORED"),
+    ("append k 0 =y", "STORED"),
+    ("prepend k 0 =z", "STORED"),
+    ("gets k", "HIT 6 =zxy 4"),
+    ("incr k 1", "NOT_A_NUMBER"),
+    ("cas k 7 =5 3", "EXISTS"),
+    ("gets k", "HIT 6 =zxy 4"),
+    ("cas k 7 =5 4", "STORED"),
+    ("incr k 6", "NUMBER 11"),
+    ("decr k 2", "NUMBER 9"),
+    ("gets k", "HIT 7 =9 7"),
+    ("delete k", "DELETED"),
+    ("gets k", "MISS"),
+    ("set k 0 =x", "STORED"),
+    ("gets k", "HIT 0 =x 8"),
+];
+
+/// One item after another, and what is at one key while another changes.
+const KEYS: Rows = &[
+    ("set a 0 =1", "STORED"),
+    ("gets a", "HIT 0 =1 1"),
+    ("get b", "MISS"),
+    ("set b 1 =2", "STORED"),
+    ("append b 0 =3", "STORED"),
+    ("gets a", "HIT 0 =1 1"),
+    ("gets b", "HIT 1 =23 3"),
+    ("delete a", "DELETED"),
+    ("get a", "MISS"),
+    ("get b", "HIT 1 =23"),
+];
+
+/// Nothing is padded, and what may be read as a number is read.
+const CHOICES: Rows = &[
+    ("set k 0 =10", "STORED"),
+    ("decr k 1", "NUMBER 9"),
+    ("get k", "HIT 0 =9"),
+    ("set k 0 =000000000000000000007", "STORED"),
+    ("incr k 1", "NUMBER 8"),
+    ("get k", "HIT 0 =8"),
+];
+
+/// No number is left: nothing is stored, and what stores nothing is answered.
+const USED_UP_AT_ONCE: Rows = &[
+    ("set k 0 =1", USED_UP),
+    ("get k", "MISS"),
+    ("add k 0 =1", USED_UP),
+    ("replace k 0 =1", "NOT_STORED"),
+    ("incr k 1", "NOT_FOUND"),
+    ("delete k", "NOT_FOUND"),
+    ("get k", "MISS"),
+];
+
+/// One number is left. What is refused after it changes nothing, and a delete gives no number back.
+const ONE_LEFT: Rows = &[
+    ("set k 5 =1", "STORED"),
+    ("set k 0 =2", USED_UP),
+    ("append k 0 =2", USED_UP),
+    ("prepend k 0 =2", USED_UP),
+    ("incr k 1", USED_UP),
+    ("decr k 1", USED_UP),
+    ("replace k 0 =2", USED_UP),
+    ("cas k 0 =2 18446744073709551614", USED_UP),
+    ("cas k 0 =2 1", "EXISTS"),
+    ("add k 0 =2", "NOT_STORED"),
+    ("add other 0 =2", USED_UP),
+    ("get other", "MISS"),
+    ("touch k", "TOUCHED"),
+    ("gets k", "HIT 5 =1 18446744073709551614"),
+    ("delete k", "DELETED"),
+    ("set k 0 =2", USED_UP),
+    ("get k", "MISS"),
+];
+
+/// The number of the first version, and what is answered in turn.
+static STORES: &[(u64, Rows)] = &[
+    (1, VERBS),
+    (1, KEYS),
+    (1, CHOICES),
+    (u64::MAX, USED_UP_AT_ONCE),
+    (u64::MAX - 1, ONE_LEFT),
+];
+
+/// The first request that is answered in another way, each asked after those before it.
+fn first_other(alloc: Global, next: u64, rows: Rows) -> Result<Option<&'static str>, Fail> {
+    let mut store = Store::starting(alloc, next);
+    for (line, reply) in rows {
+        if !answers(alloc, &mut store, line, reply)? {
+            return Ok(Some(line));
+        }
+    }
+    Ok(None)
+}
+
+#[test]
+fn answers_in_turn(rt: HostRuntime) -> Result<(), Fail> {
+    for (next, rows) in STORES {
+        assert_eq!(rt; first_other(rt.alloc(), *next, rows)?, None);
+    }
+    Ok(())
+}
+
+#[test]
+fn begins_with_the_number_1(rt: HostRuntime) -> Result<(), Fail> {
+    let mut store = Store::new(rt.alloc());
+    let is_stored = answers(rt.alloc(), &mut store, "set k 0 =1", "STORED")?;
+    assert!(rt; is_stored && answers(rt.alloc(), &mut store, "gets k", "HIT 0 =1 1")?);
+    Ok(())
+}
+
+/// What takes memory, on a store that holds `7` at the key k.
+static TAKES_MEMORY: &[&str] = &[
+    "get k",
+    "set k 0 =12345678",
+    "append k 0 =12345678",
+    "prepend k 0 =12345678",
+    "incr k 1",
+    "set other 0 =1",
+];
+
+/// What is answered after a call that was refused: the item is there as it was, and its number is the last one that was given.
+const UNCHANGED: Rows = &[
+    ("gets k", "HIT 5 =7 1"),
+    ("get other", "MISS"),
+    ("set k 0 =1", "STORED"),
+    ("gets k", "HIT 0 =1 2"),
+];
+
+/// Whether the store does what is asked, or is as it was where it answers that memory ran out, which is given on.
+fn changes_or_keeps(alloc: Global, line: &str) -> Result<bool, Fail> {
+    let mut store = Store::new(alloc);
+    if !answers(alloc, &mut store, "set k 5 =7", "STORED")? {
+        return Ok(false);
+    }
+    match store.call(&request_in(alloc, line)?) {
+        Ok(_) => Ok(true),
+        Err(fault) if are_answered(alloc, &mut store, UNCHANGED)? => Err(Fail::from(fault)),
+        Err(_) => Ok(false),
+    }
+}
+
+fn are_answered(alloc: Global, store: &mut Store, rows: Rows) -> Result<bool, Fail> {
+    for (line, reply) in rows {
+        if !answers(alloc, store, line, reply)? {
+            return Ok(false);
+        }
+    }
+    Ok(true)
+}
+
+#[test]
+fn keeps_what_is_there_without_memory(rt: HostRuntime) -> Result<(), Fail> {
+    for line in TAKES_MEMORY {
+        assert!(rt; changes_or_keeps(rt.alloc(), line)?, "{line}");
+    }
+    Ok(())
+}
