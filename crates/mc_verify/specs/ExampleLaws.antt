@@ -9,15 +9,15 @@ use Rattle.mc_verify.specs.Costs.{cost_of, cost_along, IsGreatestCost}
 use Rattle.mc_verify.specs.Examples.{counter_within, race, needed_in_p, set_all_the_same, cleared_at_last, set_before, cleared_in_merge, cleared_by_none, needed_by_none, swaps, swaps_blindly, swaps_count, swaps_other, binds_blindly, binds_first, swaps_of_prefix, swaps_within, with_b, with_p, with_two_keys, with_marks, with_many_faults}
 use Rattle.mc_verify.specs.Faults.{IsFault, HasNone, IsSound}
 use Rattle.mc_verify.specs.Refusals.{IsLeast}
+use Rattle.mc_verify.specs.declared.code_fault.CodeFault.{CodeFault}
 use Rattle.mc_verify.specs.declared.measure.Measure.TheVariants as measure
-use Rattle.mc_verify.specs.declared.refusal.Refusal.{Refusal}
 use Rattle.mc_verify.specs.declared.refusal.RefusalKind.{RefusalKind}
 use Rattle.mc_verify.specs.declared.refusal.RefusalKind.TheVariants as kind
 
 -- ---- budgets
 
--- a refusal of P's second request
-abbrev pub second_of_p : RefusalKind → Refusal
+-- a fault at P's second request
+abbrev pub second_of_p : RefusalKind → CodeFault
 second_of_p kind = record { kind = kind; actor = actor.P; place = 1 }
 
 -- the counter is sound, and P may cost its whole budget; with one byte less, or one request less, P's second request exceeds it

@@ -15,8 +15,8 @@ use Rattle.mc_verify.specs.Faults.{IsFault, HasNone, IsSound}
 use Rattle.mc_verify.specs.Flags.{IsAdmitted, all_clear}
 use Rattle.mc_verify.specs.Refusals.{IsLeast}
 use Rattle.mc_verify.specs.Ways.{Stage, LeadsTo, calls_along}
+use Rattle.mc_verify.specs.declared.code_fault.CodeFault.{CodeFault}
 use Rattle.mc_verify.specs.declared.measure.Measure.{Measure}
-use Rattle.mc_verify.specs.declared.refusal.Refusal.{Refusal}
 use Rattle.mc_verify.specs.declared.refusal.RefusalKind.{RefusalKind}
 use Rattle.mc_verify.specs.declared.refusal.RefusalKind.TheVariants as kind
 
@@ -58,6 +58,6 @@ pub record SentIsAdmitted : Type 0 where
 
 -- the least fault is one, sound code has none, and code with a fault isn't sound
 pub record LeastIsOne : Type 0 where
-  pub one : (c : Code) (refusal other : Refusal) → IsLeast c refusal → IsLeast c other → refusal ≡ other
-  pub none : (c : Code) (refusal : Refusal) → IsSound c → IsLeast c refusal → ⊥
+  pub one : (c : Code) (fault other : CodeFault) → IsLeast c fault → IsLeast c other → fault ≡ other
+  pub none : (c : Code) (fault : CodeFault) → IsSound c → IsLeast c fault → ⊥
   pub unsound : (c : Code) (kind : RefusalKind) (actor : Actor) (place : ℕ) → IsFault c kind actor place → IsSound c → ⊥
