@@ -43,8 +43,8 @@ pub use example_laws::{
     numbers_are_refused, structure_is_refused, swap_costs,
 };
 pub use laws::{
-    least_is_one, no_flags_no_faults, prefixes_cost_less, sent_is_admitted, sound_is_admitted,
-    sound_is_right,
+    lack_is_not_admitted, least_is_one, no_flags_no_faults, prefixes_cost_less, sent_is_admitted,
+    sound_is_admitted, sound_is_right,
 };
 pub use measure::Measure;
 pub use refusal::{Refusal, RefusalKind};
