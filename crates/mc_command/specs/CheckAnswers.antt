@@ -5,8 +5,7 @@ use Rattle.mc_protocol.specs.declared.actor.Actor.{Actor}
 use Rattle.mc_protocol.specs.declared.actor.Actor.TheVariants as actor
 use Rattle.mc_protocol.specs.declared.sections.Sections.{Sections}
 use Rattle.mc_code.specs.Code.{Code}
-use Rattle.mc_verify.specs.Checked.{IsChecked}
-use Rattle.mc_verify.specs.Refusals.{IsLeast}
+use Rattle.mc_verify.specs.Checked.{IsChecked, IsRightRefusal}
 use Rattle.mc_verify.specs.declared.cost.Cost.{Cost}
 use Rattle.mc_command.specs.Loading.{Loads, load_refusal}
 use Rattle.mc_command.specs.Soundness.{unsound_text}
@@ -15,10 +14,10 @@ use Rattle.mc_command.specs.declared.status.Status.TheVariants as status
 use Rattle.mc_command.specs.declared.check.Verification.{Verification}
 use Rattle.mc_command.specs.declared.check.Verification.TheVariants as verification
 
--- the answer is right for the code: it is sound, and these are the greatest costs of its sections; or this is its least fault
+-- the answer is right for the code: it is sound, and these are the greatest costs of its sections; or this refusal names its least fault
 abbrev pub IsRightFor : Code → Verification → Type 0
 IsRightFor code (verification.Accepted maxima) = IsChecked (record { code = code; maxima = maxima })
-IsRightFor code (verification.Unsound refusal) = IsLeast code refusal
+IsRightFor code (verification.Unsound refusal) = IsRightRefusal code refusal
 IsRightFor code (verification.NoCode fault) = ⊥
 
 -- the answer is right for the input, which has code or none

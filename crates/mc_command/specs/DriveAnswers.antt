@@ -3,8 +3,8 @@ use Rattle.std.specs.Prelude.{◌≡◌, ◌≢◌, ℕ, ◌+◌, ◌≤◌, Lis
 use Rattle.mc_protocol.specs.Lines.{LAST_NUMBER, line_count, lines_of_text}
 use Rattle.mc_protocol.specs.declared.lines.Separator.TheVariants.{Space}
 use Rattle.mc_code.specs.Code.{Code}
+use Rattle.mc_verify.specs.Checked.{IsRightRefusal}
 use Rattle.mc_verify.specs.Faults.{IsSound}
-use Rattle.mc_verify.specs.Refusals.{IsLeast}
 use Rattle.mc_core.specs.Held.{Held, IsHeldBy}
 use Rattle.mc_core.specs.Histories.{history_of}
 use Rattle.mc_history.specs.StepKinds.{kind_name, kind_number}
@@ -59,7 +59,7 @@ pub record LacksSteps (text : List ℕ) (fault : StepsFault) : Type 0 where
 abbrev pub IsRight : List ℕ → Driven → Type 0
 IsRight text (driven.Ended held skipped found) = IsDriven text held skipped found
 IsRight text (driven.NoCode fault) = IsFrontFault text fault
-IsRight text (driven.Unsound refusal) = (code : Code) × (size : ℕ) × IsFrontCode text code size × IsLeast code refusal
+IsRight text (driven.Unsound refusal) = (code : Code) × (size : ℕ) × IsFrontCode text code size × IsRightRefusal code refusal
 IsRight text (driven.NoSteps fault) = LacksSteps text fault
 
 -- what is written for a text whose script no step list follows

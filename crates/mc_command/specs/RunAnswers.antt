@@ -3,8 +3,8 @@ use Rattle.std.specs.Prelude.{◌≡◌, ℕ, List, ◌++◌, codes, Ok, Err}
 use Rattle.mc_protocol.specs.Words.{actor_word}
 use Rattle.mc_model.specs.Notes.{History}
 use Rattle.mc_code.specs.Code.{Code}
+use Rattle.mc_verify.specs.Checked.{IsRightRefusal}
 use Rattle.mc_verify.specs.Faults.{IsSound}
-use Rattle.mc_verify.specs.Refusals.{IsLeast}
 use Rattle.mc_core.specs.Held.{Held, IsHeldBy}
 use Rattle.mc_core.specs.Histories.{history_of}
 use Rattle.mc_history.specs.PrintedHistory.{history_text}
@@ -50,7 +50,7 @@ IsRight text (played.Ended held h found) = (code : Code) × Spells text code × 
 IsRight text (played.NoConnection section) = (code : Code) × Spells text code
 IsRight text played.NotRun = (code : Code) × Spells text code
 IsRight text (played.NoCode fault) = LoadsScript text (Err fault)
-IsRight text (played.Unsound refusal) = (code : Code) × LoadsScript text (Ok code) × IsLeast code refusal
+IsRight text (played.Unsound refusal) = (code : Code) × LoadsScript text (Ok code) × IsRightRefusal code refusal
 
 -- what is written of a run: how its sections ended, the verdict, and the history
 abbrev pub ended_text : Held → History → Verdict → List ℕ

@@ -65,7 +65,7 @@ pub fn text_of(alloc: Global, answer: &Verification) -> Result<Vec<u8>, AllocErr
 {
     match answer {
         Verification::Accepted(maxima) => accepted_text(alloc, maxima),
-        Verification::Unsound(refusal) => refusal_text(alloc, verifying::refusal_of(*refusal)),
+        Verification::Unsound(refusal) => refusal_text(alloc, verifying::refusal_of(refusal)),
         Verification::NoCode(fault) => refusal_text(alloc, loading::refusal_of(*fault)),
     }
 }

@@ -94,7 +94,7 @@ pub fn text_of(alloc: Global, answer: &Driven) -> Result<Vec<u8>, AllocError>
     match answer {
         Driven::Ended(world, skipped, verdict) => ended_text(alloc, world, *skipped, verdict),
         Driven::NoCode(fault) => refusal_text(alloc, loading::refusal_of(*fault)),
-        Driven::Unsound(refusal) => refusal_text(alloc, verifying::refusal_of(*refusal)),
+        Driven::Unsound(refusal) => refusal_text(alloc, verifying::refusal_of(refusal)),
         Driven::NoSteps(fault) => refusal_text(alloc, refusal_of(*fault)),
     }
 }

@@ -129,7 +129,7 @@ pub fn text_of(alloc: Global, answer: &Played) -> Result<Vec<u8>, AllocError>
         Played::NoConnection(section) => no_connection_text(alloc, *section),
         Played::NotRun => Vec::from_slice(alloc, b"not run\n"),
         Played::NoCode(fault) => refusal_text(alloc, loading::refusal_of(*fault)),
-        Played::Unsound(refusal) => refusal_text(alloc, verifying::refusal_of(*refusal)),
+        Played::Unsound(refusal) => refusal_text(alloc, verifying::refusal_of(refusal)),
     }
 }
 

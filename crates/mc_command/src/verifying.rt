@@ -1,7 +1,7 @@
 //! Code that may be played, and why other code may not.
 ghost use Rattle.std.specs.Prelude.{◌≡◌, IfErr, IfOk};
+ghost use Rattle.mc_verify.specs.Checked.{IsRightRefusal};
 ghost use Rattle.mc_verify.specs.Faults.{IsSound};
-ghost use Rattle.mc_verify.specs.Refusals.{IsLeast};
 ghost use Rattle.mc_command.specs.Refusals as refusals;
 ghost use Rattle.mc_command.specs.Soundness as soundness;
 
@@ -16,7 +16,7 @@ pub fn verify_code(
     code: Code,
 ) -> Result<Result<Checked, mc_verify::Refusal>, AllocError>
     ensures sound { IfOk result (λ verified. IfOk verified (λ checked. (checked.code ≡ code) × IsSound code)) }
-    ensures unsound { IfOk result (λ verified. IfErr verified (IsLeast code)) }
+    ensures unsound { IfOk result (λ verified. IfErr verified (IsRightRefusal code)) }
 {
     match verify(alloc, code) {
         Ok(checked) => {
@@ -33,8 +33,8 @@ pub fn verify_code(
 }
 
 /// What is written for code that isn't sound.
-pub fn refusal_of(refusal: mc_verify::Refusal) -> Refusal
-    ensures { refusals.text_of result ≡ soundness.unsound_text refusal }
+pub fn refusal_of(refusal: &mc_verify::Refusal) -> Refusal
+    ensures { refusals.text_of result ≡ soundness.unsound_text refusal.now }
 {
     Refusal {
         what: "verify",

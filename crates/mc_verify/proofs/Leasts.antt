@@ -5,8 +5,8 @@ use Rattle.mc_protocol.specs.declared.actor.Actor.{Actor}
 use Rattle.mc_protocol.specs.declared.actor.Actor.TheVariants as actor
 use Rattle.mc_code.specs.Code.{Code}
 use Rattle.mc_verify.specs.Faults.{IsFault, HasNone, IsStructured}
-use Rattle.mc_verify.specs.Lowest.{IsFreeOf}
-use Rattle.mc_verify.specs.Refusals.{kind_number, section_number, IsBefore, IsLeastFrom, HasNoneFrom, IsLowest}
+use Rattle.mc_verify.specs.Lowest.{IsFreeOf, IsLowest}
+use Rattle.mc_verify.specs.Refusals.{kind_number, section_number, IsBefore, IsLeastFrom, HasNoneFrom}
 use Rattle.mc_verify.specs.declared.refusal.RefusalKind.{RefusalKind}
 use Rattle.mc_verify.specs.declared.refusal.RefusalKind.TheVariants as kind
 

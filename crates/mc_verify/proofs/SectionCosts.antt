@@ -13,8 +13,7 @@ use Rattle.mc_code.specs.declared.instr.Instr.TheVariants as instr
 use Rattle.mc_verify.specs.Costs.{cost_of, cost_along, bound_of, MayCost, IsGreatestCost}
 use Rattle.mc_verify.specs.CostTables.{IsReached, IsCostTable, IsOpened, kind_of}
 use Rattle.mc_verify.specs.Faults.{MayExceed, IsFault, HasNone}
-use Rattle.mc_verify.specs.Lowest.{FindsLowest}
-use Rattle.mc_verify.specs.Refusals.{IsLowest}
+use Rattle.mc_verify.specs.Lowest.{FindsLowest, IsLowest}
 use Rattle.mc_verify.specs.declared.measure.Measure.{Measure}
 use Rattle.mc_verify.specs.declared.measure.Measure.TheVariants as measure
 use Rattle.mc_verify.specs.declared.refusal.RefusalKind.{RefusalKind}

@@ -8,6 +8,7 @@ use Rattle.mc_code.specs.Code.{Code}
 use Rattle.mc_verify.specs.Costs.{IsGreatestCost}
 use Rattle.mc_verify.specs.Faults.{IsSound}
 use Rattle.mc_verify.specs.Refusals.{IsLeast}
+use Rattle.mc_verify.specs.declared.code_fault.CodeFault.{CodeFault}
 use Rattle.mc_verify.specs.declared.cost.Cost.{Cost}
 use Rattle.mc_verify.specs.declared.measure.Measure.TheVariants as measure
 use Rattle.mc_verify.specs.declared.refusal.Refusal.{Refusal}
@@ -23,10 +24,20 @@ pub record IsChecked (checked : Checked) : Type 0 where
   pub requests : (actor : Actor) → IsGreatestCost checked.code actor measure.Requests (section_of checked.maxima actor).requests
   pub bytes : (actor : Actor) → IsGreatestCost checked.code actor measure.Bytes (section_of checked.maxima actor).bytes
 
+-- ---- refusals
+
+-- the fault that a refusal names
+abbrev pub fault_of : Refusal → CodeFault
+fault_of refusal = record { kind = refusal.kind; actor = refusal.actor; place = refusal.place }
+
+-- the refusal is one for the code: it names the code's least fault
+abbrev pub IsRightRefusal : Code → Refusal → Type 0
+IsRightRefusal c refusal = IsLeast c (fault_of refusal)
+
 -- that memory ran out
 abbrev pub out_of_memory : Refusal
 out_of_memory = record { kind = kind.OutOfMemory; actor = actor.P; place = 0 }
 
--- the refusal names the least fault of the code, or that memory ran out
+-- the refusal is one for the code, or it is that memory ran out
 abbrev pub IsRefusalOf : Code → Refusal → Type 0
-IsRefusalOf c refusal = IsLeast c refusal ⊎ (refusal ≡ out_of_memory)
+IsRefusalOf c refusal = IsRightRefusal c refusal ⊎ (refusal ≡ out_of_memory)

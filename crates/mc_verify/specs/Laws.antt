@@ -1,5 +1,5 @@
 -- Laws of faults, whatever the code is.
-use Rattle.std.specs.Prelude.{◌≡◌, ◌⊎◌, ℕ, ◌≤◌, List, [], ◌∷◌, ◌++◌}
+use Rattle.std.specs.Prelude.{◌≡◌, ◌⊎◌, ◌↔◌, ℕ, ◌≤◌, Bool, List, [], ◌∷◌, ◌++◌}
 use Rattle.mc_protocol.specs.Merge.{IsMerge}
 use Rattle.mc_protocol.specs.declared.actor.Actor.{Actor}
 use Rattle.mc_protocol.specs.declared.actor.Actor.TheVariants as actor
@@ -11,12 +11,12 @@ use Rattle.mc_code.specs.Runs.{Exchange}
 use Rattle.mc_code.specs.Standing.{BeginsWith, IsRightAlong}
 use Rattle.mc_code.specs.States.{Tagged}
 use Rattle.mc_verify.specs.Costs.{cost_along}
-use Rattle.mc_verify.specs.Faults.{IsFault, HasNone, IsSound}
+use Rattle.mc_verify.specs.Faults.{MayLackFlag, IsFault, HasNone, IsSound}
 use Rattle.mc_verify.specs.Flags.{IsAdmitted, all_clear}
 use Rattle.mc_verify.specs.Refusals.{IsLeast}
 use Rattle.mc_verify.specs.Ways.{Stage, LeadsTo, calls_along}
+use Rattle.mc_verify.specs.declared.code_fault.CodeFault.{CodeFault}
 use Rattle.mc_verify.specs.declared.measure.Measure.{Measure}
-use Rattle.mc_verify.specs.declared.refusal.Refusal.{Refusal}
 use Rattle.mc_verify.specs.declared.refusal.RefusalKind.{RefusalKind}
 use Rattle.mc_verify.specs.declared.refusal.RefusalKind.TheVariants as kind
 
@@ -34,6 +34,22 @@ PrefixesCostLess = (c : Code) (measure : Measure) (calls more : List Template)
 abbrev pub SoundIsRight : Type 0
 SoundIsRight = (c : Code) (actor : Actor) (variables : List Tagged) (exchanges : List Exchange) → IsSound c
     → BeginsWith c actor variables → IsRightAlong c actor variables exchanges
+
+-- no call of the code may find a flag otherwise than it needs it
+abbrev pub LacksNoFlag : Code → Type 0
+LacksNoFlag c = (value : Bool) (actor : Actor) (place : ℕ) → MayLackFlag c value actor place → ⊥
+
+-- whatever way the code is gone, each call finds the flags as it needs them, and so does the one that a section is about to make
+abbrev pub IsAlwaysAdmitted : Code → Type 0
+IsAlwaysAdmitted c = (actor : Actor) (place : ℕ) (way : List Stage) (t : Template) → LeadsTo c actor place way
+    → SendsAt c actor place t → IsAdmitted all_clear (calls_along way ++ t ∷ [])
+
+-- a send that may lack a flag ends calls along a way that aren't admitted; and no send may, exactly where all are admitted
+pub record LackIsNotAdmitted : Type 0 where
+  pub ends : (c : Code) (value : Bool) (actor : Actor) (place : ℕ) → MayLackFlag c value actor place
+      → (way : List Stage) × (t : Template) × LeadsTo c actor place way × SendsAt c actor place t
+      × (IsAdmitted all_clear (calls_along way ++ t ∷ []) → ⊥)
+  pub none : (c : Code) → LacksNoFlag c ↔ IsAlwaysAdmitted c
 
 -- whatever way sound code is gone, each call finds the flags as it needs them, and so does the one that a section is about to
 -- make; a way is any merge of paths, and so may leave out the last call of either branch
@@ -58,6 +74,6 @@ pub record SentIsAdmitted : Type 0 where
 
 -- the least fault is one, sound code has none, and code with a fault isn't sound
 pub record LeastIsOne : Type 0 where
-  pub one : (c : Code) (refusal other : Refusal) → IsLeast c refusal → IsLeast c other → refusal ≡ other
-  pub none : (c : Code) (refusal : Refusal) → IsSound c → IsLeast c refusal → ⊥
+  pub one : (c : Code) (fault other : CodeFault) → IsLeast c fault → IsLeast c other → fault ≡ other
+  pub none : (c : Code) (fault : CodeFault) → IsSound c → IsLeast c fault → ⊥
   pub unsound : (c : Code) (kind : RefusalKind) (actor : Actor) (place : ℕ) → IsFault c kind actor place → IsSound c → ⊥

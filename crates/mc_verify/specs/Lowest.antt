@@ -1,11 +1,16 @@
--- What a search for the faults of one kind answers, and what it leaves for the next.
-use Rattle.std.specs.Prelude.{ℕ, Option, Some, None}
+-- What a search for the faults of one kind answers, and what it leaves for the next. Private contracts cite it.
+use Rattle.std.specs.Prelude.{ℕ, ◌<◌, Option, Some, None}
 use Rattle.mc_protocol.specs.declared.actor.Actor.{Actor}
 use Rattle.mc_code.specs.Code.{Code}
-use Rattle.mc_verify.specs.Faults.{HasNone}
-use Rattle.mc_verify.specs.Refusals.{HasNoneFrom, IsLowest}
+use Rattle.mc_verify.specs.Faults.{IsFault, HasNone}
+use Rattle.mc_verify.specs.Refusals.{HasNoneFrom}
 use Rattle.mc_verify.specs.declared.refusal.RefusalKind.{RefusalKind}
 use Rattle.mc_verify.specs.declared.refusal.RefusalKind.TheVariants as kind
+
+-- of the faults of the kind in the section, this is the one at the lowest place
+pub record IsLowest (c : Code) (kind : RefusalKind) (actor : Actor) (place : ℕ) : Type 0 where
+  pub stands : IsFault c kind actor place
+  pub first : (before : ℕ) → before < place → IsFault c kind actor before → ⊥
 
 -- a place that is answered for a section is the lowest with a fault of the kind, and the answer is none only where the
 -- section has no such fault

@@ -4,7 +4,7 @@ use Rattle.mc_protocol.specs.declared.actor.Actor.{Actor}
 use Rattle.mc_protocol.specs.declared.actor.Actor.TheVariants as actor
 use Rattle.mc_code.specs.Code.{Code}
 use Rattle.mc_verify.specs.Faults.{IsFault, HasNone}
-use Rattle.mc_verify.specs.declared.refusal.Refusal.{Refusal}
+use Rattle.mc_verify.specs.declared.code_fault.CodeFault.{CodeFault}
 use Rattle.mc_verify.specs.declared.refusal.RefusalKind.{RefusalKind}
 use Rattle.mc_verify.specs.declared.refusal.RefusalKind.TheVariants as kind
 
@@ -54,21 +54,16 @@ IsBefore kind actor place other_kind other_actor other_place =
     × ((section_number actor < section_number other_actor) ⊎ ((actor ≡ other_actor) × (place < other_place))))
 
 -- the fault stands there, and none before it stands anywhere, of the kinds with this number or a greater one
-pub record IsLeastFrom (c : Code) (number : ℕ) (refusal : Refusal) : Type 0 where
-  pub stands : IsFault c refusal.kind refusal.actor refusal.place
+pub record IsLeastFrom (c : Code) (number : ℕ) (fault : CodeFault) : Type 0 where
+  pub stands : IsFault c fault.kind fault.actor fault.place
   pub first : (kind : RefusalKind) (actor : Actor) (place : ℕ) → number ≤ kind_number kind
-      → IsBefore kind actor place refusal.kind refusal.actor refusal.place → IsFault c kind actor place → ⊥
+      → IsBefore kind actor place fault.kind fault.actor fault.place → IsFault c kind actor place → ⊥
 
 -- the least of all faults
-abbrev pub IsLeast : Code → Refusal → Type 0
-IsLeast c refusal = IsLeastFrom c 1 refusal
+abbrev pub IsLeast : Code → CodeFault → Type 0
+IsLeast c fault = IsLeastFrom c 1 fault
 
 -- no fault stands anywhere, of the kinds from this number to the one before that number
 abbrev pub HasNoneFrom : Code → ℕ → ℕ → Type 0
 HasNoneFrom c from to =
     (kind : RefusalKind) (actor : Actor) → from ≤ kind_number kind → kind_number kind < to → HasNone c kind actor
-
--- of the faults of the kind in the section, this is the one at the lowest place
-pub record IsLowest (c : Code) (kind : RefusalKind) (actor : Actor) (place : ℕ) : Type 0 where
-  pub stands : IsFault c kind actor place
-  pub first : (before : ℕ) → before < place → IsFault c kind actor before → ⊥

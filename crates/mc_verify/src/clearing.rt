@@ -1,7 +1,7 @@
 //! Whether P begins with a delete of each key.
 ghost use Rattle.std.specs.Prelude.{◌≡◌, ◌<◌, IfNone, IfSome, slice_get};
 ghost use Rattle.mc_verify.specs.Faults as faults;
-ghost use Rattle.mc_verify.specs.Refusals as refusals;
+ghost use Rattle.mc_verify.specs.Lowest as lowest_faults;
 ghost use Rattle.mc_verify.specs.Structure as structure;
 
 use crate::RefusalKind;
@@ -12,7 +12,7 @@ use mc_script::Template;
 
 /// The lowest place of P whose instruction doesn't clear the key with the place's number. The branches clear no keys.
 pub(crate) fn lowest_not_cleared(code: &Code, actor: Actor) -> Option<u8>
-    ensures some { IfSome result (refusals.IsLowest code.now RefusalKind.NotCleared actor) }
+    ensures some { IfSome result (lowest_faults.IsLowest code.now RefusalKind.NotCleared actor) }
     ensures none { IfNone result (faults.HasNone code.now RefusalKind.NotCleared actor) }
 {
     match actor {
@@ -23,7 +23,7 @@ pub(crate) fn lowest_not_cleared(code: &Code, actor: Actor) -> Option<u8>
 
 /// The lowest place of P whose instruction doesn't clear the key with the place's number.
 fn lowest_key_not_cleared(code: &Code) -> Option<u8>
-    ensures some { IfSome result (refusals.IsLowest code.now RefusalKind.NotCleared Actor.P) }
+    ensures some { IfSome result (lowest_faults.IsLowest code.now RefusalKind.NotCleared Actor.P) }
     ensures none { IfNone result (faults.HasNone code.now RefusalKind.NotCleared Actor.P) }
 {
     let templates = code.templates();

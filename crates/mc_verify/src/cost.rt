@@ -9,9 +9,10 @@ ghost use Rattle.mc_verify.specs.Faults as faults;
 ghost use Rattle.mc_verify.specs.Lowest as lowest_faults;
 ghost use Rattle.mc_verify.specs.Refusals as refusals;
 
+use crate::code_fault::CodeFault;
 use crate::lowest::check_kind;
 use crate::section_costs::CostTables;
-use crate::{Measure, Refusal, RefusalKind};
+use crate::{Measure, RefusalKind};
 use mc_code::Code;
 use mc_protocol::{Actor, OutOfMemory, Sections};
 use std::alloc::Global;
@@ -31,7 +32,7 @@ pub struct Cost {
 pub(crate) fn costs(
     alloc: Global,
     code: &Code,
-) -> Result<Result<Sections<Cost>, Refusal>, OutOfMemory>
+) -> Result<Result<Sections<Cost>, CodeFault>, OutOfMemory>
     requires { (actor : Section) → faults.IsStructured code.now actor }
     ensures refused { IfOk result (λ answer. IfErr answer (refusals.IsLeastFrom code.now 10)) }
     ensures none { IfOk result (λ answer. IfOk answer (λ _. refusals.HasNoneFrom code.now 10 12)) }
@@ -50,7 +51,7 @@ fn greatest_costs(
     code: &Code,
     requests: &CostTables,
     bytes: &CostTables,
-) -> Result<Sections<Cost>, Refusal>
+) -> Result<Sections<Cost>, CodeFault>
     requires code { codes.IsCode code.now }
     requires structured { (actor : Section) → faults.IsStructured code.now actor }
     requires requests { tables.AreTablesBy code.now Measure.Requests requests.now }
@@ -71,7 +72,7 @@ fn greatest_costs(
 }
 
 /// The error is the least fault of the budgets.
-fn check_budgets(code: &Code, requests: &CostTables, bytes: &CostTables) -> Result<(), Refusal>
+fn check_budgets(code: &Code, requests: &CostTables, bytes: &CostTables) -> Result<(), CodeFault>
     requires code { codes.IsCode code.now }
     requires structured { (actor : Section) → faults.IsStructured code.now actor }
     requires requests { tables.AreTablesBy code.now Measure.Requests requests.now }

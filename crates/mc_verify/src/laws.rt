@@ -1,5 +1,5 @@
 //! What follows from the definitions of faults, whatever the code is.
-ghost use Rattle.mc_verify.specs.Laws.{LeastIsOne, NoFlagsNoFaults, PrefixesCostLess, SentIsAdmitted, SoundIsAdmitted, SoundIsRight};
+ghost use Rattle.mc_verify.specs.Laws.{LackIsNotAdmitted, LeastIsOne, NoFlagsNoFaults, PrefixesCostLess, SentIsAdmitted, SoundIsAdmitted, SoundIsRight};
 
 /// Code without flags has no fault of flags.
 pub fn no_flags_no_faults()
@@ -14,6 +14,11 @@ pub fn prefixes_cost_less()
 /// The sections of sound code come to nothing wrong.
 pub fn sound_is_right()
     ensures { SoundIsRight }
+{}
+
+/// Code has a fault of flags exactly where calls along some way, and a send that they lead to, aren't admitted.
+pub fn lack_is_not_admitted()
+    ensures { LackIsNotAdmitted }
 {}
 
 /// The calls of sound code find the flags as they need them.

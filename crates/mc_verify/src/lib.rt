@@ -4,11 +4,13 @@
 //! eleven kinds, in no section, at no place. Faults of structure are seen at an instruction by itself
 //! (`specs/Structure.antt`); those of variables are outcomes of runs of code, as `mc_code` defines them; those of flags are
 //! seen along ways, the paths of P and the merges of the branches' paths (`specs/Flags.antt`, `specs/Ways.antt`); and those
-//! of budgets along paths (`specs/Costs.antt`). Which fault is the least is said in `specs/Refusals.antt`.
+//! of budgets along paths (`specs/Costs.antt`). Which fault is the least is said in `specs/Refusals.antt`,
+//! and what a refusal tells of it in `specs/Checked.antt`.
 #![tactic(auto)]
 
 mod checked;
 mod clearing;
+mod code_fault;
 mod cost;
 mod cost_table;
 mod flag_grid;
@@ -36,8 +38,8 @@ mod wrong_number;
 pub use checked::Checked;
 pub use cost::Cost;
 pub use laws::{
-    least_is_one, no_flags_no_faults, prefixes_cost_less, sent_is_admitted, sound_is_admitted,
-    sound_is_right,
+    lack_is_not_admitted, least_is_one, no_flags_no_faults, prefixes_cost_less, sent_is_admitted,
+    sound_is_admitted, sound_is_right,
 };
 pub use measure::Measure;
 pub use refusal::{Refusal, RefusalKind};

@@ -7,7 +7,8 @@ ghost use Rattle.mc_protocol.specs.declared.actor.Actor as actor;
 ghost use Rattle.mc_verify.specs.Lowest as lowest_faults;
 ghost use Rattle.mc_verify.specs.Refusals as refusals;
 
-use crate::{Refusal, RefusalKind};
+use crate::RefusalKind;
+use crate::code_fault::CodeFault;
 use mc_code::Code;
 use mc_protocol::Actor;
 
@@ -18,7 +19,7 @@ pub(crate) fn check_kind<F: Fn(&Code, Actor) -> Option<u8>>(
     code: &Code,
     kind: RefusalKind,
     lowest: F,
-) -> Result<(), Refusal>
+) -> Result<(), CodeFault>
     requires callable { (actor : actor.Actor) → F.pre lowest code actor }
     requires finds { lowest_faults.FindsLowest code.now kind (F.post lowest code) }
     requires free { lowest_faults.IsFreeOf code.now (lowest_faults.first_number kind) (refusals.kind_number kind) }
@@ -27,7 +28,7 @@ pub(crate) fn check_kind<F: Fn(&Code, Actor) -> Option<u8>>(
 {
     'sections: for actor in [Actor::P, Actor::A, Actor::B] {
         if let Some(place) = lowest(code, actor) {
-            return Err(Refusal { kind, actor, place });
+            return Err(CodeFault { kind, actor, place });
         }
     }
     Ok(())

@@ -3,6 +3,7 @@ ghost use Rattle.std.specs.Prelude.{◌≡◌};
 ghost use Rattle.mc_verify.specs.Checked as checked;
 ghost use Rattle.mc_verify.specs.Refusals as refusals;
 
+use crate::code_fault::CodeFault;
 use mc_protocol::Actor;
 use thiserror::Error;
 
@@ -102,6 +103,17 @@ pub struct Refusal {
 }
 
 impl Refusal {
+    /// The refusal of code for this fault.
+    pub(crate) fn of(fault: CodeFault) -> Self
+        ensures { checked.fault_of result ≡ fault }
+    {
+        Refusal {
+            kind: fault.kind,
+            actor: fault.actor,
+            place: fault.place,
+        }
+    }
+
     /// The refusal that memory ran out.
     pub(crate) fn out_of_memory() -> Self
         ensures { result ≡ checked.out_of_memory }

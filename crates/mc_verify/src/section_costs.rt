@@ -7,7 +7,6 @@ ghost use Rattle.mc_verify.specs.Costs as costs;
 ghost use Rattle.mc_verify.specs.CostTables as tables;
 ghost use Rattle.mc_verify.specs.Faults as faults;
 ghost use Rattle.mc_verify.specs.Lowest as lowest_faults;
-ghost use Rattle.mc_verify.specs.Refusals as refusals;
 
 use crate::Measure;
 use crate::cost_table::cost_table;
@@ -61,7 +60,7 @@ impl CostTables {
         requires code { codes.IsCode code.now }
         requires structured { (actor : Section) → faults.IsStructured code.now actor }
         requires tables { tables.AreCostTables code.now self.now }
-        ensures some { IfSome result (refusals.IsLowest code.now (tables.kind_of self.now.weights.measure) actor) }
+        ensures some { IfSome result (lowest_faults.IsLowest code.now (tables.kind_of self.now.weights.measure) actor) }
         ensures none { IfNone result (faults.HasNone code.now (tables.kind_of self.now.weights.measure) actor) }
     {
         'places: for place in 0..code.section(actor).len() {

@@ -6,17 +6,18 @@ ghost use Rattle.mc_verify.specs.Lowest as lowest_faults;
 ghost use Rattle.mc_verify.specs.Refusals as refusals;
 ghost use Rattle.mc_verify.specs.Structure as structure;
 
+use crate::RefusalKind;
 use crate::clearing::lowest_not_cleared;
+use crate::code_fault::CodeFault;
 use crate::lowest::check_kind;
 use crate::section::instructions;
 use crate::targets::lowest_bad_target;
-use crate::{Refusal, RefusalKind};
 use mc_code::{Code, Instr};
 use mc_protocol::Actor;
 
 /// The least fault of structure: a bad target, a bad index, a section without a halt at its end, or a key that P doesn't
 /// clear.
-pub(crate) fn structure_fault(code: &Code) -> Option<Refusal>
+pub(crate) fn structure_fault(code: &Code) -> Option<CodeFault>
     ensures found { IfSome result (refusals.IsLeastFrom code.now 1) }
     ensures none { IfNone result (refusals.HasNoneFrom code.now 1 5) }
     ensures structured { IfNone result ((actor : actor.Actor) → faults.IsStructured code.now actor) }
@@ -25,7 +26,7 @@ pub(crate) fn structure_fault(code: &Code) -> Option<Refusal>
 }
 
 /// The error is the least fault of structure.
-fn check_structure(code: &Code) -> Result<(), Refusal>
+fn check_structure(code: &Code) -> Result<(), CodeFault>
     ensures least { IfErr result (refusals.IsLeastFrom code.now 1) }
     ensures none { IfOk result (λ _. lowest_faults.IsFreeOf code.now 1 5) }
     ensures structured { IfOk result (λ _. (actor : actor.Actor) → faults.IsStructured code.now actor) }
@@ -39,7 +40,7 @@ fn check_structure(code: &Code) -> Result<(), Refusal>
 
 /// The lowest place of the section whose instruction names a template or a variable that isn't there.
 fn lowest_bad_index(code: &Code, actor: Actor) -> Option<u8>
-    ensures some { IfSome result (refusals.IsLowest code.now RefusalKind.BadIndex actor) }
+    ensures some { IfSome result (lowest_faults.IsLowest code.now RefusalKind.BadIndex actor) }
     ensures none { IfNone result (faults.HasNone code.now RefusalKind.BadIndex actor) }
 {
     let section = instructions(code, actor);
@@ -64,7 +65,7 @@ fn has_bad_index(code: &Code, instruction: &Instr) -> bool
 
 /// The section's last place, or 0 if it is empty, where no halt stands there.
 fn end_without_halt(code: &Code, actor: Actor) -> Option<u8>
-    ensures some { IfSome result (refusals.IsLowest code.now RefusalKind.NoHalt actor) }
+    ensures some { IfSome result (lowest_faults.IsLowest code.now RefusalKind.NoHalt actor) }
     ensures none { IfNone result (faults.HasNone code.now RefusalKind.NoHalt actor) }
 {
     let section = instructions(code, actor);

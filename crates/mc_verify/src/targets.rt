@@ -3,7 +3,7 @@ ghost use Rattle.std.specs.Prelude.{◌≡◌, IfNone, IfSome, length, slice_get
 ghost use Rattle.std.specs.List.{list_all};
 ghost use Rattle.mc_protocol.specs.Words.{all_classes};
 ghost use Rattle.mc_verify.specs.Faults as faults;
-ghost use Rattle.mc_verify.specs.Refusals as refusals;
+ghost use Rattle.mc_verify.specs.Lowest as lowest_faults;
 ghost use Rattle.mc_verify.specs.Structure as structure;
 
 use crate::RefusalKind;
@@ -14,7 +14,7 @@ use mc_script::Template;
 
 /// The lowest place of the section whose instruction has a bad target.
 pub(crate) fn lowest_bad_target(code: &Code, actor: Actor) -> Option<u8>
-    ensures some { IfSome result (refusals.IsLowest code.now RefusalKind.BadTarget actor) }
+    ensures some { IfSome result (lowest_faults.IsLowest code.now RefusalKind.BadTarget actor) }
     ensures none { IfNone result (faults.HasNone code.now RefusalKind.BadTarget actor) }
 {
     let templates = code.templates();

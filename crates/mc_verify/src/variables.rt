@@ -9,19 +9,20 @@ ghost use Rattle.mc_verify.specs.Refusals as refusals;
 ghost use Rattle.mc_verify.specs.RunKinds as runs;
 ghost use Rattle.mc_verify.specs.VariableFaults as variables;
 
+use crate::RefusalKind;
+use crate::code_fault::CodeFault;
 use crate::kind_table::declared_template;
 use crate::kind_tables::{KindTables, all_kind_tables};
 use crate::lowest::check_kind;
 use crate::section::instructions;
 use crate::wrong_number::{binds_nothing, sends_wrong_number};
-use crate::{Refusal, RefusalKind};
 use mc_code::{Code, Instr};
 use mc_protocol::{Actor, OutOfMemory, Sections};
 use std::alloc::Global;
 
 /// The least fault of variables: a request's variable that may have no number, or one of another kind than the request
 /// takes, or a bind where no number may have been shown. The error is that memory ran out.
-pub(crate) fn variable_fault(alloc: Global, code: &Code) -> Result<Option<Refusal>, OutOfMemory>
+pub(crate) fn variable_fault(alloc: Global, code: &Code) -> Result<Option<CodeFault>, OutOfMemory>
     requires { (actor : Section) → faults.IsStructured code.now actor }
     ensures found { IfOk result (λ fault. IfSome fault (refusals.IsLeastFrom code.now 5)) }
     ensures none { IfOk result (λ fault. IfNone fault (refusals.HasNoneFrom code.now 5 8)) }
@@ -31,7 +32,7 @@ pub(crate) fn variable_fault(alloc: Global, code: &Code) -> Result<Option<Refusa
 }
 
 /// The error is the least fault of variables, by the tables of the sections.
-fn check_variables(code: &Code, tables: &Sections<KindTables>) -> Result<(), Refusal>
+fn check_variables(code: &Code, tables: &Sections<KindTables>) -> Result<(), CodeFault>
     requires structured { (actor : Section) → faults.IsStructured code.now actor }
     requires tables { (actor : Section) → runs.AreKindTables code.now actor (sections.section_of tables.now actor) }
     ensures least { IfErr result (refusals.IsLeastFrom code.now 5) }
@@ -58,7 +59,7 @@ fn lowest_fault(
     requires kind { variables.IsOfVariables kind }
     requires structured { (actor : Section) → faults.IsStructured code.now actor }
     requires tables { (actor : Section) → runs.AreKindTables code.now actor (sections.section_of tables.now actor) }
-    ensures some { IfSome result (refusals.IsLowest code.now kind actor) }
+    ensures some { IfSome result (lowest_faults.IsLowest code.now kind actor) }
     ensures none { IfNone result (faults.HasNone code.now kind actor) }
 {
     let section = instructions(code, actor);

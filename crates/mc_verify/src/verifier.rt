@@ -4,6 +4,7 @@ ghost use Rattle.mc_verify.specs.Checked as spec;
 ghost use Rattle.mc_verify.specs.Refusals.{IsLeast};
 
 use crate::checked::Checked;
+use crate::code_fault::CodeFault;
 use crate::cost::costs;
 use crate::flags::flag_fault;
 use crate::structure::structure_fault;
@@ -27,26 +28,26 @@ pub fn verify(alloc: Global, code: Code) -> Result<Checked, (Refusal, Code)>
 {
     match examine(alloc, &code) {
         Ok(Ok(maxima)) => Ok(Checked { code, maxima }),
-        Ok(Err(refusal)) => Err((refusal, code)),
+        Ok(Err(fault)) => Err((Refusal::of(fault), code)),
         Err(_) => Err((Refusal::out_of_memory(), code)),
     }
 }
 
 /// The most that the sections of sound code may cost, or the least fault of other code.
-fn examine(alloc: Global, code: &Code) -> Result<Result<Sections<Cost>, Refusal>, OutOfMemory>
+fn examine(alloc: Global, code: &Code) -> Result<Result<Sections<Cost>, CodeFault>, OutOfMemory>
     ensures accepted { IfOk result (λ found. IfOk found (λ maxima. spec.IsChecked (record { code = code.now; maxima = maxima }))) }
-    ensures refused { IfOk result (λ found. IfErr found (λ refusal. IsLeast code.now refusal)) }
+    ensures refused { IfOk result (λ found. IfErr found (IsLeast code.now)) }
 {
     match structure_fault(code) {
-        Some(refusal) => return Ok(Err(refusal)),
+        Some(fault) => return Ok(Err(fault)),
         None => {}
     }
     match variable_fault(alloc, code)? {
-        Some(refusal) => return Ok(Err(refusal)),
+        Some(fault) => return Ok(Err(fault)),
         None => {}
     }
     match flag_fault(alloc, code)? {
-        Some(refusal) => return Ok(Err(refusal)),
+        Some(fault) => return Ok(Err(fault)),
         None => {}
     }
     costs(alloc, code)
