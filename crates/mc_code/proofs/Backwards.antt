@@ -14,7 +14,7 @@ use Rattle.mc_code.specs.declared.instr.Instr.TheVariants as instr
 use Rattle.mc_code.specs.Layout.{code_place, after_label, label_place, entry_for, entries}
 use Rattle.mc_code.specs.Paths.{Slides, Sends}
 use Rattle.mc_code.specs.Runs.{Exchange, after_slide, met_at, IsRun, rests, slides, sends}
-use Rattle.mc_code.specs.ScriptRuns.{IsScriptRun, jump_on, place_of_label, place_of, next_of, bind_reply, met_at_step}
+use Rattle.mc_code.specs.ScriptRuns.{IsScriptRun, jump_on, place_of_label, next_of, bind_reply, met_at_step}
 use Rattle.mc_code.specs.ScriptRuns as script_run
 use Rattle.mc_code.specs.States.{State, after_reply, after_bind, Outcome, nothing_to_bind, is_number}
 use Rattle.mc_code.proofs.LookUps.{some_is, number_at, code_of_all, first_of_step, second_of_step, after_steps, next_place}

@@ -22,7 +22,7 @@ use Rattle.mc_code.specs.Image.{magic, with_length, with_count, budget_bytes, te
 use Rattle.mc_code.specs.Image.{section_bytes, image_in, IsWithin, IsImageOf, ImagesAreOfOneCode}
 use Rattle.mc_code.specs.ImageReading.{Field, bytes_in, small_in, keys_in, budget_in, templates_in, instructions_in, version_at}
 use Rattle.mc_code.specs.ImageReading.{version_in, Declared, declared_in, each_in, code_of, at_end, code_in}
-use Rattle.mc_code.proofs.FieldLaws.{then-some, only-then, some-same, IsBytes, Takes, Takes-then, bytes_take, bytes_again, small_takes, small_again}
+use Rattle.mc_code.proofs.FieldLaws.{then-some, some-same, IsBytes, Takes, Takes-then, bytes_take, bytes_again, small_takes, small_again}
 use Rattle.mc_code.proofs.ImageRoom.{flags-within, steps-within, room-in, is-within}
 use Rattle.mc_code.proofs.KeyLaws.{keys_take, keys_again}
 use Rattle.mc_code.proofs.TemplateLaws.{templates_take, templates_again}

@@ -1,5 +1,5 @@
 -- Paths: joined, longer by a move, and what holds along them.
-use Rattle.std.proofs.Common.{◌≡◌, ℕ, Some, List, [], ◌∷◌, ◌++◌, slice_get, fold, refl, ap, sym, subst}
+use Rattle.std.proofs.Common.{◌≡◌, ℕ, Some, List, [], ◌∷◌, ◌++◌, slice_get, fold, refl, subst}
 use Rattle.mc_protocol.specs.declared.reply.Class.{Class}
 use Rattle.mc_script.specs.declared.step.Template.{Template}
 use Rattle.mc_code.specs.declared.instr.Instr.{Instr}

@@ -15,13 +15,12 @@ use Rattle.mc_code.specs.declared.instr.Instr.{Instr}
 use Rattle.mc_code.specs.declared.instr.Instr.TheVariants as instr
 use Rattle.mc_code.specs.declared.kind.Kind.TheVariants as kind
 use Rattle.mc_code.specs.Code.{instructions_in}
-use Rattle.mc_code.specs.Paths.{Edge, Slides, Sends, IsPath, IsComplete}
+use Rattle.mc_code.specs.Paths.{Edge, Slides, Sends, IsPath}
 use Rattle.mc_code.specs.Paths as path
 use Rattle.mc_code.specs.Runs.{Exchange, after_slide, IsRun, rests, slides, sends, met_by_send, met_at}
 use Rattle.mc_code.specs.RunLaws.{edges_of, CompletePathsEnd, EndsAreComplete, PathsAreRuns}
 use Rattle.mc_code.specs.States.{Tagged, nothing, is_number, State, initial_state, after_reply, call, wrong_kind, nothing_to_bind}
 use Rattle.mc_code.specs.States.{ended, call_with, with_argument, send_outcome, wanted_by, is_same}
-use Rattle.mc_protocol.proofs.FirstItems.{head_is, rest_is}
 
 -- ---- longer runs
 

@@ -1,5 +1,5 @@
 -- Images that are written: the pieces that make a template, and those that make an image.
-use Rattle.std.proofs.Common.{◌≡◌, ℕ, List, [], ◌∷◌, ◌++◌, length, sym, ap, ◌∙◌, append-nil, append_assoc}
+use Rattle.std.proofs.Common.{◌≡◌, ℕ, List, [], ◌∷◌, ◌++◌, length, ap, ◌∙◌, append-nil, append_assoc}
 use Rattle.std.specs.Int.{w32, w64, to_be_bytes}
 use Rattle.mc_script.specs.declared.step.Template.{Template}
 use Rattle.mc_script.specs.declared.version.Version.{Version}

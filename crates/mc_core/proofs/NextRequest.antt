@@ -28,7 +28,7 @@ use Rattle.mc_code.specs.Calls.{IsCalling, exchange_of, template_of, no_template
 use Rattle.mc_code.specs.Code.{Code, IsCode}
 use Rattle.mc_code.specs.NumberLaws.{Shows, IsShownIn}
 use Rattle.mc_code.specs.Runs.{Exchange, met_at, met_by_send}
-use Rattle.mc_code.specs.States.{Tagged, State, call, with_argument, send_outcome}
+use Rattle.mc_code.specs.States.{Tagged, call, with_argument, send_outcome}
 use Rattle.mc_code.specs.declared.instr.Call.{Call}
 use Rattle.mc_code.proofs.LookUps.{some_is}
 use Rattle.mc_code.proofs.StandingLemmas.{template_is}

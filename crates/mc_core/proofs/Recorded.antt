@@ -12,7 +12,7 @@ use Rattle.mc_protocol.specs.declared.reply.Reply.{Reply}
 use Rattle.mc_code.specs.Code.{Code}
 use Rattle.mc_code.specs.declared.instr.Call.{Call}
 use Rattle.mc_model.specs.Notes as recorded
-use Rattle.mc_model.specs.Notes.{is_same_section, requests_in, replies_in, begun_by, replied_by, with_replies, sections_in}
+use Rattle.mc_model.specs.Notes.{is_same_section, requests_in, replies_in, begun_by, with_replies, sections_in}
 use Rattle.mc_model.specs.Sections.{Sections}
 use Rattle.mc_model.specs.declared.note.Note.TheVariants as note
 use Rattle.mc_model.specs.declared.sent.Sent.{Sent}

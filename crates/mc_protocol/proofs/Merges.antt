@@ -1,5 +1,5 @@
 -- Merges: of longer lists, of the results of a function, and the other way round.
-use Rattle.std.proofs.Common.{◌≡◌, ◌+◌, ◌∙◌, ◌⊎◌, inl, inr, List, [], ◌∷◌, ◌++◌, length, map, refl, ap, sym, subst, arith}
+use Rattle.std.proofs.Common.{◌≡◌, ◌+◌, ◌∙◌, ◌⊎◌, inl, inr, List, [], ◌∷◌, ◌++◌, map, refl, ap}
 use Rattle.mc_protocol.specs.Merge.{IsMerge, none, left, right}
 use Rattle.mc_protocol.proofs.FirstItems.{head_is, rest_is}
 

@@ -1,7 +1,6 @@
 -- A line is a label exactly where what it says is one.
 use Rattle.std.proofs.Common.{◌≡◌, ℕ, ◌+◌, ◌≤◌, nat_lt, Bool, true, false, cond, Option, Some, None, Result}
-use Rattle.std.proofs.Common.{Ok, Err, List, [], ◌∷◌, ◌++◌, drop, refl, sym, ap, subst, ◌∙◌, arith}
-use Rattle.std.proofs.lemmas.Bool.{ltb-true}
+use Rattle.std.proofs.Common.{Ok, Err, List, [], ◌∷◌, ◌++◌, drop, refl, sym, ap, subst, ◌∙◌}
 use Rattle.std.specs.List.{list_any}
 use Rattle.std.specs.Result.{IfOk}
 use Rattle.mc_protocol.specs.Fields.{fields_of}
@@ -20,7 +19,7 @@ use Rattle.mc_script.specs.ScriptWords.{is_label_name}
 use Rattle.mc_script.specs.Steps.{◌>>=◌}
 use Rattle.mc_script.specs.Reading.{Gives, entry_in, label_of, label_named, line_entry, keyword_of, step_words, bind_in}
 use Rattle.mc_script.specs.Reading.{goto_in, request_in, fields_in, field_count, marks_in, binds, template_of}
-use Rattle.mc_script.specs.TextReading.{label_named_by, may_follow, following, step_count, with_label}
+use Rattle.mc_script.specs.TextReading.{label_named_by, may_follow, following, with_label}
 use Rattle.mc_script.proofs.Outcomes.{then-some, some-same, only-then}
 
 no-label : (e f : Entry) → label_named_by e ≡ None → Some e ≡ Some f → label_named_by f ≡ None

@@ -1,18 +1,12 @@
 -- What requests need of flags, and what is sent along ways.
-use Rattle.std.proofs.Common.{◌≡◌, ℕ, ◌==◌, suc, zero, Bool, true, false, List, [], ◌∷◌, ◌++◌, refl, ap, sym, subst, ◌∙◌}
-use Rattle.std.proofs.lemmas.Bool.{false≢true, eqb-true}
+use Rattle.std.proofs.Common.{◌≡◌, ℕ, ◌==◌, List, [], ◌∷◌, ◌++◌, refl, ap, ◌∙◌}
+use Rattle.std.proofs.lemmas.Bool.{false≢true}
 use Rattle.std.proofs.lemmas.List.{map-append}
-use Rattle.std.proofs.lemmas.Nat.Bits.{bit_at-zero, bit_at-suc}
-use Rattle.std.specs.Int.{bit_at}
-use Rattle.mc_protocol.specs.Merge.{IsMerge}
 use Rattle.mc_protocol.specs.declared.actor.Actor.{Actor}
 use Rattle.mc_protocol.specs.declared.actor.Actor.TheVariants as actor
-use Rattle.mc_protocol.proofs.Merges.{merge_map}
-use Rattle.mc_script.specs.declared.step.Template.{Template}
 use Rattle.mc_code.specs.Calls.{calls_of}
 use Rattle.mc_code.specs.Code.{Code}
 use Rattle.mc_code.specs.Paths.{Edge}
-use Rattle.mc_verify.specs.Flags.{needs}
 use Rattle.mc_verify.specs.Ways.{Stage, staged, calls_along, LeadsToBoth}
 
 -- ---- the calls of a way

@@ -11,7 +11,7 @@ use Rattle.mc_protocol.specs.declared.reply.Class.{Class}
 use Rattle.mc_protocol.specs.declared.reply.Class.TheVariants as class
 use Rattle.mc_script.specs.declared.step.Template.{Template}
 use Rattle.mc_code.specs.Code.{Code, instructions_in}
-use Rattle.mc_code.specs.Paths.{Slides, Sends, LeadsForwards, entry_of}
+use Rattle.mc_code.specs.Paths.{Slides, Sends, entry_of}
 use Rattle.mc_code.specs.Runs.{Exchange}
 use Rattle.mc_code.specs.Standing.{StandsAt}
 use Rattle.mc_code.specs.States.{Tagged, State}
