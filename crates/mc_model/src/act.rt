@@ -71,7 +71,11 @@ impl Cache {
     }
 }
 
-/// The reply where this item is there, or none.
+/// The reply that was decided where this item is there, or nothing is.
+///
+/// # Errors
+///
+/// That memory ran out.
 pub fn reply_with(alloc: Global, answer: Answer, found: Option<&Item>) -> Result<Reply, OutOfMemory>
     ensures { IfOk result (λ reply. reply ≡ answer_at (option_copied found.entry) answer) }
 {

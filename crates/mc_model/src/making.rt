@@ -9,8 +9,12 @@ use itoa::Buffer;
 use mc_protocol::{Bytes, OutOfMemory, Request};
 use std::alloc::Global;
 
-/// The version that the change makes where this item is there, or none, if it makes one. It has this `number`; `pad` says whether
+/// The version that the change makes where this item is there, or nothing is, if it makes one. It has this `number`; `pad` says whether
 /// a count that is shorter than the old body is padded.
+///
+/// # Errors
+///
+/// That memory ran out.
 pub fn make_version(
     alloc: Global,
     request: &Request,

@@ -9,7 +9,7 @@ ghost use Rattle.mc_server.specs.Made.{with_made};
 use crate::version::renew;
 use mc_model::{Change, Item, make_version};
 use mc_protocol::{Bytes, OutOfMemory, Request};
-use std::alloc::Global;
+use std::alloc::{AllocError, Global};
 use std::collections::HashMap;
 use std::marker::Model;
 
@@ -96,7 +96,7 @@ impl Items {
     {
         match self.map.insert(key, item) {
             Ok(_) => Ok(()),
-            Err(_) => Err(std::alloc::AllocError),
+            Err(_) => Err(AllocError),
         }
     }
 

@@ -20,6 +20,10 @@ pub struct Shared {
 
 impl Shared {
     /// Sixteen stores that hold nothing.
+    ///
+    /// # Errors
+    ///
+    /// That memory ran out.
     pub fn new(alloc: Global) -> Result<Self, OutOfMemory> {
         let shards = make_shards(alloc)?;
         Ok(Shared { shards })

@@ -1,7 +1,8 @@
 //! What is decided of a request, and what a decision does that is applied later.
 use crate::lines::{bytes, reply_in, request_in};
 use mc_model::{
-    Answer, Cache, Change, Choice, Found, Item, Numeral, Reading, WordsFault, decide, numeral_of,
+    Answer, Cache, Change, Choice, Decision, Found, Item, Numeral, Reading, WordsFault, decide,
+    make_version, numeral_of, reply_with,
 };
 use mc_protocol::{OutOfMemory, Reply, Verb};
 use std::alloc::Global;
@@ -107,6 +108,40 @@ fn knows_its_number(alloc: Global) -> Result<bool, OutOfMemory> {
 #[test]
 fn knows_an_item(rt: HostRuntime) -> Result<(), Fail> {
     assert!(rt; knows_its_number(rt.alloc())?);
+    Ok(())
+}
+
+/// An append to the item with the body `12`, step by step: it is decided, the version is made, and the item is shown.
+fn appends_in_steps(alloc: Global) -> Result<bool, WordsFault> {
+    let cache = cache_of(alloc, "12")?;
+    let append = request_in(alloc, "append k 7 =x")?;
+    let found = cache.find(b"k");
+    let decision = Decision::of(&append, PLAIN, found);
+    let made = make_version(alloc, &append, decision.change, false, 9, found)?;
+    let shown = reply_with(alloc, Answer::ShowsNumber, found)?;
+    Ok(is_version(made, 5, b"12x", 9) && shown == reply_in(alloc, "HIT 5 =12 4")?)
+}
+
+fn is_version(made: Option<Item>, flags: u32, body: &[u8], number: u64) -> bool {
+    match made {
+        Some(item) => {
+            item.flags == flags && item.body.as_slice() == body && item.number == number
+        }
+        None => false,
+    }
+}
+
+fn appends_to_nothing(alloc: Global) -> Result<bool, WordsFault> {
+    let append = request_in(alloc, "append k 7 =x")?;
+    let decision = Decision::of(&append, PLAIN, None);
+    let made = make_version(alloc, &append, decision.change, false, 9, None)?;
+    Ok(made.is_none() && decision.answer == Answer::Reply(Reply::NotStored))
+}
+
+#[test]
+fn makes_a_version_of_what_is_there(rt: HostRuntime) -> Result<(), Fail> {
+    assert!(rt; appends_in_steps(rt.alloc())?);
+    assert!(rt; appends_to_nothing(rt.alloc())?);
     Ok(())
 }
 
