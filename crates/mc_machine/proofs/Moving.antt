@@ -28,7 +28,8 @@ use Rattle.mc_verify.proofs.Right.{sound_right, sound_structured}
 use Rattle.mc_verify.proofs.RunKinds.{begins_length, run_keeps_length}
 use Rattle.mc_verify.proofs.Structured.{structured_slides, structured_stands, structured_template, structured_variable}
 use Rattle.mc_machine.specs.declared.machine.Machine.{Machine}
-use Rattle.mc_machine.specs.Machine.{AreNumbersOf, Follows, Goes, IsAnswered, IsAt, IsOnWay, IsTaken, MayBeAnswered, Stands, waits_at}
+use Rattle.mc_machine.specs.Machine.{AreNumbersOf, IsAnswered, IsAt, IsOnWay, MayBeAnswered, Stands, waits_at}
+use Rattle.mc_machine.specs.Moves.{Follows, Goes, IsTaken}
 
 -- ---- a machine on its way through sound code
 

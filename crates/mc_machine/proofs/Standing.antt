@@ -28,7 +28,8 @@ use Rattle.mc_verify.proofs.Right.{sound_structured}
 use Rattle.mc_verify.proofs.Structured.{structured_template}
 use Rattle.mc_machine.specs.declared.machine.Machine.{Machine}
 use Rattle.mc_machine.specs.Laws.{EndsStartBranches, OutstandingIsNamed}
-use Rattle.mc_machine.specs.Machine.{AreNumbersOf, Goes, IsAt, IsOnWay, StartsFrom, plain_number, waits_at}
+use Rattle.mc_machine.specs.Machine.{AreNumbersOf, IsAt, IsOnWay, StartsFrom, waits_at}
+use Rattle.mc_machine.specs.Moves.{Goes, plain_number}
 use Rattle.mc_machine.proofs.Moving.{stops_waiting, way_length, way_right}
 
 -- ---- the start

@@ -5,8 +5,6 @@ use Rattle.mc_protocol.specs.declared.actor.Actor.{Actor}
 use Rattle.mc_protocol.specs.declared.actor.Actor.TheVariants as actor
 use Rattle.mc_protocol.specs.declared.reply.Reply.{Reply}
 use Rattle.mc_protocol.specs.Legal.{is_fit_for}
-use Rattle.mc_script.specs.declared.step.Argument.{Argument}
-use Rattle.mc_script.specs.declared.step.Argument.TheVariants as argument
 use Rattle.mc_code.specs.declared.instr.Call.{Call}
 use Rattle.mc_code.specs.declared.instr.Instr.{Instr}
 use Rattle.mc_code.specs.declared.instr.Instr.TheVariants as instr
@@ -35,12 +33,6 @@ outstanding_of m = m.outstanding
 abbrev pub AreNumbersOf : List ℕ → List Tagged → Type 0
 AreNumbersOf numbers variables =
     (v : ℕ) → v < length variables → slice_index numbers v ≡ (slice_index_or variables v nothing).1
-
--- the number of a request with this argument: its own, or that of its variable
-abbrev pub plain_number : Argument → List ℕ → ℕ
-plain_number argument.Nothing numbers = 0
-plain_number (argument.Number number) numbers = number
-plain_number (argument.Variable v) numbers = slice_index numbers v
 
 -- ---- where it stands
 
@@ -85,18 +77,3 @@ abbrev pub IsAnswered : Code → Machine → Reply → Machine → Type 0
 IsAnswered c m reply n = (made : Call) (variables : List Tagged) (exchanges : List Exchange) (st : State)
     → m.outstanding ≡ Some made → IsAt c m variables exchanges st
     → (after : State) × IsAt c n variables (exchanges ++ exchange_of c (made, reply) ∷ []) after
-
--- the same, but that the other machine may still be on its way
-abbrev pub IsTaken : Code → Machine → Reply → Machine → Type 0
-IsTaken c m reply n = (made : Call) (variables : List Tagged) (exchanges : List Exchange) (st : State)
-    → m.outstanding ≡ Some made → IsAt c m variables exchanges st
-    → (after : State) × IsOnWay c n variables (exchanges ++ exchange_of c (made, reply) ∷ []) after
-
--- wherever the one machine was on its way, the other is so too, after the same exchanges
-abbrev pub Follows : Code → Machine → Machine → Type 0
-Follows c m n = (variables : List Tagged) (exchanges : List Exchange) (st : State) → IsOnWay c m variables exchanges st
-    → (after : State) × IsOnWay c n variables exchanges after
-
--- it is on its way in this code, after some exchanges
-abbrev pub Goes : Code → Machine → Type 0
-Goes c m = (variables : List Tagged) × (exchanges : List Exchange) × (st : State) × IsOnWay c m variables exchanges st

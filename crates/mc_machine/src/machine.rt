@@ -11,6 +11,7 @@ ghost use Rattle.mc_code.specs.Runs.{Exchange};
 ghost use Rattle.mc_code.specs.Standing.{ComesTo};
 ghost use Rattle.mc_code.specs.States.{Tagged, State, ended, shown_of};
 ghost use Rattle.mc_machine.specs.Machine as spec;
+ghost use Rattle.mc_machine.specs.Moves as moves;
 ghost use Rattle.mc_verify.specs.Faults.{IsSound};
 
 use mc_code::{CLASS_COUNT, Call, Code, INSTRUCTIONS_LIMIT, Instr, entry};
@@ -138,7 +139,7 @@ impl Machine {
         requires { template < length code.now.templates }
         ensures template { result.template ≡ template }
         ensures number { (t : Template) → slice_get code.now.templates template ≡ Some t
-            → result.number ≡ spec.plain_number t.argument self.now.numbers }
+            → result.number ≡ moves.plain_number t.argument self.now.numbers }
     {
         let number = self.number(code.template(template).argument);
         Call { template, number }
@@ -147,7 +148,7 @@ impl Machine {
     /// The number of a request with this argument.
     fn number(&self, argument: Argument) -> u64
         requires { (v : ℕ) → argument ≡ argument_of.Variable v → v < VARIABLES_LIMIT }
-        ensures { result ≡ spec.plain_number argument self.now.numbers }
+        ensures { result ≡ moves.plain_number argument self.now.numbers }
     {
         match argument {
             Argument::Nothing => 0,
@@ -161,7 +162,7 @@ impl Machine {
         requires sound { IsSound code.now }
         requires stands { spec.Stands code.now self.old }
         requires fits { spec.MayBeAnswered code.now self.old reply.now }
-        ensures taken { spec.IsTaken code.now self.old reply.now self.new }
+        ensures taken { moves.IsTaken code.now self.old reply.now self.new }
         ensures idle { self.new.outstanding ≡ None }
         ensures actor { self.new.actor ≡ self.old.actor }
     {
@@ -176,8 +177,8 @@ impl Machine {
     /// Goes on to the next send, or to the end of the section.
     fn settle(&mut self, code: &Code)
         requires sound { IsSound code.now }
-        requires goes { spec.Goes code.now self.old }
-        ensures follows { spec.Follows code.now self.old self.new }
+        requires goes { moves.Goes code.now self.old }
+        ensures follows { moves.Follows code.now self.old self.new }
         ensures waits { spec.waits_at (slice_get (codes.instructions_in code.now self.new.actor) self.new.place) ≡ true }
         ensures actor { self.new.actor ≡ self.old.actor }
         ensures outstanding { self.new.outstanding ≡ self.old.outstanding }
@@ -188,8 +189,8 @@ impl Machine {
     /// Goes on by one instruction that needs no reply. At a send or at the end it goes nowhere and answers false.
     fn slide(&mut self, code: &Code) -> bool
         requires sound { IsSound code.now }
-        requires goes { spec.Goes code.now self.old }
-        ensures follows { spec.Follows code.now self.old self.new }
+        requires goes { moves.Goes code.now self.old }
+        ensures follows { moves.Follows code.now self.old self.new }
         ensures waits { result ≡ false → spec.waits_at (slice_get (codes.instructions_in code.now self.new.actor) self.new.place) ≡ true }
         ensures moves { result ≡ true → (self.old.place < self.new.place) × (self.new.place < INSTRUCTIONS_LIMIT) }
         ensures actor { self.new.actor ≡ self.old.actor }

@@ -1,6 +1,6 @@
 use Rattle.std.proofs.Common.{◌≡◌, ◌-◌}
 use Rattle.mc_code.specs.declared.limits.TheConstants.{INSTRUCTIONS_LIMIT}
-use Rattle.mc_machine.specs.Machine.{Follows, Goes}
+use Rattle.mc_machine.specs.Moves.{Follows, Goes}
 use Rattle.mc_machine.proofs.machine.Machine.settle.Given as goal
 
 abbrev pub invariant-slides : goal.invariant-slides

@@ -3,7 +3,7 @@ use Rattle.mc_code.specs.declared.instr.Instr.TheVariants as instr
 use Rattle.mc_code.specs.Code.{instructions_in}
 use Rattle.mc_code.specs.declared.limits.TheConstants.{INSTRUCTIONS_LIMIT}
 use Rattle.mc_machine.specs.declared.machine.Machine.{Machine}
-use Rattle.mc_machine.specs.Machine.{Follows}
+use Rattle.mc_machine.specs.Moves.{Follows}
 use Rattle.mc_machine.proofs.Moving.{goes_inside, goes_declared, goes_short, bind_ahead, follows_bind, follows_goto}
 use Rattle.mc_machine.proofs.machine.Machine.slide.Goals as goal
 

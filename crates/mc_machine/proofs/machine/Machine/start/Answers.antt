@@ -3,6 +3,7 @@ use Rattle.mc_code.specs.Code.{instructions_in}
 use Rattle.mc_code.specs.States.{initial_state}
 use Rattle.mc_machine.specs.declared.machine.Machine.{Machine}
 use Rattle.mc_machine.specs.Machine as spec
+use Rattle.mc_machine.specs.Moves as moves
 use Rattle.mc_machine.proofs.Moving.{stands_after}
 use Rattle.mc_machine.proofs.Standing.{starts_goes, starts_on_way}
 use Rattle.mc_machine.proofs.machine.Machine.start.Goals as goal
@@ -16,7 +17,7 @@ returns-clause-stands c variables starts =
     let n = c.settle.new.self in
     let is = c.code.ensures.code in
     let begins : Machine = record { actor = c.args.actor; place = 0; numbers = c.first_numbers.result; shown = 0; outstanding = None } in
-    let follows = subst (λ code. spec.Follows code begins n) is c.settle.ensures.follows in
+    let follows = subst (λ code. moves.Follows code begins n) is c.settle.ensures.follows in
     let waits = subst (λ code. spec.waits_at (slice_get (instructions_in code n.actor) n.place) ≡ true) is c.settle.ensures.waits in
     let way = starts_on_way c.args.checked.now.code c.args.actor c.args.numbers c.first_numbers.result variables starts
     (c.first_numbers.ensures c.args.checked.now.code variables starts) in

@@ -1,14 +1,14 @@
 use Rattle.std.proofs.Common.{slice_get, ap, sym, subst, ◌∙◌}
 use Rattle.mc_code.specs.Code.{instructions_in}
 use Rattle.mc_code.proofs.LookUps.{some_is}
-use Rattle.mc_machine.specs.Machine as spec
+use Rattle.mc_machine.specs.Moves as moves
 use Rattle.mc_machine.proofs.Moving.{sends_there, sends_alone, taken, takes_reply}
 use Rattle.mc_machine.proofs.machine.Machine.take.Goals as goal
 
 pub returns-clause-taken : goal.returns-clause-taken
 returns-clause-taken c =
     let at = ap (slice_get (instructions_in c.args.code.now c.args.self.now.actor)) (sym c.from.ensures) ∙ c.in-Send.ensures.instruction in
-    subst (λ n. spec.IsTaken c.args.code.now c.args.self.now c.args.reply.now (taken c.args.self.now n c.number_shown-self.result))
+    subst (λ n. moves.IsTaken c.args.code.now c.args.self.now c.args.reply.now (taken c.args.self.now n c.number_shown-self.result))
     (sym c.place_after-self.ensures)
     (takes_reply c.args.code.now c.args.self.now c.args.reply.now c.in-Send.template c.in-Send.next c.number_shown-self.result
     c.requires.sound c.requires.fits at c.number_shown-self.ensures)
