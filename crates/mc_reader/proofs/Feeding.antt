@@ -24,7 +24,7 @@ answers_more verb key None piece s p = absurd (cc)
 answers_more verb key (Some text) piece s p = (p.read, unfinished_fed verb key s (text ++ piece) p.valid p.read)
 
 -- the front of the piece is what comes before the bytes that are left
-used_is : (front back piece : List ℕ) (unread : ℕ) → front ++ back ≡ piece → length back ≡ unread
+pub used_is : (front back piece : List ℕ) (unread : ℕ) → front ++ back ≡ piece → length back ≡ unread
     → take (length piece - unread) piece ≡ front
 used_is front back piece unread e n =
     let m = length-append front back in

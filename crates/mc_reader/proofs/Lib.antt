@@ -1,4 +1,8 @@
 -- What these proofs alone cite.
+mod AskFeeding
+mod AskSteps
+mod AskUnfinished
+mod AskWordCuts
 mod Blocks
 mod Feeding
 mod FirstLines

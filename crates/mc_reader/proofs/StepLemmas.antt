@@ -25,7 +25,7 @@ use Rattle.mc_reader.proofs.FirstLines.{first_ends, first_too_long}
 use Rattle.mc_reader.proofs.Fits.{IsOfLine, line_fault, end_line_fault}
 
 -- a piece of which a front was read before
-ends_after : (E : List ℕ → Outcome → Type 0) (text front piece : List ℕ) (outcome : Outcome) (unread : ℕ)
+pub ends_after : {O : Type 0} (E : List ℕ → O → Type 0) (text front piece : List ℕ) (outcome : O) (unread : ℕ)
     → EndsAt E (text ++ front) piece outcome unread → EndsAt E text (front ++ piece) outcome unread
 ends_after E text front piece outcome unread p = record {
   front = front ++ p.front;

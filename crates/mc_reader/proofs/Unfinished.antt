@@ -32,11 +32,11 @@ has_end-line [] rest = refl
 has_end-line (byte ∷ line) rest = ap (λ b. (byte == LF) || b) (has_end-line line rest) ∙ either_way (byte == LF)
 
 -- a line that isn't ended doesn't begin with one that is
-not_ended : (text line rest : List ℕ) → IsLine text → text ≡ line ++ LF ∷ rest → ⊥
+pub not_ended : (text line rest : List ℕ) → IsLine text → text ≡ line ++ LF ∷ rest → ⊥
 not_ended text line rest l e = let p = l.one in let q : has_end text ≡ true = rw e (has_end-line line rest) in absurd (cc)
 
 -- nor is the front of it too long
-not_full : (text front back : List ℕ) → IsLine text → IsTooLong front → front ++ back ≡ text → ⊥
+pub not_full : (text front back : List ℕ) → IsLine text → IsTooLong front → front ++ back ≡ text → ⊥
 not_full text front back l p e =
     let n = length-append front back in
     let m = ap length e in

@@ -1,3 +1,10 @@
+pub mod AskEnds
+pub mod AskLines
+pub mod AskParts
+pub mod AskReading
+pub mod AskStages
+pub mod AskWords
+pub mod Asks
 pub mod Block
 pub mod Gathered
 pub mod Items

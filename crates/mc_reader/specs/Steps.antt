@@ -6,8 +6,8 @@ use Rattle.mc_reader.specs.declared.fault.ReadFault.TheVariants.{OutOfMemory, Fa
 use Rattle.mc_reader.specs.declared.step.Step.{Step}
 use Rattle.mc_reader.specs.declared.step.Step.TheVariants.{More, Done}
 
--- the text and a front of the piece end with this outcome, and so many bytes of the piece come after them
-pub record EndsAt (E : List ℕ → Outcome → Type 0) (text piece : List ℕ) (outcome : Outcome) (unread : ℕ) : Type 0 where
+-- the text and a front of the piece end with this outcome, and `unread` bytes of the piece come after them
+pub record EndsAt {O : Type 0} (E : List ℕ → O → Type 0) (text piece : List ℕ) (outcome : O) (unread : ℕ) : Type 0 where
   pub front : List ℕ
   pub back : List ℕ
   pub cut : front ++ back ≡ piece

@@ -8,6 +8,14 @@
 //! the reader was made, and not on how they were cut.
 #![tactic(auto)]
 
+mod ask;
+mod ask_line;
+mod ask_numbers;
+mod ask_reader;
+mod ask_said;
+mod ask_stage;
+mod ask_storage;
+mod ask_words;
 mod block;
 mod fault;
 mod gather;
@@ -23,8 +31,12 @@ mod stage;
 mod step;
 mod words;
 
+pub use ask::{Ask, AskFault, Asked, Refuse};
+pub use ask_reader::RequestReader;
 pub use fault::{ErrorKind, ReadFault};
 pub use laws::{one_reply, spelled_replies_fit, written_is_spelled};
-pub use limits::{LINE_LIMIT, NUMBER_SPACES_LIMIT};
+pub use limits::{
+    ANNOUNCED_LIMIT, LINE_LIMIT, NUMBER_SPACES_LIMIT, REQUEST_BODY_LIMIT, REQUEST_KEY_LIMIT,
+};
 pub use reader::{Fed, ReplyReader};
 pub use shape::Shape;

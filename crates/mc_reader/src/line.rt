@@ -30,8 +30,8 @@ pub(crate) fn read_end(line: &[u8]) -> Result<(), ReadFault>
     }
 }
 
-/// The line without the CR that ends it.
-fn text_of(line: &[u8]) -> Option<&[u8]>
+/// The line without the CR that ends it, where one does.
+pub(crate) fn text_of(line: &[u8]) -> Option<&[u8]>
     ensures { spec.IsTextOf line.now result }
 {
     match line {

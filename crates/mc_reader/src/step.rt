@@ -7,6 +7,6 @@ use mc_protocol::Reply;
 pub(crate) enum Step<S> {
     /// All of the piece was read, and this is how far the reply has come.
     More(S),
-    /// The reply is whole, and so many bytes of the piece come after it.
+    /// The reply is whole, and `unread` bytes of the piece come after it.
     Done { reply: Reply, unread: usize },
 }
