@@ -1,5 +1,5 @@
 //! Connections to a server.
-ghost use Rattle.std.specs.Prelude.{◌≡◌, IfOk};
+ghost use Rattle.std.specs.Prelude.{◌≡◌, false, IfOk};
 ghost use Rattle.mc_lane.specs.Streams.{silent, no_counts};
 ghost use Rattle.mc_run.specs.Running.{AreNew, IsNew};
 
@@ -54,7 +54,7 @@ fn connect_lane<R: Net<Stream = TcpStream>>(
 }
 
 fn lane_over(alloc: Global, wire: Wire<TcpStream>) -> Lane<Wire<TcpStream>>
-    requires { ⟦<Wire<TcpStream> as Stream>⟧.state wire ≡ silent no_counts }
+    requires { ⟦<Wire<TcpStream> as Stream>⟧.state wire ≡ silent no_counts false }
     ensures new { IsNew result }
     ensures limit { result.limit ≡ 262144 }
 {
@@ -66,7 +66,7 @@ fn connect_first<R: Net<Stream = TcpStream>>(
     rt: &R,
     target: &str,
 ) -> io::Result<(Wire<TcpStream>, SocketAddr)>
-    ensures { IfOk result (λ found. ⟦<Wire<TcpStream> as Stream>⟧.state found.0 ≡ silent no_counts) }
+    ensures { IfOk result (λ found. ⟦<Wire<TcpStream> as Stream>⟧.state found.0 ≡ silent no_counts false) }
 {
     let mut last = io::Error::from(ErrorKind::InvalidInput);
     for address in target.to_socket_addrs(rt)? {
@@ -79,7 +79,7 @@ fn connect_first<R: Net<Stream = TcpStream>>(
 }
 
 fn connect<R: Net<Stream = TcpStream>>(rt: &R, address: SocketAddr) -> io::Result<Wire<TcpStream>>
-    ensures { IfOk result (λ wire. ⟦<Wire<TcpStream> as Stream>⟧.state wire ≡ silent no_counts) }
+    ensures { IfOk result (λ wire. ⟦<Wire<TcpStream> as Stream>⟧.state wire ≡ silent no_counts false) }
 {
     let stream = TcpStream::connect(rt, address)?;
     // Else a request may wait until the server has acknowledged the one before it.

@@ -18,8 +18,8 @@ use Rattle.mc_reader.specs.declared.fault.ReadFault.TheVariants as read_fault
 use Rattle.mc_reader.specs.declared.reader.Fed.{Fed}
 use Rattle.mc_reader.specs.declared.reader.Fed.TheVariants.{More, Done}
 use Rattle.mc_lane.specs.Receiving.{Brings, Adds, Stops, fault_for}
-use Rattle.mc_lane.specs.Sending.{counts_of}
-use Rattle.mc_lane.specs.Streams.{StreamState, no_counts, an_end, counts_of_read, Carries}
+use Rattle.mc_lane.specs.Sending.{counts_of, EndsLast}
+use Rattle.mc_lane.specs.Streams.{StreamState, no_counts, an_end, finds_end, counts_of_read, Carries}
 use Rattle.mc_lane.specs.declared.stream.Counts.{Counts}
 use Rattle.mc_lane.proofs.Carried.{Grows-twice, appended_twice, range_from}
 
@@ -141,6 +141,18 @@ fault_for-no_counts T (read_fault.ErrorLine kind) = refl
 fault_for-no_counts T read_fault.OutOfMemory = refl
 fault_for-no_counts T read_fault.Failed = refl
 
+-- and its last read found no end
+pub fault_for-last : (T : Type 0) (f : ReadFault) (after : StreamState) → EndsLast {T = T} (Err (fault_for f)) after
+fault_for-last T read_fault.LineTooLong after = tt
+fault_for-last T read_fault.NotAReply after = tt
+fault_for-last T read_fault.WrongKey after = tt
+fault_for-last T read_fault.NumberTooLarge after = tt
+fault_for-last T read_fault.DataTooLong after = tt
+fault_for-last T read_fault.DataNotEnded after = tt
+fault_for-last T (read_fault.ErrorLine kind) after = tt
+fault_for-last T read_fault.OutOfMemory after = tt
+fault_for-last T read_fault.Failed after = tt
+
 -- ---- where a read brings nothing
 
 -- all stays as it was
@@ -165,19 +177,23 @@ Stops-from_Brings verb key old brought new taken limit fault.Closed unfinished i
 counted_end : (room brought : ℕ) → 0 < room → brought ≡ 0 → counts_of_read room brought ≡ an_end
 counted_end room brought h e = grind (arith, common_steps)
 
+found_end : (room brought : ℕ) → 0 < room → brought ≡ 0 → finds_end room brought ≡ true
+found_end room brought h e = grind (arith, common_steps)
+
 counted_none : (room brought : ℕ) → 0 < brought → counts_of_read room brought ≡ no_counts
 counted_none room brought h = grind (arith, common_steps)
 
 -- it found the end
 pub Adds-end : (limit : ℕ) (old new buffer : List ℕ) (before after : StreamState) (n : ℕ) → n ≡ 0 → 0 < length buffer → new ≡ old
     → length old ≤ limit → Carries before after (take n buffer) [] (counts_of_read (length buffer) n)
-    → Adds limit old new before after (Err fault.Ended)
-Adds-end limit old new buffer before after n none room same within carries = record {
+    → after.at_end ≡ finds_end (length buffer) n → Adds limit old new before after (Err fault.Ended)
+Adds-end limit old new buffer before after n none room same within carries last = record {
   brought = [];
   recorded = same ∙ sym (append-nil old);
   within = rw same within;
   carries = subst (λ c. Carries before after [] [] c) (counted_end (length buffer) n room none)
       (subst (λ (k : ℕ). Carries before after (take k buffer) [] (counts_of_read (length buffer) n)) none carries);
+  last = last ∙ found_end (length buffer) n room none;
   outcome = refl;
 }
 
@@ -190,5 +206,6 @@ Adds-bytes limit old new buffer before after n some in_buffer more within carrie
   recorded = more;
   within = within;
   carries = subst (λ c. Carries before after (take n buffer) [] c) (counted_none (length buffer) n some) carries;
+  last = tt;
   outcome = grind (arith, common_steps);
 }

@@ -7,7 +7,7 @@ use Rattle.mc_protocol.specs.declared.fault.Fault.TheVariants as fault
 use Rattle.mc_protocol.specs.declared.reply.Reply.{Reply}
 use Rattle.mc_protocol.specs.declared.request.Verb.{Verb}
 use Rattle.mc_lane.specs.Receiving.{IsReplyAt, Stops}
-use Rattle.mc_lane.specs.Sending.{IsPrefix, IsProperPrefix, counts_of}
+use Rattle.mc_lane.specs.Sending.{IsPrefix, IsProperPrefix, counts_of, EndsLast}
 use Rattle.mc_lane.specs.Streams.{StreamState, CanFail, Carries}
 
 -- What the lane sent and what it received; how many of the received bytes were the replies that it answered, and how many it
@@ -54,7 +54,7 @@ ComesTo verb key request written old new (Ok reply) = (written ≡ request) × I
 ComesTo verb key request written old new (Err f) = (new.taken ≡ old.taken) × Closes verb key request written new f
 
 -- A call on an open lane, with this request of this verb and key: what was written and what was received in it is recorded, and
--- is what the stream tells.
+-- is what the stream tells. Where a read found the end, it was the last one.
 pub record Exchanges (verb : Verb) (key : Word) (request : List ℕ) (old new : LaneRecord) (before : StreamState)
     (result : Result Reply Fault) : Type 0 where
   pub after : StreamState
@@ -62,6 +62,7 @@ pub record Exchanges (verb : Verb) (key : Word) (request : List ℕ) (old new : 
   pub received : List ℕ
   pub stream : new.stream ≡ Some after
   pub carries : Carries before after received written (counts_of result)
+  pub last : EndsLast result after
   pub sent : new.sent ≡ old.sent ++ written
   pub got : new.got ≡ old.got ++ received
   pub limit : new.limit ≡ old.limit

@@ -2,12 +2,12 @@
 use Rattle.std.specs.Prelude.{◌≡◌, ℕ, ◌+◌, ◌-◌, ◌==◌, Bool, true, false, ◌&&◌, ◌||◌, nat_lt, min, Option, Some}
 use Rattle.std.specs.Prelude.{None, unwrap_or, Result, Ok, Err, List, [], ◌∷◌, ◌++◌, length, take, drop, find, if◌then◌else◌}
 use Rattle.std.specs.List.{concat}
-use Rattle.mc_lane.specs.Streams.{StreamState, no_counts, ends_of_read}
+use Rattle.mc_lane.specs.Streams.{StreamState, no_counts, finds_end, ends_of_read}
 use Rattle.mc_lane.specs.declared.stream.Counts.{Counts}
 
 -- What it gives, where the pieces end in which it gives this, and how many bytes it gave. What it took, how many bytes it may
--- take, and how many in one call. How many calls come before the one that is to fail, and what
--- was counted.
+-- take, and how many in one call. How many calls come before the one that is to fail, what was counted, and whether the last
+-- read found the end.
 pub record Memory : Type 0 where
   pub replies : List ℕ
   pub ends : List ℕ
@@ -17,10 +17,11 @@ pub record Memory : Type 0 where
   pub longest_write : ℕ
   pub until_failure : Option ℕ
   pub counts : Counts
+  pub at_end : Bool
 
 -- as a stream it tells its bytes
 abbrev pub state_of : Memory → StreamState
-state_of m = record { read = Some (take m.given m.replies); written = Some m.written; counts = m.counts }
+state_of m = record { read = Some (take m.given m.replies); written = Some m.written; counts = m.counts; at_end = m.at_end }
 
 -- ---- a new one
 
@@ -44,6 +45,7 @@ fresh pieces room = record {
   longest_write = room;
   until_failure = None;
   counts = no_counts;
+  at_end = false;
 }
 
 -- ---- calls that fail
@@ -59,8 +61,11 @@ count_down None = None
 count_down (Some calls) = if calls == 0 then None else Some (calls - 1)
 
 abbrev pub after_failed_read : Memory → Memory
-after_failed_read m =
-    record m { until_failure = count_down m.until_failure; counts = record m.counts { failed_reads = m.counts.failed_reads + 1 } }
+after_failed_read m = record m {
+  until_failure = count_down m.until_failure;
+  counts = record m.counts { failed_reads = m.counts.failed_reads + 1 };
+  at_end = false;
+}
 
 abbrev pub after_failed_write : Memory → Memory
 after_failed_write m =
@@ -82,6 +87,7 @@ after_read m room count = record m {
   given = m.given + count;
   until_failure = count_down m.until_failure;
   counts = record m.counts { ends = m.counts.ends + ends_of_read room count };
+  at_end = finds_end room count;
 }
 
 -- the next bytes of the piece stand at the front of the buffer, unless the call is the one that is to fail

@@ -10,7 +10,7 @@ use Rattle.mc_reader.specs.Replies.{Spells, IsUnfinished, HasFailed}
 use Rattle.mc_reader.specs.declared.fault.ErrorKind.{ErrorKind}
 use Rattle.mc_reader.specs.declared.fault.ReadFault.{ReadFault}
 use Rattle.mc_reader.specs.declared.fault.ReadFault.TheVariants as read_fault
-use Rattle.mc_lane.specs.Sending.{counts_of}
+use Rattle.mc_lane.specs.Sending.{counts_of, EndsLast}
 use Rattle.mc_lane.specs.Streams.{StreamState, Carries}
 
 -- ---- one read
@@ -30,6 +30,7 @@ pub record Adds (limit : ℕ) (old new : List ℕ) (before after : StreamState) 
   pub recorded : new ≡ old ++ brought
   pub within : length new ≤ limit
   pub carries : Carries before after brought [] (counts_of result)
+  pub last : EndsLast result after
   pub outcome : Brings limit old brought result
 
 -- ---- a reply
@@ -71,6 +72,7 @@ pub record Receives (verb : Verb) (key : Word) (taken limit : ℕ) (old new : Li
   pub recorded : new ≡ old ++ received
   pub within : length new ≤ limit
   pub carries : Carries before after received [] (counts_of result)
+  pub last : EndsLast result after
   pub outcome : Finds verb key new taken limit result
 
 -- the fault of a lane where the bytes that it received are no reply

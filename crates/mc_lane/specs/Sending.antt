@@ -1,5 +1,5 @@
 -- What a lane sends of a request.
-use Rattle.std.specs.Prelude.{◌≡◌, ℕ, ◌<◌, Result, Ok, Err, List, [], ◌++◌, length}
+use Rattle.std.specs.Prelude.{◌≡◌, ℕ, ◌<◌, true, Result, Ok, Err, List, [], ◌++◌, length}
 use Rattle.mc_protocol.specs.declared.fault.Fault.{Fault}
 use Rattle.mc_protocol.specs.declared.fault.Fault.TheVariants as fault
 use Rattle.mc_lane.specs.Streams.{StreamState, no_counts, a_failed_read, a_failed_write, an_end, Carries}
@@ -19,6 +19,11 @@ counts_of (Err fault.WriteFailed) = a_failed_write
 counts_of (Err fault.ReadFailed) = a_failed_read
 counts_of (Err fault.Ended) = an_end
 counts_of _ = no_counts
+
+-- the lane comes to the end of its stream only at the last of its reads
+abbrev pub EndsLast : {T : Type 0} → Result T Fault → StreamState → Type 0
+EndsLast (Err fault.Ended) after = after.at_end ≡ true
+EndsLast _ after = Unit {0}
 
 -- what was written where the sending came to this: all of the request, less where a write failed, and nothing where there was no memory
 abbrev pub IsWrittenOf : List ℕ → List ℕ → Result (Unit {0}) Fault → Type 0

@@ -8,4 +8,4 @@ wire_inner wire = wire.inner
 
 -- as a stream it tells no bytes
 abbrev pub wire_state : {T : Type 0} → Wire T → StreamState
-wire_state wire = silent wire.counts
+wire_state wire = silent wire.counts wire.at_end

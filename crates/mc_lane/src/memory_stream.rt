@@ -4,6 +4,7 @@ ghost use Rattle.std.specs.Prelude.{◌≡◌, ◌-◌, ◌<◌, ◌≤◌, nat_
 ghost use Rattle.mc_lane.specs.MemoryStreams as memory;
 ghost use Rattle.mc_lane.specs.Streams.{CanFail, Reads, Writes};
 
+use crate::stream::finds_end;
 use crate::{Broken, Counts, Stream};
 use mc_protocol::OutOfMemory;
 use std::alloc::Global;
@@ -28,6 +29,7 @@ pub struct MemoryStream {
     longest_write: usize,
     until_failure: Option<u64>,
     counts: Counts,
+    at_end: bool,
 }
 
 impl Model for MemoryStream {
@@ -46,6 +48,7 @@ impl Model for MemoryStream {
       longest_write = s.longest_write;
       until_failure = s.until_failure;
       counts = s.counts;
+      at_end = s.at_end;
     } };
 
     ghost invariant = { λ s. (s.given ≤ length s.replies.items) × (vec_len s.written ≤ s.room) × (s.room ≤ vec_capacity s.written) };
@@ -66,6 +69,7 @@ impl MemoryStream {
             longest_write: room,
             until_failure: None,
             counts: Counts::none(),
+            at_end: false,
         })
     }
 
@@ -107,6 +111,7 @@ impl Stream for MemoryStream {
     {
         if is_due(&mut self.until_failure) {
             self.counts.failed_reads += 1;
+            self.at_end = false;
             return Err(Broken);
         }
         let end = piece_end(self.ends.as_slice(), self.given, self.replies.len());
@@ -114,6 +119,7 @@ impl Stream for MemoryStream {
         buffer[..count].copy_from_slice(&self.replies[self.given..self.given + count]);
         self.given += count;
         self.counts = self.counts.after_read(buffer.len(), count);
+        self.at_end = finds_end(buffer.len(), count);
         Ok(count)
     }
 

@@ -30,28 +30,34 @@ impl Counts {
         }
     }
 
-    /// With the end, where a read found it that brought this many bytes, by the room that it had.
+    /// With one more end, where a read found it that brought this many bytes, by the room that it had.
     pub(crate) fn after_read(self, room: usize, brought: usize) -> Counts
         requires { self.ends + 1 < 2 ^ 64 }
         ensures { result ≡ record self { ends = self.ends + spec.ends_of_read room brought } }
     {
-        let found = 0 < room && brought == 0;
         Counts {
-            ends: self.ends + u64::from(found),
+            ends: self.ends + u64::from(finds_end(room, brought)),
             ..self
         }
     }
 }
 
+/// Whether a read found the end that brought this many bytes, by the room that it had.
+pub(crate) fn finds_end(room: usize, brought: usize) -> bool
+    ensures { result ≡ spec.finds_end room brought }
+{
+    0 < room && brought == 0
+}
+
 /// A connection to a server, or what stands for one.
 ///
-/// Contracts see the bytes that were read and written so far, each where the stream tells them, and what it counted. A call
-/// that fails is counted and moves no byte; so does a read that finds the end. Any other call moves the bytes of that call
-/// alone, and counts nothing. Both calls ask that one more of each can be counted.
+/// Contracts see the bytes that were read and written so far, each where the stream tells them, what it counted, and whether its
+/// last read found the end. A call that fails is counted, and so is a read that finds the end; neither moves a byte. Any other
+/// call moves the bytes of that call alone, and counts nothing. Both calls ask that one more of each can be counted.
 pub trait Stream: Drop {
     ghost use Rattle.mc_lane.specs.Streams.{StreamState, CanFail, Reads, Writes};
 
-    // What was read and written so far, and what was counted.
+    // What was read and written so far, what was counted, and whether the last read found the end.
     ghost state: { Self → StreamState };
 
     /// Reads some bytes into the front of `buffer`, and answers how many: 0 where the stream has ended, or where the

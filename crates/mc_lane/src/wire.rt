@@ -1,9 +1,10 @@
 //! Streams over what std can read and write, as a socket.
 
-ghost use Rattle.std.specs.Prelude.{◌≡◌};
+ghost use Rattle.std.specs.Prelude.{◌≡◌, false};
 ghost use Rattle.std.specs.Io.KnownBytes.{ReadConsumes, WriteAppends};
 ghost use Rattle.mc_lane.specs.Streams.{silent, no_counts, CanFail, Reads, Writes};
 
+use crate::stream::finds_end;
 use crate::{Broken, Counts, Stream};
 use std::io::{Read, Write};
 
@@ -13,6 +14,7 @@ use std::io::{Read, Write};
 pub struct Wire<T> {
     inner: T,
     counts: Counts,
+    at_end: bool,
 }
 
 impl<T: Read + Write + Drop> Wire<T> {
@@ -20,12 +22,13 @@ impl<T: Read + Write + Drop> Wire<T> {
 
     /// A stream over `inner`, on which no call has failed and no read has found the end.
     pub fn new(inner: T) -> Self
-        ensures state { ⟦<Wire<T> as Stream>⟧.state result ≡ silent no_counts }
+        ensures state { ⟦<Wire<T> as Stream>⟧.state result ≡ silent no_counts false }
         ensures inner { wire_inner result ≡ inner }
     {
         Wire {
             inner,
             counts: Counts::none(),
+            at_end: false,
         }
     }
 }
@@ -43,10 +46,12 @@ impl<T: Read + Write + Drop> Stream for Wire<T> {
         match self.inner.read(buffer) {
             Ok(count) => {
                 self.counts = self.counts.after_read(buffer.len(), count);
+                self.at_end = finds_end(buffer.len(), count);
                 Ok(count)
             }
             Err(_) => {
                 self.counts.failed_reads += 1;
+                self.at_end = false;
                 Err(Broken)
             }
         }

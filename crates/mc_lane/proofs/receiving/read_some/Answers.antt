@@ -8,7 +8,7 @@ pub returns-then-count-eq0 : goal.returns-then-count-eq0
 returns-then-count-eq0 g c =
     Adds-end c.args.limit c.args.got.now.items c.reserve.new.self.items c.read.new.buffer (g.S.Stream.state c.args.stream.now)
     (g.S.Stream.state c.read.new.self) c.in-Ok.count (grind (arith, common_steps)) (grind (arith, common_steps)) c.reserve.ensures.items
-    (omega arith) c.in-Ok.ensures.1
+    (omega arith) c.in-Ok.ensures.1 c.in-Ok.ensures.2
 
 -- it brought some bytes
 pub returns : goal.returns

@@ -4,7 +4,7 @@ use Rattle.mc_protocol.specs.declared.reply.Reply.{Reply}
 use Rattle.mc_lane.specs.Streams.{no_counts}
 use Rattle.mc_lane.proofs.Carried.{count_in_range}
 use Rattle.mc_lane.proofs.Received.{part_and_rest, part_and_next, part_of_longer, received_more, grown_more, Carries-after}
-use Rattle.mc_lane.proofs.Received.{needs_more, replies, fails, fault_for-no_counts, Stops-from_Brings}
+use Rattle.mc_lane.proofs.Received.{needs_more, replies, fails, fault_for-no_counts, fault_for-last, Stops-from_Brings}
 use Rattle.mc_lane.proofs.receiving.receive.Goals as goal
 
 -- the bytes from a place on, as the reader is fed them
@@ -29,6 +29,7 @@ returns-in-Ok-Done g c =
       recorded = before.grown;
       within = omega (arith, c.pieces.got.ok.0, before.within);
       carries = before.carries;
+      last = tt;
       outcome = record {
         forward = omega (arith, before.forward);
         within = count_in_range place used got to answer.1;
@@ -55,6 +56,7 @@ returns-in-Err g c =
       recorded = before.grown;
       within = omega (arith, c.pieces.got.ok.0, before.within);
       carries = rw (c.fault_for.ensures, fault_for-no_counts (Reply × ℕ) f) before.carries;
+      last = rw c.fault_for.ensures (fault_for-last (Reply × ℕ) f (g.S.Stream.state c.pieces.stream));
       outcome = rw c.fault_for.ensures stops;
     }
 
@@ -80,6 +82,7 @@ returns-in-Err-read_some g c =
       recorded = grown_more first got new read.brought before.grown read.recorded;
       within = read.within;
       carries = rw (received_more first got new read.brought before.grown read.recorded) carried;
+      last = read.last;
       outcome = Stops-from_Brings c.args.shape.verb c.args.shape.key.now got read.brought new start c.args.limit
           c.in-Err-read_some.fault unfinished read.recorded read.outcome;
     }

@@ -23,4 +23,5 @@ returns-clause-reads c =
         failed_writes = ap (λ (k : Counts). k.failed_writes) counted ∙ none_more _;
         ends = ap (λ (k : Counts). k.ends) counted;
       },
+      c.finds_end-self-inside.ensures,
     )

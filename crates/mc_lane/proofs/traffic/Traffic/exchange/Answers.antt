@@ -15,6 +15,7 @@ returns-in-Ok g c =
       stream = refl;
       carries = Carries-both (g.S.Stream.state c.args.stream.now) (g.S.Stream.state c.send.new.stream)
           (g.S.Stream.state c.receive.new.stream) received.received sent.written no_counts sent.carries received.carries;
+      last = received.last;
       sent = sent.recorded;
       got = received.recorded;
       limit = refl;
