@@ -26,8 +26,9 @@ pub record Spells (text : List ℕ) (code : Code) : Type 0 where
   pub code_of_script : LoadsScript text (Ok code)
   pub sound : IsSound code
 
--- What came of a run of this code: what was noted is what three lanes recorded, and all that is true of a trial is true of it,
--- with none of its events refused. The history is that of the run, and the verdict is on it.
+-- What came of a run of this code: there are records of three lanes with which what was noted agrees, and all that is true of a
+-- trial is true of it, with none of its events refused. The history is that of the run, and the verdict is on it. That these are
+-- the records of connections to the server isn't said: a run that was made up has such records too.
 pub record IsRun (code : Code) (held : Held) (h : History) (found : Verdict) : Type 0 where
   pub lanes : LaneRecords
   pub agree : Agree code held.world lanes

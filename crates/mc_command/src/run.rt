@@ -17,6 +17,7 @@ use crate::verdicts::verdict_text;
 use crate::verifying::verify_code;
 use crate::{limit, loading, meeting, verifying};
 use clap::{Arg, Command};
+use core::thread::Stack;
 use mc_core::World;
 use mc_explain::Verdict;
 use mc_history::print_history;
@@ -30,7 +31,7 @@ use std::io;
 use std::net::{Net, TcpStream};
 use std::rt::Clock;
 use std::sync::Wait;
-use std::thread::{Builder, Threads};
+use std::thread::Threads;
 
 /// What is answered to a text.
 #[derive(Debug, Drop)]
@@ -96,9 +97,9 @@ fn play_lanes<S: Stream + Send, R: Threads + Wait + Sync>(
     requires { AreNew lanes }
     ensures { IfOk result (answers.IsRightFor checked.now.code) }
 {
-    match run_lanes_with(rt, alloc, checked, lanes, &FreeGate, Builder::new(), meet) {
+    match run_lanes_with(rt, alloc, checked, lanes, &FreeGate, Stack::new(), meet) {
         Ok(run) => {
-            let (history, verdict) = run.judge(alloc, checked, limit)?;
+            let (history, verdict, _) = run.judge(alloc, checked, limit)?;
             let Run { world, .. } = run;
             Ok(Played::Ended(world, history, verdict))
         }

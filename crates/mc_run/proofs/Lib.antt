@@ -3,6 +3,8 @@ pub mod Agreed
 pub mod Begins
 mod FromReader
 pub mod Fronts
+mod Grown
 pub mod InOrder
 pub mod IsRecorded
+mod NotBegun
 pub mod Shown

@@ -10,6 +10,7 @@ pub use Rattle.mc_lane.specs.Lanes
 pub mod Agreement
 pub mod Books
 pub mod Headline
+pub mod Laws
 pub mod Recorded
 pub mod Running
 -- What private contracts cite.

@@ -1,9 +1,11 @@
 -- What running threads ask for, and what comes of a call.
-use Rattle.std.specs.Prelude.{◌≡◌, false, Result, Ok, Err, []}
+use Rattle.std.specs.Prelude.{◌≡◌, ℕ, false, Result, Ok, Err, List, []}
+use Rattle.mc_protocol.specs.Lines.{Word}
 use Rattle.mc_protocol.specs.Texts.{request_text}
 use Rattle.mc_protocol.specs.declared.fault.Fault.{Fault}
 use Rattle.mc_protocol.specs.declared.reply.Reply.{Reply}
 use Rattle.mc_protocol.specs.declared.request.Request.{Request}
+use Rattle.mc_protocol.specs.declared.request.Verb.{Verb}
 use Rattle.mc_history.specs.declared.event.Event.{Event}
 use Rattle.mc_history.specs.declared.event.Event.TheVariants as event
 use Rattle.mc_lane.specs.Lanes.{LaneRecord, is_closed, Calls}
@@ -19,6 +21,21 @@ pub record AreNew (lanes : LaneRecords) : Type 0 where
   pub p : IsNew lanes.p
   pub a : IsNew lanes.a
   pub b : IsNew lanes.b
+
+-- some call on a lane
+abbrev pub IsCall : LaneRecord → LaneRecord → Type 0
+IsCall old new = (verb : Verb) × (key : Word) × (request : List ℕ) × (result : Result Reply Fault) × Calls verb key request old new result
+
+-- the lane grew by calls, one after another
+pub data Grew : LaneRecord → LaneRecord → Type 0 where
+  none : {lane : LaneRecord} → Grew lane lane
+  call : {old new : LaneRecord} (last : LaneRecord) → Grew old last → IsCall last new → Grew old new
+
+-- the lane of each section did
+pub record AllGrew (old new : LaneRecords) : Type 0 where
+  pub p : Grew old.p new.p
+  pub a : Grew old.a new.a
+  pub b : Grew old.b new.b
 
 -- the event of a section whose lane comes to this
 abbrev pub event_for : Result Reply Fault → Event

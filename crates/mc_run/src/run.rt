@@ -2,7 +2,7 @@
 ghost use Rattle.std.specs.Prelude.{◌≡◌, IfOk};
 ghost use Rattle.mc_core.specs.Held.{IsHeldBy};
 ghost use Rattle.mc_core.specs.Histories.{history_of};
-ghost use Rattle.mc_explain.specs.Verdicts.{IsStated};
+ghost use Rattle.mc_explain.specs.Verdicts.{IsStated, IsWithin};
 ghost use Rattle.mc_run.specs.Headline.{IsTrial};
 
 use crate::Lanes;
@@ -20,7 +20,7 @@ use thiserror::Error;
 pub struct Run<S: Stream> {
     /// Its notes stand in the order in which the threads made them.
     pub world: World,
-    /// Those of the sections that didn't fail are open.
+    /// Those that the run was given, after the calls of their sections.
     pub lanes: Lanes<S>,
 }
 
@@ -50,7 +50,8 @@ impl From<AllocError> for RunError {
 }
 
 impl<S: Stream> Run<S> {
-    /// The history of the run and the verdict on it. The search for an explanation uses at most `limit` turns.
+    /// The history of the run, the verdict on it, and the number of turns that the search for an explanation used, which is at
+    /// most `limit`.
     ///
     /// The run's code is the one that it ran. Of its notes, as of the events of a [`trial`](crate::trial), all is true that
     /// stands there, and none of them was refused.
@@ -63,11 +64,12 @@ impl<S: Stream> Run<S> {
         alloc: Global,
         checked: &Checked,
         limit: u64,
-    ) -> Result<(History, Verdict), OutOfMemory>
+    ) -> Result<(History, Verdict, u64), OutOfMemory>
         requires held { IsHeldBy checked.now.code self.now.world }
         ensures headline { IfOk result (λ judged. IsTrial checked.now.code self.now.world.world.notes self.now.world.world 0 judged.1) }
         ensures history { IfOk result (λ judged. judged.0 ≡ history_of checked.now.code self.now.world.world) }
         ensures states { IfOk result (λ judged. IsStated (history_of checked.now.code self.now.world.world) judged.1) }
+        ensures turns { IfOk result (λ judged. IsWithin limit judged.1 judged.2) }
     {
         // These three calls are here for what they promise, and the headline rests on: folds are safe, the code is sound, and the
         // notes are small.
@@ -75,7 +77,7 @@ impl<S: Stream> Run<S> {
         let _code = checked.code();
         let _notes = self.world.notes();
         let history = self.world.history(alloc, checked)?;
-        let (verdict, _) = judge(alloc, &history, limit)?;
-        Ok((history, verdict))
+        let (verdict, turns) = judge(alloc, &history, limit)?;
+        Ok((history, verdict, turns))
     }
 }

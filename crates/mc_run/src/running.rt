@@ -1,19 +1,21 @@
 //! The threads of a run.
-ghost use Rattle.std.specs.Prelude.{IfOk};
+ghost use Rattle.std.specs.Prelude.{IfOk, IfSome};
 ghost use Rattle.mc_core.specs.Held.{IsHeldBy};
 ghost use Rattle.mc_run.specs.Agreement.{Agree};
-ghost use Rattle.mc_run.specs.Running.{AreNew};
+ghost use Rattle.mc_run.specs.Running.{AllGrew, AreNew, Grew};
 
 use crate::agreement::find_agreed;
 use crate::meeting::Meeting;
 use crate::section::{Part, run_section};
 use crate::{Book, Branch, Gate, Lanes, Manner, Meet, Run, RunError};
+use core::thread::Stack;
 use mc_lane::{Lane, Stream};
 use mc_protocol::Actor;
 use mc_verify::Checked;
 use std::alloc::Global;
+use std::snapshot::Snapshot;
 use std::sync::{Mutex, Wait};
-use std::thread::{self, Builder, Threads};
+use std::thread::{self, Promise, Threads};
 
 /// Runs sound code over three new lanes: P first, and when it is done A, on a thread of its own, beside B. All that happens is
 /// noted in one book: that a call begins before its first byte is written, and its reply, or the fault that ends its section, after
@@ -38,34 +40,36 @@ pub fn run_lanes<S: Stream + Send, G: Gate, R: Threads + Wait + Sync>(
 ) -> Result<Run<S>, RunError>
     requires new { AreNew lanes }
     ensures agrees { IfOk result (λ run. Agree checked.now.code run.world.world run.lanes) }
+    ensures grew { IfOk result (λ run. AllGrew lanes run.lanes) }
     ensures held { IfOk result (λ run. IsHeldBy checked.now.code run.world) }
 {
     let meet = Meet {
         manner: Manner::Each,
         apart: Branch::A,
     };
-    run_lanes_with(rt, alloc, checked, lanes, gate, Builder::new(), meet)
+    run_lanes_with(rt, alloc, checked, lanes, gate, Stack::new(), meet)
 }
 
-/// The same, where `builder` makes the thread for a branch, as with a stack of a size of its own, and `meet` says which branch that
-/// is and how the branches wait for each other.
+/// The same, where the thread of a branch has this stack, and `meet` says which branch that is and how the branches wait for each
+/// other.
 pub fn run_lanes_with<S: Stream + Send, G: Gate, R: Threads + Wait + Sync>(
     rt: &R,
     alloc: Global,
     checked: &Checked,
     lanes: Lanes<S>,
     gate: &G,
-    builder: Builder,
+    stack: Stack,
     meet: Meet,
 ) -> Result<Run<S>, RunError>
     requires new { AreNew lanes }
     ensures agrees { IfOk result (λ run. Agree checked.now.code run.world.world run.lanes) }
+    ensures grew { IfOk result (λ run. AllGrew lanes run.lanes) }
     ensures held { IfOk result (λ run. IsHeldBy checked.now.code run.world) }
 {
     let book = Mutex::new(Book::new(alloc, checked)?);
     let Lanes { p, a, b } = lanes;
     let p = run_section(rt, alloc, &book, gate, Part::new(Actor::P, p));
-    let Some((a, b)) = run_branches(rt, alloc, &book, gate, (a, b), builder, meet) else {
+    let Some((a, b)) = run_branches(rt, alloc, &book, gate, (a, b), stack, meet) else {
         return Err(RunError::NoThread);
     };
     let noted = book.into_inner().into_world();
@@ -84,9 +88,11 @@ fn run_branches<S: Stream + Send, G: Gate, R: Threads + Wait + Sync>(
     book: &Mutex<Book<'_>>,
     gate: &G,
     lanes: (Lane<S>, Lane<S>),
-    builder: Builder,
+    stack: Stack,
     meet: Meet,
-) -> Option<(Lane<S>, Lane<S>)> {
+) -> Option<(Lane<S>, Lane<S>)>
+    ensures { IfSome result (λ grown. Grew lanes.0 grown.0 × Grew lanes.1 grown.1) }
+{
     let (a, b) = lanes;
     if !(has_calls(rt, book, Actor::A) && has_calls(rt, book, Actor::B)) {
         let a = run_section(rt, alloc, book, gate, Part::new(Actor::A, a));
@@ -97,9 +103,9 @@ fn run_branches<S: Stream + Send, G: Gate, R: Threads + Wait + Sync>(
     let a = Part::new(Actor::A, a).with_seat(meeting.seat(Branch::A));
     let b = Part::new(Actor::B, b).with_seat(meeting.seat(Branch::B));
     match meet.apart {
-        Branch::A => run_both(rt, alloc, book, gate, a, b, builder),
+        Branch::A => run_both(rt, alloc, book, gate, a, b, stack),
         Branch::B => {
-            let (b, a) = run_both(rt, alloc, book, gate, b, a, builder)?;
+            let (b, a) = run_both(rt, alloc, book, gate, b, a, stack)?;
             Some((a, b))
         }
     }
@@ -119,14 +125,33 @@ fn run_both<S: Stream + Send, G: Gate, R: Threads + Wait + Sync>(
     gate: &G,
     apart: Part<'_, S>,
     here: Part<'_, S>,
-    builder: Builder,
-) -> Option<(Lane<S>, Lane<S>)> {
-    thread::scope(thread::scope_env(), rt, move |scope| {
-        let run_apart = move || run_section(rt, alloc, book, gate, apart);
-        let Ok(started) = builder.spawn_scoped(scope, run_apart) else {
-            return None;
-        };
-        let here = run_section(rt, alloc, book, gate, here);
-        Some((started.join(rt), here))
-    })
+    stack: Stack,
+) -> Option<(Lane<S>, Lane<S>)>
+    ensures { IfSome result (λ grown. Grew apart.entry.lane grown.0 × Grew here.entry.lane grown.1) }
+{
+    thread::scope(
+        thread::scope_env(),
+        rt,
+        move |scope| -> Option<(Lane<S>, Lane<S>)>
+            ensures { IfSome result (λ grown. Grew apart.entry.lane grown.0 × Grew here.entry.lane grown.1) }
+        {
+            let promise = GrowsFrom(Snapshot::of(&apart.lane));
+            let run_apart = move || run_section(rt, alloc, book, gate, apart);
+            let Ok(started) = stack.spawn_scoped_with(scope, promise, run_apart) else {
+                return None;
+            };
+            let here = run_section(rt, alloc, book, gate, here);
+            Some((started.join(rt), here))
+        },
+    )
+}
+
+/// What the thread of a branch promises of the lane that it answers: it grew from this one.
+#[derive(Drop)]
+struct GrowsFrom<S: Stream>(Snapshot<Lane<S>>);
+
+impl<S: Stream> Promise<Lane<S>> for GrowsFrom<S> {
+    ghost use Rattle.mc_run.specs.Running.{Grew};
+
+    ghost kept_by = { λ promise lane. Grew promise.0.value lane };
 }

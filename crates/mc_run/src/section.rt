@@ -1,5 +1,6 @@
 //! One section of a run, call by call.
 ghost use Rattle.std.specs.Prelude.{◌≡◌};
+ghost use Rattle.mc_run.specs.Running.{Grew};
 
 use crate::carrying::{Prepared, carry, prepare};
 use crate::meeting::Seat;
@@ -14,14 +15,16 @@ use std::sync::{Mutex, Wait};
 #[derive(Drop)]
 pub(crate) struct Part<'m, S: Stream> {
     actor: Actor,
-    lane: Lane<S>,
+    pub(crate) lane: Lane<S>,
     /// Where a branch waits for the other one.
     seat: Option<Seat<'m>>,
 }
 
 impl<'m, S: Stream> Part<'m, S> {
     /// A section that waits for no other.
-    pub(crate) fn new(actor: Actor, lane: Lane<S>) -> Part<'m, S> {
+    pub(crate) fn new(actor: Actor, lane: Lane<S>) -> Part<'m, S>
+        ensures { result.lane ≡ lane }
+    {
         Part {
             actor,
             lane,
@@ -30,7 +33,9 @@ impl<'m, S: Stream> Part<'m, S> {
     }
 
     /// The same, where it comes to a meeting before each of its calls.
-    pub(crate) fn with_seat(self, seat: Seat<'m>) -> Part<'m, S> {
+    pub(crate) fn with_seat(self, seat: Seat<'m>) -> Part<'m, S>
+        ensures { result.lane ≡ self.entry.lane }
+    {
         let Part { actor, lane, .. } = self;
         Part {
             actor,
@@ -47,7 +52,9 @@ pub(crate) fn run_section<S: Stream, G: Gate, R: Wait>(
     book: &Mutex<Book<'_>>,
     gate: &G,
     part: Part<'_, S>,
-) -> Lane<S> {
+) -> Lane<S>
+    ensures { Grew part.entry.lane result }
+{
     let Part {
         actor,
         mut lane,
@@ -100,7 +107,9 @@ fn run_call<S: Stream, G: Gate, R: Wait>(
     place: (Actor, u32),
     prepared: &Prepared,
     lane: &mut Lane<S>,
-) -> bool {
+) -> bool
+    ensures { Grew lane.old lane.new }
+{
     let (actor, index) = place;
     let begins = book.lock(rt).begin(actor, prepared.call);
     if !begins {

@@ -1,10 +1,12 @@
-//! Tests of `mc_command` by its public calls: that `drive` keeps its limit, and the status after a run. What the program shows to its
-//! user stands in `cases/`.
+//! Tests of `mc_command` by its public calls: that `drive` keeps its limit, that `run` needs a server, and the status after a run. What
+//! the program shows to its user stands in `cases/`.
 #![tactic(auto)]
 
 #[cfg(test)]
 mod driven;
 #[cfg(test)]
 mod limit_tests;
+#[cfg(test)]
+mod run_tests;
 #[cfg(test)]
 mod status_tests;

@@ -7,6 +7,7 @@ ghost use Rattle.mc_lane.specs.Streams.{CanFail};
 ghost use Rattle.mc_run.specs.Running.{AreNew, IsNew};
 
 use crate::signal::Signal;
+use core::thread::Stack;
 use mc_core::Ending;
 use mc_lane::{Lane, MemoryStream, Stream};
 use mc_protocol::{Actor, Fault, OutOfMemory};
@@ -15,7 +16,7 @@ use mc_verify::Checked;
 use std::alloc::{AllocError, Global};
 use std::sync::Wait;
 use std::test::Fail;
-use std::thread::{Builder, Threads};
+use std::thread::Threads;
 
 /// What a server answers over one lane, in pieces, and the call of its stream that fails, where reads and writes are counted
 /// together from 1.
@@ -77,7 +78,7 @@ pub(crate) fn run_meeting<S: Stream + Send, G: Gate, R: Threads + Wait + Sync>(
     requires { AreNew lanes }
     ensures { IfOk result (λ run. IsHeldBy checked.now.code run.world) }
 {
-    with_memory(run_lanes_with(rt, alloc, checked, lanes, gate, Builder::new(), meet))
+    with_memory(run_lanes_with(rt, alloc, checked, lanes, gate, Stack::new(), meet))
 }
 
 /// The run that was found. Want of memory in a section is an error here, as that of a thread is: none of these tests expects it.

@@ -3,6 +3,7 @@
 use crate::counter::{checked, counter};
 use crate::lanes::{BothBegin, NEVER, Served, has_memory, lanes, run_meeting};
 use Ending::{Done, Failed, NotBegun};
+use core::thread::Stack;
 use mc_core::{Ending, Event};
 use mc_lane::MemoryStream;
 use mc_protocol::{Actor, Fault};
@@ -11,7 +12,7 @@ use mc_verify::Checked;
 use std::alloc::{AllocError, Global};
 use std::sync::Wait;
 use std::test::Fail;
-use std::thread::{Builder, Threads};
+use std::thread::Threads;
 
 /// Each way to meet.
 static MEETS: [Meet; 6] = [
@@ -203,8 +204,8 @@ fn run_threadless<R: Threads + Wait + Sync>(
 ) -> Result<Result<[Ending; 3], RunError>, Fail> {
     let given = lanes(alloc, served)?;
     // no thread has such a stack
-    let builder = Builder::new().stack_size(usize::MAX);
-    match run_lanes_with(rt, alloc, checked, given, &FreeGate, builder, meet) {
+    let stack = Stack::new().stack_size(usize::MAX);
+    match run_lanes_with(rt, alloc, checked, given, &FreeGate, stack, meet) {
         Ok(run) => {
             has_memory(&run)?;
             Ok(Ok(endings(&run)))

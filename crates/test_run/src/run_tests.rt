@@ -213,7 +213,7 @@ fn is_judged_as(
 ) -> Result<bool, Fail>
     requires { IsHeldBy counter.now.code run.now.world }
 {
-    let (_, found) = run.judge(alloc, counter, limit)?;
+    let (_, found, _) = run.judge(alloc, counter, limit)?;
     Ok(text(alloc, &found)?.as_slice() == verdict)
 }
 
