@@ -16,21 +16,6 @@ neither_has false b p q = q
 pub none_joined : (a b : List ℕ) → has_end a ≡ false → has_end b ≡ false → has_end (a ++ b) ≡ false
 none_joined a b p q = has_end-append a b ∙ neither_has (has_end a) (has_end b) p q
 
--- a line that isn't ended grows by a piece with no LF that has room
-pub line_grows : (start piece : List ℕ) → IsLine start → length piece < LINE_LIMIT - length start → has_end piece ≡ false
-    → IsLine (start ++ piece)
-line_grows start piece l room none =
-    let short = l.short in
-    let n = length-append start piece in
-    record { one = none_joined start piece l.one none; short = omega arith }
-
-pub line_ends : (start piece : List ℕ) (at : ℕ) → IsLine start → at < LINE_LIMIT - length start → IsFirstEnd piece at
-    → IsLine (start ++ take at piece)
-line_ends start piece at l room e =
-    let within = e.within in
-    let n = length-take at piece in
-    line_grows start (take at piece) l (omega arith) e.none_before
-
 pub grows_too_long : (start piece : List ℕ) → IsLine start → LINE_LIMIT - length start ≤ length piece
     → has_end (take (LINE_LIMIT - length start) piece) ≡ false → GrowsTooLong start piece
 grows_too_long start piece l room none =

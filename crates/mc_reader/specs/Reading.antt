@@ -28,9 +28,3 @@ IsAnswer verb key text piece (Err fault) fed = (fed ≡ None) × HasFailed verb 
 abbrev pub IsAnswerAfter : Verb → Word → Option (List ℕ) → List ℕ → Result Fed ReadFault → Option (List ℕ) → Type 0
 IsAnswerAfter verb key None piece result fed = (result ≡ Err Failed) × (fed ≡ None)
 IsAnswerAfter verb key (Some text) piece result fed = IsAnswer verb key text piece result fed
-
--- a reader answers this to a piece, and is left so
-pub record Feeds (old : Reading) (piece : List ℕ) (result : Result Fed ReadFault) (new : Reading) : Type 0 where
-  pub verb : new.verb ≡ old.verb
-  pub key : new.key ≡ old.key
-  pub answer : IsAnswerAfter old.verb old.key old.fed piece result new.fed

@@ -68,8 +68,3 @@ pub last_answers : {E : Type 0} (F : Actor → Type 0) (r : Result Bool E) → F
     → IfOk r (λ answer. (answer ≡ true) ↔ F actor.B) → IfOk r (λ answer. (answer ≡ true) ↔ ((who : Actor) → F who))
 last_answers F (Ok answer) p a h = (λ e. every F p a (h.0 e), λ all. h.1 (all actor.B))
 last_answers F (Err e) p a h = tt
-
-pub found_where : (c : Code) (w : World) (lanes : LaneRecords) (found : Option Held) → FindsAgreed c w lanes found
-    → (is_some found ≡ true) ↔ Agree c w lanes
-found_where c w lanes None none = (λ (h : false ≡ true). absurd (cc), λ agree. absurd (none agree))
-found_where c w lanes (Some h) there = (λ _. there.0, λ _. refl)
