@@ -86,7 +86,8 @@ storage verb words = refused BadLine
 
 unfoldable pub swapping : Words → LineSays
 swapping (key ∷ flags ∷ time ∷ bytes ∷ number ∷ words) =
-    storage_says verb.Cas key (number_in MAX_32 flags) (time_in time) (number_in ANNOUNCED_LIMIT bytes) (number_in MAX_64 number) (ending words)
+    storage_says verb.Cas key (number_in MAX_32 flags) (time_in time) (number_in ANNOUNCED_LIMIT bytes)
+    (number_in MAX_64 number) (ending words)
 swapping words = refused BadLine
 
 -- a key, perhaps a number, and perhaps noreply

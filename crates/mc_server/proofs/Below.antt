@@ -64,5 +64,6 @@ after n c k act.Removes is h = below_removed n c k h
 
 -- what was decided keeps the numbers below the counter
 pub below_changed : (request : Request) (pad : Bool) (n : ℕ) (c : Contents) (found : Option Item) (decided : Change) → AreBelow n c
-    → AreBelow (if makes_version (change_at request pad n found decided) then n + 1 else n) (act.with_change c request.key (change_at request pad n found decided))
+    → AreBelow (if makes_version (change_at request pad n found decided) then n + 1 else n)
+    (act.with_change c request.key (change_at request pad n found decided))
 below_changed request pad n c found decided h = after n c request.key (change_at request pad n found decided) (numbered request pad n found decided) h

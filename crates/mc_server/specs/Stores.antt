@@ -19,7 +19,8 @@ pub record Stored : Type 0 where
 
 abbrev pub coded_stored : Coded Stored
 coded_stored =
-    code_by (Contents × ℕ) (coded× coded_contents coded_ℕ) (λ s. (s.contents, s.next)) (λ p. record { contents = p.0; next = p.1 }) (λ _. refl)
+    code_by (Contents × ℕ) (coded× coded_contents coded_ℕ) (λ s. (s.contents, s.next))
+    (λ p. record { contents = p.0; next = p.1 }) (λ _. refl)
 
 -- every item's number is below the next one
 abbrev pub AreBelow : ℕ → Contents → Type 0

@@ -32,7 +32,8 @@ at_most_one false = omega arith
 pub read_counted : {E : Type 0} (n : ℕ) (before after : StreamState) (buffer : List ℕ) (result : Result ℕ E)
     → Reads before after buffer result → IsCounted n before → IsCounted (n + 1) after
 read_counted n before after buffer (Ok k) (fits, is, at) counted =
-    carried n before after (take k buffer) [] (counts_of_read (length buffer) k) is (omega arith) (omega arith) (at_most_one (nat_lt 0 (length buffer) && (k == 0))) counted
+    carried n before after (take k buffer) [] (counts_of_read (length buffer) k) is (omega arith) (omega arith)
+    (at_most_one (nat_lt 0 (length buffer) && (k == 0))) counted
 read_counted n before after buffer (Err e) (is, at) counted = carried n before after [] [] a_failed_read is (omega arith) (omega arith) (omega arith) counted
 
 pub write_counted : {E : Type 0} (n : ℕ) (before after : StreamState) (bytes : List ℕ) (result : Result ℕ E)

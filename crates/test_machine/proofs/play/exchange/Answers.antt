@@ -13,7 +13,7 @@ template-requires c =
     let code : Code = c.args.checked.now.code in
     let stands = c.make_call.ensures.stands in
     let named = outstanding_is_named code c.make_call.new.machine stands.0 stands.1 stands.2 c.in-Some.call stands.3
-        (c.in_ok-call.ensures.made ∙ c.in-Some.is) in
+    (c.in_ok-call.ensures.made ∙ c.in-Some.is) in
     rw c.code.ensures.code (slice_get_within code.templates c.in-Some.call.template (template_of code c.in-Some.call) named)
 
 pub answer-requires-clause-fits : goal.answer-requires-clause-fits
@@ -23,6 +23,6 @@ answer-requires-clause-fits c =
     let waits = c.in_ok-call.ensures.made ∙ c.in-Some.is in
     let named = outstanding_is_named code c.make_call.new.machine stands.0 stands.1 stands.2 c.in-Some.call stands.3 waits in
     let here = subst (λ (code : Code). slice_get code.templates c.in-Some.call.template ≡ Some c.template.result.now) c.code.ensures.code
-        c.template.ensures.template in
+    c.template.ensures.template in
     let is : c.template.result.now ≡ template_of code c.in-Some.call = some_is _ _ (sym here ∙ named) in
     (c.in-Some.call, waits, ap (λ (t : Template). is_fit_for t.verb c.reply-reply.result) (sym is) ∙ sym c.may_answer.ensures ∙ c.if-not-may_answer.false)

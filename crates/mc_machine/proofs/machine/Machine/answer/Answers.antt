@@ -17,7 +17,8 @@ returns-clause-stands c =
     let is = c.code-code.ensures.code in
     let takes = subst (λ code. moves.IsTaken code c.args.self.now c.args.reply.now c.take.new.self) is c.take.ensures.taken in
     let follows = subst (λ code. moves.Follows code c.take.new.self c.settle.new.self) is c.settle.ensures.follows in
-    let waits = subst (λ code. spec.waits_at (slice_get (instructions_in code c.settle.new.self.actor) c.settle.new.self.place) ≡ true) is c.settle.ensures.waits in
+    let waits = subst (λ code. spec.waits_at (slice_get (instructions_in code c.settle.new.self.actor) c.settle.new.self.place) ≡ true) is
+    c.settle.ensures.waits in
     answered_stands c.args.checked.now.code c.args.self.now c.settle.new.self c.args.reply.now stands fits
     (taken_answers c.args.checked.now.code c.args.self.now c.take.new.self c.settle.new.self c.args.reply.now takes follows waits
     (c.settle.ensures.outstanding ∙ c.take.ensures.idle))
@@ -27,6 +28,7 @@ returns-clause-answered c =
     let is = c.code-code.ensures.code in
     let takes = subst (λ code. moves.IsTaken code c.args.self.now c.args.reply.now c.take.new.self) is c.take.ensures.taken in
     let follows = subst (λ code. moves.Follows code c.take.new.self c.settle.new.self) is c.settle.ensures.follows in
-    let waits = subst (λ code. spec.waits_at (slice_get (instructions_in code c.settle.new.self.actor) c.settle.new.self.place) ≡ true) is c.settle.ensures.waits in
+    let waits = subst (λ code. spec.waits_at (slice_get (instructions_in code c.settle.new.self.actor) c.settle.new.self.place) ≡ true) is
+    c.settle.ensures.waits in
     taken_answers c.args.checked.now.code c.args.self.now c.take.new.self c.settle.new.self c.args.reply.now takes follows waits
     (c.settle.ensures.outstanding ∙ c.take.ensures.idle)

@@ -27,7 +27,8 @@ pub returns-in-Some-clause-err : goal.returns-in-Some-clause-err
 returns-in-Some-clause-err c =
     let w = c.renew.new.item in
     on_err_weaker c.renew.result (λ is.
-    kept_entries c.self.inside.map.entries (c.get_mut.follows.lender w).entries c.args.request.now.key c.in-Some.item.now w c.in-Some.ensures.value is (c.get_mut.follows.holds w).0
+    kept_entries c.self.inside.map.entries (c.get_mut.follows.lender w).entries c.args.request.now.key c.in-Some.item.now w c.in-Some.ensures.value is
+    (c.get_mut.follows.holds w).0
     ∙ c.self.view_is) c.renew.ensures.err
 
 pub returns-in-None-2-clause-ok : goal.returns-in-None-2-clause-ok
