@@ -5,6 +5,7 @@ mod NotedEvents
 mod Sending
 mod Admitting
 mod SmallNumbers
+mod Deciding
 mod Safe
 pub mod MachineLemmas
 pub mod Refusals

@@ -1,6 +1,5 @@
 -- A fold in sound code is safe, and within its room.
-use Rattle.std.proofs.Common.{◌≡◌, inl, inr, ◌<◌, ◌≤◌, ◌^◌, Bool, true, false, if◌then◌else◌, Option, Some, None, List, []}
-use Rattle.std.proofs.Common.{◌∷◌, ◌++◌, length, map, slice_get, slice_index_or, refl, ap, sym, subst, ◌∙◌, arith}
+use Rattle.std.proofs.Common.{◌≡◌, ◌⊎◌, inl, inr, ◌<◌, ◌≤◌, ◌^◌, Bool, true, false, if◌then◌else◌, Option, Some, None, List, [], ◌∷◌, ◌++◌, length, map, slice_get, slice_index_or, refl, ap, sym, subst, ◌∙◌, arith}
 use Rattle.std.specs.List.{flat_map}
 use Rattle.std.specs.Option.{option_to_list}
 use Rattle.std.proofs.lemmas.List.Elements.{All-head, All-tail}
@@ -28,15 +27,16 @@ use Rattle.mc_history.specs.declared.event.Event.{Event}
 use Rattle.mc_history.specs.declared.event.Event.TheVariants as event
 use Rattle.mc_core.specs.Laws.{FoldsAreSafe, FoldsAreWithinRoom}
 use Rattle.mc_core.specs.Logs.{Log, call_of, calls_in, events_of_pair, begin_of, exchanges_in, IsNextCall, IsRightLog}
-use Rattle.mc_core.specs.Safety.{IsSmallEvent, IsSmallNote, AreSmall, RanRight, bytes_of_all}
-use Rattle.mc_core.specs.Worlds.{World, Noted, log_of, events_of, exchanges_of}
+use Rattle.mc_core.specs.Safety.{IsSmallEvent, IsSmallNote, AreSmall, IsRightRun, RanRight, bytes_of_all}
+use Rattle.mc_core.specs.Worlds.{World, Noted, log_of, events_of, exchanges_of, IsBegun}
 use Rattle.mc_core.proofs.Admitting.{admitted}
+use Rattle.mc_core.proofs.Deciding.{begun_or_not}
 use Rattle.mc_core.proofs.FoldLemmas.{fold_right}
 use Rattle.mc_core.proofs.LogLemmas.{new_is_right}
 use Rattle.mc_core.proofs.NotedEvents.{AreNoted, fold_noted, few_notes, silent}
 use Rattle.mc_core.proofs.Sending.{log_within}
 use Rattle.mc_core.proofs.SmallNumbers.{IsSmallState, AreSmallExchanges, run_small, initial_small, MayHave, text_within, sent_number}
-use Rattle.mc_core.proofs.StepLemmas.{MayBeRight}
+use Rattle.mc_core.proofs.StepLemmas.{IsRight, IsRightIn, MayBeRight, begun_is_right}
 
 -- ---- small replies
 
@@ -165,11 +165,10 @@ few_bytes c w who sound noted small (inr right) =
 
 -- ---- runs
 
-pub ran_right : (c : Code) (w : World) (who : Actor) → IsSound c → MayBeRight c w who → RanRight c w who
-ran_right c w who sound (inl new) = inl new
-ran_right c w who sound (inr right) =
-    let stands = calls_stand c who right.variables (log_of w who).answered right.right.makes in
-    inr (
+-- the run of a section that has begun
+run_right : (c : Code) (w : World) (who : Actor) → IsSound c → (right : IsRightIn c w who) → (variables : List Tagged) × IsRightRun c w who variables
+run_right c w who sound right =
+    let stands = calls_stand c who right.variables (log_of w who).answered right.right.makes in (
       right.variables,
       record {
         begins = right.begins;
@@ -181,6 +180,14 @@ ran_right c w who sound (inr right) =
       },
     )
 
+pub ran_right : (c : Code) (w : World) (who : Actor) → IsSound c → IsRight c w → RanRight c w who
+ran_right c w who sound right = by_begun (right who) (begun_or_not c w who sound (right actor.P))
+  where
+    by_begun : MayBeRight c w who → IsBegun c w who ⊎ (IsBegun c w who → ⊥) → RanRight c w who
+    by_begun some (inl begun) = inr (run_right c w who sound (begun_is_right c w who some begun))
+    by_begun (inl new) (inr not) = inl (not, new)
+    by_begun (inr some) (inr not) = absurd (not some.begun)
+
 -- ---- all of it
 
 pub folds_safe : FoldsAreSafe
@@ -188,7 +195,7 @@ folds_safe c events w skipped sound fold small =
     let right = fold_right c fold in
     let noted = fold_noted c fold in record {
       noted = noted;
-      runs = λ who. ran_right c w who sound (right who);
+      runs = λ who. ran_right c w who sound right;
       admitted = admitted c w sound right;
       budgets = λ who. record { requests = few_calls c w who sound (right who); bytes = few_bytes c w who sound noted small (right who) };
       silent = λ who. silent w who noted;

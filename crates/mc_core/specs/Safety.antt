@@ -17,7 +17,7 @@ use Rattle.mc_verify.specs.Flags.{IsAdmitted, all_clear}
 use Rattle.mc_history.specs.declared.event.Event.{Event}
 use Rattle.mc_history.specs.declared.event.Event.TheVariants as event
 use Rattle.mc_core.specs.Logs.{new_log, calls_in, answered_in, events_in, request_of, IsRightLog}
-use Rattle.mc_core.specs.Worlds.{World, Noted, log_of, events_of, exchanges_of, BeginsIn}
+use Rattle.mc_core.specs.Worlds.{World, Noted, log_of, events_of, exchanges_of, BeginsIn, IsBegun}
 
 -- ---- numbers of 64 bits
 
@@ -55,9 +55,9 @@ pub record IsRightRun (c : Code) (w : World) (who : Actor) (variables : List Tag
   pub stands : StandsAt c who variables (exchanges_of c w who) place st
   pub right : IsRightAlong c who variables (exchanges_of c w who)
 
--- nothing happened in the section, or its log is that of such a run
+-- the section hasn't begun, and nothing happened in it; or its log is that of such a run
 abbrev pub RanRight : Code → World → Actor → Type 0
-RanRight c w who = (log_of w who ≡ new_log) ⊎ ((variables : List Tagged) × IsRightRun c w who variables)
+RanRight c w who = ((IsBegun c w who → ⊥) × (log_of w who ≡ new_log)) ⊎ ((variables : List Tagged) × IsRightRun c w who variables)
 
 -- ---- flags
 
