@@ -2,7 +2,9 @@
 mod AskFeeding
 mod AskSteps
 mod AskUnfinished
+mod AskUnique
 mod AskWordCuts
+mod AskWritten
 mod Blocks
 mod Feeding
 mod FirstLines

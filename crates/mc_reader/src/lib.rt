@@ -34,7 +34,7 @@ mod words;
 pub use ask::{Ask, AskFault, Asked, Refuse};
 pub use ask_reader::RequestReader;
 pub use fault::{ErrorKind, ReadFault};
-pub use laws::{one_reply, spelled_replies_fit, written_is_spelled};
+pub use laws::{one_ask, one_reply, spelled_replies_fit, written_is_asked, written_is_spelled};
 pub use limits::{
     ANNOUNCED_LIMIT, LINE_LIMIT, NUMBER_SPACES_LIMIT, REQUEST_BODY_LIMIT, REQUEST_KEY_LIMIT,
 };
