@@ -5,6 +5,7 @@ mod AskUnfinished
 mod AskUnique
 mod AskWordCuts
 mod AskWritten
+mod AskWrittenLines
 mod Blocks
 mod Feeding
 mod FirstLines
