@@ -22,7 +22,8 @@ use Rattle.mc_reader.specs.declared.ask_stage.AskStep.{AskStep}
 use Rattle.mc_reader.specs.declared.ask_stage.AskStep.TheVariants.{More, Done}
 use Rattle.mc_reader.proofs.StepLemmas.{ends_after}
 
-step_parts : (E : List ℕ → Asking → Type 0) (After : AskStage → List ℕ → Type 0) (text front piece : List ℕ) (result : Result AskStep AskFault)
+step_parts : (E : List ℕ → Asking → Type 0) (After : AskStage → List ℕ → Type 0) (text front piece : List ℕ)
+    (result : Result AskStep AskFault)
     → StepsTo E After (text ++ front) piece result → StepsTo E After text (front ++ piece) result
 step_parts E After text front piece (Ok (More s)) p = subst (After s) (append_assoc text front piece) p
 step_parts E After text front piece (Ok (Done asked unread)) p = ends_after E text front piece (ask_of asked) unread p

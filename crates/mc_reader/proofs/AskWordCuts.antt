@@ -25,14 +25,14 @@ space_next (x ∷ xs) =
       | false ↦ λ e. subst (λ m. BeginsSpace (drop m (x ∷ xs))) (sym (one_more (position_or_len is_space xs))) (space_next xs)
     ] refl
 
-abbrev is_some_word : Word → Bool
+abbrev pub is_some_word : Word → Bool
 is_some_word word = not (length word == 0)
 
 after_words : (rest : List ℕ) → BeginsSpace rest → filter is_some_word (words_after rest) ≡ words_of Space rest
 after_words [] h = refl
 after_words (x ∷ xs) h = rw h refl
 
-positive : (word : Word) → 0 < length word → is_some_word word ≡ true
+pub positive : (word : Word) → 0 < length word → is_some_word word ≡ true
 positive word h = ap not (not_true (length word == 0) (λ e. let none = eqb-true (length word) 0 e in absurd (omega arith)))
 
 some_word : (x : ℕ) (xs : List ℕ) → is_space x ≡ false → is_some_word (take (position_or_len is_space (x ∷ xs)) (x ∷ xs)) ≡ true
@@ -40,7 +40,7 @@ some_word x xs e =
     let m = length-take (suc (position_or_len is_space xs)) (x ∷ xs) in
     rw (e, one_more (position_or_len is_space xs)) (positive (take (suc (position_or_len is_space xs)) (x ∷ xs)) (omega arith))
 
-kept : (b : Bool) (word : Word) (words : Words) → b ≡ true → cond b (word ∷ words) words ≡ word ∷ words
+pub kept : (b : Bool) (word : Word) (words : Words) → b ≡ true → cond b (word ∷ words) words ≡ word ∷ words
 kept true word words e = refl
 kept false word words e = absurd (cc)
 

@@ -2,7 +2,10 @@
 mod AskFeeding
 mod AskSteps
 mod AskUnfinished
+mod AskUnique
 mod AskWordCuts
+mod AskWritten
+mod AskWrittenLines
 mod Blocks
 mod Feeding
 mod FirstLines

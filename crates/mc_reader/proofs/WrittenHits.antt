@@ -39,21 +39,21 @@ use Rattle.mc_reader.proofs.TextLemmas.{text_is}
 
 -- ---- decimals
 
-below : (n : ℕ) → n ≤ MAX_64 → n < 2 ^ 64
+pub below : (n : ℕ) → n ≤ MAX_64 → n < 2 ^ 64
 below n small = omega arith
 
-are : (n : ℕ) → n ≤ MAX_64 → are_digits (decimal n) ≡ true
+pub are : (n : ℕ) → n ≤ MAX_64 → are_digits (decimal n) ≡ true
 are n small = digits_decimal digits n (below n small)
 
-short : (n : ℕ) → n ≤ MAX_64 → length (decimal n) ≤ 20
+pub short : (n : ℕ) → n ≤ MAX_64 → length (decimal n) ≤ 20
 short n small = length-decimal-le 20 n (omega arith) (omega arith) (below n small)
 
-alone : (n : ℕ) → n ≤ MAX_64 → has_digits_alone (decimal n) ≡ true
+pub alone : (n : ℕ) → n ≤ MAX_64 → has_digits_alone (decimal n) ≡ true
 alone n small =
     both (not (length (decimal n) == 0)) (are_digits (decimal n))
     (some_length (length (decimal n)) (decimal_nonempty n (below n small))) (are n small)
 
-value : (n : ℕ) → n ≤ MAX_64 → digits_value 10 (decimal n) ≡ n
+pub value : (n : ℕ) → n ≤ MAX_64 → digits_value 10 (decimal n) ≡ n
 value n small = digits_value-decimal digits n (below n small)
 
 -- ---- words
@@ -62,16 +62,16 @@ none_all : (test : ℕ → Bool) (xs : List ℕ) → list_any test xs ≡ false 
 none_all test xs h k d l = not_true (test (get_or xs k d))
     (λ p. let q : list_any test xs ≡ true = list_any_at test xs k d l p in absurd (cc))
 
-next : (word text : List ℕ) → list_any is_space word ≡ false → words_of (word ++ 32 ∷ text) ≡ word ∷ words_of text
+pub next : (word text : List ℕ) → list_any is_space word ≡ false → words_of (word ++ 32 ∷ text) ≡ word ∷ words_of text
 next word text h = slice_split_at is_space word 32 text (none_all is_space word h) refl
 
-last : (word : List ℕ) → list_any is_space word ≡ false → words_of word ≡ word ∷ []
+pub last : (word : List ℕ) → list_any is_space word ≡ false → words_of word ≡ word ∷ []
 last word h = slice_split_none is_space word (none_all is_space word h)
 
-no_space : (n : ℕ) → n ≤ MAX_64 → list_any is_space (decimal n) ≡ false
+pub no_space : (n : ℕ) → n ≤ MAX_64 → list_any is_space (decimal n) ≡ false
 no_space n small = none_of_digits 32 refl (decimal n) (are n small)
 
-no_end : (n : ℕ) → n ≤ MAX_64 → has_end (decimal n) ≡ false
+pub no_end : (n : ℕ) → n ≤ MAX_64 → has_end (decimal n) ≡ false
 no_end n small = none_of_digits 10 refl (decimal n) (are n small)
 
 -- what follows the key, and the text of the line without its CR
@@ -142,14 +142,14 @@ chain : (a b c d : Bool) (x f y n : ℕ) (z w : Option ℕ) → a ≡ false → 
     ≡ Ok (Hit (record { flags = f; body_len = n; cas = w }))
 chain a b c d x f y n z w p q r s e g h = rw (p, q, r, s, e, g, h) refl
 
-not_set : (b : Bool) → b ≡ true → not b ≡ false
+pub not_set : (b : Bool) → b ≡ true → not b ≡ false
 not_set true h = refl
 not_set false h = absurd (cc)
 
 equal_bytes : (word : Word) → bytes_eq word word ≡ true
 equal_bytes word = (bytes_eq-Decides word word).1 refl
 
-within : (n greatest : ℕ) → n ≤ MAX_64 → n ≤ greatest → nat_le (digits_value 10 (decimal n)) greatest ≡ true
+pub within : (n greatest : ℕ) → n ≤ MAX_64 → n ≤ greatest → nat_le (digits_value 10 (decimal n)) greatest ≡ true
 within n greatest small h = ap (λ m. nat_le m greatest) (value n small) ∙ le-leb n greatest h
 
 cas_alone : (cas : Option ℕ) → IsSmall cas → is_cas_word (option_map decimal cas) ≡ true

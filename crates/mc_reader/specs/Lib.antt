@@ -1,4 +1,5 @@
 pub mod AskEnds
+pub mod AskLaws
 pub mod AskLines
 pub mod AskParts
 pub mod AskReading

@@ -30,6 +30,7 @@ fn without_cr(line: &[u8]) -> &[u8]
     }
 }
 
+/// The words of a line.
 #[tactic(auto, unfolding(crate::specs::AskLines::words_say))]
 fn read_words(alloc: Global, mut words: LineWords<'_>) -> Result<AskSaid, OutOfMemory>
     ensures { IfOk result (λ said. spec.said_of said ≡ lines.words_say words.entry) }
@@ -51,6 +52,7 @@ fn read_words(alloc: Global, mut words: LineWords<'_>) -> Result<AskSaid, OutOfM
     }
 }
 
+/// The command with this word.
 #[tactic(auto, unfolding(crate::specs::AskLines::command_of))]
 fn command_of(word: &[u8]) -> Option<Command>
     ensures { result ≡ lines.command_of word.now }
@@ -86,6 +88,7 @@ fn command_of(word: &[u8]) -> Option<Command>
     }
 }
 
+/// The words after `get` or `gets`: a key or more.
 #[tactic(auto, unfolding(crate::specs::AskLines::retrieval))]
 fn retrieval(alloc: Global, verb: Verb, mut words: LineWords<'_>) -> Result<AskSaid, OutOfMemory>
     ensures { IfOk result (λ said. spec.said_of said ≡ lines.retrieval verb words.entry) }
@@ -131,6 +134,7 @@ fn keys_in(
     Ok(Some(keys))
 }
 
+/// The words after `incr` or `decr`.
 #[tactic(auto, unfolding(crate::specs::AskLines::counting))]
 fn counting(alloc: Global, verb: Verb, mut words: LineWords<'_>) -> Result<AskSaid, OutOfMemory>
     ensures { IfOk result (λ said. spec.said_of said ≡ lines.counting verb words.entry) }
@@ -144,6 +148,7 @@ fn counting(alloc: Global, verb: Verb, mut words: LineWords<'_>) -> Result<AskSa
     bare_says(alloc, verb, key, number_in(u64::MAX, number), ending(words))
 }
 
+/// The words after `delete`: a 0 may stand after the key.
 #[tactic(auto, unfolding(crate::specs::AskLines::deletion))]
 fn deletion(alloc: Global, mut words: LineWords<'_>) -> Result<AskSaid, OutOfMemory>
     ensures { IfOk result (λ said. spec.said_of said ≡ lines.deletion words.entry) }
@@ -162,7 +167,7 @@ fn deletion(alloc: Global, mut words: LineWords<'_>) -> Result<AskSaid, OutOfMem
     bare_says(alloc, Verb::Delete, key, Some(0), noreply)
 }
 
-/// The same with this word in front.
+/// The same where this word comes before those that are left.
 #[tactic(auto, unfolding(crate::specs::AskLines::ending))]
 fn ending_from(word: &[u8], mut words: LineWords<'_>) -> Option<bool>
     ensures { result ≡ lines.ending (word.now ∷ words.entry) }
@@ -173,6 +178,7 @@ fn ending_from(word: &[u8], mut words: LineWords<'_>) -> Option<bool>
     }
 }
 
+/// The words after `touch`.
 #[tactic(auto, unfolding(crate::specs::AskLines::touch))]
 fn touch(alloc: Global, mut words: LineWords<'_>) -> Result<AskSaid, OutOfMemory>
     ensures { IfOk result (λ said. spec.said_of said ≡ lines.touch words.entry) }
@@ -197,6 +203,7 @@ fn touch(alloc: Global, mut words: LineWords<'_>) -> Result<AskSaid, OutOfMemory
     }
 }
 
+/// The words after `quit`: there are none.
 #[tactic(auto, unfolding(crate::specs::AskLines::quitting))]
 fn quitting(mut words: LineWords<'_>) -> AskSaid
     ensures { spec.said_of result ≡ lines.quitting words.entry }
@@ -207,20 +214,18 @@ fn quitting(mut words: LineWords<'_>) -> AskSaid
     }
 }
 
-/// Nothing is left but the word noreply, or not even that; whether it is there.
+/// Whether `noreply` is the one word that is left. There is no answer where other words are left.
 #[tactic(auto, unfolding(crate::specs::AskLines::ending))]
 pub(crate) fn ending(mut words: LineWords<'_>) -> Option<bool>
     ensures { result ≡ lines.ending words.entry }
 {
-    let Some(word) = words.next_word() else {
-        return Some(false);
-    };
     match words.next_word() {
-        None if word == b"noreply".as_slice() => Some(true),
-        _ => None,
+        None => Some(false),
+        Some(word) => ending_from(word, words),
     }
 }
 
+/// What a request says that has a key, perhaps a number and no body, where each of these words is right.
 fn bare_says(
     alloc: Global,
     verb: Verb,
@@ -242,7 +247,7 @@ fn bare_says(
     }
 }
 
-/// A request without a body.
+/// A line that is a whole request without a body.
 fn bare(
     alloc: Global,
     verb: Verb,

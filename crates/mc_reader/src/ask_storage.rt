@@ -134,15 +134,16 @@ fn stores(line: StoreLine, never: bool) -> AskSaid
     requires { line.body_len < 2 ^ 32 }
     ensures { spec.said_of result ≡ lines.stores line never }
 {
+    let bytes = line.body_len as u64 + 2;
     if !never {
         AskSaid::Skips {
             refuse: Refuse::Expiry,
-            bytes: line.body_len as u64 + 2,
+            bytes,
         }
     } else if line.body_len > REQUEST_BODY_LIMIT {
         AskSaid::Skips {
             refuse: Refuse::TooLarge,
-            bytes: line.body_len as u64 + 2,
+            bytes,
         }
     } else {
         AskSaid::Block(line)

@@ -4,6 +4,14 @@
 #![tactic(auto)]
 
 #[cfg(test)]
+mod ask_cuts;
+#[cfg(test)]
+mod ask_limit_tests;
+#[cfg(test)]
+mod ask_stream_tests;
+#[cfg(test)]
+mod ask_tests;
+#[cfg(test)]
 mod cuts;
 #[cfg(test)]
 mod fault_tests;
@@ -19,3 +27,5 @@ mod reply_tests;
 mod verb_tests;
 #[cfg(test)]
 mod wanted;
+#[cfg(test)]
+mod wanted_ask;

@@ -1,0 +1,137 @@
+//! Feeds the text of a request in pieces, and looks whether the same is asked however it is cut. Want of memory is an error here:
+//! no test expects it.
+use crate::wanted_ask::{AskRow, WantedAsk};
+use mc_protocol::OutOfMemory;
+use mc_reader::{AskFault, Asked, RequestReader};
+use std::alloc::{AllocError, Global};
+
+/// What the reader answers to the piece; none where it has failed.
+pub(crate) fn feed(reader: &mut RequestReader, piece: &[u8]) -> Result<Option<Asked>, OutOfMemory> {
+    match reader.feed(piece) {
+        Ok(asked) => Ok(Some(asked)),
+        Err(AskFault::OutOfMemory) => Err(AllocError),
+        Err(AskFault::Failed) => Ok(None),
+    }
+}
+
+/// Whether the reader answers `More`.
+pub(crate) fn goes_on(reader: &mut RequestReader, piece: &[u8]) -> Result<bool, OutOfMemory> {
+    match feed(reader, piece)? {
+        Some(Asked::More) => Ok(true),
+        _ => Ok(false),
+    }
+}
+
+/// Whether this is asked at the end of the first `used` bytes of the piece.
+pub(crate) fn asks(
+    reader: &mut RequestReader,
+    piece: &[u8],
+    used: usize,
+    wanted: &WantedAsk,
+) -> Result<bool, OutOfMemory> {
+    match feed(reader, piece)? {
+        Some(Asked::Done { ask, used: count }) => Ok(count == used && wanted.is_ask(&ask)),
+        _ => Ok(false),
+    }
+}
+
+/// Whether the reader fails from now on, where what was asked closes, and else reads the next request.
+fn goes_on_after(reader: &mut RequestReader, closes: bool) -> Result<bool, OutOfMemory> {
+    match feed(reader, b"get next\n")? {
+        None => Ok(closes),
+        Some(Asked::Done { used, .. }) => Ok(!closes && used == 9),
+        Some(Asked::More) => Ok(false),
+    }
+}
+
+/// Feeds all but the last piece of `len` bytes, and answers that one, where the reader goes on at each of them.
+pub(crate) fn last_piece<'t>(
+    reader: &mut RequestReader,
+    text: &'t [u8],
+    len: usize,
+) -> Result<Option<&'t [u8]>, OutOfMemory> {
+    let mut rest = text;
+    'pieces: while rest.len() > len && len > 0 {
+        let (piece, others) = rest.split_at(len);
+        if !goes_on(reader, piece)? {
+            return Ok(None);
+        }
+        rest = others;
+    }
+    Ok(Some(rest))
+}
+
+/// Whether this is asked at the end of the text, fed in pieces of `len` bytes, and not before.
+pub(crate) fn is_asked_in_pieces(
+    alloc: Global,
+    text: &[u8],
+    len: usize,
+    wanted: &WantedAsk,
+    closes: bool,
+) -> Result<bool, OutOfMemory> {
+    let mut reader = RequestReader::new(alloc);
+    match last_piece(&mut reader, text, len)? {
+        Some(last) => {
+            Ok(asks(&mut reader, last, last.len(), wanted)? && goes_on_after(&mut reader, closes)?)
+        }
+        None => Ok(false),
+    }
+}
+
+fn is_asked_at_cut(
+    alloc: Global,
+    text: &[u8],
+    cut: usize,
+    wanted: &WantedAsk,
+) -> Result<bool, OutOfMemory> {
+    if cut > text.len() {
+        return Ok(false);
+    }
+    let (front, back) = text.split_at(cut);
+    let mut reader = RequestReader::new(alloc);
+    Ok(goes_on(&mut reader, front)? && asks(&mut reader, back, back.len(), wanted)?)
+}
+
+/// Whether this is asked where other bytes follow the text in the piece, and these are left.
+fn is_asked_before_another(
+    alloc: Global,
+    text: &[u8],
+    wanted: &WantedAsk,
+) -> Result<bool, OutOfMemory> {
+    let longer = [text, b"quit\r\n".as_slice()].concat(alloc)?;
+    let mut reader = RequestReader::new(alloc);
+    asks(&mut reader, longer.as_slice(), text.len(), wanted)
+}
+
+/// Whether this is asked at the end of the text: in one piece, byte by byte, at every cut, and where more bytes follow it.
+pub(crate) fn is_asked(
+    alloc: Global,
+    text: &[u8],
+    wanted: &WantedAsk,
+    closes: bool,
+) -> Result<bool, OutOfMemory> {
+    for cut in 0..text.len() {
+        if !is_asked_at_cut(alloc, text, cut, wanted)? {
+            return Ok(false);
+        }
+    }
+    Ok(
+        is_asked_in_pieces(alloc, text, text.len(), wanted, closes)?
+            && is_asked_in_pieces(alloc, text, 1, wanted, closes)?
+            && is_asked_before_another(alloc, text, wanted)?,
+    )
+}
+
+/// The first row of which another thing is asked, or after which the reader doesn't go on as it should.
+pub(crate) fn first_other(
+    alloc: Global,
+    rows: &[AskRow],
+    closes: bool,
+) -> Result<Option<usize>, OutOfMemory> {
+    for (place, (text, wanted)) in rows.iter().enumerate() {
+        if !is_asked(alloc, text, wanted, closes)? {
+            return Ok(Some(place));
+        }
+    }
+    Ok(None)
+}
