@@ -16,7 +16,8 @@ use Rattle.mc_protocol.specs.declared.request.Verb.{Verb}
 use Rattle.mc_protocol.specs.declared.request.Verb.TheVariants as verb
 use Rattle.mc_reader.specs.AskEnds.{crlf, AskEnds, one_line, with_block}
 use Rattle.mc_reader.specs.AskLaws.{IsSendable, with_fields, WrittenIsAsked}
-use Rattle.mc_reader.specs.AskLines.{LineSays, Whole, Block, refused, bare, command_of, ending, retrieval, storage_says, storage, swapping, bare_says, counting, deletion, touch_says, touch, command_says, words_say, line_says}
+use Rattle.mc_reader.specs.AskLines.{LineSays, Whole, Block, refused, bare, command_of, ending, retrieval, storage_says, storage, swapping}
+use Rattle.mc_reader.specs.AskLines.{bare_says, counting, deletion, touch_says, touch, command_says, words_say, line_says}
 use Rattle.mc_reader.specs.AskWords.{number_in, time_in, is_request_key}
 use Rattle.mc_reader.specs.Asks.{One}
 use Rattle.mc_reader.specs.Lines.{CR, LF, IsLine}

@@ -22,7 +22,8 @@ pub(crate) fn read_line(shape: Shape<'_>, line: &[u8]) -> Result<Said, ReadFault
 
 /// Looks whether the line, without its LF, is the `END` after a block.
 pub(crate) fn read_end(line: &[u8]) -> Result<(), ReadFault>
-    ensures { MatchResult result (λ _. spec.end_fault_of_text (spec.text_of line.now) ≡ None) (λ fault. spec.end_fault_of_text (spec.text_of line.now) ≡ Some fault) }
+    ensures { MatchResult result (λ _. spec.end_fault_of_text (spec.text_of line.now) ≡ None)
+        (λ fault. spec.end_fault_of_text (spec.text_of line.now) ≡ Some fault) }
 {
     match text_of(line) {
         Some(text) => read_end_text(text),

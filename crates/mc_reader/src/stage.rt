@@ -52,7 +52,8 @@ fn read_first_line(
     piece: &[u8],
 ) -> Result<Step<Stage>, ReadFault>
     requires { IsLine start.items }
-    ensures { IsStep (Ends shape.entry.verb shape.entry.key.now) (spec.IsStageAt shape.entry.verb shape.entry.key.now) start.items piece.now result }
+    ensures { IsStep (Ends shape.entry.verb shape.entry.key.now) (spec.IsStageAt shape.entry.verb shape.entry.key.now) start.items
+        piece.now result }
 {
     let Some(at) = gather(&mut start, piece)? else {
         return Ok(Step::More(Stage::Line(start)));

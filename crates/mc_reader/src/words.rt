@@ -66,7 +66,8 @@ fn first_word_len(text: &[u8]) -> usize
 
 /// The next word after a word that was cut off, and what comes after it. What is left begins with a space.
 pub(crate) fn next_word(rest: &[u8]) -> Option<(&[u8], &[u8])>
-    ensures { MatchOption result (spec.words_after rest.now ≡ []) (λ next. spec.words_after rest.now ≡ next.0.now ∷ spec.words_after next.1.now) }
+    ensures { MatchOption result (spec.words_after rest.now ≡ [])
+        (λ next. spec.words_after rest.now ≡ next.0.now ∷ spec.words_after next.1.now) }
 {
     match rest {
         [] => None,

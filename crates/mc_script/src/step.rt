@@ -57,8 +57,8 @@ pub enum Argument {
     Variable(u8),
 }
 
-/// Where a request goes after which class of reply: each class with the index of a label of its section, in the order
-/// of the classes, none twice. Contracts see the list of them.
+/// Where a request goes after which class of reply: each class with the index of a label of its section. Inside a `Script` they
+/// stand in the order of the classes, none twice. Contracts see the list of them.
 #[derive(Debug, Drop)]
 pub struct Jumps {
     jumps: Vec<(Class, usize)>,

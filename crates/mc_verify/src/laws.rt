@@ -1,5 +1,13 @@
 //! What follows from the definitions of faults, whatever the code is.
-ghost use Rattle.mc_verify.specs.Laws.{LackIsNotAdmitted, LeastIsOne, NoFlagsNoFaults, PrefixesCostLess, SentIsAdmitted, SoundIsAdmitted, SoundIsRight};
+ghost use Rattle.mc_verify.specs.Laws.{
+  LackIsNotAdmitted,
+  LeastIsOne,
+  NoFlagsNoFaults,
+  PrefixesCostLess,
+  SentIsAdmitted,
+  SoundIsAdmitted,
+  SoundIsRight,
+};
 
 /// Code without flags has no fault of flags.
 pub fn no_flags_no_faults()

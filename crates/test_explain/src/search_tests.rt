@@ -55,7 +55,8 @@ static ROWS: [Row; 11] = [
     // B learns that A was faster: P's two, A's two, and B's `gets`, which finds A's body; then B's `gets` before A's
     // `cas`, and B's `cas`.
     (
-        "P delete a -> NOT_FOUND\nP set a 0 =1 -> STORED\nA gets a -> HIT 0 =1 11\nA cas a 0 =2 11 -> STORED\nB gets a -> HIT 0 =1 11\nB cas a 0 =3 11 -> EXISTS\n",
+        "P delete a -> NOT_FOUND\nP set a 0 =1 -> STORED\nA gets a -> HIT 0 =1 11\nA cas a 0 =2 11 -> STORED\n\
+         B gets a -> HIT 0 =1 11\nB cas a 0 =3 11 -> EXISTS\n",
         u64::MAX,
         "P 0\nP 11\nA 0\nB 0\nA 1\nB 0\n",
         8,

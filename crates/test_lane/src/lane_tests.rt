@@ -295,7 +295,8 @@ static LIMITS: &[(u32, Result<Class, Fault>)] = &[
     (262_240, Ok(Class::Hit)),
 ];
 
-// Whether the lane has received `max_bytes`, has taken the replies that are whole among them, and was closed by `last` where that is a fault.
+// Whether the lane has received `max_bytes`, has taken the replies that are whole among them, and was closed by `last` where that is
+// a fault.
 fn has_received(lane: &Lane<MemoryStream>, max_bytes: u32, last: Result<Class, Fault>) -> bool {
     let whole = if last.is_ok() { 262_240 } else { 196_680 };
     lane.got().len() == max_bytes as usize && lane.taken() == whole && lane.fault() == last.err()
