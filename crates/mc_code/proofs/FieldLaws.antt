@@ -7,7 +7,7 @@ use Rattle.std.proofs.lemmas.List.{take_at, drop_at, take-append-drop, length-ap
 use Rattle.std.proofs.lemmas.Nat.{be_bytes_2, be_bytes_4, be_bytes_8, from_be_bytes-to_be_bytes_2, from_be_bytes-to_be_bytes_4, from_be_bytes-to_be_bytes_8}
 use Rattle.mc_script.specs.declared.version.Version.{Version}
 use Rattle.mc_script.specs.declared.version.Version.TheVariants as version
-use Rattle.mc_script.specs.Steps.{◌>>=◌}
+use Rattle.mc_script.specs.Chains.{◌>>=◌}
 use Rattle.mc_script.specs.Versions.{flags_limit}
 use Rattle.mc_code.specs.Image.{mask_width, with_length}
 use Rattle.mc_code.specs.ImageReading.{bytes_in, byte_in, number_in, small_in, sized_in}

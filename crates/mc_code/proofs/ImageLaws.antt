@@ -14,7 +14,7 @@ use Rattle.mc_script.specs.declared.section.Budget.{Budget}
 use Rattle.mc_script.specs.declared.version.Version.{Version}
 use Rattle.mc_script.specs.declared.version.Version.TheVariants as version
 use Rattle.mc_script.specs.Script.{may_be_declared}
-use Rattle.mc_script.specs.Steps.{◌>>=◌}
+use Rattle.mc_script.specs.Chains.{◌>>=◌}
 use Rattle.mc_script.specs.Versions.{flags_limit, steps_limit}
 use Rattle.mc_code.specs.declared.instr.Instr.{Instr}
 use Rattle.mc_code.specs.Code.{IsInstr, Section, IsSection, Code, IsCode}

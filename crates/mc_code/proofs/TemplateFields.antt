@@ -15,7 +15,7 @@ use Rattle.mc_script.specs.declared.step.Argument.TheVariants as argument
 use Rattle.mc_protocol.specs.Decimals.{MAX_32, MAX_64}
 use Rattle.mc_script.specs.ScriptWords.{is_body, are_body_bytes}
 use Rattle.mc_script.specs.declared.version.Version.{Version}
-use Rattle.mc_script.specs.Steps.{◌>>=◌}
+use Rattle.mc_script.specs.Chains.{◌>>=◌}
 use Rattle.mc_script.specs.Templates.{is_nothing, is_variable, is_amount, is_empty, has_fields}
 use Rattle.mc_script.specs.Versions.{flags_limit}
 use Rattle.mc_code.specs.declared.read_template.Masks.{Masks}

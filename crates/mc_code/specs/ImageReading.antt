@@ -21,7 +21,7 @@ use Rattle.mc_script.specs.Versions.{flags_limit, steps_limit}
 use Rattle.mc_protocol.specs.Names.{is_new, is_name}
 use Rattle.mc_protocol.specs.Lines.{Word}
 use Rattle.mc_protocol.specs.Words.{all_verbs}
-use Rattle.mc_script.specs.Steps.{◌>>=◌}
+use Rattle.mc_script.specs.Chains.{◌>>=◌}
 use Rattle.mc_script.specs.Templates.{has_fields}
 use Rattle.mc_code.specs.declared.fault.ImageFault.{ImageFault}
 use Rattle.mc_code.specs.declared.fault.ImageKind.TheVariants as kind

@@ -24,7 +24,7 @@ use Rattle.mc_script.specs.declared.step.Template.{Template}
 use Rattle.mc_script.specs.Script.{Names}
 use Rattle.mc_script.specs.ScriptWords.{is_label_name, label_word}
 use Rattle.mc_script.specs.SectionText.{SpellsEntry, SpellsRequest}
-use Rattle.mc_script.specs.Steps.{◌>>=◌}
+use Rattle.mc_script.specs.Chains.{◌>>=◌}
 use Rattle.mc_script.specs.Reading.{entry_in, label_of, line_entry, keyword_of, request_word, step_words, before_colon, bind_in}
 use Rattle.mc_script.specs.Reading.{goto_in, request_in, fields_in, field_count, marks_in, binds, template_of}
 use Rattle.mc_script.proofs.Outcomes.{then-some, cond-cases, some-same, only-then, only-else}

@@ -18,7 +18,7 @@ use Rattle.mc_script.specs.declared.step.Template.{Template}
 use Rattle.mc_script.specs.Script.{Names}
 use Rattle.mc_script.specs.ScriptWords.{is_body, body_word}
 use Rattle.mc_script.specs.SectionText.{SpellsAmount, SpellsUnique, SpellsFields}
-use Rattle.mc_script.specs.Steps.{◌>>=◌}
+use Rattle.mc_script.specs.Chains.{◌>>=◌}
 use Rattle.mc_script.specs.Reading.{number_in, body_in, variable_named, unique_in, plain_amount_in, amount_in, fields_in, field_count, template_of}
 use Rattle.mc_script.proofs.Outcomes.{then-some, some-same, only-then, cond-cases}
 

@@ -16,7 +16,7 @@ use Rattle.mc_script.specs.declared.read_entry.Keyword.{Keyword}
 use Rattle.mc_script.specs.declared.read_entry.Keyword.TheVariants as keyword
 use Rattle.mc_script.specs.Script.{Names}
 use Rattle.mc_script.specs.ScriptWords.{is_label_name}
-use Rattle.mc_script.specs.Steps.{◌>>=◌}
+use Rattle.mc_script.specs.Chains.{◌>>=◌}
 use Rattle.mc_script.specs.Reading.{Gives, entry_in, label_of, label_named, line_entry, keyword_of, step_words, bind_in}
 use Rattle.mc_script.specs.Reading.{goto_in, request_in, fields_in, field_count, marks_in, binds, template_of}
 use Rattle.mc_script.specs.TextReading.{label_named_by, may_follow, following, with_label}

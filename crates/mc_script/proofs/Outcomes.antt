@@ -1,6 +1,6 @@
 -- What a reading that gave a value went through.
 use Rattle.std.proofs.Common.{◌≡◌, Bool, true, false, cond, Option, Some, None, refl}
-use Rattle.mc_script.specs.Steps.{◌>>=◌}
+use Rattle.mc_script.specs.Chains.{◌>>=◌}
 
 -- both steps gave one
 pub then-some : {A B : Type 0} (x : Option A) (f : A → Option B) (y : B) → (x >>= f) ≡ Some y → (a : A) × (x ≡ Some a) × (f a ≡ Some y)

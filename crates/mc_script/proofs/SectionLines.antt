@@ -12,7 +12,7 @@ use Rattle.mc_script.specs.declared.entry.Entry.{Entry}
 use Rattle.mc_script.specs.declared.entry.Entry.TheVariants as entry
 use Rattle.mc_script.specs.Script.{Names}
 use Rattle.mc_script.specs.SectionText.{SpellsEntry}
-use Rattle.mc_script.specs.Steps.{◌>>=◌}
+use Rattle.mc_script.specs.Chains.{◌>>=◌}
 use Rattle.mc_script.specs.Reading.{entry_in}
 use Rattle.mc_script.specs.TextReading.{entries_in, may_follow, following, step_count, with_label}
 use Rattle.mc_script.proofs.Outcomes.{then-some, cond-cases, some-same, only-then}

@@ -19,7 +19,7 @@ use Rattle.mc_script.specs.Versions.{version_word, flags_limit, steps_limit}
 use Rattle.mc_script.specs.Script.{Names, Section, Script, AreDeclared, section_of}
 use Rattle.mc_script.specs.ScriptText.{SpellsInVersion, SpellsScript, SpellsBudget, header, names_line, names_lines, section_line, end_line, body_lines}
 use Rattle.mc_script.specs.SectionText.{SpellsSection}
-use Rattle.mc_script.specs.Steps.{◌>>=◌}
+use Rattle.mc_script.specs.Chains.{◌>>=◌}
 use Rattle.mc_script.specs.Reading.{entry_in, version_of_word, header_version, header_in, names_in, keys_in}
 use Rattle.mc_script.specs.Reading.{optional_in, then_line, number_in, numbers_in, amounts_in, budget_in}
 use Rattle.mc_script.specs.TextReading.{line_in, names_of, all_names_in, next_budget_in, budgets_of, budgets_in, section_line_in}

@@ -19,6 +19,7 @@ pub mod WellFormed
 pub mod PrintedScript
 pub mod Kinds
 -- What private contracts cite.
+pub mod Chains
 pub mod Reading
 pub mod TextReading
 pub mod FrontReading

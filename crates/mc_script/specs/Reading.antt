@@ -37,7 +37,7 @@ use Rattle.mc_script.specs.declared.version.Version.TheVariants as version
 use Rattle.mc_script.specs.Script.{Names, may_be_declared}
 use Rattle.mc_script.specs.ScriptWords.{is_body, is_label_name}
 use Rattle.mc_script.specs.Marks.{may_stand, are_twins, is_number_jump}
-use Rattle.mc_script.specs.Steps.{◌>>=◌}
+use Rattle.mc_script.specs.Chains.{◌>>=◌}
 
 -- what was returned is what reading gives, unless memory ran out
 abbrev pub Gives : {V : Type 0} → Result V ScriptKind → Option V → Type 0

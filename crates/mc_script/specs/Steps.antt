@@ -28,11 +28,6 @@ label_after labels place name = position (λ label. bytes_eq label.name name && 
 
 -- ---- values that may be missing
 
-infixl 10 ◌>>=◌
-abbrev pub ◌>>=◌ : {A B : Type 0} → Option A → (A → Option B) → Option B
-(Some x) >>= f = f x
-None >>= f = None
-
 -- a value before others, where none of them is missing
 abbrev pub in_front : {A : Type 0} → Option A → Option (List A) → Option (List A)
 in_front (Some x) (Some xs) = Some (x ∷ xs)

@@ -20,7 +20,8 @@ use Rattle.mc_script.specs.Versions.{flags_limit, steps_limit}
 use Rattle.mc_script.specs.Script.{Names, Section, Script}
 use Rattle.mc_script.specs.declared.step.Step.{Step}
 use Rattle.mc_script.specs.declared.step.Step.TheVariants as step
-use Rattle.mc_script.specs.Steps.{◌>>=◌, in_front, labels_from, steps_from, jumps_on, sends, goes, label_after}
+use Rattle.mc_script.specs.Chains.{◌>>=◌}
+use Rattle.mc_script.specs.Steps.{in_front, labels_from, steps_from, jumps_on, sends, goes, label_after}
 use Rattle.mc_script.specs.Reading.{header_in, keys_in, optional_in, budget_in, entry_in}
 
 -- ---- sections
