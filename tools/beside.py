@@ -1,15 +1,16 @@
 """What `rt ci` has said so far of the crates that it proves, so that their wrong bodies can be tried while it runs.
 
 Its output goes to a file, with a line `rt ci began at SECONDS` above it, since 1970, and below it `rt ci ended with status N`. A line
-`rt: NAME proved` in between says that the crate stands, with what was built of it. That is copied at once: at its end `rt ci` puts back
-what earlier runs built.
+`rt: NAME proved` in between says that the crate stands, with what was built of it; and a line `rt: NAME is kept` that an earlier run on
+this machine proved these files, and that what it built of them was put there. It is copied at once: at its end `rt ci` puts back what
+earlier runs built.
 """
 
 import os
 import re
 import shutil
 
-PROVED = re.compile(r"rt: (\w+) (proved|NOT PROVED)(?:: .*)?\n")
+PROVED = re.compile(r"rt: (\w+) (proved|NOT PROVED|is kept)(?:: .*)?\n")
 BEGAN = re.compile(r"rt ci began at (\d+)\n")
 ENDED = re.compile(r"rt ci ended with status (\d+)\n")
 
@@ -42,15 +43,15 @@ class Followed:
             elif ended := ENDED.fullmatch(line):
                 self.status = int(ended[1])
             elif (found := PROVED.fullmatch(line)) and found[1] in crates:
-                self.proved[found[1]] = found[2] == "proved" and self.copy(crates[found[1]])
+                self.proved[found[1]] = found[2] != "NOT PROVED" and self.copy(crates[found[1]], found[2] == "is kept")
 
-    def copy(self, crate):
-        """Copies the library that was built, and answers whether it was there, and no older one."""
+    def copy(self, crate, is_kept):
+        """Copies the library that was built, and answers whether it was there: where it isn't kept, one that was built since."""
         if crate.is_program:
             return True
         to = self.folder / crate.name
         try:
-            is_new = self.began is not None and crate.made.stat().st_mtime >= self.began
+            is_new = is_kept or self.began is not None and crate.made.stat().st_mtime >= self.began
             shutil.copytree(crate.rlib.parent, to, copy_function=link)
         except OSError:
             return False

@@ -7,20 +7,21 @@ import time
 # A run that takes longer has no end.
 SECONDS = 1200
 PROVED = "rt: low proved\n", "== small\nrt: small proved\n"
+KEPT = "rt: low is kept: it was proved before\n", "rt: small is kept: it was proved before\n"
 REFUSED = "rt: low proved\n", "rt: small NOT PROVED\n"
 
 
-def run(root, lines, status):
+def run(root, lines, status, is_later=False):
     """What the runner says of one edit where `rt ci` says these lines one after another and ends with this status; and whether a check
-    began before the last of these and after it."""
+    began before the last of these and after it. `rt ci` may have begun later than what stands there was built."""
     edit, begins = root / "crates/small/wrong-bodies/caps_above.edit", []
     log, said = root / "proofs.log", root / "said.log"
     began = min((root / f"crates/{it}/out/rlib/{it}.rlib/format").stat().st_mtime for it in ("low", "small"))
-    log.write_text(f"rt ci began at {int(began)}\n", encoding="utf-8")
+    log.write_text(f"rt ci began at {int(began) + 3600 * is_later}\n", encoding="utf-8")
     words = [root / "tools/run-wrong-bodies", "--beside", log, "--jobs", "1", "--whole", edit]
     with open(said, "wb") as to, subprocess.Popen(words, stdout=to, stderr=subprocess.STDOUT) as runner:
         for line in lines:
-            begins.append(begins_after(line, root, runner, 300 if line == PROVED[-1] else 10))
+            begins.append(begins_after(line, root, runner, 300 if line in (PROVED[-1], KEPT[-1]) else 10))
         add(log, f"rt ci ended with status {status}\n")
         try:
             runner.wait(SECONDS)
@@ -56,7 +57,10 @@ def faults(root: pathlib.Path):
     said, _ = run(root, PROVED, 1)
     if "\nfailed: rt ci: " not in said or "\n0 passed, " not in said:
         found.append(f"beside: it ends with {said.splitlines()[-2:]} where `rt ci` failed")
+    said, begins = run(root, KEPT, 0, is_later=True)
+    if begins != [False, True] or "\n1 passed, " not in said:
+        found.append(f"beside: it ends with {said.splitlines()[-2:]} where an earlier run proved its crate")
     said, begins = run(root, REFUSED, 1)
     if any(begins) or "\nfailed: small/caps_above: not tried: " not in said or "\n0 passed, " not in said:
         found.append(f"beside: it ends with {said.splitlines()[-2:]} where its crate isn't proved")
-    return found, 4
+    return found, 5
