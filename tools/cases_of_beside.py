@@ -4,8 +4,10 @@ import pathlib
 import subprocess
 import time
 
-# A run that takes longer has no end.
-SECONDS = 1200
+# A run that takes longer has no end. At the lowest priority, beside proofs on all processors, seconds become many minutes.
+SECONDS = 7200
+# A check that is to begin does so within this time, and one that isn't would have begun within the other.
+BEGINS, WOULD_BEGIN = 3600, 10
 PROVED = "rt: low proved\n", "== small\nrt: small proved\n"
 KEPT = "rt: low is kept: it was proved before\n", "rt: small is kept: it was proved before\n"
 REFUSED = "rt: low proved\n", "rt: small NOT PROVED\n"
@@ -21,7 +23,7 @@ def run(root, lines, status, is_later=False):
     words = [root / "tools/run-wrong-bodies", "--beside", log, "--jobs", "1", "--whole", edit]
     with open(said, "wb") as to, subprocess.Popen(words, stdout=to, stderr=subprocess.STDOUT) as runner:
         for line in lines:
-            begins.append(begins_after(line, root, runner, 300 if line in (PROVED[-1], KEPT[-1]) else 10))
+            begins.append(begins_after(line, root, runner, BEGINS if line in (PROVED[-1], KEPT[-1]) else WOULD_BEGIN))
         add(log, f"rt ci ended with status {status}\n")
         try:
             runner.wait(SECONDS)
