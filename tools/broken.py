@@ -42,3 +42,15 @@ def run_with_room(words, room, **more):
         file.seek(0)
         ran.stdout = file.read()
         return ran
+
+
+def run_unread(words, **more):
+    """What the program answers where its output is a pipe that nobody reads."""
+    reader, writer = os.pipe()
+    os.close(reader)
+    try:
+        ran = subprocess.run(words, stdout=writer, stderr=subprocess.PIPE, **more)
+    finally:
+        os.close(writer)
+    ran.stdout = b""
+    return ran

@@ -31,6 +31,7 @@ class Lines:
     output: list | None = None
     parts: list = field(default_factory=list)
     faults: str | None = None
+    told: list = field(default_factory=list)
     status: int | None = None
     fails: set = field(default_factory=set)
 
@@ -45,6 +46,8 @@ class Case:
     parts: list
     # The first line of standard error, empty where it may be any; or None, where nothing is written there.
     faults: str | None
+    # Texts that stand in standard error.
+    told: list
     status: int
     # Whether reading and writing are to fail too.
     input_fails: bool
@@ -75,6 +78,8 @@ def add_line(lines, line, where):
         lines.words = shlex.split(line[1:])
     elif line == "!" or line.startswith("! "):
         lines.faults = line[2:]
+    elif line.startswith("!~ "):
+        lines.told.append(line[3:].encode())
     elif line.startswith("~ "):
         lines.parts.append(line[2:].replace("\\n", "\n").encode())
     elif line in ("<!", ">!"):
@@ -100,11 +105,14 @@ def case_of(name, own, frame, where):
     given = b"".join([*frame.before, *own.before, *(frame.after or [])])
     faults = frame.faults if own.faults is None else own.faults
     parts, fails = [*frame.parts, *own.parts], frame.fails | own.fails
+    told = [*frame.told, *own.told]
+    if told and faults is None:
+        raise BadFile(f"{where}: a case with lines `!~` has a line `!` too")
     if parts and (output is not None or fails):
         raise BadFile(f"{where}: a case with lines `~` has no line of output, and no line `<!` or `>!`")
     if fails and len(given) > MOST_FAILING:
         raise BadFile(f"{where}: a case with a line `<!` or `>!` has at most {MOST_FAILING} bytes of input")
-    return Case(name, words, given, b"".join(output or []), parts, faults, status, "<!" in fails, ">!" in fails)
+    return Case(name, words, given, b"".join(output or []), parts, faults, told, status, "<!" in fails, ">!" in fails)
 
 
 def cases_in(path):

@@ -11,8 +11,8 @@ use crate::places::Places;
 use crate::size::{check_limits, cleared_keys, request_count};
 use crate::templates::templates_of;
 use crate::{AsmFault, Code};
-use mc_protocol::{Actor, Bytes, OutOfMemory, Sections};
-use mc_script::Script;
+use mc_protocol::{Actor, OutOfMemory, Sections};
+use mc_script::{Script, copy_all};
 use std::alloc::Global;
 
 /// Assembles a script. Whatever the replies are, its code does what the script does: P first deletes each key, and then
@@ -28,7 +28,7 @@ pub fn assemble(alloc: Global, script: &Script) -> Result<Code, AsmFault>
     ensures first { IfErr result (layout.IsFirst script.now) }
 {
     check_limits(script)?;
-    let keys = copies(alloc, script.keys())?;
+    let keys = copy_all(alloc, script.keys())?;
     let templates = templates_of(alloc, script)?;
     let of_p = request_count(script, Actor::P);
     let of_a = request_count(script, Actor::A);
@@ -62,15 +62,4 @@ fn section(alloc: Global, script: &Script, actor: Actor, first: u8) -> Result<Se
         budget: script.budget(actor),
         instructions,
     })
-}
-
-/// A copy of each key.
-fn copies(alloc: Global, keys: &[Bytes]) -> Result<Vec<Bytes>, OutOfMemory>
-    ensures { IfOk result (λ copies. copies.items ≡ keys.now) }
-{
-    let mut copies = Vec::new(alloc);
-    'keys: for key in keys {
-        copies.push(key.copy(alloc)?)?;
-    }
-    Ok(copies)
 }

@@ -69,24 +69,8 @@ fn add_requests(alloc: Global, steps: &[Step], out: &mut Vec<Template>) -> Resul
 {
     'steps: for step in steps {
         if let Step::Send { template, .. } = step {
-            out.push(copy(alloc, template)?)?;
+            out.push(template.copy(alloc)?)?;
         }
     }
     Ok(())
-}
-
-fn copy(alloc: Global, template: &Template) -> Result<Template, OutOfMemory>
-    ensures { IfOk result (λ copy. copy ≡ template.now) }
-{
-    Ok(Template {
-        verb: template.verb,
-        key: template.key,
-        flags: template.flags,
-        argument: template.argument,
-        body: template.body.copy(alloc)?,
-        require_set: template.require_set,
-        require_clear: template.require_clear,
-        sets: template.sets,
-        clears: template.clears,
-    })
 }

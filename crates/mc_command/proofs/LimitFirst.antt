@@ -6,7 +6,7 @@ use Rattle.clap.proofs.OnLiterals.{clap_on_literals}
 use Rattle.mc_command.proofs.LimitLines.{limit_words}
 use Rattle.mc_command.proofs.OptionValue.{IsNoFlag, value_walked, value_has_no_fault, waiting_walk}
 use Rattle.mc_command.proofs.RunLines.{run_shape, first_walked, first_fault, end_of, faults_after, found_after}
-use Rattle.mc_command.specs.CommandLine.{line_command, line_faults, line_limit, line_meeting, line_target}
+use Rattle.mc_command.specs.CommandLine.{line_command, line_faults, line_limit, line_meeting, line_target, line_value}
 
 -- what is held once `--limit` has its value as a word of its own, and what is held once the value is read
 abbrev limit_held : Text → Held
@@ -38,15 +38,15 @@ module _ (program : Text) (server : Text) (plain : IsNoFlag server) (number : Te
   joined_is_right = ap₂ (faults_after []) joined_server_is_no_fault joined_takes_server
 
   pub joined_has_limit : line_limit (program ∷ codes "run" ∷ (codes "--limit=" ++ number) ∷ server ∷ []) ≡ Some number
-  unfolding line_limit clap_on_literals run_shape server_taken
+  unfolding line_value clap_on_literals run_shape server_taken
   joined_has_limit = ap (found_after (codes "limit") []) joined_takes_server
 
   pub joined_has_no_meeting : line_meeting (program ∷ codes "run" ∷ (codes "--limit=" ++ number) ∷ server ∷ []) ≡ None
-  unfolding line_meeting clap_on_literals run_shape server_taken
+  unfolding line_value clap_on_literals run_shape server_taken
   joined_has_no_meeting = ap (found_after (codes "meet") []) joined_takes_server
 
   pub joined_names : line_target (program ∷ codes "run" ∷ (codes "--limit=" ++ number) ∷ server ∷ []) ≡ Some server
-  unfolding line_target clap_on_literals run_shape server_taken
+  unfolding line_value clap_on_literals run_shape server_taken
   joined_names = ap (found_after (codes "target") []) joined_takes_server
 
   pub joined_is_named : line_command (program ∷ codes "run" ∷ (codes "--limit=" ++ number) ∷ server ∷ []) ≡ Some (codes "run")
@@ -86,15 +86,15 @@ module _ (program : Text) (server : Text) (plain : IsNoFlag server) (number : Te
     apart_is_right = ap₂ (faults_after (server ∷ [])) value_is_no_fault takes_value ∙ ap₂ (faults_after []) server_is_no_fault takes_server
 
     pub apart_has_limit : line_limit (program ∷ codes "run" ∷ (limit_words number ++ server ∷ [])) ≡ Some number
-    unfolding line_limit clap_on_literals run_shape server_taken limit_waits
+    unfolding line_value clap_on_literals run_shape server_taken limit_waits
     apart_has_limit = ap (found_after (codes "limit") []) takes_both
 
     pub apart_has_no_meeting : line_meeting (program ∷ codes "run" ∷ (limit_words number ++ server ∷ [])) ≡ None
-    unfolding line_meeting clap_on_literals run_shape server_taken limit_waits
+    unfolding line_value clap_on_literals run_shape server_taken limit_waits
     apart_has_no_meeting = ap (found_after (codes "meet") []) takes_both
 
     pub apart_names : line_target (program ∷ codes "run" ∷ (limit_words number ++ server ∷ [])) ≡ Some server
-    unfolding line_target clap_on_literals run_shape server_taken limit_waits
+    unfolding line_value clap_on_literals run_shape server_taken limit_waits
     apart_names = ap (found_after (codes "target") []) takes_both
 
     pub apart_is_named : line_command (program ∷ codes "run" ∷ (limit_words number ++ server ∷ [])) ≡ Some (codes "run")

@@ -8,7 +8,7 @@ use Rattle.clap.specs.Simple.{label_of}
 use Rattle.clap.specs.Walk.{Walk, answers_to, finished, nothing_held, settled, walk, walk_from}
 use Rattle.clap.proofs.OnLiterals.{clap_on_literals}
 use Rattle.mc_command.proofs.OptionValue.{IsNoFlag, value_walked, value_has_no_fault}
-use Rattle.mc_command.specs.CommandLine.{drive_app, judge_app, line_command, line_faults, line_limit, program_app}
+use Rattle.mc_command.specs.CommandLine.{drive_app, judge_app, line_command, line_faults, line_limit, line_value, program_app}
 
 -- ---- what both share
 
@@ -32,7 +32,7 @@ unfolding line_faults clap_on_literals
 judge_has_no_faults program = refl
 
 judge_has_no_limit : (program : List ℕ) → line_limit (program ∷ codes "judge" ∷ []) ≡ None
-unfolding line_limit clap_on_literals
+unfolding line_value clap_on_literals
 judge_has_no_limit program = refl
 
 judge_is_named : (program : List ℕ) → line_command (program ∷ codes "judge" ∷ []) ≡ Some (codes "judge")
@@ -65,7 +65,7 @@ judge_after_limit_has_no_faults program number plain =
 
 judge_has_limit : (program : List ℕ) (number : List ℕ) → IsNoFlag number
     → line_limit (program ∷ codes "judge" ∷ limit_words number) ≡ Some number
-unfolding line_limit clap_on_literals judge_shape
+unfolding line_value clap_on_literals judge_shape
 judge_has_limit program number plain =
     ap (λ (w : Walk). first_of (codes "limit") (finished judge_shape.rules w.held)) (judge_takes_value number plain)
 
@@ -83,7 +83,7 @@ judge_joined_has_no_faults program number = refl
 
 judge_joined_has_limit : (program : List ℕ) (number : List ℕ)
     → line_limit (program ∷ codes "judge" ∷ (codes "--limit=" ++ number) ∷ []) ≡ Some number
-unfolding line_limit clap_on_literals
+unfolding line_value clap_on_literals
 judge_joined_has_limit program number = refl
 
 judge_joined_is_named : (program : List ℕ) (number : List ℕ)
@@ -98,7 +98,7 @@ unfolding line_faults clap_on_literals
 drive_has_no_faults program = refl
 
 drive_has_no_limit : (program : List ℕ) → line_limit (program ∷ codes "drive" ∷ []) ≡ None
-unfolding line_limit clap_on_literals
+unfolding line_value clap_on_literals
 drive_has_no_limit program = refl
 
 drive_is_named : (program : List ℕ) → line_command (program ∷ codes "drive" ∷ []) ≡ Some (codes "drive")
@@ -131,7 +131,7 @@ drive_after_limit_has_no_faults program number plain =
 
 drive_has_limit : (program : List ℕ) (number : List ℕ) → IsNoFlag number
     → line_limit (program ∷ codes "drive" ∷ limit_words number) ≡ Some number
-unfolding line_limit clap_on_literals drive_shape
+unfolding line_value clap_on_literals drive_shape
 drive_has_limit program number plain =
     ap (λ (w : Walk). first_of (codes "limit") (finished drive_shape.rules w.held)) (drive_takes_value number plain)
 
@@ -149,7 +149,7 @@ drive_joined_has_no_faults program number = refl
 
 drive_joined_has_limit : (program : List ℕ) (number : List ℕ)
     → line_limit (program ∷ codes "drive" ∷ (codes "--limit=" ++ number) ∷ []) ≡ Some number
-unfolding line_limit clap_on_literals
+unfolding line_value clap_on_literals
 drive_joined_has_limit program number = refl
 
 drive_joined_is_named : (program : List ℕ) (number : List ℕ)

@@ -1,5 +1,5 @@
 -- What clap finds in the program's command line, and what it says of a fault.
-use Rattle.std.proofs.Common.{arith, [], ◌∷◌, refl, sym, ap, inl, inr, codes, true, Option, ℕ, List, ◌≡◌, ◌≢◌, ◌⊎◌, ◌∙◌, Some, None, option_map}
+use Rattle.std.proofs.Common.{[], ◌∷◌, refl, sym, ap, inl, inr, codes, true, false, ◌==◌, Option, ℕ, List, ◌≡◌, ◌≢◌, ◌⊎◌, ◌∙◌, Some, None, option_map}
 use Rattle.std.specs.Prelude.{option_and_then}
 use Rattle.clap.specs.Words.{App, HasKind, IsAmong, Row, Text, fault_of, first_of, first_value, found_of, is_simple_and_free, kind_of}
 use Rattle.clap.specs.Words.{rows_of, subcommand_name_of, subcommand_of, subcommand_rows_of, HasMatchesOf, is_simple}
@@ -7,14 +7,13 @@ use Rattle.clap.specs.declared.parser.matches.ArgMatches.{ArgMatches}
 use Rattle.clap.specs.declared.error.Error.{Error}
 use Rattle.clap.specs.declared.error.kind.ErrorKind.{ErrorKind}
 use Rattle.clap.specs.declared.error.kind.ErrorKind.TheVariants as kind
+use Rattle.std.proofs.lemmas.Bool.{eq-eqb}
 use Rattle.clap.proofs.OnLiterals.{clap_on_literals}
 use Rattle.clap.proofs.WalkLemmas.{first_value-rows}
 use Rattle.mc_command.specs.declared.arguments.Asked.{Asked}
 use Rattle.mc_command.specs.declared.arguments.Asked.TheVariants as asked
-use Rattle.mc_command.specs.Command.{AsksFor, IsAskedBy, IsFaultOf, IsLimit, IsShown, NamesMeeting}
-use Rattle.mc_command.specs.LineLaws.{HasLimit}
-use Rattle.mc_command.specs.CommandLine.{given_limit, given_meeting, given_name, given_target, line_command}
-use Rattle.mc_command.specs.CommandLine.{line_faults, line_limit, line_meeting, line_target, program_app}
+use Rattle.mc_command.specs.Command.{AsksFor, IsAskedBy, IsFaultOf, IsJob, IsLimit, IsSeed, IsShown, NamesMeeting}
+use Rattle.mc_command.specs.CommandLine.{given_name, given_value, line_command, line_faults, line_limit, line_meeting, line_value, program_app}
 
 -- the faults of the command that the program makes
 pub line_faults-is : (app : App) (words : List (List ℕ)) → app ≡ program_app
@@ -37,22 +36,12 @@ line_command-is : (app : App) (words : List (List ℕ)) (m : ArgMatches) → app
 unfolding line_command
 line_command-is app words m is found = ap given_name (subcommand-is app words m is found)
 
-line_limit-is : (app : App) (words : List (List ℕ)) (m : ArgMatches) → app ≡ program_app → HasMatchesOf app words m
-    → given_limit (subcommand_rows_of m) ≡ line_limit words
-unfolding line_limit
-line_limit-is app words m is found = ap given_limit (subcommand-is app words m is found)
+line_value-is : (app : App) (words : List (List ℕ)) (m : ArgMatches) → app ≡ program_app → HasMatchesOf app words m
+    → (name : Text) → given_value (subcommand_rows_of m) name ≡ line_value words name
+unfolding line_value
+line_value-is app words m is found name = ap (λ entered. given_value entered name) (subcommand-is app words m is found)
 
-line_meeting-is : (app : App) (words : List (List ℕ)) (m : ArgMatches) → app ≡ program_app → HasMatchesOf app words m
-    → given_meeting (subcommand_rows_of m) ≡ line_meeting words
-unfolding line_meeting
-line_meeting-is app words m is found = ap given_meeting (subcommand-is app words m is found)
-
-line_target-is : (app : App) (words : List (List ℕ)) (m : ArgMatches) → app ≡ program_app → HasMatchesOf app words m
-    → given_target (subcommand_rows_of m) ≡ line_target words
-unfolding line_target
-line_target-is app words m is found = ap given_target (subcommand-is app words m is found)
-
--- the name, the words of the limit and of the meeting, and the target among what was found for a subcommand
+-- the name and a value among what was found for a subcommand
 name_of : {X : Type 0} (rows : X → Text × List Row) (o : Option X) → given_name (option_map rows o) ≡ option_map (λ x. (rows x).0) o
 name_of rows None = refl
 name_of rows (Some x) = refl
@@ -60,40 +49,20 @@ name_of rows (Some x) = refl
 name_of_rows : (m : ArgMatches) → given_name (subcommand_rows_of m) ≡ subcommand_name_of m
 name_of_rows m = name_of _ _
 
-limit_of_rows : (entered : Option (Text × List Row)) (rows : List Row) → Some rows ≡ option_map (λ found. found.1) entered
-    → given_limit entered ≡ first_of (codes "limit") rows
-limit_of_rows None rows is = absurd (cc)
-limit_of_rows (Some found) rows is = ap (λ o. option_and_then (first_of (codes "limit")) o) (sym is)
-
-meeting_of_rows : (entered : Option (Text × List Row)) (rows : List Row) → Some rows ≡ option_map (λ found. found.1) entered
-    → given_meeting entered ≡ first_of (codes "meet") rows
-meeting_of_rows None rows is = absurd (cc)
-meeting_of_rows (Some found) rows is = ap (λ o. option_and_then (first_of (codes "meet")) o) (sym is)
-
-target_of_rows : (entered : Option (Text × List Row)) (rows : List Row) → Some rows ≡ option_map (λ found. found.1) entered
-    → given_target entered ≡ first_of (codes "target") rows
-target_of_rows None rows is = absurd (cc)
-target_of_rows (Some found) rows is = ap (λ o. option_and_then (first_of (codes "target")) o) (sym is)
+value_of_rows : (entered : Option (Text × List Row)) (rows : List Row) (name : Text) → Some rows ≡ option_map (λ found. found.1) entered
+    → given_value entered name ≡ first_of name rows
+value_of_rows None rows name is = absurd (cc)
+value_of_rows (Some found) rows name is = ap (λ o. option_and_then (first_of name) o) (sym is)
 
 -- what the line names, by the subcommand that a parse answers
 module _ (app : App) (words : List (List ℕ)) (m : ArgMatches) (is : app ≡ program_app) (found : HasMatchesOf app words m) where
   pub command_is : (name : Text) → Some name ≡ subcommand_name_of m → line_command words ≡ Some name
   command_is name named = sym (line_command-is app words m is found) ∙ (name_of_rows m ∙ sym named)
 
-  pub limit_is : (options : ArgMatches) → Some (rows_of (found_of options)) ≡ option_map (λ (p : Text × List Row). p.1) (subcommand_rows_of m)
-      → line_limit words ≡ first_value (found_of options) (codes "limit")
-  limit_is options rows = sym (line_limit-is app words m is found)
-      ∙ (limit_of_rows (subcommand_rows_of m) _ rows ∙ sym (first_value-rows (found_of options) (codes "limit")))
-
-  pub meeting_is : (options : ArgMatches) → Some (rows_of (found_of options)) ≡ option_map (λ (p : Text × List Row). p.1) (subcommand_rows_of m)
-      → line_meeting words ≡ first_value (found_of options) (codes "meet")
-  meeting_is options rows = sym (line_meeting-is app words m is found)
-      ∙ (meeting_of_rows (subcommand_rows_of m) _ rows ∙ sym (first_value-rows (found_of options) (codes "meet")))
-
-  pub target_is : (options : ArgMatches) → Some (rows_of (found_of options)) ≡ option_map (λ (p : Text × List Row). p.1) (subcommand_rows_of m)
-      → line_target words ≡ first_value (found_of options) (codes "target")
-  target_is options rows = sym (line_target-is app words m is found)
-      ∙ (target_of_rows (subcommand_rows_of m) _ rows ∙ sym (first_value-rows (found_of options) (codes "target")))
+  pub value_is : (options : ArgMatches) → Some (rows_of (found_of options)) ≡ option_map (λ (p : Text × List Row). p.1) (subcommand_rows_of m)
+      → (name : Text) → line_value words name ≡ first_value (found_of options) name
+  value_is options rows name = sym (line_value-is app words m is found name)
+      ∙ (value_of_rows (subcommand_rows_of m) _ name rows ∙ sym (first_value-rows (found_of options) name))
 
 -- a fault that clap finds
 found_by_clap : (words : List (List ℕ)) (found : ErrorKind) → IsAmong found (line_faults words) → IsFaultOf words found
@@ -108,7 +77,7 @@ fault_by_clap words e (inr among) = inr (found_by_clap words (kind_of e) among)
 
 -- a fault that the program finds
 found_by_program : (words : List (List ℕ)) (found : ErrorKind) → line_faults words ≡ []
-    → ((wanted : Asked) → IsAskedBy (line_command words) (line_limit words) (line_meeting words) wanted → ⊥) → (IsShown found → ⊥) → IsFaultOf words found
+    → ((wanted : Asked) → IsAskedBy (line_command words) (line_value words) wanted → ⊥) → (IsShown found → ⊥) → IsFaultOf words found
 found_by_program words found clear none told = record {
   faulty = λ wanted asks. none wanted asks.1;
   which = inr (clear, told);
@@ -119,96 +88,101 @@ is_told found help version (inl is) = help is
 is_told found help version (inr is) = version is
 
 -- the names of subcommands differ, by their first bytes
-abbrev first_byte : Option Text → ℕ
+abbrev pub first_byte : Option Text → ℕ
 first_byte None = 0
 first_byte (Some []) = 0
 first_byte (Some (b ∷ bs)) = b
 
-pub judge_is_not_check : Some (codes "judge") ≢ Some (codes "check")
-judge_is_not_check same =
-    let first : 106 ≡ 99 = ap first_byte same in
-    omega (arith, first)
+-- the name of the subcommand that asks for this
+abbrev pub name_of_asked : Asked → Text
+name_of_asked (asked.Judge limit) = codes "judge"
+name_of_asked asked.Check = codes "check"
+name_of_asked asked.Asm = codes "asm"
+name_of_asked (asked.Drive limit) = codes "drive"
+name_of_asked (asked.Run limit) = codes "run"
+name_of_asked (asked.Generate seed job) = codes "generate"
 
-pub judge_is_not_asm : Some (codes "judge") ≢ Some (codes "asm")
-judge_is_not_asm same =
-    let first : 106 ≡ 97 = ap first_byte same in
-    omega (arith, first)
+pub is_named_by : (command : Option Text) (value : Text → Option Text) (wanted : Asked) → IsAskedBy command value wanted
+    → command ≡ Some (name_of_asked wanted)
+is_named_by command value (asked.Judge limit) asks = asks.0
+is_named_by command value asked.Check asks = asks
+is_named_by command value asked.Asm asks = asks
+is_named_by command value (asked.Drive limit) asks = asks.0
+is_named_by command value (asked.Run limit) asks = asks.0
+is_named_by command value (asked.Generate seed job) asks = asks.0
 
-pub judge_is_not_drive : Some (codes "judge") ≢ Some (codes "drive")
-judge_is_not_drive same =
-    let first : 106 ≡ 100 = ap first_byte same in
-    omega (arith, first)
+-- a line with another subcommand doesn't ask for this
+asks_otherwise : {command : Option Text} {name : Text} (value : Text → Option Text) → command ≡ Some name → (wanted : Asked)
+    → (first_byte (Some name) == first_byte (Some (name_of_asked wanted))) ≡ false → IsAskedBy command value wanted → ⊥
+asks_otherwise {command} {name} value named wanted other asks =
+    differ _ _ other (ap first_byte (sym named ∙ is_named_by command value wanted asks))
+  where
+    differ : (m : ℕ) (n : ℕ) → (m == n) ≡ false → m ≡ n → ⊥
+    differ m n other same = absurd (cc (other, eq-eqb m n same))
 
-pub check_is_not_asm : Some (codes "check") ≢ Some (codes "asm")
-check_is_not_asm same =
-    let first : 99 ≡ 97 = ap first_byte same in
-    omega (arith, first)
+pub line_asks_otherwise : (words : List (List ℕ)) {name : Text} → line_command words ≡ Some name → (wanted : Asked)
+    → (first_byte (Some name) == first_byte (Some (name_of_asked wanted))) ≡ false → AsksFor words wanted → ⊥
+line_asks_otherwise words named wanted other asks = asks_otherwise (line_value words) named wanted other asks.1
 
-pub check_is_not_drive : Some (codes "check") ≢ Some (codes "drive")
-check_is_not_drive same =
-    let first : 99 ≡ 100 = ap first_byte same in
-    omega (arith, first)
+-- where a value that a subcommand needs is none, its line asks for nothing
+nothing_judged : (command : Option Text) (value : Text → Option Text) → command ≡ Some (codes "judge")
+    → ((limit : ℕ) → IsLimit (value (codes "limit")) limit → ⊥) → (wanted : Asked) → IsAskedBy command value wanted → ⊥
+nothing_judged command value named none (asked.Judge limit) asks = none limit asks.1
+nothing_judged command value named none asked.Check asks = asks_otherwise value named asked.Check refl asks
+nothing_judged command value named none asked.Asm asks = asks_otherwise value named asked.Asm refl asks
+nothing_judged command value named none (asked.Drive limit) asks = asks_otherwise value named (asked.Drive limit) refl asks
+nothing_judged command value named none (asked.Run limit) asks = asks_otherwise value named (asked.Run limit) refl asks
+nothing_judged command value named none (asked.Generate seed job) asks = asks_otherwise value named (asked.Generate seed job) refl asks
 
-pub asm_is_not_drive : Some (codes "asm") ≢ Some (codes "drive")
-asm_is_not_drive same =
-    let first : 97 ≡ 100 = ap first_byte same in
-    omega (arith, first)
+nothing_driven : (command : Option Text) (value : Text → Option Text) → command ≡ Some (codes "drive")
+    → ((limit : ℕ) → IsLimit (value (codes "limit")) limit → ⊥) → (wanted : Asked) → IsAskedBy command value wanted → ⊥
+nothing_driven command value named none (asked.Judge limit) asks = asks_otherwise value named (asked.Judge limit) refl asks
+nothing_driven command value named none asked.Check asks = asks_otherwise value named asked.Check refl asks
+nothing_driven command value named none asked.Asm asks = asks_otherwise value named asked.Asm refl asks
+nothing_driven command value named none (asked.Drive limit) asks = none limit asks.1
+nothing_driven command value named none (asked.Run limit) asks = asks_otherwise value named (asked.Run limit) refl asks
+nothing_driven command value named none (asked.Generate seed job) asks = asks_otherwise value named (asked.Generate seed job) refl asks
 
-pub judge_is_not_run : Some (codes "judge") ≢ Some (codes "run")
-judge_is_not_run same =
-    let first : 106 ≡ 114 = ap first_byte same in
-    omega (arith, first)
+nothing_run : (command : Option Text) (value : Text → Option Text) → command ≡ Some (codes "run")
+    → ((limit : ℕ) → IsLimit (value (codes "limit")) limit × NamesMeeting (value (codes "meet")) → ⊥) → (wanted : Asked) → IsAskedBy command value wanted → ⊥
+nothing_run command value named none (asked.Judge limit) asks = asks_otherwise value named (asked.Judge limit) refl asks
+nothing_run command value named none asked.Check asks = asks_otherwise value named asked.Check refl asks
+nothing_run command value named none asked.Asm asks = asks_otherwise value named asked.Asm refl asks
+nothing_run command value named none (asked.Drive limit) asks = asks_otherwise value named (asked.Drive limit) refl asks
+nothing_run command value named none (asked.Run limit) asks = none limit (asks.1, asks.2)
+nothing_run command value named none (asked.Generate seed job) asks = asks_otherwise value named (asked.Generate seed job) refl asks
 
-pub check_is_not_run : Some (codes "check") ≢ Some (codes "run")
-check_is_not_run same =
-    let first : 99 ≡ 114 = ap first_byte same in
-    omega (arith, first)
+nothing_generated : (command : Option Text) (value : Text → Option Text) → command ≡ Some (codes "generate")
+    → ((seed : ℕ) (job : ℕ) → IsSeed (value (codes "seed")) seed × IsJob (value (codes "job")) job → ⊥) → (wanted : Asked) → IsAskedBy command value wanted → ⊥
+nothing_generated command value named none (asked.Judge limit) asks = asks_otherwise value named (asked.Judge limit) refl asks
+nothing_generated command value named none asked.Check asks = asks_otherwise value named asked.Check refl asks
+nothing_generated command value named none asked.Asm asks = asks_otherwise value named asked.Asm refl asks
+nothing_generated command value named none (asked.Drive limit) asks = asks_otherwise value named (asked.Drive limit) refl asks
+nothing_generated command value named none (asked.Run limit) asks = asks_otherwise value named (asked.Run limit) refl asks
+nothing_generated command value named none (asked.Generate seed job) asks = none seed job (asks.1, asks.2)
 
-pub asm_is_not_run : Some (codes "asm") ≢ Some (codes "run")
-asm_is_not_run same =
-    let first : 97 ≡ 114 = ap first_byte same in
-    omega (arith, first)
+-- such a line has a fault, which the program finds
+module _ (words : List (List ℕ)) (found : ErrorKind) (is : found ≡ kind.ValueValidation) (clear : line_faults words ≡ []) where
+  no_value : ((wanted : Asked) → IsAskedBy (line_command words) (line_value words) wanted → ⊥) → IsFaultOf words found
+  no_value none = found_by_program words found clear none (is_told found (λ help. absurd (cc)) (λ version. absurd (cc)))
 
-pub drive_is_not_run : Some (codes "drive") ≢ Some (codes "run")
-drive_is_not_run same =
-    let first : 100 ≡ 114 = ap first_byte same in
-    omega (arith, first)
+  pub no_limit_of_judge : line_command words ≡ Some (codes "judge") → ((limit : ℕ) → IsLimit (line_limit words) limit → ⊥) → IsFaultOf words found
+  no_limit_of_judge named none = no_value (nothing_judged _ (line_value words) named none)
 
--- the limit's word is none
-nothing_limited : (command : Option Text) (word : Option Text) (meets : Option Text) (name : Text) → HasLimit name → command ≡ Some name
-    → ((limit : ℕ) → IsLimit word limit → ⊥) → (wanted : Asked) → IsAskedBy command word meets wanted → ⊥
-nothing_limited command word meets name has named none (asked.Judge limit) asks = none limit asks.1
-nothing_limited command word meets name has named none (asked.Drive limit) asks = none limit asks.1
-nothing_limited command word meets name (inl judge) named none asked.Check asks = judge_is_not_check (sym (ap Some judge) ∙ (sym named ∙ asks))
-nothing_limited command word meets name (inr drive) named none asked.Check asks = check_is_not_drive (sym asks ∙ (named ∙ ap Some drive))
-nothing_limited command word meets name (inl judge) named none asked.Asm asks = judge_is_not_asm (sym (ap Some judge) ∙ (sym named ∙ asks))
-nothing_limited command word meets name (inr drive) named none asked.Asm asks = asm_is_not_drive (sym asks ∙ (named ∙ ap Some drive))
-nothing_limited command word meets name has named none (asked.Run limit) asks = none limit asks.1
+  pub no_limit_of_drive : line_command words ≡ Some (codes "drive") → ((limit : ℕ) → IsLimit (line_limit words) limit → ⊥) → IsFaultOf words found
+  no_limit_of_drive named none = no_value (nothing_driven _ (line_value words) named none)
 
-nothing_run : (command : Option Text) (word : Option Text) (meets : Option Text) → command ≡ Some (codes "run")
-    → ((limit : ℕ) → IsLimit word limit × NamesMeeting meets → ⊥) → (wanted : Asked) → IsAskedBy command word meets wanted → ⊥
-nothing_run command word meets run none (asked.Judge limit) asks = judge_is_not_run (sym asks.0 ∙ run)
-nothing_run command word meets run none (asked.Drive limit) asks = drive_is_not_run (sym asks.0 ∙ run)
-nothing_run command word meets run none (asked.Run limit) asks = none limit (asks.1, asks.2)
-nothing_run command word meets run none asked.Check asks = check_is_not_run (sym asks ∙ run)
-nothing_run command word meets run none asked.Asm asks = asm_is_not_run (sym asks ∙ run)
+  pub no_limit_of_run : line_command words ≡ Some (codes "run") → ((limit : ℕ) → IsLimit (line_limit words) limit → ⊥) → IsFaultOf words found
+  no_limit_of_run named none = no_value (nothing_run _ (line_value words) named (λ limit both. none limit both.0))
 
-pub no_limit : (words : List (List ℕ)) (found : ErrorKind) (name : Text) → HasLimit name → found ≡ kind.ValueValidation → line_faults words ≡ []
-    → line_command words ≡ Some name → ((limit : ℕ) → IsLimit (line_limit words) limit → ⊥) → IsFaultOf words found
-no_limit words found name has is clear named none =
-    found_by_program words found clear (nothing_limited _ _ _ name has named none) (is_told found (λ help. absurd (cc)) (λ version. absurd (cc)))
+  pub no_meeting : line_command words ≡ Some (codes "run") → (NamesMeeting (line_meeting words) → ⊥) → IsFaultOf words found
+  no_meeting named none = no_value (nothing_run _ (line_value words) named (λ limit both. none both.1))
 
-pub no_limit_of_run : (words : List (List ℕ)) (found : ErrorKind) → found ≡ kind.ValueValidation → line_faults words ≡ []
-    → line_command words ≡ Some (codes "run") → ((limit : ℕ) → IsLimit (line_limit words) limit → ⊥) → IsFaultOf words found
-no_limit_of_run words found is clear named none =
-    found_by_program words found clear (nothing_run _ _ _ named (λ limit both. none limit both.0))
-    (is_told found (λ help. absurd (cc)) (λ version. absurd (cc)))
+  pub no_seed : line_command words ≡ Some (codes "generate") → ((seed : ℕ) → IsSeed (line_value words (codes "seed")) seed → ⊥) → IsFaultOf words found
+  no_seed named none = no_value (nothing_generated _ (line_value words) named (λ seed job both. none seed both.0))
 
-pub no_meeting : (words : List (List ℕ)) (found : ErrorKind) → found ≡ kind.ValueValidation → line_faults words ≡ []
-    → line_command words ≡ Some (codes "run") → (NamesMeeting (line_meeting words) → ⊥) → IsFaultOf words found
-no_meeting words found is clear named none =
-    found_by_program words found clear (nothing_run _ _ _ named (λ limit both. none both.1))
-    (is_told found (λ help. absurd (cc)) (λ version. absurd (cc)))
+  pub no_job : line_command words ≡ Some (codes "generate") → ((job : ℕ) → IsJob (line_value words (codes "job")) job → ⊥) → IsFaultOf words found
+  no_job named none = no_value (nothing_generated _ (line_value words) named (λ seed job both. none job both.1))
 
 -- the subcommand is another one
 pub record IsNoSubcommand (command : Option Text) : Type 0 where
@@ -217,19 +191,22 @@ pub record IsNoSubcommand (command : Option Text) : Type 0 where
   pub asm : command ≢ Some (codes "asm")
   pub drive : command ≢ Some (codes "drive")
   pub run : command ≢ Some (codes "run")
+  pub generate : command ≢ Some (codes "generate")
 
-nothing_asked : (command : Option Text) (word : Option Text) (meets : Option Text) → IsNoSubcommand command → (wanted : Asked)
-    → IsAskedBy command word meets wanted → ⊥
-nothing_asked command word meets other (asked.Judge limit) asks = other.judge asks.0
-nothing_asked command word meets other asked.Check asks = other.check asks
-nothing_asked command word meets other asked.Asm asks = other.asm asks
-nothing_asked command word meets other (asked.Drive limit) asks = other.drive asks.0
-nothing_asked command word meets other (asked.Run limit) asks = other.run asks.0
+nothing_asked : (command : Option Text) (value : Text → Option Text) → IsNoSubcommand command → (wanted : Asked)
+    → IsAskedBy command value wanted → ⊥
+nothing_asked command value other (asked.Judge limit) asks = other.judge asks.0
+nothing_asked command value other asked.Check asks = other.check asks
+nothing_asked command value other asked.Asm asks = other.asm asks
+nothing_asked command value other (asked.Drive limit) asks = other.drive asks.0
+nothing_asked command value other (asked.Run limit) asks = other.run asks.0
+nothing_asked command value other (asked.Generate seed job) asks = other.generate asks.0
 
 pub no_subcommand : (words : List (List ℕ)) (found : ErrorKind) → found ≡ kind.MissingSubcommand → line_faults words ≡ []
     → IsNoSubcommand (line_command words) → IsFaultOf words found
 no_subcommand words found is clear other =
-    found_by_program words found clear (nothing_asked _ _ _ other) (is_told found (λ help. absurd (cc)) (λ version. absurd (cc)))
+    found_by_program words found clear (nothing_asked (line_command words) (line_value words) other)
+    (is_told found (λ help. absurd (cc)) (λ version. absurd (cc)))
 
 -- a line that asks for something fails only where memory runs out
 pub asking_lacks_memory : (words : List (List ℕ)) (wanted : Asked) (found : ErrorKind) → AsksFor words wanted

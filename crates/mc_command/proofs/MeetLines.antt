@@ -4,12 +4,12 @@ use Rattle.clap.specs.Faults.{walk_fault}
 use Rattle.clap.specs.Kinds.{or_else}
 use Rattle.clap.specs.Walk.{Held, Text, Walk, settled}
 use Rattle.clap.proofs.OnLiterals.{clap_on_literals}
-use Rattle.mc_command.proofs.Line.{asm_is_not_run, check_is_not_run, drive_is_not_run, judge_is_not_run}
+use Rattle.mc_command.proofs.Line.{line_asks_otherwise}
 use Rattle.mc_command.proofs.OptionValue.{IsNoFlag, value_walked, value_has_no_fault}
 use Rattle.mc_command.proofs.PlainLines.{name_is_no_flag}
 use Rattle.mc_command.proofs.RunLines.{run_shape, server_taken, takes_server, takes_it_without_faults, end_of, found_after, faults_after, faults_at}
 use Rattle.mc_command.specs.Command.{AsksFor, IsFaulty, IsMeeting, NamesMeeting, meeting_word}
-use Rattle.mc_command.specs.CommandLine.{DEFAULT_LIMIT, line_command, line_faults, line_limit, line_meeting, line_target}
+use Rattle.mc_command.specs.CommandLine.{DEFAULT_LIMIT, line_command, line_faults, line_limit, line_meeting, line_target, line_value}
 use Rattle.mc_command.specs.LineLaws.{RunLinesMeet}
 use Rattle.mc_command.specs.declared.arguments.Asked.TheVariants as asked
 use Rattle.mc_command.specs.declared.meeting.Meeting.{Meeting}
@@ -59,15 +59,15 @@ module _ (program : Text) (server : Text) (plain : IsNoFlag server) (word : Text
   joined_is_named = refl
 
   joined_is_unlimited : line_limit (program ∷ codes "run" ∷ server ∷ joined ∷ []) ≡ None
-  unfolding line_limit clap_on_literals run_shape server_taken joined
+  unfolding line_value clap_on_literals run_shape server_taken joined
   joined_is_unlimited = ap (found_after (codes "limit") (joined ∷ [])) (takes_server server plain)
 
   joined_has_meeting : line_meeting (program ∷ codes "run" ∷ server ∷ joined ∷ []) ≡ Some word
-  unfolding line_meeting clap_on_literals run_shape server_taken joined
+  unfolding line_value clap_on_literals run_shape server_taken joined
   joined_has_meeting = ap (found_after (codes "meet") (joined ∷ [])) (takes_server server plain)
 
   joined_names : line_target (program ∷ codes "run" ∷ server ∷ joined ∷ []) ≡ Some server
-  unfolding line_target clap_on_literals run_shape server_taken joined
+  unfolding line_value clap_on_literals run_shape server_taken joined
   joined_names = ap (found_after (codes "target") (joined ∷ [])) (takes_server server plain)
 
   joined_found : Found (program ∷ codes "run" ∷ server ∷ (codes "--meet=" ++ word) ∷ []) server word
@@ -92,17 +92,17 @@ module _ (program : Text) (server : Text) (plain : IsNoFlag server) (word : Text
     apart_is_named = refl
 
     apart_is_unlimited : line_limit (program ∷ codes "run" ∷ server ∷ meet_words word) ≡ None
-    unfolding line_limit clap_on_literals run_shape server_taken value_taken
+    unfolding line_value clap_on_literals run_shape server_taken value_taken
     apart_is_unlimited = ap (found_after (codes "limit") (meet_words word)) (takes_server server plain)
         ∙ ap (found_after (codes "limit") []) (takes_value server word value)
 
     apart_has_meeting : line_meeting (program ∷ codes "run" ∷ server ∷ meet_words word) ≡ Some word
-    unfolding line_meeting clap_on_literals run_shape server_taken value_taken
+    unfolding line_value clap_on_literals run_shape server_taken value_taken
     apart_has_meeting = ap (found_after (codes "meet") (meet_words word)) (takes_server server plain)
         ∙ ap (found_after (codes "meet") []) (takes_value server word value)
 
     apart_names : line_target (program ∷ codes "run" ∷ server ∷ meet_words word) ≡ Some server
-    unfolding line_target clap_on_literals run_shape server_taken value_taken
+    unfolding line_value clap_on_literals run_shape server_taken value_taken
     apart_names = ap (found_after (codes "target") (meet_words word)) (takes_server server plain)
         ∙ ap (found_after (codes "target") []) (takes_value server word value)
 
@@ -125,10 +125,11 @@ found_asks words server word found wanted is = (
 )
 
 found_is_faulty : (words : List Text) (server : Text) (word : Text) → Found words server word → (NamesMeeting (Some word) → ⊥) → IsFaulty words
-found_is_faulty words server word found none (asked.Judge limit) asks = judge_is_not_run (sym asks.1.0 ∙ found.named)
-found_is_faulty words server word found none asked.Check asks = check_is_not_run (sym asks.1 ∙ found.named)
-found_is_faulty words server word found none asked.Asm asks = asm_is_not_run (sym asks.1 ∙ found.named)
-found_is_faulty words server word found none (asked.Drive limit) asks = drive_is_not_run (sym asks.1.0 ∙ found.named)
+found_is_faulty words server word found none (asked.Judge limit) asks = line_asks_otherwise words found.named (asked.Judge limit) refl asks
+found_is_faulty words server word found none asked.Check asks = line_asks_otherwise words found.named asked.Check refl asks
+found_is_faulty words server word found none asked.Asm asks = line_asks_otherwise words found.named asked.Asm refl asks
+found_is_faulty words server word found none (asked.Drive limit) asks = line_asks_otherwise words found.named (asked.Drive limit) refl asks
+found_is_faulty words server word found none (asked.Generate seed job) asks = line_asks_otherwise words found.named (asked.Generate seed job) refl asks
 found_is_faulty words server word found none (asked.Run limit) asks = none (rw found.meeting at asks.1.2)
 
 pub run_lines_meet : RunLinesMeet

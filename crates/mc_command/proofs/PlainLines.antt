@@ -1,18 +1,17 @@
 -- The lines that are mostly written: what clap finds in them.
-use Rattle.std.proofs.Common.{refl, sym, arith, ap, inl, inr, codes, true, false, ℕ, List, [], ◌∷◌, ◌++◌, ◌≡◌, ◌∙◌, ◌==◌, Option, Some, None}
+use Rattle.std.proofs.Common.{refl, sym, arith, ap, ap₂, inl, inr, codes, true, false, ℕ, List, [], ◌∷◌, ◌++◌, ◌≡◌, ◌∙◌, ◌==◌, Option, Some, None}
 use Rattle.clap.proofs.OnLiterals.{clap_on_literals}
 use Rattle.mc_protocol.specs.Decimals.{SpellsNumber, are_digits, is_digit}
-use Rattle.mc_command.proofs.Line.{asm_is_not_drive, asm_is_not_run, check_is_not_asm, check_is_not_drive, check_is_not_run, drive_is_not_run}
-use Rattle.mc_command.proofs.Line.{judge_is_not_asm, judge_is_not_check, judge_is_not_drive, judge_is_not_run}
+use Rattle.mc_command.proofs.Line.{first_byte, is_named_by, line_asks_otherwise, name_of_asked}
 use Rattle.mc_command.proofs.RunLines as run
 use Rattle.mc_command.proofs.LimitLines.{TakesLimit, drive_takes_limit, judge_takes_limit}
 use Rattle.mc_command.proofs.OptionValue.{IsNoFlag, no_flag}
 use Rattle.mc_command.specs.declared.arguments.Asked.{Asked}
 use Rattle.mc_command.specs.declared.arguments.Asked.TheVariants as asked
 use Rattle.mc_command.specs.declared.meeting.Meeting.TheVariants as meeting
-use Rattle.mc_command.specs.Command.{AsksFor, IsLimit, NamesMeeting}
-use Rattle.mc_command.specs.CommandLine.{GREATEST_LIMIT, line_command, line_faults, line_limit}
-use Rattle.mc_command.specs.LineLaws.{IsName, NamesLimit, LinesAskOnce, PlainLinesAsk, SignedLimitsAreFaulty}
+use Rattle.mc_command.specs.Command.{AsksFor, IsLimit, IsNumber, NamesMeeting}
+use Rattle.mc_command.specs.CommandLine.{GREATEST_LIMIT, line_command, line_faults, line_limit, line_value}
+use Rattle.mc_command.specs.LineLaws.{IsName, NamesJob, NamesLimit, LinesAskOnce, PlainLinesAsk, SignedLimitsAreFaulty}
 use Rattle.std.proofs.lemmas.Bool.{ne_eqb}
 use Rattle.std.proofs.lemmas.Grind.{common_steps}
 
@@ -35,6 +34,45 @@ asm_has_no_faults program = refl
 asm_is_named : (program : List ℕ) → line_command (program ∷ codes "asm" ∷ []) ≡ Some (codes "asm")
 unfolding line_command clap_on_literals
 asm_is_named program = refl
+
+-- ---- `generate`
+
+generate_has_no_faults : (program : List ℕ) → line_faults (program ∷ codes "generate" ∷ []) ≡ []
+unfolding line_faults clap_on_literals
+generate_has_no_faults program = refl
+
+generate_is_named : (program : List ℕ) → line_command (program ∷ codes "generate" ∷ []) ≡ Some (codes "generate")
+unfolding line_command clap_on_literals
+generate_is_named program = refl
+
+generate_has_no_seed : (program : List ℕ) → line_value (program ∷ codes "generate" ∷ []) (codes "seed") ≡ None
+unfolding line_value clap_on_literals
+generate_has_no_seed program = refl
+
+generate_has_no_job : (program : List ℕ) → line_value (program ∷ codes "generate" ∷ []) (codes "job") ≡ None
+unfolding line_value clap_on_literals
+generate_has_no_job program = refl
+
+module _ (program : List ℕ) (seed : List ℕ) (job : List ℕ) where
+  -- `generate --seed=SEED --job=JOB`
+  numbered_line : List (List ℕ)
+  numbered_line = program ∷ codes "generate" ∷ (codes "--seed=" ++ seed) ∷ (codes "--job=" ++ job) ∷ []
+
+  numbered_has_no_faults : line_faults numbered_line ≡ []
+  unfolding line_faults clap_on_literals numbered_line
+  numbered_has_no_faults = refl
+
+  numbered_is_named : line_command numbered_line ≡ Some (codes "generate")
+  unfolding line_command clap_on_literals numbered_line
+  numbered_is_named = refl
+
+  numbered_has_seed : line_value numbered_line (codes "seed") ≡ Some seed
+  unfolding line_value clap_on_literals numbered_line
+  numbered_has_seed = refl
+
+  numbered_has_job : line_value numbered_line (codes "job") ≡ Some job
+  unfolding line_value clap_on_literals numbered_line
+  numbered_has_job = refl
 
 -- ---- the laws
 
@@ -106,6 +144,28 @@ run_asks program server others limit plain (inr (number, spells, inr joined)) =
       ),
     )
 
+generate_asks : (program : List ℕ) (others : List (List ℕ)) (seed : ℕ) (job : ℕ) → NamesJob others seed job
+    → AsksFor (program ∷ codes "generate" ∷ others) (asked.Generate seed job)
+unfolding numbered_line
+generate_asks program others seed job (inl none) =
+    rw none.0 (
+      generate_has_no_faults program,
+      (
+        generate_is_named program,
+        rw (generate_has_no_seed program) none.1,
+        rw (generate_has_no_job program) none.2,
+      ),
+    )
+generate_asks program others seed job (inr (first, second, is_seed, is_job, is)) =
+    rw is (
+      numbered_has_no_faults program first second,
+      (
+        numbered_is_named program first second,
+        rw (numbered_has_seed program first second) is_seed,
+        rw (numbered_has_job program first second) is_job,
+      ),
+    )
+
 pub plain_lines_ask : PlainLinesAsk
 plain_lines_ask words (asked.Judge limit) (program, others, is, names) =
     let found = names_limit (codes "judge") judge_takes_limit program others limit names in
@@ -117,61 +177,97 @@ plain_lines_ask words (asked.Drive limit) (program, others, is, names) =
     rw is (found.0, (found.1, found.2))
 plain_lines_ask words (asked.Run limit) (program, server, others, is, names, limited) =
     rw is (run_asks program server others limit (name_is_no_flag server names) limited)
+plain_lines_ask words (asked.Generate seed job) (program, others, is, names) = rw is (generate_asks program others seed job names)
 
 -- a word that begins with no digit is no limit
 signed_is_none : (sign : ℕ) (number : List ℕ) (limit : ℕ) → is_digit sign ≡ false → SpellsNumber GREATEST_LIMIT (sign ∷ number) limit → ⊥
 signed_is_none sign number limit other spells = absurd (cc (first_digit sign number spells.digits, other))
 
+abbrev signed_line : List ℕ → List ℕ → ℕ → List ℕ → List (List ℕ)
+signed_line program name sign number = program ∷ name ∷ (codes "--limit=" ++ sign ∷ number) ∷ []
+
 pub signed_limits_are_faulty : SignedLimitsAreFaulty
 signed_limits_are_faulty program name sign number (inl judge) other wanted asks = signed_judge wanted (rw judge at asks)
   where
-    signed_judge : (wanted : Asked) → AsksFor (program ∷ codes "judge" ∷ (codes "--limit=" ++ sign ∷ number) ∷ []) wanted → ⊥
+    named : line_command (signed_line program (codes "judge") sign number) ≡ Some (codes "judge")
+    named = judge_takes_limit.joined_is_named program (sign ∷ number)
+
+    signed_judge : (wanted : Asked) → AsksFor (signed_line program (codes "judge") sign number) wanted → ⊥
     signed_judge (asked.Judge limit) asks =
         signed_is_none sign number limit other (rw (judge_takes_limit.joined_has_limit program (sign ∷ number)) at asks.1.1)
-    signed_judge asked.Check asks = judge_is_not_check (sym (judge_takes_limit.joined_is_named program (sign ∷ number)) ∙ asks.1)
-    signed_judge asked.Asm asks = judge_is_not_asm (sym (judge_takes_limit.joined_is_named program (sign ∷ number)) ∙ asks.1)
+    signed_judge asked.Check asks = line_asks_otherwise (signed_line program (codes "judge") sign number) named asked.Check refl asks
+    signed_judge asked.Asm asks = line_asks_otherwise (signed_line program (codes "judge") sign number) named asked.Asm refl asks
     signed_judge (asked.Drive limit) asks =
-        judge_is_not_drive (sym (judge_takes_limit.joined_is_named program (sign ∷ number)) ∙ asks.1.0)
-    signed_judge (asked.Run limit) asks = judge_is_not_run (sym (judge_takes_limit.joined_is_named program (sign ∷ number)) ∙ asks.1.0)
+        line_asks_otherwise (signed_line program (codes "judge") sign number) named (asked.Drive limit) refl asks
+    signed_judge (asked.Run limit) asks =
+        line_asks_otherwise (signed_line program (codes "judge") sign number) named (asked.Run limit) refl asks
+    signed_judge (asked.Generate seed job) asks =
+        line_asks_otherwise (signed_line program (codes "judge") sign number) named (asked.Generate seed job) refl asks
 signed_limits_are_faulty program name sign number (inr drive) other wanted asks = signed_drive wanted (rw drive at asks)
   where
-    signed_drive : (wanted : Asked) → AsksFor (program ∷ codes "drive" ∷ (codes "--limit=" ++ sign ∷ number) ∷ []) wanted → ⊥
+    named : line_command (signed_line program (codes "drive") sign number) ≡ Some (codes "drive")
+    named = drive_takes_limit.joined_is_named program (sign ∷ number)
+
+    signed_drive : (wanted : Asked) → AsksFor (signed_line program (codes "drive") sign number) wanted → ⊥
     signed_drive (asked.Judge limit) asks =
-        judge_is_not_drive (sym asks.1.0 ∙ drive_takes_limit.joined_is_named program (sign ∷ number))
-    signed_drive asked.Check asks = check_is_not_drive (sym asks.1 ∙ drive_takes_limit.joined_is_named program (sign ∷ number))
-    signed_drive asked.Asm asks = asm_is_not_drive (sym asks.1 ∙ drive_takes_limit.joined_is_named program (sign ∷ number))
+        line_asks_otherwise (signed_line program (codes "drive") sign number) named (asked.Judge limit) refl asks
+    signed_drive asked.Check asks = line_asks_otherwise (signed_line program (codes "drive") sign number) named asked.Check refl asks
+    signed_drive asked.Asm asks = line_asks_otherwise (signed_line program (codes "drive") sign number) named asked.Asm refl asks
     signed_drive (asked.Drive limit) asks =
         signed_is_none sign number limit other (rw (drive_takes_limit.joined_has_limit program (sign ∷ number)) at asks.1.1)
-    signed_drive (asked.Run limit) asks = drive_is_not_run (sym (drive_takes_limit.joined_is_named program (sign ∷ number)) ∙ asks.1.0)
+    signed_drive (asked.Run limit) asks =
+        line_asks_otherwise (signed_line program (codes "drive") sign number) named (asked.Run limit) refl asks
+    signed_drive (asked.Generate seed job) asks =
+        line_asks_otherwise (signed_line program (codes "drive") sign number) named (asked.Generate seed job) refl asks
 
--- a word names one limit at most
-one_limit : (word : _) (one : ℕ) (other : ℕ) → IsLimit word one → IsLimit word other → one ≡ other
-one_limit None one other is also = is ∙ sym also
-one_limit (Some word) one other is also = sym is.value ∙ also.value
+-- a word names one number at most
+one_number : (default : ℕ) (greatest : ℕ) (word : _) (one : ℕ) (other : ℕ) → IsNumber default greatest word one
+    → IsNumber default greatest word other → one ≡ other
+one_number default greatest None one other is also = is ∙ sym also
+one_number default greatest (Some word) one other is also = sym is.value ∙ also.value
+
+-- no line asks for two things of different names
+other_name : (words : List (List ℕ)) (one : Asked) (other : Asked)
+    → (first_byte (Some (name_of_asked one)) == first_byte (Some (name_of_asked other))) ≡ false
+    → AsksFor words one → AsksFor words other → one ≡ other
+other_name words one other differ is also =
+    absurd (line_asks_otherwise words (is_named_by (line_command words) (line_value words) one is.1) other differ also)
 
 pub lines_ask_once : LinesAskOnce
-lines_ask_once words (asked.Judge one) (asked.Judge other) is also = ap asked.Judge (one_limit _ one other is.1.1 also.1.1)
-lines_ask_once words (asked.Judge one) asked.Check is also = absurd (judge_is_not_check (sym is.1.0 ∙ also.1))
-lines_ask_once words (asked.Judge one) asked.Asm is also = absurd (judge_is_not_asm (sym is.1.0 ∙ also.1))
-lines_ask_once words (asked.Judge one) (asked.Drive other) is also = absurd (judge_is_not_drive (sym is.1.0 ∙ also.1.0))
-lines_ask_once words asked.Check (asked.Judge other) is also = absurd (judge_is_not_check (sym also.1.0 ∙ is.1))
+lines_ask_once words (asked.Judge one) (asked.Judge other) is also = ap asked.Judge (one_number _ _ _ one other is.1.1 also.1.1)
+lines_ask_once words (asked.Judge one) asked.Check is also = other_name words (asked.Judge one) asked.Check refl is also
+lines_ask_once words (asked.Judge one) asked.Asm is also = other_name words (asked.Judge one) asked.Asm refl is also
+lines_ask_once words (asked.Judge one) (asked.Drive other) is also = other_name words (asked.Judge one) (asked.Drive other) refl is also
+lines_ask_once words (asked.Judge one) (asked.Run other) is also = other_name words (asked.Judge one) (asked.Run other) refl is also
+lines_ask_once words (asked.Judge one) (asked.Generate seed₂ job₂) is also = other_name words (asked.Judge one) (asked.Generate seed₂ job₂) refl is also
+lines_ask_once words asked.Check (asked.Judge other) is also = other_name words asked.Check (asked.Judge other) refl is also
 lines_ask_once words asked.Check asked.Check is also = refl
-lines_ask_once words asked.Check asked.Asm is also = absurd (check_is_not_asm (sym is.1 ∙ also.1))
-lines_ask_once words asked.Check (asked.Drive other) is also = absurd (check_is_not_drive (sym is.1 ∙ also.1.0))
-lines_ask_once words asked.Asm (asked.Judge other) is also = absurd (judge_is_not_asm (sym also.1.0 ∙ is.1))
-lines_ask_once words asked.Asm asked.Check is also = absurd (check_is_not_asm (sym also.1 ∙ is.1))
+lines_ask_once words asked.Check asked.Asm is also = other_name words asked.Check asked.Asm refl is also
+lines_ask_once words asked.Check (asked.Drive other) is also = other_name words asked.Check (asked.Drive other) refl is also
+lines_ask_once words asked.Check (asked.Run other) is also = other_name words asked.Check (asked.Run other) refl is also
+lines_ask_once words asked.Check (asked.Generate seed₂ job₂) is also = other_name words asked.Check (asked.Generate seed₂ job₂) refl is also
+lines_ask_once words asked.Asm (asked.Judge other) is also = other_name words asked.Asm (asked.Judge other) refl is also
+lines_ask_once words asked.Asm asked.Check is also = other_name words asked.Asm asked.Check refl is also
 lines_ask_once words asked.Asm asked.Asm is also = refl
-lines_ask_once words asked.Asm (asked.Drive other) is also = absurd (asm_is_not_drive (sym is.1 ∙ also.1.0))
-lines_ask_once words (asked.Drive one) (asked.Judge other) is also = absurd (judge_is_not_drive (sym also.1.0 ∙ is.1.0))
-lines_ask_once words (asked.Drive one) asked.Check is also = absurd (check_is_not_drive (sym also.1 ∙ is.1.0))
-lines_ask_once words (asked.Drive one) asked.Asm is also = absurd (asm_is_not_drive (sym also.1 ∙ is.1.0))
-lines_ask_once words (asked.Drive one) (asked.Drive other) is also = ap asked.Drive (one_limit _ one other is.1.1 also.1.1)
-lines_ask_once words (asked.Judge one) (asked.Run other) is also = absurd (judge_is_not_run (sym is.1.0 ∙ also.1.0))
-lines_ask_once words asked.Check (asked.Run other) is also = absurd (check_is_not_run (sym is.1 ∙ also.1.0))
-lines_ask_once words asked.Asm (asked.Run other) is also = absurd (asm_is_not_run (sym is.1 ∙ also.1.0))
-lines_ask_once words (asked.Drive one) (asked.Run other) is also = absurd (drive_is_not_run (sym is.1.0 ∙ also.1.0))
-lines_ask_once words (asked.Run one) (asked.Judge other) is also = absurd (judge_is_not_run (sym also.1.0 ∙ is.1.0))
-lines_ask_once words (asked.Run one) asked.Check is also = absurd (check_is_not_run (sym also.1 ∙ is.1.0))
-lines_ask_once words (asked.Run one) asked.Asm is also = absurd (asm_is_not_run (sym also.1 ∙ is.1.0))
-lines_ask_once words (asked.Run one) (asked.Drive other) is also = absurd (drive_is_not_run (sym also.1.0 ∙ is.1.0))
-lines_ask_once words (asked.Run one) (asked.Run other) is also = ap asked.Run (one_limit _ one other is.1.1 also.1.1)
+lines_ask_once words asked.Asm (asked.Drive other) is also = other_name words asked.Asm (asked.Drive other) refl is also
+lines_ask_once words asked.Asm (asked.Run other) is also = other_name words asked.Asm (asked.Run other) refl is also
+lines_ask_once words asked.Asm (asked.Generate seed₂ job₂) is also = other_name words asked.Asm (asked.Generate seed₂ job₂) refl is also
+lines_ask_once words (asked.Drive one) (asked.Judge other) is also = other_name words (asked.Drive one) (asked.Judge other) refl is also
+lines_ask_once words (asked.Drive one) asked.Check is also = other_name words (asked.Drive one) asked.Check refl is also
+lines_ask_once words (asked.Drive one) asked.Asm is also = other_name words (asked.Drive one) asked.Asm refl is also
+lines_ask_once words (asked.Drive one) (asked.Drive other) is also = ap asked.Drive (one_number _ _ _ one other is.1.1 also.1.1)
+lines_ask_once words (asked.Drive one) (asked.Run other) is also = other_name words (asked.Drive one) (asked.Run other) refl is also
+lines_ask_once words (asked.Drive one) (asked.Generate seed₂ job₂) is also = other_name words (asked.Drive one) (asked.Generate seed₂ job₂) refl is also
+lines_ask_once words (asked.Run one) (asked.Judge other) is also = other_name words (asked.Run one) (asked.Judge other) refl is also
+lines_ask_once words (asked.Run one) asked.Check is also = other_name words (asked.Run one) asked.Check refl is also
+lines_ask_once words (asked.Run one) asked.Asm is also = other_name words (asked.Run one) asked.Asm refl is also
+lines_ask_once words (asked.Run one) (asked.Drive other) is also = other_name words (asked.Run one) (asked.Drive other) refl is also
+lines_ask_once words (asked.Run one) (asked.Run other) is also = ap asked.Run (one_number _ _ _ one other is.1.1 also.1.1)
+lines_ask_once words (asked.Run one) (asked.Generate seed₂ job₂) is also = other_name words (asked.Run one) (asked.Generate seed₂ job₂) refl is also
+lines_ask_once words (asked.Generate seed job) (asked.Judge other) is also = other_name words (asked.Generate seed job) (asked.Judge other) refl is also
+lines_ask_once words (asked.Generate seed job) asked.Check is also = other_name words (asked.Generate seed job) asked.Check refl is also
+lines_ask_once words (asked.Generate seed job) asked.Asm is also = other_name words (asked.Generate seed job) asked.Asm refl is also
+lines_ask_once words (asked.Generate seed job) (asked.Drive other) is also = other_name words (asked.Generate seed job) (asked.Drive other) refl is also
+lines_ask_once words (asked.Generate seed job) (asked.Run other) is also = other_name words (asked.Generate seed job) (asked.Run other) refl is also
+lines_ask_once words (asked.Generate seed job) (asked.Generate seed₂ job₂) is also =
+    ap₂ asked.Generate (one_number _ _ _ seed seed₂ is.1.1 also.1.1) (one_number _ _ _ job job₂ is.1.2 also.1.2)

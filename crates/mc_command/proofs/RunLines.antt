@@ -14,7 +14,7 @@ use Rattle.clap.specs.Walk.{nothing_held, settled, short_or_plain, to_positional
 use Rattle.clap.proofs.OnLiterals.{clap_on_literals}
 use Rattle.mc_command.proofs.LimitLines.{limit_words}
 use Rattle.mc_command.proofs.OptionValue.{IsNoFlag, value_walked, value_has_no_fault}
-use Rattle.mc_command.specs.CommandLine.{line_command, line_faults, line_limit, line_meeting, line_target, program_app, run_app}
+use Rattle.mc_command.specs.CommandLine.{line_command, line_faults, line_limit, line_meeting, line_target, line_value, program_app, run_app}
 
 -- ---- a word that is no flag, where nothing waits for one
 
@@ -109,15 +109,15 @@ module _ (program : Text) (server : Text) (plain : IsNoFlag server) where
   alone_is_right = ap₂ (faults_after []) (takes_it_without_faults server plain) (takes_server server plain)
 
   pub alone_has_no_limit : line_limit (program ∷ codes "run" ∷ server ∷ []) ≡ None
-  unfolding line_limit clap_on_literals run_shape server_taken
+  unfolding line_value clap_on_literals run_shape server_taken
   alone_has_no_limit = ap (found_after (codes "limit") []) (takes_server server plain)
 
   pub alone_has_no_meeting : line_meeting (program ∷ codes "run" ∷ server ∷ []) ≡ None
-  unfolding line_meeting clap_on_literals run_shape server_taken
+  unfolding line_value clap_on_literals run_shape server_taken
   alone_has_no_meeting = ap (found_after (codes "meet") []) (takes_server server plain)
 
   pub alone_names : line_target (program ∷ codes "run" ∷ server ∷ []) ≡ Some server
-  unfolding line_target clap_on_literals run_shape server_taken
+  unfolding line_value clap_on_literals run_shape server_taken
   alone_names = ap (found_after (codes "target") []) (takes_server server plain)
 
   pub alone_is_named : line_command (program ∷ codes "run" ∷ server ∷ []) ≡ Some (codes "run")
@@ -132,15 +132,15 @@ module _ (program : Text) (server : Text) (plain : IsNoFlag server) where
         ap₂ (faults_after ((codes "--limit=" ++ number) ∷ [])) (takes_it_without_faults server plain) (takes_server server plain)
 
     pub joined_has_limit : line_limit (program ∷ codes "run" ∷ server ∷ (codes "--limit=" ++ number) ∷ []) ≡ Some number
-    unfolding line_limit clap_on_literals run_shape server_taken
+    unfolding line_value clap_on_literals run_shape server_taken
     joined_has_limit = ap (found_after (codes "limit") ((codes "--limit=" ++ number) ∷ [])) (takes_server server plain)
 
     pub joined_has_no_meeting : line_meeting (program ∷ codes "run" ∷ server ∷ (codes "--limit=" ++ number) ∷ []) ≡ None
-    unfolding line_meeting clap_on_literals run_shape server_taken
+    unfolding line_value clap_on_literals run_shape server_taken
     joined_has_no_meeting = ap (found_after (codes "meet") ((codes "--limit=" ++ number) ∷ [])) (takes_server server plain)
 
     pub joined_names : line_target (program ∷ codes "run" ∷ server ∷ (codes "--limit=" ++ number) ∷ []) ≡ Some server
-    unfolding line_target clap_on_literals run_shape server_taken
+    unfolding line_value clap_on_literals run_shape server_taken
     joined_names = ap (found_after (codes "target") ((codes "--limit=" ++ number) ∷ [])) (takes_server server plain)
 
     pub joined_is_named : line_command (program ∷ codes "run" ∷ server ∷ (codes "--limit=" ++ number) ∷ []) ≡ Some (codes "run")
@@ -155,17 +155,17 @@ module _ (program : Text) (server : Text) (plain : IsNoFlag server) where
         ∙ ap₂ faults_at (value_is_no_fault server number limit) (takes_value server number limit)
 
     pub apart_has_limit : line_limit (program ∷ codes "run" ∷ server ∷ limit_words number) ≡ Some number
-    unfolding line_limit clap_on_literals run_shape server_taken value_taken
+    unfolding line_value clap_on_literals run_shape server_taken value_taken
     apart_has_limit = ap (found_after (codes "limit") (limit_words number)) (takes_server server plain)
         ∙ ap (found_after (codes "limit") []) (takes_value server number limit)
 
     pub apart_has_no_meeting : line_meeting (program ∷ codes "run" ∷ server ∷ limit_words number) ≡ None
-    unfolding line_meeting clap_on_literals run_shape server_taken value_taken
+    unfolding line_value clap_on_literals run_shape server_taken value_taken
     apart_has_no_meeting = ap (found_after (codes "meet") (limit_words number)) (takes_server server plain)
         ∙ ap (found_after (codes "meet") []) (takes_value server number limit)
 
     pub apart_names : line_target (program ∷ codes "run" ∷ server ∷ limit_words number) ≡ Some server
-    unfolding line_target clap_on_literals run_shape server_taken value_taken
+    unfolding line_value clap_on_literals run_shape server_taken value_taken
     apart_names = ap (found_after (codes "target") (limit_words number)) (takes_server server plain)
         ∙ ap (found_after (codes "target") []) (takes_value server number limit)
 

@@ -7,6 +7,7 @@ use Rattle.mc_command.specs.declared.status.Status.TheVariants as status
 use Rattle.mc_command.specs.AsmAnswers.{Assembles}
 use Rattle.mc_command.specs.CheckAnswers.{Checks}
 use Rattle.mc_command.specs.DriveAnswers.{Drives}
+use Rattle.mc_command.specs.GenerateAnswers.{Generates}
 use Rattle.mc_command.specs.JudgeAnswers.{Judges}
 use Rattle.mc_command.specs.RunAnswers.{Plays}
 
@@ -21,6 +22,7 @@ Does asked.Check text output ended = Checks text output ended
 Does asked.Asm text output ended = Assembles text output ended
 Does (asked.Drive limit) text output ended = Drives text output ended
 Does (asked.Run limit) text output ended = Plays text output ended
+Does (asked.Generate seed job) text output ended = Generates seed job output ended
 
 abbrev pub too_long_text : List ℕ
 too_long_text = codes "refused input too long\n"

@@ -1,22 +1,34 @@
 -- What the program does with a line of words.
-use Rattle.std.specs.Prelude.{◌≡◌, ◌⊎◌, ℕ, Option, Some, None, List, [], codes}
-use Rattle.clap.specs.Words.{IsAmong}
+use Rattle.std.specs.Prelude.{◌≡◌, ◌⊎◌, ℕ, Bool, true, false, Option, Some, None, List, [], codes}
+use Rattle.clap.specs.Words.{IsAmong, Text}
 use Rattle.clap.specs.declared.error.kind.ErrorKind.{ErrorKind}
 use Rattle.clap.specs.declared.error.kind.ErrorKind.TheVariants as kind
-use Rattle.mc_protocol.specs.Decimals.{SpellsNumber}
+use Rattle.mc_protocol.specs.Decimals.{MAX_64, SpellsNumber}
 use Rattle.mc_command.specs.declared.arguments.Asked.{Asked}
 use Rattle.mc_command.specs.declared.arguments.Asked.TheVariants as asked
 use Rattle.mc_command.specs.declared.meeting.Meeting.{Meeting}
 use Rattle.mc_command.specs.declared.meeting.Meeting.TheVariants as meeting
 use Rattle.mc_command.specs.declared.status.Status.{Status}
-use Rattle.mc_command.specs.Answers.{IsAnswer}
-use Rattle.mc_command.specs.CommandLine.{DEFAULT_LIMIT, GREATEST_LIMIT, line_command, line_faults, line_limit, line_meeting}
+use Rattle.mc_command.specs.declared.status.Status.TheVariants as status
+use Rattle.mc_command.specs.Answers.{IsAnswer, out_of_memory_text}
+use Rattle.mc_command.specs.CommandLine.{DEFAULT_JOB, DEFAULT_LIMIT, DEFAULT_SEED, GREATEST_LIMIT, line_command, line_faults, line_value}
+use Rattle.mc_command.specs.GenerateAnswers.{Generates}
 use Rattle.mc_command.specs.Streams.{Grows}
 
--- the limit that a word names, or the default where there is no word
+-- the number that a word names, which is at most the greatest; or the default where there is no word
+abbrev pub IsNumber : ℕ → ℕ → Option (List ℕ) → ℕ → Type 0
+IsNumber default greatest None number = number ≡ default
+IsNumber default greatest (Some word) number = SpellsNumber greatest word number
+
+-- the limit, the seed and the job that a word names
 abbrev pub IsLimit : Option (List ℕ) → ℕ → Type 0
-IsLimit None limit = limit ≡ DEFAULT_LIMIT
-IsLimit (Some word) limit = SpellsNumber GREATEST_LIMIT word limit
+IsLimit word limit = IsNumber DEFAULT_LIMIT GREATEST_LIMIT word limit
+
+abbrev pub IsSeed : Option (List ℕ) → ℕ → Type 0
+IsSeed word seed = IsNumber DEFAULT_SEED MAX_64 word seed
+
+abbrev pub IsJob : Option (List ℕ) → ℕ → Type 0
+IsJob word job = IsNumber DEFAULT_JOB MAX_64 word job
 
 -- the word of a meeting
 abbrev pub meeting_word : Meeting → List ℕ
@@ -34,17 +46,20 @@ IsMeeting (Some word) wanted = word ≡ meeting_word wanted
 abbrev pub NamesMeeting : Option (List ℕ) → Type 0
 NamesMeeting word = (wanted : Meeting) × IsMeeting word wanted
 
--- what a subcommand asks for with the word of its limit and that of its meeting
-abbrev pub IsAskedBy : Option (List ℕ) → Option (List ℕ) → Option (List ℕ) → Asked → Type 0
-IsAskedBy command word meets (asked.Judge limit) = (command ≡ Some (codes "judge")) × IsLimit word limit
-IsAskedBy command word meets asked.Check = command ≡ Some (codes "check")
-IsAskedBy command word meets asked.Asm = command ≡ Some (codes "asm")
-IsAskedBy command word meets (asked.Drive limit) = (command ≡ Some (codes "drive")) × IsLimit word limit
-IsAskedBy command word meets (asked.Run limit) = (command ≡ Some (codes "run")) × IsLimit word limit × NamesMeeting meets
+-- what a subcommand asks for with the values of its options
+abbrev pub IsAskedBy : Option Text → (Text → Option Text) → Asked → Type 0
+IsAskedBy command value (asked.Judge limit) = (command ≡ Some (codes "judge")) × IsLimit (value (codes "limit")) limit
+IsAskedBy command value asked.Check = command ≡ Some (codes "check")
+IsAskedBy command value asked.Asm = command ≡ Some (codes "asm")
+IsAskedBy command value (asked.Drive limit) = (command ≡ Some (codes "drive")) × IsLimit (value (codes "limit")) limit
+IsAskedBy command value (asked.Run limit) =
+    (command ≡ Some (codes "run")) × IsLimit (value (codes "limit")) limit × NamesMeeting (value (codes "meet"))
+IsAskedBy command value (asked.Generate seed job) =
+    (command ≡ Some (codes "generate")) × IsSeed (value (codes "seed")) seed × IsJob (value (codes "job")) job
 
 -- what the words ask for: clap finds no fault in them, and reads this
 abbrev pub AsksFor : List (List ℕ) → Asked → Type 0
-AsksFor words wanted = (line_faults words ≡ []) × IsAskedBy (line_command words) (line_limit words) (line_meeting words) wanted
+AsksFor words wanted = (line_faults words ≡ []) × IsAskedBy (line_command words) (line_value words) wanted
 
 -- the words have a fault: they ask for nothing
 abbrev pub IsFaulty : List (List ℕ) → Type 0
@@ -78,4 +93,15 @@ pub record Answers (asked : Asked) (left : Option (List ℕ)) (old : Option (Lis
   pub whole : IsWhole left text
   pub output : List ℕ
   pub right : IsAnswer asked text output ended
+  pub written : Grows old new output
+
+-- the input is read: all lines but those of `generate` do
+abbrev pub reads_input : Asked → Bool
+reads_input (asked.Generate seed job) = false
+reads_input _ = true
+
+-- what was written is the script of this seed and this job, or that memory ran out; and so is the status
+pub record Prints (seed : ℕ) (job : ℕ) (old : Option (List ℕ)) (new : Option (List ℕ)) (ended : Status) : Type 0 where
+  pub output : List ℕ
+  pub right : Generates seed job output ended ⊎ ((output ≡ out_of_memory_text) × (ended ≡ status.NoAnswer))
   pub written : Grows old new output

@@ -10,6 +10,13 @@ DEFAULT_LIMIT = 1000000
 abbrev pub GREATEST_LIMIT : ℕ
 GREATEST_LIMIT = 1000000000
 
+-- the seed and the job of a generated script where the line names none
+abbrev pub DEFAULT_SEED : ℕ
+DEFAULT_SEED = 1
+
+abbrev pub DEFAULT_JOB : ℕ
+DEFAULT_JOB = 0
+
 -- the option `--limit`, with a word as its value
 abbrev pub limit_rule : Rule
 limit_rule = record (new_rule (codes "limit")) {
@@ -47,9 +54,40 @@ meet_rule = record (new_rule (codes "meet")) {
   value_names = 1;
 }
 
+-- the options `--a` and `--b`, which name other servers
+abbrev pub a_rule : Rule
+a_rule = record (new_rule (codes "a")) {
+  long = Some (codes "a");
+  value_names = 1;
+}
+
+abbrev pub b_rule : Rule
+b_rule = record (new_rule (codes "b")) {
+  long = Some (codes "b");
+  value_names = 1;
+}
+
 -- the subcommand `run`
 abbrev pub run_app : App
-run_app = with_rule (with_rule (with_rule (new_app (codes "run")) target_rule) limit_rule) meet_rule
+run_app = with_rule (with_rule
+    (with_rule (with_rule (with_rule (new_app (codes "run")) target_rule) limit_rule) meet_rule) a_rule) b_rule
+
+-- the options `--seed` and `--job`, each with a word as its value
+abbrev pub seed_rule : Rule
+seed_rule = record (new_rule (codes "seed")) {
+  long = Some (codes "seed");
+  value_names = 1;
+}
+
+abbrev pub job_rule : Rule
+job_rule = record (new_rule (codes "job")) {
+  long = Some (codes "job");
+  value_names = 1;
+}
+
+-- the subcommand `generate`
+abbrev pub generate_app : App
+generate_app = with_rule (with_rule (new_app (codes "generate")) seed_rule) job_rule
 
 -- the program, without its subcommands
 abbrev pub bare_app : App
@@ -64,41 +102,41 @@ bare_app = record {
 
 -- what clap reads of the program's command
 abbrev pub program_app : App
-program_app = with_subcommand
-    (with_subcommand (with_subcommand (with_subcommand (with_subcommand bare_app judge_app.top) check_app.top) asm_app.top) drive_app.top)
-    run_app.top
+program_app = with_subcommand (with_subcommand (with_subcommand
+    (with_subcommand (with_subcommand (with_subcommand bare_app judge_app.top) check_app.top) asm_app.top) drive_app.top)
+    run_app.top) generate_app.top
 
 -- the kinds of the first fault that clap finds in the words, of which it gives one; a call for help or for the version is one too
 unfoldable pub line_faults : List (List ℕ) → Kinds
 line_faults words = fault_of program_app words
 
--- the name of a subcommand that was found, and the first value of its option `--limit`
+-- the name of a subcommand that was found, and the first value of an option or an argument of it
 abbrev pub given_name : Option (Text × List Row) → Option Text
 given_name entered = option_map (λ found. found.0) entered
 
-abbrev pub given_limit : Option (Text × List Row) → Option Text
-given_limit entered = option_and_then (λ found. first_of (codes "limit") found.1) entered
-
--- the first value of its option `--meet`
-abbrev pub given_meeting : Option (Text × List Row) → Option Text
-given_meeting entered = option_and_then (λ found. first_of (codes "meet") found.1) entered
-
--- the first value of its argument that names a server
-abbrev pub given_target : Option (Text × List Row) → Option Text
-given_target entered = option_and_then (λ found. first_of (codes "target") found.1) entered
+abbrev pub given_value : Option (Text × List Row) → Text → Option Text
+given_value entered name = option_and_then (λ found. first_of name found.1) entered
 
 -- the name of the subcommand that clap finds in the words
 unfoldable pub line_command : List (List ℕ) → Option Text
 line_command words = given_name (subcommand_of program_app words)
 
--- the word that clap finds in the words as the value of `--limit`
-unfoldable pub line_limit : List (List ℕ) → Option Text
-line_limit words = given_limit (subcommand_of program_app words)
+-- the word that clap finds in the words as the value of this option or argument
+unfoldable pub line_value : List (List ℕ) → Text → Option Text
+line_value words name = given_value (subcommand_of program_app words) name
 
--- the word that clap finds in the words as the value of `--meet`
-unfoldable pub line_meeting : List (List ℕ) → Option Text
-line_meeting words = given_meeting (subcommand_of program_app words)
+-- the value of `--limit`, that of `--meet`, the name of a server, and the value of `--a` or of `--b`
+abbrev pub line_limit : List (List ℕ) → Option Text
+line_limit words = line_value words (codes "limit")
 
--- the word that clap finds in the words as the name of a server
-unfoldable pub line_target : List (List ℕ) → Option Text
-line_target words = given_target (subcommand_of program_app words)
+abbrev pub line_meeting : List (List ℕ) → Option Text
+line_meeting words = line_value words (codes "meet")
+
+abbrev pub line_target : List (List ℕ) → Option Text
+line_target words = line_value words (codes "target")
+
+abbrev pub line_server_of_a : List (List ℕ) → Option Text
+line_server_of_a words = line_value words (codes "a")
+
+abbrev pub line_server_of_b : List (List ℕ) → Option Text
+line_server_of_b words = line_value words (codes "b")

@@ -6,6 +6,7 @@ pub mod CommandLine
 pub mod Drawing
 pub mod DriveAnswers
 pub mod Endings
+pub mod GenerateAnswers
 pub mod Input
 pub mod JudgeAnswers
 pub mod LineLaws

@@ -1,8 +1,8 @@
 -- What the definition of a line says of the lines that are mostly written, and of any line.
 use Rattle.std.specs.Prelude.{◌≡◌, ◌⊎◌, ◌==◌, ℕ, false, Some, List, [], ◌∷◌, ◌++◌, codes}
-use Rattle.mc_protocol.specs.Decimals.{SpellsNumber, is_digit}
+use Rattle.mc_protocol.specs.Decimals.{MAX_64, SpellsNumber, is_digit}
 use Rattle.mc_command.specs.Command.{AsksFor, IsFaulty, IsMeeting, MayTell, NamesMeeting, meeting_word}
-use Rattle.mc_command.specs.CommandLine.{DEFAULT_LIMIT, GREATEST_LIMIT, line_meeting, line_target}
+use Rattle.mc_command.specs.CommandLine.{DEFAULT_JOB, DEFAULT_LIMIT, DEFAULT_SEED, GREATEST_LIMIT, line_meeting, line_target}
 use Rattle.mc_command.specs.declared.arguments.Asked.{Asked}
 use Rattle.mc_command.specs.declared.arguments.Asked.TheVariants as asked
 use Rattle.mc_command.specs.declared.meeting.Meeting.{Meeting}
@@ -13,12 +13,18 @@ NamesLimit words limit = ((words ≡ []) × (limit ≡ DEFAULT_LIMIT))
     ⊎ ((number : List ℕ) × SpellsNumber GREATEST_LIMIT number limit
     × ((words ≡ codes "--limit" ∷ number ∷ []) ⊎ (words ≡ (codes "--limit=" ++ number) ∷ [])))
 
+-- the words after `generate` name a seed and a job: there are none, or `--seed=` and `--job=`, each with a decimal
+abbrev pub NamesJob : List (List ℕ) → ℕ → ℕ → Type 0
+NamesJob words seed job = ((words ≡ []) × (seed ≡ DEFAULT_SEED) × (job ≡ DEFAULT_JOB))
+    ⊎ ((first : List ℕ) × (second : List ℕ) × SpellsNumber MAX_64 first seed × SpellsNumber MAX_64 second job
+    × (words ≡ (codes "--seed=" ++ first) ∷ (codes "--job=" ++ second) ∷ []))
+
 -- the word is no option, and not empty
 abbrev pub IsName : List ℕ → Type 0
 IsName word = (first : ℕ) × (others : List ℕ) × (word ≡ first ∷ others) × ((first == 45) ≡ false)
 
 -- the words are the program's name, a subcommand, the name of a server after `run`, and words that name the limit of `judge`, of `drive`
--- and of `run`
+-- and of `run`, or the seed and the job of `generate`
 abbrev pub IsPlainLine : List (List ℕ) → Asked → Type 0
 IsPlainLine words (asked.Judge limit) =
     (program : List ℕ) × (others : List (List ℕ)) × (words ≡ program ∷ codes "judge" ∷ others) × NamesLimit others limit
@@ -28,6 +34,8 @@ IsPlainLine words (asked.Drive limit) =
     (program : List ℕ) × (others : List (List ℕ)) × (words ≡ program ∷ codes "drive" ∷ others) × NamesLimit others limit
 IsPlainLine words (asked.Run limit) = (program : List ℕ) × (server : List ℕ) × (others : List (List ℕ))
     × (words ≡ program ∷ codes "run" ∷ server ∷ others) × IsName server × NamesLimit others limit
+IsPlainLine words (asked.Generate seed job) =
+    (program : List ℕ) × (others : List (List ℕ)) × (words ≡ program ∷ codes "generate" ∷ others) × NamesJob others seed job
 
 abbrev pub PlainLinesAsk : Type 0
 PlainLinesAsk = (words : List (List ℕ)) (wanted : Asked) → IsPlainLine words wanted → AsksFor words wanted
@@ -68,7 +76,8 @@ IsHelpLine words = (program : List ℕ)
     × ((words ≡ program ∷ codes "--help" ∷ []) ⊎ ((words ≡ program ∷ codes "judge" ∷ codes "--help" ∷ [])
     ⊎ ((words ≡ program ∷ codes "asm" ∷ codes "--help" ∷ []) ⊎ ((words ≡ program ∷ codes "check" ∷ codes "--help" ∷ [])
     ⊎ ((words ≡ program ∷ codes "drive" ∷ codes "--help" ∷ [])
-    ⊎ ((words ≡ program ∷ codes "run" ∷ codes "--help" ∷ []) ⊎ (words ≡ program ∷ codes "--version" ∷ [])))))))
+    ⊎ ((words ≡ program ∷ codes "run" ∷ codes "--help" ∷ []) ⊎ ((words ≡ program ∷ codes "generate" ∷ codes "--help" ∷ [])
+    ⊎ (words ≡ program ∷ codes "--version" ∷ []))))))))
 
 abbrev pub HelpIsShown : Type 0
 HelpIsShown = (words : List (List ℕ)) → IsHelpLine words → IsFaulty words × (MayTell words → ⊥)

@@ -4,13 +4,14 @@ ghost use Rattle.mc_command.specs.Answers as answers;
 ghost use Rattle.mc_command.specs.AsmAnswers.{Assembles};
 ghost use Rattle.mc_command.specs.CheckAnswers.{Checks};
 ghost use Rattle.mc_command.specs.DriveAnswers.{Drives};
+ghost use Rattle.mc_command.specs.GenerateAnswers.{Generates};
 ghost use Rattle.mc_command.specs.JudgeAnswers.{Judges};
 ghost use Rattle.mc_command.specs.RunAnswers.{Plays};
 
 use crate::arguments::Asked;
 use crate::loading::load_script;
 use crate::status::Status;
-use crate::{asm, check, drive, judge, run};
+use crate::{asm, check, drive, generate, judge, run};
 use std::alloc::{AllocError, Global};
 
 /// The most bytes of an input.
@@ -42,6 +43,8 @@ pub fn answer_to(alloc: Global, asked: Asked, text: &[u8]) -> Result<Answer, All
         Asked::Drive(limit) => drive_answer(alloc, text, limit),
         // Whoever can reach a server answers by `run_command`.
         Asked::Run(_) => unplayed_answer(alloc, text),
+        // The text, which isn't read for it, counts for nothing.
+        Asked::Generate(seed, job) => generate_answer(alloc, seed, job),
     }
 }
 
@@ -90,6 +93,17 @@ fn drive_answer(alloc: Global, text: &[u8], limit: u64) -> Result<Answer, AllocE
     let output = drive::text_of(alloc, &driven)?;
     let status = drive::status_of(&driven);
     Ok(Answer { output, status })
+}
+
+/// The script that this seed and this job give.
+pub fn generate_answer(alloc: Global, seed: u64, job: u64) -> Result<Answer, AllocError>
+    ensures { IfOk result (λ answer. Generates seed job answer.output.items answer.status) }
+{
+    let output = generate::text_of(alloc, seed, job)?;
+    Ok(Answer {
+        output,
+        status: Status::Success,
+    })
 }
 
 fn unplayed_answer(alloc: Global, text: &[u8]) -> Result<Answer, AllocError>

@@ -3,6 +3,7 @@ ghost use Rattle.std.specs.Prelude.{◌≡◌, false, IfOk};
 ghost use Rattle.mc_lane.specs.Streams.{silent, no_counts};
 ghost use Rattle.mc_run.specs.Running.{AreNew, IsNew};
 
+use crate::arguments::Target;
 use mc_lane::{Lane, Stream, Wire};
 use mc_protocol::Actor;
 use mc_run::Lanes;
@@ -14,9 +15,9 @@ use std::net::{Net, SocketAddr, TcpStream, ToSocketAddrs};
 // The most bytes that are received over a connection.
 const RECEIVED_LIMIT: u32 = 262_144;
 
-/// A new lane of each section, over a connection of its own to the server that `target` names as HOST:PORT. They are connected
-/// in the order P, A, B. The name is looked up once: P tries its addresses one after another, and A and B connect to the one that
-/// took P.
+/// A new lane of each section, over a connection of its own to the server that `target` names for it. They are connected in the order
+/// P, A, B. A name is looked up once: P tries its addresses one after another, and A and B connect to the one that took P, but where they
+/// have a server of their own, of which each tries the addresses.
 ///
 /// # Errors
 ///
@@ -24,32 +25,38 @@ const RECEIVED_LIMIT: u32 = 262_144;
 pub fn connect_lanes<R: Net<Stream = TcpStream>>(
     rt: &R,
     alloc: Global,
-    target: &str,
+    target: Target<'_>,
 ) -> Result<Lanes<Wire<TcpStream>>, (Actor, io::Error)>
     ensures new { IfOk result AreNew }
     ensures limits { IfOk result (λ lanes. (lanes.p.limit ≡ 262144) × (lanes.a.limit ≡ 262144) × (lanes.b.limit ≡ 262144)) }
 {
-    let (p, address) = match connect_first(rt, target) {
+    let (p, address) = match connect_first(rt, target.server) {
         Ok((wire, address)) => (lane_over(alloc, wire), address),
         Err(error) => return Err((Actor::P, error)),
     };
-    let a = connect_lane(rt, alloc, address, Actor::A)?;
-    let b = connect_lane(rt, alloc, address, Actor::B)?;
+    let a = connect_branch(rt, alloc, target.a, address, Actor::A)?;
+    let b = connect_branch(rt, alloc, target.b, address, Actor::B)?;
     Ok(Lanes { p, a, b })
 }
 
-fn connect_lane<R: Net<Stream = TcpStream>>(
+// A lane to the branch's own server, or else to the address that took P.
+fn connect_branch<R: Net<Stream = TcpStream>>(
     rt: &R,
     alloc: Global,
+    own: Option<&str>,
     address: SocketAddr,
-    actor: Actor,
+    branch: Actor,
 ) -> Result<Lane<Wire<TcpStream>>, (Actor, io::Error)>
     ensures new { IfOk result IsNew }
     ensures limit { IfOk result (λ lane. lane.limit ≡ 262144) }
 {
-    match connect(rt, address) {
+    let connected = match own {
+        Some(server) => connect_first(rt, server).map(|(wire, _)| wire),
+        None => connect(rt, address),
+    };
+    match connected {
         Ok(wire) => Ok(lane_over(alloc, wire)),
-        Err(error) => Err((actor, error)),
+        Err(error) => Err((branch, error)),
     }
 }
 

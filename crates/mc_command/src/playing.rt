@@ -11,11 +11,10 @@ use crate::arguments::{Asked, Target};
 use crate::input::{InputFault, read_input};
 use crate::meeting::Meeting;
 use crate::program::{write_fault, write_text};
-use crate::run::{play_text, status_of, text_of};
+use crate::run::{Remarks, play_text, status_of, text_of};
 use crate::status::Status;
 use crate::streams::{Sink, Source};
 use std::alloc::{AllocError, Global};
-use std::io;
 use std::net::{Net, TcpStream};
 use std::rt::Clock;
 use std::sync::Wait;
@@ -47,6 +46,8 @@ where
 {
     let target = Target {
         server: target,
+        a: None,
+        b: None,
         limit,
         meeting: Meeting::Drawn,
     };
@@ -54,15 +55,14 @@ where
     status.number()
 }
 
-/// The same for a run whose branches may meet otherwise, with the status as it stands, and why a section got no connection, where
-/// one didn't.
+/// The same for a run whose branches may meet otherwise, with the status as it stands, and what is to be told beside the answer.
 pub fn run_script<R, I: Source, O: Sink>(
     rt: &R,
     alloc: Global,
     target: Target<'_>,
     input: &mut I,
     output: &mut O,
-) -> (Status, Option<io::Error>)
+) -> (Status, Remarks)
 where
     R: Net<Stream = TcpStream> + Threads + Wait + Clock + Sync,
     ensures answered { I.has_failed input.old ≡ false → I.has_failed input.new ≡ false
@@ -74,11 +74,11 @@ where
     ensures taken { TakesAtMost 1048577 (I.left input.old) (I.left input.new) }
 {
     match read_and_run(rt, alloc, target, input) {
-        Ok((answer, reason)) => {
+        Ok((answer, remarks)) => {
             let status = write_text(answer.output.as_slice(), answer.status, output);
-            (status, reason)
+            (status, remarks)
         }
-        Err(fault) => (write_fault(fault, output), None),
+        Err(fault) => (write_fault(fault, output), Remarks::None),
     }
 }
 
@@ -88,7 +88,7 @@ fn read_and_run<R, I: Source>(
     alloc: Global,
     target: Target<'_>,
     input: &mut I,
-) -> Result<(Answer, Option<io::Error>), InputFault>
+) -> Result<(Answer, Remarks), InputFault>
 where
     R: Net<Stream = TcpStream> + Threads + Wait + Clock + Sync,
     ensures right { IfOk result (λ found. (text : List ℕ) × IsWhole (I.left input.old) text
@@ -106,16 +106,16 @@ fn answer_to<R>(
     alloc: Global,
     target: Target<'_>,
     text: &[u8],
-) -> Result<(Answer, Option<io::Error>), AllocError>
+) -> Result<(Answer, Remarks), AllocError>
 where
     R: Net<Stream = TcpStream> + Threads + Wait + Clock + Sync,
     ensures { IfOk result (λ found. IsAnswer (Asked.Run target.entry.limit) text.now found.0.output.items found.0.status) }
 {
     if text.len() > INPUT_LIMIT {
-        return Ok((too_long(alloc)?, None));
+        return Ok((too_long(alloc)?, Remarks::None));
     }
-    let (played, reason) = play_text(rt, alloc, target, text)?;
+    let (played, remarks) = play_text(rt, alloc, target, text)?;
     let output = text_of(alloc, &played)?;
     let status = status_of(&played);
-    Ok((Answer { output, status }, reason))
+    Ok((Answer { output, status }, remarks))
 }

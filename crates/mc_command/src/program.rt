@@ -1,7 +1,7 @@
 //! The whole program, over any streams.
 ghost use Rattle.std.specs.Prelude.{◌≡◌, ◌≢◌, ◌⊎◌, ℕ, List, [], ◌+◌, ◌<◌, ◌≤◌, true, false, map, string_bytes, length, IfOk, IfErr};
 ghost use Rattle.mc_command.specs.Answers.{IsAnswer, not_utf8_text, out_of_memory_text};
-ghost use Rattle.mc_command.specs.Command.{AsksFor, Answers, IsFaulty, IsShown, IsWhole, MayShow, MayTell};
+ghost use Rattle.mc_command.specs.Command.{AsksFor, Answers, IsFaulty, IsShown, IsWhole, MayShow, MayTell, Prints, reads_input};
 ghost use Rattle.mc_command.specs.Input as input_rule;
 ghost use Rattle.mc_command.specs.Statuses.{status_number};
 ghost use Rattle.mc_command.specs.Streams.{Grows, TakesAtMost};
@@ -9,8 +9,9 @@ ghost use Rattle.clap.specs.Words.{kind_of};
 ghost use Rattle.std.specs.IoError.{error_kind};
 ghost use Rattle.std.specs.declared.io.ErrorKind.TheVariants as io_kind;
 
-use crate::answer::{Answer, INPUT_LIMIT, OUT_OF_MEMORY, answer_to};
+use crate::answer::{Answer, INPUT_LIMIT, OUT_OF_MEMORY, answer_to, generate_answer};
 use crate::arguments::{Asked, read_line};
+use crate::file_hint::error_text;
 use crate::input::{InputFault, read_input};
 use crate::status::Status;
 use crate::streams::{Sink, Source};
@@ -23,8 +24,8 @@ const NOT_UTF8: &[u8] = b"error: the command line is not UTF-8\n";
 
 /// Does what the line asks for, and answers the exit status. The line's first word is the program's name.
 ///
-/// At most 1,048,577 bytes of the input are read, and they are read whole before a byte is written. Of a line with a fault
-/// nothing is read. The fault goes to the faults, and help, the version and want of memory go to the output.
+/// At most 1,048,577 bytes of the input are read, and they are read whole before a byte is written. For a generated script, and of a
+/// line with a fault, nothing is read. The fault goes to the faults, and help, the version and want of memory go to the output.
 #[tactic(auto, using(crate::proofs::PlainLines::lines_ask_once))]
 pub fn command<I: Source, O: Sink, F: Sink>(
     alloc: Global,
@@ -33,11 +34,15 @@ pub fn command<I: Source, O: Sink, F: Sink>(
     output: &mut O,
     faults: &mut F,
 ) -> u8
-    ensures answered { (asked : Asked) → AsksFor (map string_bytes line.now) asked
+    ensures answered { (asked : Asked) → AsksFor (map string_bytes line.now) asked → reads_input asked ≡ true
         → I.has_failed input.old ≡ false → I.has_failed input.new ≡ false
         → O.has_failed output.old ≡ false → O.has_failed output.new ≡ false
         → (ended : Status) × (result ≡ status_number ended)
         × Answers asked (I.left input.old) (O.written output.old) (O.written output.new) ended }
+    ensures generated { (seed : ℕ) (job : ℕ) → AsksFor (map string_bytes line.now) (Asked.Generate seed job)
+        → O.has_failed output.old ≡ false → O.has_failed output.new ≡ false
+        → (ended : Status) × (result ≡ status_number ended) × Prints seed job (O.written output.old) (O.written output.new) ended }
+    ensures no_input { (seed : ℕ) (job : ℕ) → AsksFor (map string_bytes line.now) (Asked.Generate seed job) → input.new ≡ input.old }
     ensures no_fault { (asked : Asked) → AsksFor (map string_bytes line.now) asked → faults.new ≡ faults.old }
 
     ensures fault { IsFaulty (map string_bytes line.now)
@@ -57,8 +62,9 @@ pub fn command<I: Source, O: Sink, F: Sink>(
     ensures taken { TakesAtMost 1048577 (I.left input.old) (I.left input.new) }
 {
     match read_line(alloc, line) {
+        Ok(Asked::Generate(seed, job)) => print_generated(alloc, seed, job, output).number(),
         Ok(asked) => answer(alloc, asked, input, output).number(),
-        Err(error) => explain(alloc, &error, output, faults).number(),
+        Err(error) => explain(alloc, line, &error, output, faults).number(),
     }
 }
 
@@ -80,6 +86,18 @@ pub fn unread_line<O: Sink, F: Sink>(error: &io::Error, output: &mut O, faults: 
         _ => write_text(NOT_UTF8, Status::WrongLine, faults),
     };
     status.number()
+}
+
+// Writes the script that this seed and this job give, or that memory ran out.
+fn print_generated<O: Sink>(alloc: Global, seed: u64, job: u64, output: &mut O) -> Status
+    ensures printed { O.has_failed output.old ≡ false → O.has_failed output.new ≡ false
+        → Prints seed job (O.written output.old) (O.written output.new) result }
+    ensures broken_output { O.has_failed output.old ≡ false → O.has_failed output.new ≡ true → result ≡ Status.NoAnswer }
+{
+    match generate_answer(alloc, seed, job) {
+        Ok(answer) => write_text(answer.output.as_slice(), answer.status, output),
+        Err(_) => write_text(OUT_OF_MEMORY, Status::NoAnswer, output),
+    }
 }
 
 // Reads the input, and writes what is answered to it.
@@ -122,8 +140,14 @@ fn read_answer<I: Source>(alloc: Global, asked: Asked, input: &mut I) -> Result<
     Ok(answer_to(alloc, asked, text.as_slice())?)
 }
 
-// Writes clap's text: help and the version to the output, and a fault of the line to the faults.
-fn explain<O: Sink, F: Sink>(alloc: Global, error: &Error, output: &mut O, faults: &mut F) -> Status
+// Writes help and the version to the output, and a fault of the line to the faults.
+fn explain<O: Sink, F: Sink>(
+    alloc: Global,
+    line: &[String],
+    error: &Error,
+    output: &mut O,
+    faults: &mut F,
+) -> Status
     ensures memory { kind_of error.now ≡ ErrorKind.OutOfMemory
         → O.has_failed output.old ≡ false → O.has_failed output.new ≡ false
         → Grows (O.written output.old) (O.written output.new) out_of_memory_text × (result ≡ Status.NoAnswer) }
@@ -141,7 +165,7 @@ fn explain<O: Sink, F: Sink>(alloc: Global, error: &Error, output: &mut O, fault
     if error.kind() == ErrorKind::OutOfMemory {
         return write_text(OUT_OF_MEMORY, Status::NoAnswer, output);
     }
-    let Ok(text) = error.to_string(alloc) else {
+    let Ok(text) = error_text(alloc, line, error) else {
         return write_text(OUT_OF_MEMORY, Status::NoAnswer, output);
     };
     match error.kind() {

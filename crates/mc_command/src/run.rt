@@ -2,13 +2,14 @@
 ghost use Rattle.std.specs.Prelude.{◌≡◌, false, IfOk};
 ghost use Rattle.clap.specs.Words.{app_of, rule_of};
 ghost use Rattle.mc_run.specs.Running.{AreNew};
-ghost use Rattle.mc_command.specs.CommandLine.{run_app, target_rule};
+ghost use Rattle.mc_command.specs.CommandLine.{a_rule, b_rule, run_app, target_rule};
 ghost use Rattle.mc_command.specs.RunAnswers as answers;
 
 use crate::arguments::Target;
 use crate::dial::connect_lanes;
 use crate::drawing::draw_meet;
 use crate::endings::endings_text;
+use crate::evidence::evidence_text;
 use crate::loading::{LoadFault, load_script};
 use crate::outcome::status_of_run;
 use crate::refusal::refusal_text;
@@ -48,23 +49,41 @@ pub enum Played {
     Unsound(mc_verify::Refusal),
 }
 
+/// The first section that got no connection, and why.
+#[derive(Debug, Drop)]
+pub struct Unconnected {
+    pub section: Actor,
+    pub error: io::Error,
+}
+
+/// What is told of a run beside its answer.
+#[derive(Debug, Drop)]
+pub enum Remarks {
+    /// Nothing.
+    None,
+    /// A section got no connection.
+    NoConnection(Unconnected),
+    /// What the sections received in the place of a reply, or after their last one: a line for each, or none.
+    Evidence(String),
+}
+
 /// Reads the script, runs it over three connections to the server, and judges what came of it in at most `limit` turns. How its
-/// branches meet is drawn where the target says so. Nothing is connected for a script that is refused. Where a section got no
-/// connection, the error says why.
+/// branches meet is drawn where the target says so. Nothing is connected for a script that is refused. What is to be told
+/// beside the answer comes with it.
 pub fn play_text<R: Net<Stream = TcpStream> + Threads + Wait + Clock + Sync>(
     rt: &R,
     alloc: Global,
     target: Target<'_>,
     text: &[u8],
-) -> Result<(Played, Option<io::Error>), AllocError>
+) -> Result<(Played, Remarks), AllocError>
     ensures { IfOk result (λ played. answers.IsRight text.now played.0) }
 {
     match load_script(alloc, text)? {
         Ok(code) => match verify_code(alloc, code)? {
             Ok(checked) => play_code(rt, alloc, target, &checked),
-            Err(refusal) => Ok((Played::Unsound(refusal), None)),
+            Err(refusal) => Ok((Played::Unsound(refusal), Remarks::None)),
         },
-        Err(fault) => Ok((Played::NoCode(fault), None)),
+        Err(fault) => Ok((Played::NoCode(fault), Remarks::None)),
     }
 }
 
@@ -73,16 +92,18 @@ fn play_code<R: Net<Stream = TcpStream> + Threads + Wait + Clock + Sync>(
     alloc: Global,
     target: Target<'_>,
     checked: &Checked,
-) -> Result<(Played, Option<io::Error>), AllocError>
+) -> Result<(Played, Remarks), AllocError>
     ensures { IfOk result (λ played. answers.IsRightFor checked.now.code played.0) }
 {
-    match connect_lanes(rt, alloc, target.server) {
+    match connect_lanes(rt, alloc, target) {
         Ok(lanes) => {
             let meet = draw_meet(rt, target.meeting);
-            let played = play_lanes(rt, alloc, checked, lanes, meet, target.limit)?;
-            Ok((played, None))
+            play_lanes(rt, alloc, checked, lanes, meet, target.limit)
         }
-        Err((section, error)) => Ok((Played::NoConnection(section), Some(error))),
+        Err((section, error)) => Ok((
+            Played::NoConnection(section),
+            Remarks::NoConnection(Unconnected { section, error }),
+        )),
     }
 }
 
@@ -93,18 +114,22 @@ fn play_lanes<S: Stream + Send, R: Threads + Wait + Sync>(
     lanes: Lanes<S>,
     meet: Meet,
     limit: u64,
-) -> Result<Played, AllocError>
+) -> Result<(Played, Remarks), AllocError>
     requires { AreNew lanes }
-    ensures { IfOk result (answers.IsRightFor checked.now.code) }
+    ensures { IfOk result (λ played. answers.IsRightFor checked.now.code played.0) }
 {
     match run_lanes_with(rt, alloc, checked, lanes, &FreeGate, Stack::new(), meet) {
         Ok(run) => {
             let (history, verdict, _) = run.judge(alloc, checked, limit)?;
-            let Run { world, .. } = run;
-            Ok(Played::Ended(world, history, verdict))
+            let Run { world, lanes } = run;
+            let evidence = evidence_text(alloc, &history, &lanes)?;
+            Ok((
+                Played::Ended(world, history, verdict),
+                Remarks::Evidence(evidence),
+            ))
         }
         Err(RunError::OutOfMemory) => Err(AllocError),
-        Err(RunError::BookMismatch | RunError::NoThread) => Ok(Played::NotRun),
+        Err(RunError::BookMismatch | RunError::NoThread) => Ok((Played::NotRun, Remarks::None)),
     }
 }
 
@@ -167,9 +192,9 @@ pub fn status_of(answer: &Played) -> Status
     }
 }
 
-const ABOUT: &str = "Runs the script on standard input against a server, and looks for a race";
+const ABOUT: &str = "Runs the script on standard input at a server, and looks for a race";
 
-const USAGE: &str = "mcrace run HOST:PORT [--limit N] [--meet WORD] < FILE";
+const USAGE: &str = "mcrace run HOST:PORT [OPTIONS] < FILE";
 
 const LONG_ABOUT: &str =
     "Runs the script on standard input against a server that speaks memcached's text
@@ -181,10 +206,13 @@ one that is refused. `mcrace asm --help` says what a script is. Then P, A and B
 connect, in this order. P runs first. When it is done, A and B run at once, each
 on its connection, one request after another.
 
+`--a` and `--b` name other servers for A and B, which may be two proxies before
+one cluster, or a primary and its replica. P runs against the first address.
+
 A race shows where requests of A and B come at once. So the branches may meet:
 one that is ready to send waits for the other. `--meet` says when they do:
-  each   before the first request until both are ready, and before each later one
-         for some 50 microseconds at most
+  each   before the first request until both are ready, and before each later
+         one for some 50 microseconds at most
   first  before the first request alone
   never  at no request: one branch goes ahead
   drawn  by lot, three times of four as by `each`, else as by `never`, since a
@@ -245,6 +273,11 @@ mean, and `mcrace judge` finds the same verdict on the history.
   unexplained  the search came to its end, and found none
   undecided    the turns of the search were used up before either was known
 
+Standard error tells what came in the place of a reply, and what came after a
+section's last one, at most 200 bytes of it:
+
+  mcrace: A: to \"incr a 1\" came \"6\\n\": the line ends without CR
+
 Where a section gets no connection, that is all that is written, and standard
 error says why:
 
@@ -274,7 +307,9 @@ pub fn subcommand<'a>(alloc: Global) -> Result<Command<'a>, AllocError>
         .after_help(STATUSES)
         .arg(target(alloc))?
         .arg(limit::option(alloc))?
-        .arg(meeting::option(alloc))
+        .arg(meeting::option(alloc))?
+        .arg(server_of_a(alloc))?
+        .arg(server_of_b(alloc))
 }
 
 // The argument that names the server.
@@ -286,4 +321,25 @@ fn target<'a>(alloc: Global) -> Arg<'a>
         .value_name("HOST:PORT")
         .required(true)
         .help("Run against the server at this address")
+}
+
+// The options that name a server of a branch's own.
+fn server_of_a<'a>(alloc: Global) -> Arg<'a>
+    ensures rule { rule_of result ≡ a_rule }
+    ensures local { result.global ≡ false }
+{
+    Arg::new(alloc, "a")
+        .long("a")
+        .value_name("HOST:PORT")
+        .help("A's server, if it is another one")
+}
+
+fn server_of_b<'a>(alloc: Global) -> Arg<'a>
+    ensures rule { rule_of result ≡ b_rule }
+    ensures local { result.global ≡ false }
+{
+    Arg::new(alloc, "b")
+        .long("b")
+        .value_name("HOST:PORT")
+        .help("B's server, if it is another one")
 }

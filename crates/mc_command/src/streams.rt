@@ -2,9 +2,10 @@
 //!
 //! std's `Read` and `Write` say which bytes are left and held where that is known, and not whether a stream ever failed.
 //! These two traits say both, so that a contract can name what was written where nothing failed.
-ghost use Rattle.std.specs.Prelude.{◌≡◌, false};
+ghost use Rattle.std.specs.Prelude.{◌≡◌, false, is_some};
 ghost use Rattle.mc_command.specs.Streams.{Reads, Writes};
 
+use std::io;
 use std::io::{Read, Write};
 use thiserror::Error;
 
@@ -48,7 +49,7 @@ pub trait Sink {
 #[derive(Debug, Drop)]
 pub struct Reader<R> {
     inner: R,
-    failed: bool,
+    error: Option<io::Error>,
 }
 
 impl<R: Read> Reader<R> {
@@ -57,23 +58,29 @@ impl<R: Read> Reader<R> {
         ensures left { ⟦<Reader<R> as Source>⟧.left result ≡ R.remaining inner }
         ensures whole { ⟦<Reader<R> as Source>⟧.has_failed result ≡ false }
     {
-        Reader {
-            inner,
-            failed: false,
-        }
+        Reader { inner, error: None }
+    }
+}
+
+impl<R> Reader<R> {
+    /// Why the last read that failed did so.
+    pub fn error(&self) -> Option<&io::Error>
+        ensures { is_some result ≡ is_some self.now.error }
+    {
+        self.error.as_ref()
     }
 }
 
 impl<R: Read> Source for Reader<R> {
     ghost left = { λ r. R.remaining r.inner };
 
-    ghost has_failed = { λ r. r.failed };
+    ghost has_failed = { λ r. is_some r.error };
 
     fn read(&mut self, piece: &mut [u8]) -> Result<usize, Broken> {
         match self.inner.read(piece) {
             Ok(count) => Ok(count),
-            Err(_) => {
-                self.failed = true;
+            Err(error) => {
+                self.error = Some(error);
                 Err(Broken)
             }
         }
@@ -84,7 +91,7 @@ impl<R: Read> Source for Reader<R> {
 #[derive(Debug, Drop)]
 pub struct Writer<W> {
     inner: W,
-    failed: bool,
+    error: Option<io::Error>,
 }
 
 impl<W: Write> Writer<W> {
@@ -93,23 +100,29 @@ impl<W: Write> Writer<W> {
         ensures written { ⟦<Writer<W> as Sink>⟧.written result ≡ W.contents inner }
         ensures whole { ⟦<Writer<W> as Sink>⟧.has_failed result ≡ false }
     {
-        Writer {
-            inner,
-            failed: false,
-        }
+        Writer { inner, error: None }
+    }
+}
+
+impl<W> Writer<W> {
+    /// Why the last write that failed did so.
+    pub fn error(&self) -> Option<&io::Error>
+        ensures { is_some result ≡ is_some self.now.error }
+    {
+        self.error.as_ref()
     }
 }
 
 impl<W: Write> Sink for Writer<W> {
     ghost written = { λ w. W.contents w.inner };
 
-    ghost has_failed = { λ w. w.failed };
+    ghost has_failed = { λ w. is_some w.error };
 
     fn write_all(&mut self, bytes: &[u8]) -> Result<(), Broken> {
         match self.inner.write_all(bytes) {
             Ok(()) => Ok(()),
-            Err(_) => {
-                self.failed = true;
+            Err(error) => {
+                self.error = Some(error);
                 Err(Broken)
             }
         }

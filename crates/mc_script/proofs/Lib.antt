@@ -30,3 +30,5 @@ pub mod PrintedMarks
 pub mod MarksAgain
 pub mod PrintedSteps
 pub mod PrintedSections
+pub mod WithoutStep
+pub mod OtherLines

@@ -17,6 +17,7 @@ pub mod FrontText
 pub mod Templates
 pub mod WellFormed
 pub mod PrintedScript
+pub mod WithoutStep
 pub mod Kinds
 -- What private contracts cite.
 pub mod Chains

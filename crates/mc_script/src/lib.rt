@@ -4,6 +4,7 @@
 //! (`specs/ScriptText.antt`), and what script the front of a text spells, if something may follow it (`specs/FrontText.antt`).
 #![tactic(auto)]
 
+mod copies;
 mod declarations;
 mod entry;
 mod fault;
@@ -26,8 +27,11 @@ mod step;
 mod text;
 mod text_laws;
 mod version;
+mod without_laws;
+mod without_step;
 mod words;
 
+pub use copies::copy_all;
 pub use fault::{ScriptFault, ScriptKind};
 pub use front::parse_front;
 pub use limits::{FLAGS_LIMIT, Mask, NAME_BYTES_LIMIT, STEPS_LIMIT, VARIABLES_LIMIT};
@@ -39,4 +43,6 @@ pub use step::{Argument, Jumps, Step, Template};
 pub use text::parse;
 pub use text_laws::{fronts_spell_one_script, texts_spell_one_script};
 pub use version::Version;
+pub use without_laws::steps_leave_the_other_lines;
+pub use without_step::without;
 pub use words::is_body;

@@ -1,4 +1,10 @@
+pub mod Answering
+pub mod Answers
+pub mod Asked
 pub mod Callers
+pub mod Conversing
 pub mod Made
+pub mod Puts
+pub mod Serving
 pub mod Shards
 pub mod Stores

@@ -7,11 +7,11 @@ ghost use Rattle.mc_command.specs.Statuses.{status_number};
 ghost use Rattle.mc_command.specs.Streams.{TakesAtMost};
 
 use mc_command::{
-    Asked, InputFault, Reader, Sink, Source, Status, Target, Writer, command, read_run, run_script,
-    unread_line, write_fault,
+    Asked, InputFault, Reader, Remarks, Sink, Source, Status, Target, Unconnected, Writer, command,
+    read_run, run_script, unread_line, write_fault,
 };
 use std::alloc::Global;
-use std::io::Eprint;
+use std::io::{Eprint, ErrorKind};
 use std::net::{Net, TcpStream};
 use std::process::ExitCode;
 use std::rt::{Clock, Env};
@@ -37,7 +37,19 @@ fn main(rt: HostRuntime) -> ExitCode {
         },
         Err(error) => unread_line(&error, &mut output, &mut faults),
     };
+    tell_failure(&rt, "standard input", input.error());
+    tell_failure(&rt, "standard output", output.error());
     ExitCode::from(status)
+}
+
+// Says on standard error why a stream failed. Who closed the other end of a pipe knows it.
+fn tell_failure<R: Eprint>(rt: &R, stream: &str, error: Option<&io::Error>) {
+    if let Some(error) = error
+        && error.kind() != ErrorKind::BrokenPipe
+    {
+        // There is nowhere else to say that this could not be said.
+        let _ = eprintln!(rt; "mcrace: {stream}: {error}");
+    }
 }
 
 // Runs the script on the input. Why there is no connection goes to standard error.
@@ -59,13 +71,27 @@ where
     ensures broken_output { O.has_failed output.old ≡ false → O.has_failed output.new ≡ true → result ≡ 4 }
     ensures taken { TakesAtMost 1048577 (I.left input.old) (I.left input.new) }
 {
-    let server = target.server;
-    let (status, reason) = run_script(rt, alloc, target, input, output);
-    if let Some(error) = reason {
-        // There is nowhere else to say that this could not be said.
-        let _ = eprintln!(rt; "mcrace: {server}: {error}");
+    let (status, remarks) = run_script(rt, alloc, target, input, output);
+    match remarks {
+        Remarks::None => {}
+        Remarks::NoConnection(Unconnected { section, error }) => {
+            tell_reason(rt, target.server_of(section), &error);
+        }
+        Remarks::Evidence(lines) => {
+            // There is nowhere else to say that this could not be said.
+            let _ = eprint!(rt; "{lines}");
+        }
     }
     status.number()
+}
+
+// Says on standard error why there is no connection to the server.
+fn tell_reason<R: Eprint>(rt: &R, server: &str, error: &io::Error) {
+    // There is nowhere else to say that this could not be said.
+    let _ = match error.kind() {
+        ErrorKind::InvalidInput => eprintln!(rt; "mcrace: {server}: write HOST:PORT"),
+        _ => eprintln!(rt; "mcrace: {server}: {error}"),
+    };
 }
 
 // The words of the command line, the program's name first.

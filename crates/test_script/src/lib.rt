@@ -12,3 +12,5 @@ mod print_tests;
 mod printed;
 #[cfg(test)]
 mod version_tests;
+#[cfg(test)]
+mod without_tests;

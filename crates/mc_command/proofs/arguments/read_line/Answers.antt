@@ -1,7 +1,7 @@
-use Rattle.std.proofs.Common.{codes, inl, inr, map, refl, rules, string_bytes, sym, Some, ◌≡◌, ◌∙◌}
+use Rattle.std.proofs.Common.{codes, inl, inr, map, rules, string_bytes, sym, Some, ◌≡◌, ◌∙◌}
 use Rattle.std.proofs.lemmas.Result.{err_from_is_err_and}
-use Rattle.mc_command.proofs.Line.{command_is, fault_by_clap, limit_is, line_faults-is, meeting_is, no_limit}
-use Rattle.mc_command.proofs.Line.{no_limit_of_run, no_meeting, no_subcommand, program_is_simple}
+use Rattle.mc_command.proofs.Line.{command_is, fault_by_clap, line_faults-is, no_job, no_limit_of_drive, no_limit_of_judge}
+use Rattle.mc_command.proofs.Line.{no_limit_of_run, no_meeting, no_seed, no_subcommand, program_is_simple, value_is}
 use Rattle.mc_command.proofs.arguments.read_line.Goals as goal
 
 pub returns-in_err-matches-clause-fault : goal.returns-in_err-matches-clause-fault
@@ -18,7 +18,7 @@ returns-in-judge-clause-asked c =
     let matches = c.in_ok-matches.ensures.matches in
     let none = sym (line_faults-is _ words program) ∙ c.in_ok-matches.ensures.kinds (program_is_simple _ program) in
     let command = command_is _ words _ program matches _ c.in-Some.ensures.name in
-    let limit = limit_is _ words _ program matches _ c.in-Some.ensures.rows in
+    let limit = value_is _ words _ program matches _ c.in-Some.ensures.rows (codes "limit") in
     (none, (command ∙ search rules, rw limit c.in_ok-limit-in-judge.ensures.limit))
 
 pub returns-in_err-limit-in-judge-clause-fault : goal.returns-in_err-limit-in-judge-clause-fault
@@ -28,11 +28,11 @@ returns-in_err-limit-in-judge-clause-fault c =
     let matches = c.in_ok-matches.ensures.matches in
     let clear = sym (line_faults-is _ words program) ∙ c.in_ok-matches.ensures.kinds (program_is_simple _ program) in
     let command = command_is _ words _ program matches _ c.in-Some.ensures.name in
-    let limit = limit_is _ words _ program matches _ c.in-Some.ensures.rows in
+    let limit = value_is _ words _ program matches _ c.in-Some.ensures.rows (codes "limit") in
     let p = err_from_is_err_and c.from_residual-in_err-limit-in-judge.result c.from_residual-in_err-limit-in-judge.ensures.1 in
     rw (p.1, p.2) (elim c.in_err-limit-in-judge.ensures.fault [
       | inl memory ↦ inl memory
-      | inr none ↦ inr (no_limit words _ (codes "judge") (inl refl) none.0 clear (command ∙ search rules) (rw limit none.1))
+      | inr none ↦ inr (no_limit_of_judge words _ none.0 clear (command ∙ search rules) (rw limit none.1))
     ])
 
 pub returns-in-drive-clause-asked : goal.returns-in-drive-clause-asked
@@ -42,7 +42,7 @@ returns-in-drive-clause-asked c =
     let matches = c.in_ok-matches.ensures.matches in
     let none = sym (line_faults-is _ words program) ∙ c.in_ok-matches.ensures.kinds (program_is_simple _ program) in
     let command = command_is _ words _ program matches _ c.in-Some.ensures.name in
-    let limit = limit_is _ words _ program matches _ c.in-Some.ensures.rows in
+    let limit = value_is _ words _ program matches _ c.in-Some.ensures.rows (codes "limit") in
     (none, (command ∙ search rules, rw limit c.in_ok-limit-in-drive.ensures.limit))
 
 pub returns-in_err-limit-in-drive-clause-fault : goal.returns-in_err-limit-in-drive-clause-fault
@@ -52,11 +52,11 @@ returns-in_err-limit-in-drive-clause-fault c =
     let matches = c.in_ok-matches.ensures.matches in
     let clear = sym (line_faults-is _ words program) ∙ c.in_ok-matches.ensures.kinds (program_is_simple _ program) in
     let command = command_is _ words _ program matches _ c.in-Some.ensures.name in
-    let limit = limit_is _ words _ program matches _ c.in-Some.ensures.rows in
+    let limit = value_is _ words _ program matches _ c.in-Some.ensures.rows (codes "limit") in
     let p = err_from_is_err_and c.from_residual-in_err-limit-in-drive.result c.from_residual-in_err-limit-in-drive.ensures.1 in
     rw (p.1, p.2) (elim c.in_err-limit-in-drive.ensures.fault [
       | inl memory ↦ inl memory
-      | inr none ↦ inr (no_limit words _ (codes "drive") (inr refl) none.0 clear (command ∙ search rules) (rw limit none.1))
+      | inr none ↦ inr (no_limit_of_drive words _ none.0 clear (command ∙ search rules) (rw limit none.1))
     ])
 
 pub returns-in-run-clause-asked : goal.returns-in-run-clause-asked
@@ -66,8 +66,8 @@ returns-in-run-clause-asked c =
     let matches = c.in_ok-matches.ensures.matches in
     let none = sym (line_faults-is _ words program) ∙ c.in_ok-matches.ensures.kinds (program_is_simple _ program) in
     let command = command_is _ words _ program matches _ c.in-Some.ensures.name in
-    let limit = limit_is _ words _ program matches _ c.in-Some.ensures.rows in
-    let meeting = meeting_is _ words _ program matches _ c.in-Some.ensures.rows in
+    let limit = value_is _ words _ program matches _ c.in-Some.ensures.rows (codes "limit") in
+    let meeting = value_is _ words _ program matches _ c.in-Some.ensures.rows (codes "meet") in
     (none, (command ∙ search rules, rw limit c.in_ok-limit-in-run.ensures.limit, rw meeting c.in_ok-check_meeting-in-run.ensures.meeting))
 
 pub returns-in_err-limit-in-run-clause-fault : goal.returns-in_err-limit-in-run-clause-fault
@@ -77,7 +77,7 @@ returns-in_err-limit-in-run-clause-fault c =
     let matches = c.in_ok-matches.ensures.matches in
     let clear = sym (line_faults-is _ words program) ∙ c.in_ok-matches.ensures.kinds (program_is_simple _ program) in
     let command = command_is _ words _ program matches _ c.in-Some.ensures.name in
-    let limit = limit_is _ words _ program matches _ c.in-Some.ensures.rows in
+    let limit = value_is _ words _ program matches _ c.in-Some.ensures.rows (codes "limit") in
     let p = err_from_is_err_and c.from_residual-in_err-limit-in-run.result c.from_residual-in_err-limit-in-run.ensures.1 in
     rw (p.1, p.2) (elim c.in_err-limit-in-run.ensures.fault [
       | inl memory ↦ inl memory
@@ -91,11 +91,50 @@ returns-in_err-check_meeting-in-run-clause-fault c =
     let matches = c.in_ok-matches.ensures.matches in
     let clear = sym (line_faults-is _ words program) ∙ c.in_ok-matches.ensures.kinds (program_is_simple _ program) in
     let command = command_is _ words _ program matches _ c.in-Some.ensures.name in
-    let meeting = meeting_is _ words _ program matches _ c.in-Some.ensures.rows in
+    let meeting = value_is _ words _ program matches _ c.in-Some.ensures.rows (codes "meet") in
     let p = err_from_is_err_and c.from_residual-in_err-check_meeting-in-run.result c.from_residual-in_err-check_meeting-in-run.ensures.1 in
     rw (p.1, p.2) (elim c.in_err-check_meeting-in-run.ensures.fault [
       | inl memory ↦ inl memory
       | inr none ↦ inr (no_meeting words _ none.0 clear (command ∙ search rules) (rw meeting none.1))
+    ])
+
+pub returns-in-generate-clause-asked : goal.returns-in-generate-clause-asked
+returns-in-generate-clause-asked c =
+    let words = map string_bytes c.args.line.now in
+    let program = c.in_ok-program.ensures in
+    let matches = c.in_ok-matches.ensures.matches in
+    let none = sym (line_faults-is _ words program) ∙ c.in_ok-matches.ensures.kinds (program_is_simple _ program) in
+    let command = command_is _ words _ program matches _ c.in-Some.ensures.name in
+    let seed = value_is _ words _ program matches _ c.in-Some.ensures.rows (codes "seed") in
+    let job = value_is _ words _ program matches _ c.in-Some.ensures.rows (codes "job") in
+    (none, (command ∙ search rules, rw seed c.in_ok-seed-in-generate.ensures.number, rw job c.in_ok-job-in-generate.ensures.number))
+
+pub returns-in_err-seed-in-generate-clause-fault : goal.returns-in_err-seed-in-generate-clause-fault
+returns-in_err-seed-in-generate-clause-fault c =
+    let words = map string_bytes c.args.line.now in
+    let program = c.in_ok-program.ensures in
+    let matches = c.in_ok-matches.ensures.matches in
+    let clear = sym (line_faults-is _ words program) ∙ c.in_ok-matches.ensures.kinds (program_is_simple _ program) in
+    let command = command_is _ words _ program matches _ c.in-Some.ensures.name in
+    let seed = value_is _ words _ program matches _ c.in-Some.ensures.rows (codes "seed") in
+    let p = err_from_is_err_and c.from_residual-in_err-seed-in-generate.result c.from_residual-in_err-seed-in-generate.ensures.1 in
+    rw (p.1, p.2) (elim c.in_err-seed-in-generate.ensures.fault [
+      | inl memory ↦ inl memory
+      | inr none ↦ inr (no_seed words _ none.0 clear (command ∙ search rules) (rw seed none.1))
+    ])
+
+pub returns-in_err-job-in-generate-clause-fault : goal.returns-in_err-job-in-generate-clause-fault
+returns-in_err-job-in-generate-clause-fault c =
+    let words = map string_bytes c.args.line.now in
+    let program = c.in_ok-program.ensures in
+    let matches = c.in_ok-matches.ensures.matches in
+    let clear = sym (line_faults-is _ words program) ∙ c.in_ok-matches.ensures.kinds (program_is_simple _ program) in
+    let command = command_is _ words _ program matches _ c.in-Some.ensures.name in
+    let job = value_is _ words _ program matches _ c.in-Some.ensures.rows (codes "job") in
+    let p = err_from_is_err_and c.from_residual-in_err-job-in-generate.result c.from_residual-in_err-job-in-generate.ensures.1 in
+    rw (p.1, p.2) (elim c.in_err-job-in-generate.ensures.fault [
+      | inl memory ↦ inl memory
+      | inr none ↦ inr (no_job words _ none.0 clear (command ∙ search rules) (rw job none.1))
     ])
 
 pub returns-in-asm-clause-asked : goal.returns-in-asm-clause-asked
@@ -127,6 +166,7 @@ returns-in-Some-clause-fault c =
       asm = λ is. c.in_default.not-asm (other (sym command ∙ is));
       drive = λ is. c.in_default.not-drive (other (sym command ∙ is));
       run = λ is. c.in_default.not-run (other (sym command ∙ is));
+      generate = λ is. c.in_default.not-generate (other (sym command ∙ is));
     }))
   where
     other : {X : Type 0} {x y : X} → Some x ≡ Some y → x ≡ y

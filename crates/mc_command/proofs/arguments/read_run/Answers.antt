@@ -1,6 +1,6 @@
-use Rattle.std.proofs.Common.{map, rules, string_bytes, sym, Some, ◌≡◌, ◌∙◌}
+use Rattle.std.proofs.Common.{codes, map, rules, string_bytes, sym, Some, ◌≡◌, ◌∙◌}
 use Rattle.std.proofs.lemmas.Option.{IfSome_then}
-use Rattle.mc_command.proofs.Line.{asking_lacks_memory, command_is, fault_by_clap, limit_is, line_faults-is, meeting_is, program_is_simple, target_is}
+use Rattle.mc_command.proofs.Line.{asking_lacks_memory, command_is, fault_by_clap, line_faults-is, program_is_simple, value_is}
 use Rattle.mc_command.specs.declared.arguments.Asked.TheVariants as asked
 use Rattle.mc_command.proofs.arguments.read_run.Goals as goal
 
@@ -18,21 +18,33 @@ returns-in-run-clause-asked c =
     let matches = c.in-Ok.ensures.matches in
     let clear = sym (line_faults-is _ words program) ∙ c.in-Ok.ensures.kinds (program_is_simple _ program) in
     let command = command_is _ words _ program matches _ c.in-Some.ensures.name in
-    let limit = limit_is _ words _ program matches _ c.in-Some.ensures.rows in
-    let meeting = meeting_is _ words _ program matches _ c.in-Some.ensures.rows in
+    let limit = value_is _ words _ program matches _ c.in-Some.ensures.rows (codes "limit") in
+    let meeting = value_is _ words _ program matches _ c.in-Some.ensures.rows (codes "meet") in
     IfSome_then c.read_run_options.result c.read_run_options.ensures.found
     (λ target found. (clear, (command ∙ search rules, rw limit found.0, (target.meeting, rw meeting found.2))))
 
 pub returns-in-run-clause-server : goal.returns-in-run-clause-server
 returns-in-run-clause-server c =
     let words = map string_bytes c.args.line.now in
-    let target = target_is _ words _ c.in_ok-program.ensures c.in-Ok.ensures.matches _ c.in-Some.ensures.rows in
+    let target = value_is _ words _ c.in_ok-program.ensures c.in-Ok.ensures.matches _ c.in-Some.ensures.rows (codes "target") in
     IfSome_then c.read_run_options.result c.read_run_options.ensures.found (λ found is. target ∙ is.1)
+
+pub returns-in-run-clause-a : goal.returns-in-run-clause-a
+returns-in-run-clause-a c =
+    let words = map string_bytes c.args.line.now in
+    let own = value_is _ words _ c.in_ok-program.ensures c.in-Ok.ensures.matches _ c.in-Some.ensures.rows (codes "a") in
+    IfSome_then c.read_run_options.result c.read_run_options.ensures.found (λ found is. is.3 ∙ sym own)
+
+pub returns-in-run-clause-b : goal.returns-in-run-clause-b
+returns-in-run-clause-b c =
+    let words = map string_bytes c.args.line.now in
+    let own = value_is _ words _ c.in_ok-program.ensures c.in-Ok.ensures.matches _ c.in-Some.ensures.rows (codes "b") in
+    IfSome_then c.read_run_options.result c.read_run_options.ensures.found (λ found is. is.4 ∙ sym own)
 
 pub returns-in-run-clause-meeting : goal.returns-in-run-clause-meeting
 returns-in-run-clause-meeting c =
     let words = map string_bytes c.args.line.now in
-    let meeting = meeting_is _ words _ c.in_ok-program.ensures c.in-Ok.ensures.matches _ c.in-Some.ensures.rows in
+    let meeting = value_is _ words _ c.in_ok-program.ensures c.in-Ok.ensures.matches _ c.in-Some.ensures.rows (codes "meet") in
     IfSome_then c.read_run_options.result c.read_run_options.ensures.found (λ found is. rw meeting is.2)
 
 pub returns-in-run-clause-other : goal.returns-in-run-clause-other
@@ -40,9 +52,9 @@ returns-in-run-clause-other c none limit asks =
     let words = map string_bytes c.args.line.now in
     let program = c.in_ok-program.ensures in
     let matches = c.in-Ok.ensures.matches in
-    let limited = limit_is _ words _ program matches _ c.in-Some.ensures.rows in
-    let target = target_is _ words _ program matches _ c.in-Some.ensures.rows in
-    let meeting = meeting_is _ words _ program matches _ c.in-Some.ensures.rows in
+    let limited = value_is _ words _ program matches _ c.in-Some.ensures.rows (codes "limit") in
+    let target = value_is _ words _ program matches _ c.in-Some.ensures.rows (codes "target") in
+    let meeting = value_is _ words _ program matches _ c.in-Some.ensures.rows (codes "meet") in
     target ∙ c.read_run_options.ensures.none none limit (rw limited at asks.1.1) asks.1.2.0 (rw meeting at asks.1.2.1)
 
 pub returns-clause-other : goal.returns-clause-other

@@ -1,0 +1,56 @@
+//! The code of generated scripts.
+
+use crate::texts::text_of;
+use itoa::Buffer;
+use mc_campaign::generate;
+use mc_code::assemble;
+use mc_protocol::{Actor, append_all};
+use mc_script::parse;
+use mc_verify::{RefusalKind, verify};
+use std::alloc::Global;
+use std::test::Fail;
+
+#[test]
+fn code_of_a_hundred_jobs_may_run(rt: HostRuntime) {
+    for job in 0..100 {
+        assert!(rt; generate(rt.alloc(), 1, job).is_ok(), "job {job}");
+    }
+}
+
+// Without the mark that sets the flag in P, a request of A that needs it is refused, and before any other.
+#[test]
+fn flag_is_needed_that_nothing_sets(rt: HostRuntime) -> Result<(), Fail> {
+    for job in 0..100 {
+        let text = text_with_a_need(rt.alloc(), job)?;
+        assert_eq!(rt;
+            first_fault(rt.alloc(), &text)?,
+            Some((RefusalKind::FlagMayBeClear, Actor::A, 0)),
+            "job {job}"
+        );
+    }
+    Ok(())
+}
+
+// The kind and the place of the fault for which the code of the script is refused, if it is.
+fn first_fault(alloc: Global, text: &[u8]) -> Result<Option<(RefusalKind, Actor, u8)>, Fail> {
+    let code = assemble(alloc, &parse(alloc, text)?)?;
+    match verify(alloc, code) {
+        Ok(_) => Ok(None),
+        Err((refusal, _)) => Ok(Some((refusal.kind, refusal.actor, refusal.place))),
+    }
+}
+
+// The text of a job's script, without `+f`, and with `get KEY ?f` of its first key put first in A.
+fn text_with_a_need(alloc: Global, job: u64) -> Result<Vec<u8>, Fail> {
+    let mut digits = Buffer::new();
+    let job_text = digits.format(job).as_bytes();
+    let mut changed = Vec::new(alloc);
+    for line in text_of(alloc, 1, job)?.split(|byte| *byte == b'\n') {
+        let kept = line.strip_suffix(b" +f").unwrap_or(line);
+        append_all(&mut changed, &[kept, b"\n"])?;
+        if line == b"A".as_slice() {
+            append_all(&mut changed, &[b"get r", job_text, b"-0 ?f\n"])?;
+        }
+    }
+    Ok(changed)
+}

@@ -1,0 +1,317 @@
+//! What a client is served over one connection, each time by a server that holds nothing. The replies are those of `protocol.txt`; the
+//! lines of refusals are this project's own.
+use crate::streams::conversation;
+use mc_server::{Served, Shared, Why};
+use std::alloc::AllocError;
+use std::sync::Wait;
+use std::test::Fail;
+
+/// What a client sends, what it is answered, how many requests were read, and why no more.
+type Row = (&'static [u8], &'static [u8], u64, Why);
+
+/// Requests, one after another.
+static REQUESTS: &[Row] = &[
+    (b"", b"", 0, Why::Ended),
+    (
+        b"set a 0 0 1\r\n1\r\ngets a\r\n",
+        b"STORED\r\nVALUE a 0 1 1\r\n1\r\nEND\r\n",
+        2,
+        Why::Ended,
+    ),
+    (
+        b"set a 0 0 1\n1\r\nget a\n",
+        b"STORED\r\nVALUE a 0 1\r\n1\r\nEND\r\n",
+        2,
+        Why::Ended,
+    ),
+    (
+        b"add a 5 0 1\r\n1\r\nadd a 0 0 1\r\n2\r\nreplace a 6 0 2\r\n22\r\nappend a 0 0 1\r\n3\r\nprepend a 0 0 1\r\n0\r\ngets a\r\n",
+        b"STORED\r\nNOT_STORED\r\nSTORED\r\nSTORED\r\nSTORED\r\nVALUE a 6 4 4\r\n0223\r\nEND\r\n",
+        6,
+        Why::Ended,
+    ),
+    (
+        b"cas a 0 0 1 1\r\n1\r\nset a 0 0 1\r\n1\r\ncas a 0 0 1 7\r\n2\r\ncas a 0 0 1 1\r\n3\r\nget a\r\n",
+        b"NOT_FOUND\r\nSTORED\r\nEXISTS\r\nSTORED\r\nVALUE a 0 1\r\n3\r\nEND\r\n",
+        5,
+        Why::Ended,
+    ),
+    (
+        b"incr a 1\r\nset a 0 0 1\r\n5\r\nincr a 6\r\ndecr a 2\r\ntouch a 0\r\ndelete a 0\r\ndelete a\r\ntouch a -0\r\n",
+        b"NOT_FOUND\r\nSTORED\r\n11\r\n9\r\nTOUCHED\r\nDELETED\r\nNOT_FOUND\r\nNOT_FOUND\r\n",
+        8,
+        Why::Ended,
+    ),
+    // each store counts its own numbers: a and q are in one, b in another
+    (
+        b"set a 0 0 1\r\n1\r\nset b 0 0 1\r\n1\r\nset q 0 0 1\r\n1\r\ngets a b q\r\n",
+        b"STORED\r\nSTORED\r\nSTORED\r\nVALUE a 0 1 1\r\n1\r\nVALUE b 0 1 1\r\n1\r\nVALUE q 0 1 2\r\n1\r\nEND\r\n",
+        4,
+        Why::Ended,
+    ),
+    (
+        b"set a 0 0 1\r\n1\r\nget b a c a\r\nget b c\r\n",
+        b"STORED\r\nVALUE a 0 1\r\n1\r\nVALUE a 0 1\r\n1\r\nEND\r\nEND\r\n",
+        3,
+        Why::Ended,
+    ),
+    (
+        b"set a 0 0 4\r\n\r\n\r\n\r\nget a\r\n",
+        b"STORED\r\nVALUE a 0 4\r\n\r\n\r\n\r\nEND\r\n",
+        2,
+        Why::Ended,
+    ),
+    (b"get a\r\nquit\r\nget a\r\n", b"END\r\n", 1, Why::Quit),
+];
+
+/// Requests to which no reply is written. What is refused is told all the same.
+static UNTOLD: &[Row] = &[
+    (
+        b"set a 0 0 1 noreply\r\n1\r\nget a b\r\n",
+        b"VALUE a 0 1\r\n1\r\nEND\r\n",
+        2,
+        Why::Ended,
+    ),
+    (
+        b"set a 0 0 1\r\nx\r\nincr a 1 noreply\r\nincr a 1\r\n",
+        b"STORED\r\nCLIENT_ERROR cannot increment or decrement non-numeric value\r\n",
+        3,
+        Why::Ended,
+    ),
+    (
+        b"delete a noreply\r\ndecr a 1 noreply\r\ntouch a 0 noreply\r\nadd a 0 0 1 noreply\r\n1\r\nget a\r\n",
+        b"VALUE a 0 1\r\n1\r\nEND\r\n",
+        5,
+        Why::Ended,
+    ),
+    (
+        b"set a 0 5 1 noreply\r\n1\r\n",
+        b"SERVER_ERROR expiry not supported\r\n",
+        0,
+        Why::Ended,
+    ),
+    (
+        b"incr a x noreply\r\n",
+        b"CLIENT_ERROR bad command line format\r\n",
+        0,
+        Why::Ended,
+    ),
+    (b"foo noreply\r\n", b"ERROR\r\n", 0, Why::Ended),
+    (
+        b"set a 0 0 1 noreply\r\n12\r\n",
+        b"CLIENT_ERROR bad data chunk\r\n",
+        0,
+        Why::Refused,
+    ),
+];
+
+/// Requests that are refused, and what comes after them.
+static REFUSED: &[Row] = &[
+    (b"foo\r\nget a\r\n", b"ERROR\r\nEND\r\n", 1, Why::Ended),
+    (b"\r\n", b"ERROR\r\n", 0, Why::Ended),
+    (b"GET a\r\n", b"ERROR\r\n", 0, Why::Ended),
+    (
+        b"get\r\nget a\r\n",
+        b"CLIENT_ERROR bad command line format\r\nEND\r\n",
+        1,
+        Why::Ended,
+    ),
+    (
+        b"quit now\r\n",
+        b"CLIENT_ERROR bad command line format\r\n",
+        0,
+        Why::Ended,
+    ),
+    (
+        b"set a 0 0 2147483648\r\n",
+        b"CLIENT_ERROR bad command line format\r\n",
+        0,
+        Why::Ended,
+    ),
+    (
+        b"set a 0 5 1\r\n1\r\nget a\r\n",
+        b"SERVER_ERROR expiry not supported\r\nEND\r\n",
+        1,
+        Why::Ended,
+    ),
+    // the block of a refused request isn't looked at
+    (
+        b"set a 0 -1 6\r\nquit\r\n\r\nget a\r\n",
+        b"SERVER_ERROR expiry not supported\r\nEND\r\n",
+        1,
+        Why::Ended,
+    ),
+    (
+        b"touch a 5\r\n",
+        b"SERVER_ERROR expiry not supported\r\n",
+        0,
+        Why::Ended,
+    ),
+    (
+        b"set a 0 0 1\r\n12\r\nget a\r\n",
+        b"CLIENT_ERROR bad data chunk\r\n",
+        0,
+        Why::Refused,
+    ),
+    // it ends in a request, which isn't answered
+    (b"get a\r\nget a", b"END\r\n", 1, Why::Ended),
+    (b"set a 0 0 65537\r\n1", b"", 0, Why::Ended),
+];
+
+/// Whether a client that sends these pieces is answered so.
+fn is_served<R: Wait + AllocGlobal>(
+    rt: &R,
+    pieces: &[&[u8]],
+    failing: Option<u64>,
+    answers: &[u8],
+    served: Served,
+) -> Result<bool, AllocError> {
+    let shared = Shared::new(rt.alloc())?;
+    let (written, came) = conversation(rt, rt.alloc(), &shared, pieces, failing)?;
+    Ok(written.as_slice() == answers && came == served)
+}
+
+fn first_other<R: Wait + AllocGlobal>(
+    rt: &R,
+    rows: &'static [Row],
+) -> Result<Option<&'static [u8]>, AllocError> {
+    for (sent, answers, requests, why) in rows {
+        let served = Served {
+            requests: *requests,
+            why: *why,
+        };
+        if !is_served(rt, &[*sent], None, answers, served)? {
+            return Ok(Some(sent));
+        }
+    }
+    Ok(None)
+}
+
+#[test]
+fn answers_requests(rt: HostRuntime) -> Result<(), Fail> {
+    assert_eq!(rt; first_other(&rt, REQUESTS)?, None);
+    Ok(())
+}
+
+#[test]
+fn writes_no_reply_where_none_is_asked_for(rt: HostRuntime) -> Result<(), Fail> {
+    assert_eq!(rt; first_other(&rt, UNTOLD)?, None);
+    Ok(())
+}
+
+#[test]
+fn refuses_requests(rt: HostRuntime) -> Result<(), Fail> {
+    assert_eq!(rt; first_other(&rt, REFUSED)?, None);
+    Ok(())
+}
+
+const SENT: &[u8] = b"set a 0 0 1\r\n1\r\ngets a\r\n";
+
+const STORED: &[u8] = b"STORED\r\n";
+
+const ALL: &[u8] = b"STORED\r\nVALUE a 0 1 1\r\n1\r\nEND\r\n";
+
+/// What comes of a connection.
+fn served(requests: u64, why: Why) -> Served {
+    Served { requests, why }
+}
+
+#[test]
+fn answers_the_whole_requests_of_a_prefix(rt: HostRuntime) -> Result<(), Fail> {
+    for len in 0..SENT.len() {
+        let (answers, requests): (&[u8], u64) = if len < 16 { (b"", 0) } else { (STORED, 1) };
+        assert!(rt;
+            is_served(
+                &rt,
+                &[&SENT[..len]],
+                None,
+                answers,
+                served(requests, Why::Ended)
+            )?,
+            "{len}"
+        );
+    }
+    Ok(())
+}
+
+#[test]
+fn answers_a_request_however_it_is_cut(rt: HostRuntime) -> Result<(), Fail> {
+    for len in 0..SENT.len() {
+        let pieces = [&SENT[..len], &SENT[len..]];
+        assert!(rt;
+            is_served(&rt, &pieces, None, ALL, served(2, Why::Ended))?,
+            "{len}"
+        );
+    }
+    Ok(())
+}
+
+/// The call of the stream that fails, what is written then, how many requests were read, and why no more.
+type Failing = (u64, &'static [u8], u64, Why);
+
+/// Where both requests come at once: they are read, answered by one write, and the end is read.
+static AT_ONCE: &[Failing] = &[
+    (1, b"", 0, Why::ReadFailed),
+    (2, b"", 2, Why::WriteFailed),
+    (3, ALL, 2, Why::ReadFailed),
+    (4, ALL, 2, Why::Ended),
+];
+
+/// Where the second request comes after the reply to the first.
+static IN_TURN: &[Failing] = &[
+    (1, b"", 0, Why::ReadFailed),
+    (2, b"", 1, Why::WriteFailed),
+    (3, STORED, 1, Why::ReadFailed),
+    (4, STORED, 2, Why::WriteFailed),
+    (5, ALL, 2, Why::ReadFailed),
+    (6, ALL, 2, Why::Ended),
+];
+
+#[test]
+fn ends_where_a_call_of_the_stream_fails(rt: HostRuntime) -> Result<(), Fail> {
+    for (call, answers, requests, why) in AT_ONCE {
+        assert!(rt;
+            is_served(&rt, &[SENT], Some(*call), answers, served(*requests, *why))?,
+            "{call}"
+        );
+    }
+    for (call, answers, requests, why) in IN_TURN {
+        let pieces = [&SENT[..16], &SENT[16..]];
+        assert!(rt;
+            is_served(&rt, &pieces, Some(*call), answers, served(*requests, *why))?,
+            "{call}"
+        );
+    }
+    Ok(())
+}
+
+#[test]
+fn closes_after_a_line_that_is_too_long(rt: HostRuntime) -> Result<(), Fail> {
+    let line = [b'a'; 2_048];
+    let answer = b"CLIENT_ERROR line too long\r\n";
+    assert!(rt; is_served(&rt, &[&line[..2_047]], None, b"", served(0, Why::Ended))?);
+    assert!(rt; is_served(&rt, &[&line], None, answer, served(0, Why::Refused))?);
+    assert!(rt;
+        is_served(
+            &rt,
+            &[&line[..2_047], b"\r\nget a\r\n"],
+            None,
+            answer,
+            served(0, Why::Refused)
+        )?
+    );
+    Ok(())
+}
+
+#[test]
+fn skips_a_body_that_is_too_large(rt: HostRuntime) -> Result<(), Fail> {
+    let body = vec![in rt.alloc(); b'1'; 65_537]?;
+    let answers = b"SERVER_ERROR object too large for cache\r\nEND\r\n";
+    let pieces = [
+        b"set a 0 0 65537\r\n".as_slice(),
+        body.as_slice(),
+        b"\r\nget a\r\n".as_slice(),
+    ];
+    assert!(rt; is_served(&rt, &pieces, None, answers, served(1, Why::Ended))?);
+    Ok(())
+}
