@@ -40,9 +40,12 @@ class Item:
 
 
 def ends(lines, first, indent):
-    """The line with which an item ends that begins at this one."""
+    """The line with which an item ends that begins at this one. A value that stands below its `=` is indented."""
+    is_below = lines[first].endswith("=")
     for at in range(first, len(lines)):
         line = lines[at]
+        if is_below and line.endswith(";"):
+            return at
         if at > first and line.startswith(indent + "}") or is_at(line, indent) and line.endswith(("{}", ";", " }")):
             return at
     return len(lines) - 1

@@ -2,6 +2,7 @@
 
 import contextlib
 import enum
+import pathlib
 import re
 import shutil
 import socket
@@ -11,6 +12,12 @@ import sys
 import threading
 import time
 from dataclasses import dataclass
+
+ROOT = pathlib.Path(__file__).resolve().parents[1]
+
+EXAMPLES = ["two-increments", "bound-number"]
+
+ALL_DONE = "P done\nA done\nB done\n"
 
 SECONDS = 60
 
@@ -52,6 +59,21 @@ def play(program, port, script, prepare=None, environment=None, options=()):
 def judged(program, history):
     """What `mcrace judge` answers to a history."""
     return subprocess.run([program, "judge"], input=history, capture_output=True, timeout=SECONDS).stdout
+
+
+def scripts():
+    """The scripts that are played against servers that are right."""
+    return sorted((ROOT / "cases/run").glob("*.script")) + [ROOT / f"examples/{it}.script" for it in EXAMPLES]
+
+
+def fault_of_script(program, port, script):
+    """Why a play of a script against a server isn't right, or None: its sections are done, and what the server answers is explained."""
+    found = play(program, port, script.read_bytes())
+    if (found.endings, found.word, found.status) != (ALL_DONE, "explained", 0) or found.faults:
+        return f"status {found.status}, {found.output.decode()}{found.faults.decode()}"
+    if judged(program, found.history) != found.verdict:
+        return f"judged again: {judged(program, found.history).decode()}\n{found.output.decode()}"
+    return None
 
 
 def free_port():

@@ -6,3 +6,6 @@ pub mod Formed
 pub mod Texts
 pub mod RefusalFacts
 pub mod Less
+pub mod KeysUnder
+pub mod CodeUnder
+pub mod ImageUnder

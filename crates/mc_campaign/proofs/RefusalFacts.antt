@@ -12,7 +12,7 @@ use Rattle.mc_campaign.specs.Refusals.{HasFault, IsRefused}
 
 -- a refusal for another cause than want of memory names a fault of the code
 pub fault-named : (code : Code) (refusal : Refusal) → (refusal.kind ≡ kind.OutOfMemory → ⊥) → IsRefusalOf code refusal → HasFault code
-fault-named code refusal other (inl least) = (refusal.kind, refusal.actor, refusal.place, least.stands)
+fault-named code refusal other (inl least) = (refusal.kind, refusal.actor, refusal.place, least.least.stands)
 fault-named code refusal other (inr e) = absurd (other (ap (λ (r : Refusal). r.kind) e))
 
 pub script-refused : (s : Script) (code : Code) (r : Result Checked GenFault) → code ≡ code_of s → IfErr r (λ f. f ≡ fault.Refused → HasFault code)

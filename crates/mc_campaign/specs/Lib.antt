@@ -4,5 +4,7 @@ pub mod Pieces
 pub mod Generated
 pub mod Refusals
 pub mod Shrunk
+pub mod Namespaces
 -- What private contracts cite.
 pub mod GeneratedLines
+pub mod ImageFronts

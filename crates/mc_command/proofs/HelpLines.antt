@@ -36,6 +36,10 @@ generate_help : (program : List ℕ) → line_faults (program ∷ codes "generat
 unfolding line_faults clap_on_literals
 generate_help program = refl
 
+serve_help : (program : List ℕ) → line_faults (program ∷ codes "serve" ∷ codes "--help" ∷ []) ≡ kind.DisplayHelp ∷ []
+unfolding line_faults clap_on_literals
+serve_help program = refl
+
 version : (program : List ℕ) → line_faults (program ∷ codes "--version" ∷ []) ≡ kind.DisplayVersion ∷ []
 unfolding line_faults clap_on_literals
 version program = refl
@@ -64,5 +68,6 @@ help_is_shown words (program, line) = elim line [
   | inr (inr (inr (inr (inl is)))) ↦ rw is (shown_alone _ kind.DisplayHelp (drive_help program) (inl refl))
   | inr (inr (inr (inr (inr (inl is))))) ↦ rw is (shown_alone _ kind.DisplayHelp (run_help program) (inl refl))
   | inr (inr (inr (inr (inr (inr (inl is)))))) ↦ rw is (shown_alone _ kind.DisplayHelp (generate_help program) (inl refl))
-  | inr (inr (inr (inr (inr (inr (inr is)))))) ↦ rw is (shown_alone _ kind.DisplayVersion (version program) (inr refl))
+  | inr (inr (inr (inr (inr (inr (inr (inl is))))))) ↦ rw is (shown_alone _ kind.DisplayHelp (serve_help program) (inl refl))
+  | inr (inr (inr (inr (inr (inr (inr (inr is))))))) ↦ rw is (shown_alone _ kind.DisplayVersion (version program) (inr refl))
 ]

@@ -10,4 +10,5 @@ pub mod OptionValue
 pub mod PlainLines
 pub mod Right
 pub mod RunLines
+pub mod ServeLines
 pub mod Taken

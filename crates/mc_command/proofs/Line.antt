@@ -12,7 +12,8 @@ use Rattle.clap.proofs.OnLiterals.{clap_on_literals}
 use Rattle.clap.proofs.WalkLemmas.{first_value-rows}
 use Rattle.mc_command.specs.declared.arguments.Asked.{Asked}
 use Rattle.mc_command.specs.declared.arguments.Asked.TheVariants as asked
-use Rattle.mc_command.specs.Command.{AsksFor, IsAskedBy, IsFaultOf, IsJob, IsLimit, IsSeed, IsShown, NamesMeeting}
+use Rattle.mc_command.specs.declared.serve.Service.{Service}
+use Rattle.mc_command.specs.Command.{AsksFor, IsAskedBy, IsConnections, IsFaultOf, IsJob, IsLimit, IsPort, IsSeed, IsShown, NamesMeeting}
 use Rattle.mc_command.specs.CommandLine.{given_name, given_value, line_command, line_faults, line_limit, line_meeting, line_value, program_app}
 
 -- the faults of the command that the program makes
@@ -101,6 +102,7 @@ name_of_asked asked.Asm = codes "asm"
 name_of_asked (asked.Drive limit) = codes "drive"
 name_of_asked (asked.Run limit) = codes "run"
 name_of_asked (asked.Generate seed job) = codes "generate"
+name_of_asked (asked.Serve service) = codes "serve"
 
 pub is_named_by : (command : Option Text) (value : Text → Option Text) (wanted : Asked) → IsAskedBy command value wanted
     → command ≡ Some (name_of_asked wanted)
@@ -110,6 +112,7 @@ is_named_by command value asked.Asm asks = asks
 is_named_by command value (asked.Drive limit) asks = asks.0
 is_named_by command value (asked.Run limit) asks = asks.0
 is_named_by command value (asked.Generate seed job) asks = asks.0
+is_named_by command value (asked.Serve service) asks = asks.0
 
 -- a line with another subcommand doesn't ask for this
 asks_otherwise : {command : Option Text} {name : Text} (value : Text → Option Text) → command ≡ Some name → (wanted : Asked)
@@ -133,6 +136,7 @@ nothing_judged command value named none asked.Asm asks = asks_otherwise value na
 nothing_judged command value named none (asked.Drive limit) asks = asks_otherwise value named (asked.Drive limit) refl asks
 nothing_judged command value named none (asked.Run limit) asks = asks_otherwise value named (asked.Run limit) refl asks
 nothing_judged command value named none (asked.Generate seed job) asks = asks_otherwise value named (asked.Generate seed job) refl asks
+nothing_judged command value named none (asked.Serve service) asks = asks_otherwise value named (asked.Serve service) refl asks
 
 nothing_driven : (command : Option Text) (value : Text → Option Text) → command ≡ Some (codes "drive")
     → ((limit : ℕ) → IsLimit (value (codes "limit")) limit → ⊥) → (wanted : Asked) → IsAskedBy command value wanted → ⊥
@@ -142,6 +146,7 @@ nothing_driven command value named none asked.Asm asks = asks_otherwise value na
 nothing_driven command value named none (asked.Drive limit) asks = none limit asks.1
 nothing_driven command value named none (asked.Run limit) asks = asks_otherwise value named (asked.Run limit) refl asks
 nothing_driven command value named none (asked.Generate seed job) asks = asks_otherwise value named (asked.Generate seed job) refl asks
+nothing_driven command value named none (asked.Serve service) asks = asks_otherwise value named (asked.Serve service) refl asks
 
 nothing_run : (command : Option Text) (value : Text → Option Text) → command ≡ Some (codes "run")
     → ((limit : ℕ) → IsLimit (value (codes "limit")) limit × NamesMeeting (value (codes "meet")) → ⊥) → (wanted : Asked) → IsAskedBy command value wanted → ⊥
@@ -151,6 +156,7 @@ nothing_run command value named none asked.Asm asks = asks_otherwise value named
 nothing_run command value named none (asked.Drive limit) asks = asks_otherwise value named (asked.Drive limit) refl asks
 nothing_run command value named none (asked.Run limit) asks = none limit (asks.1, asks.2)
 nothing_run command value named none (asked.Generate seed job) asks = asks_otherwise value named (asked.Generate seed job) refl asks
+nothing_run command value named none (asked.Serve service) asks = asks_otherwise value named (asked.Serve service) refl asks
 
 nothing_generated : (command : Option Text) (value : Text → Option Text) → command ≡ Some (codes "generate")
     → ((seed : ℕ) (job : ℕ) → IsSeed (value (codes "seed")) seed × IsJob (value (codes "job")) job → ⊥) → (wanted : Asked) → IsAskedBy command value wanted → ⊥
@@ -160,6 +166,18 @@ nothing_generated command value named none asked.Asm asks = asks_otherwise value
 nothing_generated command value named none (asked.Drive limit) asks = asks_otherwise value named (asked.Drive limit) refl asks
 nothing_generated command value named none (asked.Run limit) asks = asks_otherwise value named (asked.Run limit) refl asks
 nothing_generated command value named none (asked.Generate seed job) asks = none seed job (asks.1, asks.2)
+nothing_generated command value named none (asked.Serve service) asks = asks_otherwise value named (asked.Serve service) refl asks
+
+nothing_served : (command : Option Text) (value : Text → Option Text) → command ≡ Some (codes "serve")
+    → ((service : Service) → IsPort (value (codes "port")) service.port × IsConnections (value (codes "connections")) service.connections → ⊥)
+    → (wanted : Asked) → IsAskedBy command value wanted → ⊥
+nothing_served command value named none (asked.Judge limit) asks = asks_otherwise value named (asked.Judge limit) refl asks
+nothing_served command value named none asked.Check asks = asks_otherwise value named asked.Check refl asks
+nothing_served command value named none asked.Asm asks = asks_otherwise value named asked.Asm refl asks
+nothing_served command value named none (asked.Drive limit) asks = asks_otherwise value named (asked.Drive limit) refl asks
+nothing_served command value named none (asked.Run limit) asks = asks_otherwise value named (asked.Run limit) refl asks
+nothing_served command value named none (asked.Generate seed job) asks = asks_otherwise value named (asked.Generate seed job) refl asks
+nothing_served command value named none (asked.Serve service) asks = none service (asks.1, asks.2)
 
 -- such a line has a fault, which the program finds
 module _ (words : List (List ℕ)) (found : ErrorKind) (is : found ≡ kind.ValueValidation) (clear : line_faults words ≡ []) where
@@ -184,6 +202,13 @@ module _ (words : List (List ℕ)) (found : ErrorKind) (is : found ≡ kind.Valu
   pub no_job : line_command words ≡ Some (codes "generate") → ((job : ℕ) → IsJob (line_value words (codes "job")) job → ⊥) → IsFaultOf words found
   no_job named none = no_value (nothing_generated _ (line_value words) named (λ seed job both. none job both.1))
 
+  pub no_port : line_command words ≡ Some (codes "serve") → ((port : ℕ) → IsPort (line_value words (codes "port")) port → ⊥) → IsFaultOf words found
+  no_port named none = no_value (nothing_served _ (line_value words) named (λ service both. none service.port both.0))
+
+  pub no_connections : line_command words ≡ Some (codes "serve")
+      → ((connections : ℕ) → IsConnections (line_value words (codes "connections")) connections → ⊥) → IsFaultOf words found
+  no_connections named none = no_value (nothing_served _ (line_value words) named (λ service both. none service.connections both.1))
+
 -- the subcommand is another one
 pub record IsNoSubcommand (command : Option Text) : Type 0 where
   pub judge : command ≢ Some (codes "judge")
@@ -192,6 +217,7 @@ pub record IsNoSubcommand (command : Option Text) : Type 0 where
   pub drive : command ≢ Some (codes "drive")
   pub run : command ≢ Some (codes "run")
   pub generate : command ≢ Some (codes "generate")
+  pub serve : command ≢ Some (codes "serve")
 
 nothing_asked : (command : Option Text) (value : Text → Option Text) → IsNoSubcommand command → (wanted : Asked)
     → IsAskedBy command value wanted → ⊥
@@ -201,6 +227,7 @@ nothing_asked command value other asked.Asm asks = other.asm asks
 nothing_asked command value other (asked.Drive limit) asks = other.drive asks.0
 nothing_asked command value other (asked.Run limit) asks = other.run asks.0
 nothing_asked command value other (asked.Generate seed job) asks = other.generate asks.0
+nothing_asked command value other (asked.Serve service) asks = other.serve asks.0
 
 pub no_subcommand : (words : List (List ℕ)) (found : ErrorKind) → found ≡ kind.MissingSubcommand → line_faults words ≡ []
     → IsNoSubcommand (line_command words) → IsFaultOf words found

@@ -130,6 +130,7 @@ found_is_faulty words server word found none asked.Check asks = line_asks_otherw
 found_is_faulty words server word found none asked.Asm asks = line_asks_otherwise words found.named asked.Asm refl asks
 found_is_faulty words server word found none (asked.Drive limit) asks = line_asks_otherwise words found.named (asked.Drive limit) refl asks
 found_is_faulty words server word found none (asked.Generate seed job) asks = line_asks_otherwise words found.named (asked.Generate seed job) refl asks
+found_is_faulty words server word found none (asked.Serve service) asks = line_asks_otherwise words found.named (asked.Serve service) refl asks
 found_is_faulty words server word found none (asked.Run limit) asks = none (rw found.meeting at asks.1.2)
 
 pub run_lines_meet : RunLinesMeet

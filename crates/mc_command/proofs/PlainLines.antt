@@ -4,14 +4,16 @@ use Rattle.clap.proofs.OnLiterals.{clap_on_literals}
 use Rattle.mc_protocol.specs.Decimals.{SpellsNumber, are_digits, is_digit}
 use Rattle.mc_command.proofs.Line.{first_byte, is_named_by, line_asks_otherwise, name_of_asked}
 use Rattle.mc_command.proofs.RunLines as run
+use Rattle.mc_command.proofs.ServeLines as serve
 use Rattle.mc_command.proofs.LimitLines.{TakesLimit, drive_takes_limit, judge_takes_limit}
 use Rattle.mc_command.proofs.OptionValue.{IsNoFlag, no_flag}
 use Rattle.mc_command.specs.declared.arguments.Asked.{Asked}
 use Rattle.mc_command.specs.declared.arguments.Asked.TheVariants as asked
 use Rattle.mc_command.specs.declared.meeting.Meeting.TheVariants as meeting
-use Rattle.mc_command.specs.Command.{AsksFor, IsLimit, IsNumber, NamesMeeting}
+use Rattle.mc_command.specs.declared.serve.Service.{Service}
+use Rattle.mc_command.specs.Command.{AsksFor, IsConnections, IsLimit, IsNumber, NamesMeeting, is_set}
 use Rattle.mc_command.specs.CommandLine.{GREATEST_LIMIT, line_command, line_faults, line_limit, line_value}
-use Rattle.mc_command.specs.LineLaws.{IsName, NamesJob, NamesLimit, LinesAskOnce, PlainLinesAsk, SignedLimitsAreFaulty}
+use Rattle.mc_command.specs.LineLaws.{IsName, NamesJob, NamesLimit, NamesService, LinesAskOnce, PlainLinesAsk, SignedLimitsAreFaulty}
 use Rattle.std.proofs.lemmas.Bool.{ne_eqb}
 use Rattle.std.proofs.lemmas.Grind.{common_steps}
 
@@ -83,7 +85,7 @@ no_hyphen d digit = ne_eqb _ _ (λ e. absurd (cc (ap is_digit e)))
 first_digit : (d : ℕ) (ds : List ℕ) → are_digits (d ∷ ds) ≡ true → is_digit d ≡ true
 first_digit d ds digits = grind (arith, common_steps)
 
-pub decimal_is_no_flag : (number : List ℕ) (limit : ℕ) → SpellsNumber GREATEST_LIMIT number limit → IsNoFlag number
+pub decimal_is_no_flag : {greatest : ℕ} (number : List ℕ) (limit : ℕ) → SpellsNumber greatest number limit → IsNoFlag number
 decimal_is_no_flag [] limit spells = absurd (cc (spells.some))
 decimal_is_no_flag (d ∷ ds) limit spells = no_flag d ds (no_hyphen d (first_digit d ds spells.digits))
 
@@ -166,6 +168,29 @@ generate_asks program others seed job (inr (first, second, is_seed, is_job, is))
       ),
     )
 
+-- what clap finds in a line of `serve` is what it asks for
+serve_found : {words : List (List ℕ)} {port : List ℕ} {connections : Option (List ℕ)} {racy : List ℕ} (service : Service)
+    → serve.Found words port connections racy → SpellsNumber 65535 port service.port → IsConnections connections service.connections
+    → service.racy ≡ is_set (Some racy) → AsksFor words (asked.Serve service)
+serve_found service found is_port are race =
+    (found.right, (found.named, rw found.port_is is_port, rw found.connections_are are, rw found.racy_is race))
+
+serve_asks : (program : List ℕ) (port : List ℕ) (others : List (List ℕ)) (service : Service) → SpellsNumber 65535 port service.port
+    → NamesService others service → AsksFor (program ∷ codes "serve" ∷ port ∷ others) (asked.Serve service)
+serve_asks program port others service spells (named, inl none, inl calm) =
+    let plain = decimal_is_no_flag port service.port spells in
+    rw (calm.0 ∙ none.0) (serve_found service (serve.alone program port plain) spells none.1 calm.1)
+serve_asks program port others service spells (named, inl none, inr racing) =
+    let plain = decimal_is_no_flag port service.port spells in
+    rw (racing.0 ∙ ap (λ n. n ++ codes "--racy" ∷ []) none.0) (serve_found service (serve.racing program port plain) spells none.1 racing.1)
+serve_asks program port others service spells (named, inr (number, are, is), inl calm) =
+    let plain = decimal_is_no_flag port service.port spells in
+    rw (calm.0 ∙ is) (serve_found service (serve.limited program port plain number) spells are calm.1)
+serve_asks program port others service spells (named, inr (number, are, is), inr racing) =
+    let plain = decimal_is_no_flag port service.port spells in
+    rw (racing.0 ∙ ap (λ n. n ++ codes "--racy" ∷ []) is)
+    (serve_found service (serve.limited_racing program port plain number) spells are racing.1)
+
 pub plain_lines_ask : PlainLinesAsk
 plain_lines_ask words (asked.Judge limit) (program, others, is, names) =
     let found = names_limit (codes "judge") judge_takes_limit program others limit names in
@@ -178,6 +203,8 @@ plain_lines_ask words (asked.Drive limit) (program, others, is, names) =
 plain_lines_ask words (asked.Run limit) (program, server, others, is, names, limited) =
     rw is (run_asks program server others limit (name_is_no_flag server names) limited)
 plain_lines_ask words (asked.Generate seed job) (program, others, is, names) = rw is (generate_asks program others seed job names)
+plain_lines_ask words (asked.Serve service) (program, port, others, is, spells, names) =
+    rw is (serve_asks program port others service spells names)
 
 -- a word that begins with no digit is no limit
 signed_is_none : (sign : ℕ) (number : List ℕ) (limit : ℕ) → is_digit sign ≡ false → SpellsNumber GREATEST_LIMIT (sign ∷ number) limit → ⊥
@@ -203,6 +230,8 @@ signed_limits_are_faulty program name sign number (inl judge) other wanted asks 
         line_asks_otherwise (signed_line program (codes "judge") sign number) named (asked.Run limit) refl asks
     signed_judge (asked.Generate seed job) asks =
         line_asks_otherwise (signed_line program (codes "judge") sign number) named (asked.Generate seed job) refl asks
+    signed_judge (asked.Serve service) asks =
+        line_asks_otherwise (signed_line program (codes "judge") sign number) named (asked.Serve service) refl asks
 signed_limits_are_faulty program name sign number (inr drive) other wanted asks = signed_drive wanted (rw drive at asks)
   where
     named : line_command (signed_line program (codes "drive") sign number) ≡ Some (codes "drive")
@@ -219,6 +248,8 @@ signed_limits_are_faulty program name sign number (inr drive) other wanted asks 
         line_asks_otherwise (signed_line program (codes "drive") sign number) named (asked.Run limit) refl asks
     signed_drive (asked.Generate seed job) asks =
         line_asks_otherwise (signed_line program (codes "drive") sign number) named (asked.Generate seed job) refl asks
+    signed_drive (asked.Serve service) asks =
+        line_asks_otherwise (signed_line program (codes "drive") sign number) named (asked.Serve service) refl asks
 
 -- a word names one number at most
 one_number : (default : ℕ) (greatest : ℕ) (word : _) (one : ℕ) (other : ℕ) → IsNumber default greatest word one
@@ -233,6 +264,13 @@ other_name : (words : List (List ℕ)) (one : Asked) (other : Asked)
 other_name words one other differ is also =
     absurd (line_asks_otherwise words (is_named_by (line_command words) (line_value words) one is.1) other differ also)
 
+same_service : (one : Service) (other : Service) → one.port ≡ other.port → one.connections ≡ other.connections → one.racy ≡ other.racy
+    → one ≡ other
+same_service one other port connections racy =
+    ap (λ p. record { port = p; connections = one.connections; racy = one.racy }) port
+    ∙ (ap (λ n. record { port = other.port; connections = n; racy = one.racy }) connections
+    ∙ ap (λ b. record { port = other.port; connections = other.connections; racy = b }) racy)
+
 pub lines_ask_once : LinesAskOnce
 lines_ask_once words (asked.Judge one) (asked.Judge other) is also = ap asked.Judge (one_number _ _ _ one other is.1.1 also.1.1)
 lines_ask_once words (asked.Judge one) asked.Check is also = other_name words (asked.Judge one) asked.Check refl is also
@@ -240,30 +278,35 @@ lines_ask_once words (asked.Judge one) asked.Asm is also = other_name words (ask
 lines_ask_once words (asked.Judge one) (asked.Drive other) is also = other_name words (asked.Judge one) (asked.Drive other) refl is also
 lines_ask_once words (asked.Judge one) (asked.Run other) is also = other_name words (asked.Judge one) (asked.Run other) refl is also
 lines_ask_once words (asked.Judge one) (asked.Generate seed₂ job₂) is also = other_name words (asked.Judge one) (asked.Generate seed₂ job₂) refl is also
+lines_ask_once words (asked.Judge one) (asked.Serve other) is also = other_name words (asked.Judge one) (asked.Serve other) refl is also
 lines_ask_once words asked.Check (asked.Judge other) is also = other_name words asked.Check (asked.Judge other) refl is also
 lines_ask_once words asked.Check asked.Check is also = refl
 lines_ask_once words asked.Check asked.Asm is also = other_name words asked.Check asked.Asm refl is also
 lines_ask_once words asked.Check (asked.Drive other) is also = other_name words asked.Check (asked.Drive other) refl is also
 lines_ask_once words asked.Check (asked.Run other) is also = other_name words asked.Check (asked.Run other) refl is also
 lines_ask_once words asked.Check (asked.Generate seed₂ job₂) is also = other_name words asked.Check (asked.Generate seed₂ job₂) refl is also
+lines_ask_once words asked.Check (asked.Serve other) is also = other_name words asked.Check (asked.Serve other) refl is also
 lines_ask_once words asked.Asm (asked.Judge other) is also = other_name words asked.Asm (asked.Judge other) refl is also
 lines_ask_once words asked.Asm asked.Check is also = other_name words asked.Asm asked.Check refl is also
 lines_ask_once words asked.Asm asked.Asm is also = refl
 lines_ask_once words asked.Asm (asked.Drive other) is also = other_name words asked.Asm (asked.Drive other) refl is also
 lines_ask_once words asked.Asm (asked.Run other) is also = other_name words asked.Asm (asked.Run other) refl is also
 lines_ask_once words asked.Asm (asked.Generate seed₂ job₂) is also = other_name words asked.Asm (asked.Generate seed₂ job₂) refl is also
+lines_ask_once words asked.Asm (asked.Serve other) is also = other_name words asked.Asm (asked.Serve other) refl is also
 lines_ask_once words (asked.Drive one) (asked.Judge other) is also = other_name words (asked.Drive one) (asked.Judge other) refl is also
 lines_ask_once words (asked.Drive one) asked.Check is also = other_name words (asked.Drive one) asked.Check refl is also
 lines_ask_once words (asked.Drive one) asked.Asm is also = other_name words (asked.Drive one) asked.Asm refl is also
 lines_ask_once words (asked.Drive one) (asked.Drive other) is also = ap asked.Drive (one_number _ _ _ one other is.1.1 also.1.1)
 lines_ask_once words (asked.Drive one) (asked.Run other) is also = other_name words (asked.Drive one) (asked.Run other) refl is also
 lines_ask_once words (asked.Drive one) (asked.Generate seed₂ job₂) is also = other_name words (asked.Drive one) (asked.Generate seed₂ job₂) refl is also
+lines_ask_once words (asked.Drive one) (asked.Serve other) is also = other_name words (asked.Drive one) (asked.Serve other) refl is also
 lines_ask_once words (asked.Run one) (asked.Judge other) is also = other_name words (asked.Run one) (asked.Judge other) refl is also
 lines_ask_once words (asked.Run one) asked.Check is also = other_name words (asked.Run one) asked.Check refl is also
 lines_ask_once words (asked.Run one) asked.Asm is also = other_name words (asked.Run one) asked.Asm refl is also
 lines_ask_once words (asked.Run one) (asked.Drive other) is also = other_name words (asked.Run one) (asked.Drive other) refl is also
 lines_ask_once words (asked.Run one) (asked.Run other) is also = ap asked.Run (one_number _ _ _ one other is.1.1 also.1.1)
 lines_ask_once words (asked.Run one) (asked.Generate seed₂ job₂) is also = other_name words (asked.Run one) (asked.Generate seed₂ job₂) refl is also
+lines_ask_once words (asked.Run one) (asked.Serve other) is also = other_name words (asked.Run one) (asked.Serve other) refl is also
 lines_ask_once words (asked.Generate seed job) (asked.Judge other) is also = other_name words (asked.Generate seed job) (asked.Judge other) refl is also
 lines_ask_once words (asked.Generate seed job) asked.Check is also = other_name words (asked.Generate seed job) asked.Check refl is also
 lines_ask_once words (asked.Generate seed job) asked.Asm is also = other_name words (asked.Generate seed job) asked.Asm refl is also
@@ -271,3 +314,13 @@ lines_ask_once words (asked.Generate seed job) (asked.Drive other) is also = oth
 lines_ask_once words (asked.Generate seed job) (asked.Run other) is also = other_name words (asked.Generate seed job) (asked.Run other) refl is also
 lines_ask_once words (asked.Generate seed job) (asked.Generate seed₂ job₂) is also =
     ap₂ asked.Generate (one_number _ _ _ seed seed₂ is.1.1 also.1.1) (one_number _ _ _ job job₂ is.1.2 also.1.2)
+lines_ask_once words (asked.Generate seed job) (asked.Serve other) is also = other_name words (asked.Generate seed job) (asked.Serve other) refl is also
+lines_ask_once words (asked.Serve one) (asked.Judge other) is also = other_name words (asked.Serve one) (asked.Judge other) refl is also
+lines_ask_once words (asked.Serve one) asked.Check is also = other_name words (asked.Serve one) asked.Check refl is also
+lines_ask_once words (asked.Serve one) asked.Asm is also = other_name words (asked.Serve one) asked.Asm refl is also
+lines_ask_once words (asked.Serve one) (asked.Drive other) is also = other_name words (asked.Serve one) (asked.Drive other) refl is also
+lines_ask_once words (asked.Serve one) (asked.Run other) is also = other_name words (asked.Serve one) (asked.Run other) refl is also
+lines_ask_once words (asked.Serve one) (asked.Generate seed job) is also = other_name words (asked.Serve one) (asked.Generate seed job) refl is also
+lines_ask_once words (asked.Serve one) (asked.Serve other) is also = ap asked.Serve (same_service one other
+    (one_number _ _ _ one.port other.port is.1.1 also.1.1)
+    (one_number _ _ _ one.connections other.connections is.1.2 also.1.2) (is.1.3 ∙ sym also.1.3))

@@ -10,6 +10,7 @@ use Rattle.mc_command.specs.DriveAnswers.{Drives}
 use Rattle.mc_command.specs.GenerateAnswers.{Generates}
 use Rattle.mc_command.specs.JudgeAnswers.{Judges}
 use Rattle.mc_command.specs.RunAnswers.{Plays}
+use Rattle.mc_command.specs.ServeAnswers.{Serves}
 
 -- the most bytes of an input
 abbrev pub INPUT_LIMIT : ℕ
@@ -23,6 +24,7 @@ Does asked.Asm text output ended = Assembles text output ended
 Does (asked.Drive limit) text output ended = Drives text output ended
 Does (asked.Run limit) text output ended = Plays text output ended
 Does (asked.Generate seed job) text output ended = Generates seed job output ended
+Does (asked.Serve service) text output ended = Serves service output ended
 
 abbrev pub too_long_text : List ℕ
 too_long_text = codes "refused input too long\n"

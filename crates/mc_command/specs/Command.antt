@@ -1,5 +1,6 @@
 -- What the program does with a line of words.
 use Rattle.std.specs.Prelude.{◌≡◌, ◌⊎◌, ℕ, Bool, true, false, Option, Some, None, List, [], codes}
+use Rattle.std.specs.Str.{bytes_eq}
 use Rattle.clap.specs.Words.{IsAmong, Text}
 use Rattle.clap.specs.declared.error.kind.ErrorKind.{ErrorKind}
 use Rattle.clap.specs.declared.error.kind.ErrorKind.TheVariants as kind
@@ -8,11 +9,14 @@ use Rattle.mc_command.specs.declared.arguments.Asked.{Asked}
 use Rattle.mc_command.specs.declared.arguments.Asked.TheVariants as asked
 use Rattle.mc_command.specs.declared.meeting.Meeting.{Meeting}
 use Rattle.mc_command.specs.declared.meeting.Meeting.TheVariants as meeting
+use Rattle.mc_command.specs.declared.serve.Service.{Service}
 use Rattle.mc_command.specs.declared.status.Status.{Status}
 use Rattle.mc_command.specs.declared.status.Status.TheVariants as status
 use Rattle.mc_command.specs.Answers.{IsAnswer, out_of_memory_text}
-use Rattle.mc_command.specs.CommandLine.{DEFAULT_JOB, DEFAULT_LIMIT, DEFAULT_SEED, GREATEST_LIMIT, line_command, line_faults, line_value}
+use Rattle.mc_command.specs.CommandLine.{DEFAULT_CONNECTIONS, DEFAULT_JOB, DEFAULT_LIMIT, DEFAULT_SEED, GREATEST_LIMIT}
+use Rattle.mc_command.specs.CommandLine.{line_command, line_faults, line_value}
 use Rattle.mc_command.specs.GenerateAnswers.{Generates}
+use Rattle.mc_command.specs.ServeAnswers.{Serves}
 use Rattle.mc_command.specs.Streams.{Grows}
 
 -- the number that a word names, which is at most the greatest; or the default where there is no word
@@ -29,6 +33,18 @@ IsSeed word seed = IsNumber DEFAULT_SEED MAX_64 word seed
 
 abbrev pub IsJob : Option (List ℕ) → ℕ → Type 0
 IsJob word job = IsNumber DEFAULT_JOB MAX_64 word job
+
+-- the port and the number of connections that a word names; a line without a port has a fault
+abbrev pub IsPort : Option (List ℕ) → ℕ → Type 0
+IsPort word port = IsNumber 0 65535 word port
+
+abbrev pub IsConnections : Option (List ℕ) → ℕ → Type 0
+IsConnections word connections = IsNumber DEFAULT_CONNECTIONS MAX_64 word connections
+
+-- whether a flag is there, by the word that clap has as its value
+abbrev pub is_set : Option (List ℕ) → Bool
+is_set None = false
+is_set (Some word) = bytes_eq word (codes "true")
 
 -- the word of a meeting
 abbrev pub meeting_word : Meeting → List ℕ
@@ -56,6 +72,8 @@ IsAskedBy command value (asked.Run limit) =
     (command ≡ Some (codes "run")) × IsLimit (value (codes "limit")) limit × NamesMeeting (value (codes "meet"))
 IsAskedBy command value (asked.Generate seed job) =
     (command ≡ Some (codes "generate")) × IsSeed (value (codes "seed")) seed × IsJob (value (codes "job")) job
+IsAskedBy command value (asked.Serve service) = (command ≡ Some (codes "serve")) × IsPort (value (codes "port")) service.port
+    × IsConnections (value (codes "connections")) service.connections × (service.racy ≡ is_set (value (codes "racy")))
 
 -- what the words ask for: clap finds no fault in them, and reads this
 abbrev pub AsksFor : List (List ℕ) → Asked → Type 0
@@ -95,13 +113,20 @@ pub record Answers (asked : Asked) (left : Option (List ℕ)) (old : Option (Lis
   pub right : IsAnswer asked text output ended
   pub written : Grows old new output
 
--- the input is read: all lines but those of `generate` do
+-- the input is read: all lines but those of `generate` and of `serve` do
 abbrev pub reads_input : Asked → Bool
 reads_input (asked.Generate seed job) = false
+reads_input (asked.Serve service) = false
 reads_input _ = true
 
 -- what was written is the script of this seed and this job, or that memory ran out; and so is the status
 pub record Prints (seed : ℕ) (job : ℕ) (old : Option (List ℕ)) (new : Option (List ℕ)) (ended : Status) : Type 0 where
   pub output : List ℕ
   pub right : Generates seed job output ended ⊎ ((output ≡ out_of_memory_text) × (ended ≡ status.NoAnswer))
+  pub written : Grows old new output
+
+-- what was written is right for this server, or that memory ran out; and so is the status
+pub record Hosts (service : Service) (old : Option (List ℕ)) (new : Option (List ℕ)) (ended : Status) : Type 0 where
+  pub output : List ℕ
+  pub right : Serves service output ended ⊎ ((output ≡ out_of_memory_text) × (ended ≡ status.NoAnswer))
   pub written : Grows old new output

@@ -1,7 +1,10 @@
 -- What the program's command line may be, and what clap reads in one.
-use Rattle.std.specs.Prelude.{ℕ, Option, Some, List, [], true, codes, option_and_then, option_map}
+use Rattle.std.specs.Prelude.{ℕ, Option, Some, List, [], true, codes, option_and_then, option_map, unwrap_or}
+use Rattle.mc_protocol.specs.declared.actor.Actor.{Actor}
+use Rattle.mc_protocol.specs.declared.actor.Actor.TheVariants as actor
 use Rattle.clap.specs.Words.{App, Kinds, Row, Rule, Text, fault_of, first_of, new_app, new_rule, subcommand_of, with_rule, with_subcommand}
 use Rattle.clap.specs.Simple.{new_shape}
+use Rattle.clap.specs.declared.builder.action.ArgAction.TheVariants.{SetTrue}
 
 -- the turns of a search where the line names no limit, and the most that it may name
 abbrev pub DEFAULT_LIMIT : ℕ
@@ -89,6 +92,33 @@ job_rule = record (new_rule (codes "job")) {
 abbrev pub generate_app : App
 generate_app = with_rule (with_rule (new_app (codes "generate")) seed_rule) job_rule
 
+-- the argument that names the port, and how many connections are served where the line names no number
+abbrev pub port_rule : Rule
+port_rule = record (new_rule (codes "port")) {
+  value_names = 1;
+  required = true;
+}
+
+abbrev pub DEFAULT_CONNECTIONS : ℕ
+DEFAULT_CONNECTIONS = 1000000
+
+-- the option `--connections`, with a word as its value, and the flag `--racy`
+abbrev pub connections_rule : Rule
+connections_rule = record (new_rule (codes "connections")) {
+  long = Some (codes "connections");
+  value_names = 1;
+}
+
+abbrev pub racy_rule : Rule
+racy_rule = record (new_rule (codes "racy")) {
+  long = Some (codes "racy");
+  action = Some SetTrue;
+}
+
+-- the subcommand `serve`
+abbrev pub serve_app : App
+serve_app = with_rule (with_rule (with_rule (new_app (codes "serve")) port_rule) connections_rule) racy_rule
+
 -- the program, without its subcommands
 abbrev pub bare_app : App
 bare_app = record {
@@ -102,9 +132,9 @@ bare_app = record {
 
 -- what clap reads of the program's command
 abbrev pub program_app : App
-program_app = with_subcommand (with_subcommand (with_subcommand
+program_app = with_subcommand (with_subcommand (with_subcommand (with_subcommand
     (with_subcommand (with_subcommand (with_subcommand bare_app judge_app.top) check_app.top) asm_app.top) drive_app.top)
-    run_app.top) generate_app.top
+    run_app.top) generate_app.top) serve_app.top
 
 -- the kinds of the first fault that clap finds in the words, of which it gives one; a call for help or for the version is one too
 unfoldable pub line_faults : List (List ℕ) → Kinds
@@ -140,3 +170,9 @@ line_server_of_a words = line_value words (codes "a")
 
 abbrev pub line_server_of_b : List (List ℕ) → Option Text
 line_server_of_b words = line_value words (codes "b")
+
+-- of the servers of P, A and B, the one that a section runs against: P's where the section has none of its own
+abbrev pub section_server : {A : Type 0} → Actor → A → Option A → Option A → A
+section_server actor.P p a b = p
+section_server actor.A p a b = unwrap_or a p
+section_server actor.B p a b = unwrap_or b p

@@ -1,11 +1,13 @@
 -- What the definition of a line says of the lines that are mostly written, and of any line.
-use Rattle.std.specs.Prelude.{◌≡◌, ◌⊎◌, ◌==◌, ℕ, false, Some, List, [], ◌∷◌, ◌++◌, codes}
+use Rattle.std.specs.Prelude.{◌≡◌, ◌⊎◌, ◌==◌, ℕ, true, false, Some, List, [], ◌∷◌, ◌++◌, codes}
 use Rattle.mc_protocol.specs.Decimals.{MAX_64, SpellsNumber, is_digit}
 use Rattle.mc_command.specs.Command.{AsksFor, IsFaulty, IsMeeting, MayTell, NamesMeeting, meeting_word}
-use Rattle.mc_command.specs.CommandLine.{DEFAULT_JOB, DEFAULT_LIMIT, DEFAULT_SEED, GREATEST_LIMIT, line_meeting, line_target}
+use Rattle.mc_command.specs.CommandLine.{DEFAULT_CONNECTIONS, DEFAULT_JOB, DEFAULT_LIMIT, DEFAULT_SEED}
+use Rattle.mc_command.specs.CommandLine.{GREATEST_LIMIT, line_meeting, line_target}
 use Rattle.mc_command.specs.declared.arguments.Asked.{Asked}
 use Rattle.mc_command.specs.declared.arguments.Asked.TheVariants as asked
 use Rattle.mc_command.specs.declared.meeting.Meeting.{Meeting}
+use Rattle.mc_command.specs.declared.serve.Service.{Service}
 
 -- the words after a subcommand name its limit: there are none, or `--limit` and a decimal, as two words or joined by `=`
 abbrev pub NamesLimit : List (List ℕ) → ℕ → Type 0
@@ -19,12 +21,22 @@ NamesJob words seed job = ((words ≡ []) × (seed ≡ DEFAULT_SEED) × (job ≡
     ⊎ ((first : List ℕ) × (second : List ℕ) × SpellsNumber MAX_64 first seed × SpellsNumber MAX_64 second job
     × (words ≡ (codes "--seed=" ++ first) ∷ (codes "--job=" ++ second) ∷ []))
 
+-- the words after the port of `serve` name how many connections there are, and whether there is a race: there are none, or
+-- `--connections=` and a decimal, and then perhaps `--racy`
+abbrev pub NamesConnections : List (List ℕ) → ℕ → Type 0
+NamesConnections words connections = ((words ≡ []) × (connections ≡ DEFAULT_CONNECTIONS))
+    ⊎ ((number : List ℕ) × SpellsNumber MAX_64 number connections × (words ≡ (codes "--connections=" ++ number) ∷ []))
+
+abbrev pub NamesService : List (List ℕ) → Service → Type 0
+NamesService words service = (named : List (List ℕ)) × NamesConnections named service.connections
+    × (((words ≡ named) × (service.racy ≡ false)) ⊎ ((words ≡ named ++ codes "--racy" ∷ []) × (service.racy ≡ true)))
+
 -- the word is no option, and not empty
 abbrev pub IsName : List ℕ → Type 0
 IsName word = (first : ℕ) × (others : List ℕ) × (word ≡ first ∷ others) × ((first == 45) ≡ false)
 
 -- the words are the program's name, a subcommand, the name of a server after `run`, and words that name the limit of `judge`, of `drive`
--- and of `run`, or the seed and the job of `generate`
+-- and of `run`, or the seed and the job of `generate`; or a port after `serve`, and words that name its connections
 abbrev pub IsPlainLine : List (List ℕ) → Asked → Type 0
 IsPlainLine words (asked.Judge limit) =
     (program : List ℕ) × (others : List (List ℕ)) × (words ≡ program ∷ codes "judge" ∷ others) × NamesLimit others limit
@@ -36,6 +48,8 @@ IsPlainLine words (asked.Run limit) = (program : List ℕ) × (server : List ℕ
     × (words ≡ program ∷ codes "run" ∷ server ∷ others) × IsName server × NamesLimit others limit
 IsPlainLine words (asked.Generate seed job) =
     (program : List ℕ) × (others : List (List ℕ)) × (words ≡ program ∷ codes "generate" ∷ others) × NamesJob others seed job
+IsPlainLine words (asked.Serve service) = (program : List ℕ) × (port : List ℕ) × (others : List (List ℕ))
+    × (words ≡ program ∷ codes "serve" ∷ port ∷ others) × SpellsNumber 65535 port service.port × NamesService others service
 
 abbrev pub PlainLinesAsk : Type 0
 PlainLinesAsk = (words : List (List ℕ)) (wanted : Asked) → IsPlainLine words wanted → AsksFor words wanted
@@ -77,7 +91,7 @@ IsHelpLine words = (program : List ℕ)
     ⊎ ((words ≡ program ∷ codes "asm" ∷ codes "--help" ∷ []) ⊎ ((words ≡ program ∷ codes "check" ∷ codes "--help" ∷ [])
     ⊎ ((words ≡ program ∷ codes "drive" ∷ codes "--help" ∷ [])
     ⊎ ((words ≡ program ∷ codes "run" ∷ codes "--help" ∷ []) ⊎ ((words ≡ program ∷ codes "generate" ∷ codes "--help" ∷ [])
-    ⊎ (words ≡ program ∷ codes "--version" ∷ []))))))))
+    ⊎ ((words ≡ program ∷ codes "serve" ∷ codes "--help" ∷ []) ⊎ (words ≡ program ∷ codes "--version" ∷ [])))))))))
 
 abbrev pub HelpIsShown : Type 0
 HelpIsShown = (words : List (List ℕ)) → IsHelpLine words → IsFaulty words × (MayTell words → ⊥)

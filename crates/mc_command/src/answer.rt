@@ -7,9 +7,11 @@ ghost use Rattle.mc_command.specs.DriveAnswers.{Drives};
 ghost use Rattle.mc_command.specs.GenerateAnswers.{Generates};
 ghost use Rattle.mc_command.specs.JudgeAnswers.{Judges};
 ghost use Rattle.mc_command.specs.RunAnswers.{Plays};
+ghost use Rattle.mc_command.specs.ServeAnswers.{no_listener_text};
 
 use crate::arguments::Asked;
 use crate::loading::load_script;
+use crate::serving::NO_LISTENER;
 use crate::status::Status;
 use crate::{asm, check, drive, generate, judge, run};
 use std::alloc::{AllocError, Global};
@@ -45,6 +47,8 @@ pub fn answer_to(alloc: Global, asked: Asked, text: &[u8]) -> Result<Answer, All
         Asked::Run(_) => unplayed_answer(alloc, text),
         // The text, which isn't read for it, counts for nothing.
         Asked::Generate(seed, job) => generate_answer(alloc, seed, job),
+        // Whoever can reach a network answers by `serve_connections`.
+        Asked::Serve(_) => no_listener_answer(alloc),
     }
 }
 
@@ -103,6 +107,16 @@ pub fn generate_answer(alloc: Global, seed: u64, job: u64) -> Result<Answer, All
     Ok(Answer {
         output,
         status: Status::Success,
+    })
+}
+
+fn no_listener_answer(alloc: Global) -> Result<Answer, AllocError>
+    ensures { IfOk result (λ answer. (answer.output.items ≡ no_listener_text) × (answer.status ≡ Status.NoAnswer)) }
+{
+    let output = Vec::from_slice(alloc, NO_LISTENER)?;
+    Ok(Answer {
+        output,
+        status: Status::NoAnswer,
     })
 }
 

@@ -5,11 +5,11 @@ ghost use Rattle.mc_verify.specs.Checked.{IsChecked};
 ghost use Rattle.mc_command.specs.CheckAnswers as answers;
 ghost use Rattle.mc_command.specs.CommandLine.{check_app};
 
+use crate::loading;
 use crate::loading::LoadFault;
 use crate::refusal::refusal_text;
 use crate::status::Status;
-use crate::verifying::verify_code;
-use crate::{loading, verifying};
+use crate::verifying::{unsound_text, verify_code};
 use clap::Command;
 use mc_code::Code;
 use mc_protocol::{Actor, Sections};
@@ -65,7 +65,7 @@ pub fn text_of(alloc: Global, answer: &Verification) -> Result<Vec<u8>, AllocErr
 {
     match answer {
         Verification::Accepted(maxima) => accepted_text(alloc, maxima),
-        Verification::Unsound(refusal) => refusal_text(alloc, verifying::refusal_of(refusal)),
+        Verification::Unsound(refusal) => unsound_text(alloc, refusal),
         Verification::NoCode(fault) => refusal_text(alloc, loading::refusal_of(*fault)),
     }
 }
@@ -134,10 +134,18 @@ An example of a race on a flag:
   get item ?ready
   end
 
-This is refused, as `refused verify 8 FlagMayBeClear B 0`: in section B stands,
-at place 0, a request that needs a flag which may be clear. That is B's `get`.
-A's `set` sets `ready`, but B may be the faster one. Were it P that sets it, by
-`set item 0 =1 +ready`, the script would be accepted:
+This is refused:
+
+  refused verify 8 FlagMayBeClear B 0
+  P notfound
+  P stored
+  end
+
+In section B stands, at place 0, a request that needs a flag which may be clear.
+That is B's `get`. A's `set` sets `ready`, but B may be the faster one. The
+other lines show it by a run: P was answered NOT_FOUND, then STORED; B's first
+request finds `ready` clear. Were it P that sets it, by `set item 0 =1 +ready`,
+the script would be accepted:
 
   accepted
   P 2 32
@@ -175,6 +183,14 @@ the order of the numbers below, then by its section, and then by its place.
   9 FlagMayBeSet      the request has `!FLAG`, and FLAG may be set
   10 TooManyRequests  with this request there may be more than the budget allows
   11 TooManyBytes     with this request there may be more bytes than it allows
+The lines after such a refusal, up to `end`, show the fault by a run: for each
+reply before it the section, and the class of the reply, by its name in jumps.
+Before a fault of P they are replies to P. Before one of a branch P's come
+first, until P has ended, and then the branch's; for the kinds 8 and 9 those of
+the other branch may stand among these. After them the section comes to the
+place without a reply, and meets the fault there. Of several such runs one is
+shown. `end` alone says that no reply comes before the fault.
+
 The other kinds are faults of images alone. No script has them:
   1 BadTarget         a goto or a class doesn't lead to a later place of the
                       section; or one that never answers the request leads on

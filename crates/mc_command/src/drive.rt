@@ -14,8 +14,8 @@ use crate::outcome::status_of_run;
 use crate::refusal::{Place, Refusal, refusal_text};
 use crate::status::Status;
 use crate::verdicts::verdict_text;
-use crate::verifying::verify_code;
-use crate::{limit, loading, verifying};
+use crate::verifying::{unsound_text, verify_code};
+use crate::{limit, loading};
 use clap::Command;
 use mc_core::World;
 use mc_explain::Verdict;
@@ -94,7 +94,7 @@ pub fn text_of(alloc: Global, answer: &Driven) -> Result<Vec<u8>, AllocError>
     match answer {
         Driven::Ended(world, skipped, verdict) => ended_text(alloc, world, *skipped, verdict),
         Driven::NoCode(fault) => refusal_text(alloc, loading::refusal_of(*fault)),
-        Driven::Unsound(refusal) => refusal_text(alloc, verifying::refusal_of(refusal)),
+        Driven::Unsound(refusal) => unsound_text(alloc, refusal),
         Driven::NoSteps(fault) => refusal_text(alloc, refusal_of(*fault)),
     }
 }
@@ -237,8 +237,9 @@ So no step is needed to find out that it may break its flags, its variables or
 its budgets, and whatever the steps are, it doesn't break them.
 
 A text is refused for the first of these reasons: it doesn't begin with a script
-or the script is too large, as by `asm`; the script has a fault, as by `check`;
-or no step list follows it, as `refused steps 1 Header line 13`:
+or the script is too large, as by `asm`; the script has a fault, as by `check`,
+whose help says what the lines of such a refusal are; or no step list follows
+it, as `refused steps 1 Header line 13`:
   1 Header   the first line after the script isn't `steps`, or there is none
   2 Line     the line or one of its words may not stand there
   3 TooMany  more than 1,000 steps

@@ -1,7 +1,7 @@
 //! The whole program, over any streams.
 ghost use Rattle.std.specs.Prelude.{◌≡◌, ◌≢◌, ◌⊎◌, ℕ, List, [], ◌+◌, ◌<◌, ◌≤◌, true, false, map, string_bytes, length, IfOk, IfErr};
 ghost use Rattle.mc_command.specs.Answers.{IsAnswer, not_utf8_text, out_of_memory_text};
-ghost use Rattle.mc_command.specs.Command.{AsksFor, Answers, IsFaulty, IsShown, IsWhole, MayShow, MayTell, Prints, reads_input};
+ghost use Rattle.mc_command.specs.Command.{AsksFor, Answers, Hosts, IsFaulty, IsShown, IsWhole, MayShow, MayTell, Prints, reads_input};
 ghost use Rattle.mc_command.specs.Input as input_rule;
 ghost use Rattle.mc_command.specs.Statuses.{status_number};
 ghost use Rattle.mc_command.specs.Streams.{Grows, TakesAtMost};
@@ -13,6 +13,8 @@ use crate::answer::{Answer, INPUT_LIMIT, OUT_OF_MEMORY, answer_to, generate_answ
 use crate::arguments::{Asked, read_line};
 use crate::file_hint::error_text;
 use crate::input::{InputFault, read_input};
+use crate::serve::Service;
+use crate::serving::write_no_listener;
 use crate::status::Status;
 use crate::streams::{Sink, Source};
 use clap::Error;
@@ -24,8 +26,9 @@ const NOT_UTF8: &[u8] = b"error: the command line is not UTF-8\n";
 
 /// Does what the line asks for, and answers the exit status. The line's first word is the program's name.
 ///
-/// At most 1,048,577 bytes of the input are read, and they are read whole before a byte is written. For a generated script, and of a
-/// line with a fault, nothing is read. The fault goes to the faults, and help, the version and want of memory go to the output.
+/// At most 1,048,577 bytes of the input are read, and they are read whole before a byte is written. For a generated script, for a server,
+/// which isn't served here, and of a line with a fault, nothing is read. The fault goes to the faults, and help, the version and want of
+/// memory go to the output.
 #[tactic(auto, using(crate::proofs::PlainLines::lines_ask_once))]
 pub fn command<I: Source, O: Sink, F: Sink>(
     alloc: Global,
@@ -42,7 +45,11 @@ pub fn command<I: Source, O: Sink, F: Sink>(
     ensures generated { (seed : ℕ) (job : ℕ) → AsksFor (map string_bytes line.now) (Asked.Generate seed job)
         → O.has_failed output.old ≡ false → O.has_failed output.new ≡ false
         → (ended : Status) × (result ≡ status_number ended) × Prints seed job (O.written output.old) (O.written output.new) ended }
+    ensures served { (service : Service) → AsksFor (map string_bytes line.now) (Asked.Serve service)
+        → O.has_failed output.old ≡ false → O.has_failed output.new ≡ false
+        → (ended : Status) × (result ≡ status_number ended) × Hosts service (O.written output.old) (O.written output.new) ended }
     ensures no_input { (seed : ℕ) (job : ℕ) → AsksFor (map string_bytes line.now) (Asked.Generate seed job) → input.new ≡ input.old }
+    ensures unread_by_serve { (service : Service) → AsksFor (map string_bytes line.now) (Asked.Serve service) → input.new ≡ input.old }
     ensures no_fault { (asked : Asked) → AsksFor (map string_bytes line.now) asked → faults.new ≡ faults.old }
 
     ensures fault { IsFaulty (map string_bytes line.now)
@@ -63,6 +70,8 @@ pub fn command<I: Source, O: Sink, F: Sink>(
 {
     match read_line(alloc, line) {
         Ok(Asked::Generate(seed, job)) => print_generated(alloc, seed, job, output).number(),
+        // Whoever can reach a network answers by `serve_connections`.
+        Ok(Asked::Serve(_)) => write_no_listener(output).number(),
         Ok(asked) => answer(alloc, asked, input, output).number(),
         Err(error) => explain(alloc, line, &error, output, faults).number(),
     }

@@ -15,8 +15,8 @@ use crate::outcome::status_of_run;
 use crate::refusal::refusal_text;
 use crate::status::Status;
 use crate::verdicts::verdict_text;
-use crate::verifying::verify_code;
-use crate::{limit, loading, meeting, verifying};
+use crate::verifying::{unsound_text, verify_code};
+use crate::{limit, loading, meeting};
 use clap::{Arg, Command};
 use core::thread::Stack;
 use mc_core::World;
@@ -155,7 +155,7 @@ pub fn text_of(alloc: Global, answer: &Played) -> Result<Vec<u8>, AllocError>
         Played::NoConnection(section) => no_connection_text(alloc, *section),
         Played::NotRun => Vec::from_slice(alloc, b"not run\n"),
         Played::NoCode(fault) => refusal_text(alloc, loading::refusal_of(*fault)),
-        Played::Unsound(refusal) => refusal_text(alloc, verifying::refusal_of(refusal)),
+        Played::Unsound(refusal) => unsound_text(alloc, refusal),
     }
 }
 
@@ -202,9 +202,10 @@ protocol, over three connections, and answers whether one cache can have given
 every reply, whichever of A and B was faster.
 
 The script is checked first, as by `mcrace check`, and nothing is connected for
-one that is refused. `mcrace asm --help` says what a script is. Then P, A and B
-connect, in this order. P runs first. When it is done, A and B run at once, each
-on its connection, one request after another.
+one that is refused: `mcrace check --help` says what the lines of a refusal are.
+`mcrace asm --help` says what a script is. Then P, A and B connect, in this
+order. P runs first. When it is done, A and B run at once, each on its
+connection, one request after another.
 
 `--a` and `--b` name other servers for A and B, which may be two proxies before
 one cluster, or a primary and its replica. P runs against the first address.

@@ -49,7 +49,7 @@ pub trait Sink {
 #[derive(Debug, Drop)]
 pub struct Reader<R> {
     inner: R,
-    error: Option<io::Error>,
+    read_error: Option<io::Error>,
 }
 
 impl<R: Read> Reader<R> {
@@ -58,29 +58,32 @@ impl<R: Read> Reader<R> {
         ensures left { ⟦<Reader<R> as Source>⟧.left result ≡ R.remaining inner }
         ensures whole { ⟦<Reader<R> as Source>⟧.has_failed result ≡ false }
     {
-        Reader { inner, error: None }
+        Reader {
+            inner,
+            read_error: None,
+        }
     }
 }
 
 impl<R> Reader<R> {
     /// Why the last read that failed did so.
     pub fn error(&self) -> Option<&io::Error>
-        ensures { is_some result ≡ is_some self.now.error }
+        ensures { is_some result ≡ is_some self.now.read_error }
     {
-        self.error.as_ref()
+        self.read_error.as_ref()
     }
 }
 
 impl<R: Read> Source for Reader<R> {
     ghost left = { λ r. R.remaining r.inner };
 
-    ghost has_failed = { λ r. is_some r.error };
+    ghost has_failed = { λ r. is_some r.read_error };
 
     fn read(&mut self, piece: &mut [u8]) -> Result<usize, Broken> {
         match self.inner.read(piece) {
             Ok(count) => Ok(count),
             Err(error) => {
-                self.error = Some(error);
+                self.read_error = Some(error);
                 Err(Broken)
             }
         }
@@ -91,7 +94,7 @@ impl<R: Read> Source for Reader<R> {
 #[derive(Debug, Drop)]
 pub struct Writer<W> {
     inner: W,
-    error: Option<io::Error>,
+    write_error: Option<io::Error>,
 }
 
 impl<W: Write> Writer<W> {
@@ -100,29 +103,32 @@ impl<W: Write> Writer<W> {
         ensures written { ⟦<Writer<W> as Sink>⟧.written result ≡ W.contents inner }
         ensures whole { ⟦<Writer<W> as Sink>⟧.has_failed result ≡ false }
     {
-        Writer { inner, error: None }
+        Writer {
+            inner,
+            write_error: None,
+        }
     }
 }
 
 impl<W> Writer<W> {
     /// Why the last write that failed did so.
     pub fn error(&self) -> Option<&io::Error>
-        ensures { is_some result ≡ is_some self.now.error }
+        ensures { is_some result ≡ is_some self.now.write_error }
     {
-        self.error.as_ref()
+        self.write_error.as_ref()
     }
 }
 
 impl<W: Write> Sink for Writer<W> {
     ghost written = { λ w. W.contents w.inner };
 
-    ghost has_failed = { λ w. is_some w.error };
+    ghost has_failed = { λ w. is_some w.write_error };
 
     fn write_all(&mut self, bytes: &[u8]) -> Result<(), Broken> {
         match self.inner.write_all(bytes) {
             Ok(()) => Ok(()),
             Err(error) => {
-                self.error = Some(error);
+                self.write_error = Some(error);
                 Err(Broken)
             }
         }

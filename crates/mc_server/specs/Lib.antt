@@ -3,6 +3,7 @@ pub mod Answers
 pub mod Asked
 pub mod Callers
 pub mod Conversing
+pub mod Listening
 pub mod Made
 pub mod Puts
 pub mod Serving

@@ -11,9 +11,12 @@
 mod answer;
 mod caller;
 mod conversation;
+mod counts;
 mod items;
 mod limits;
+mod listener;
 mod outbox;
+mod racy;
 mod served;
 mod service;
 mod shared;
@@ -21,7 +24,10 @@ mod store;
 mod version;
 
 pub use caller::Caller;
+pub use counts::Listened;
 pub use limits::RECEIVED_LIMIT;
+pub use listener::listen;
+pub use racy::{Between, FreeBetween, Racy};
 pub use served::{Served, Why};
 pub use service::serve;
 pub use shared::{Shared, shard_of};

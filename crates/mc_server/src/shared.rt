@@ -31,7 +31,7 @@ impl Shared {
 }
 
 /// Sixteen stores that hold nothing, each under a lock.
-fn make_shards(alloc: Global) -> Result<Vec<Mutex<Store>>, OutOfMemory>
+pub(crate) fn make_shards(alloc: Global) -> Result<Vec<Mutex<Store>>, OutOfMemory>
     ensures { IfOk result (λ shards. vec_len shards ≡ 16) }
 {
     let mut shards = Vec::with_capacity(alloc, SHARDS)?;

@@ -1,13 +1,13 @@
 -- What a call costs is little, and where it is looked up.
 use Rattle.std.proofs.Common.{◌≡◌, ⊎_elim, ℕ, ◌<◌, ◌≤◌, ◌==◌, nat_le, true, Some, List, [], ◌++◌, length, codes, decimal}
-use Rattle.std.proofs.Common.{slice_get, slice_index_or, lit≤, ap, sym, subst, ◌∙◌, arith, length-append}
+use Rattle.std.proofs.Common.{slice_get, slice_index_or, lit≤, refl, ap, sym, subst, ◌∙◌, arith, length-append}
 use Rattle.std.specs.List.{All, concat}
 use Rattle.std.specs.Option.{option_map}
 use Rattle.std.proofs.lemmas.Bool.{cases_lt, leb-true, eqb-true, and_parts}
 use Rattle.std.proofs.lemmas.List.{get_or_past, length-map}
 use Rattle.std.proofs.lemmas.Fmt.{length-decimal-le}
 use Rattle.std.proofs.lemmas.List.Sums.{AllPass-from_list_all}
-use Rattle.std.proofs.lemmas.Option.{same_Some, slice_get-get_or, slice_get-map, slice_get_within, get_or_from_slice_get}
+use Rattle.std.proofs.lemmas.Option.{same_Some, slice_get-get_or, slice_get-map, slice_get_read, slice_get_within, get_or_from_slice_get}
 use Rattle.mc_protocol.specs.Decimals.{MAX_32, MAX_64}
 use Rattle.mc_protocol.specs.Fields.{fields_of}
 use Rattle.mc_protocol.specs.Lines.{Word}
@@ -27,8 +27,7 @@ use Rattle.mc_script.specs.declared.step.Argument.TheVariants as argument
 use Rattle.mc_script.specs.declared.step.Template.{Template}
 use Rattle.mc_code.specs.Calls.{no_template}
 use Rattle.mc_code.specs.Code.{Code, IsCode}
-use Rattle.mc_code.specs.declared.instr.Call.{Call}
-use Rattle.mc_code.specs.Requests.{IsRequest, request_with}
+use Rattle.mc_code.specs.Requests.{request_with}
 use Rattle.mc_verify.specs.Costs.{longest_number, cost_of}
 use Rattle.mc_verify.specs.CostTables.{weights_of, AreWeights}
 use Rattle.mc_verify.specs.declared.weights.Weights.{Weights}
@@ -195,25 +194,32 @@ weight_inside c weights n are inside =
     let size = ap length are ∙ length-map c.templates (cost_of c weights.measure) in
     omega (arith, inside, size)
 
--- what is known of the request of a call with its longest number
-pub record IsSized (c : Code) (n : ℕ) (r : Request) : Type 0 where
-  pub key : length r.key ≤ 250
-  pub small : length (request_text r) ≤ 1000
-  pub weight : slice_get (weights_of c measure.Bytes) n ≡ Some (length (request_text r))
+-- ---- lengths
 
-pub request_sized : (c : Code) (call : Call) (t : Template) (r : Request) → IsCode c → slice_get c.templates call.template ≡ Some t
-    → call.number ≡ longest_number t.argument → IsRequest c call r → IsSized c call.template r
-request_sized c call t r is at number request =
-    let template : request.template ≡ t = same_Some _ _ (sym request.named ∙ at) in
-    let key : request.key ≡ slice_index_or c.keys t.key [] =
-    sym (get_or_from_slice_get c.keys request.template.key request.key [] request.declared)
-    ∙ ap (λ (t : Template). slice_index_or c.keys t.key []) template in
-    let same : r ≡ request_with t (slice_index_or c.keys t.key []) (longest_number t.argument) =
-    request.request_is ∙ ap (λ (t : Template). request_with t request.key call.number) template
-    ∙ ap (λ key. request_with t key call.number) key ∙ ap (request_with t (slice_index_or c.keys t.key [])) number in
-    let short : IsShort r = subst IsShort (sym same) (call_short c call.template t is at) in
+-- the key that is read at a call's index is its key
+pub key_read : (c : Code) (n : ℕ) (t : Template) (keys : List Word) (index : ℕ) (key slice : Word) → IsCode c → slice_get c.templates n ≡ Some t
+    → keys ≡ c.keys → index ≡ t.key → key ≡ slice_index_or keys index key → slice ≡ key → slice_get c.keys t.key ≡ Some slice
+key_read c n t keys index key slice is at keys_are index_is key_is slice_is =
+    let template : IsTemplate (length c.keys) c.flags c.vars t =
+    all_at (IsTemplate (length c.keys) c.flags c.vars) c.templates n t is.templates at in
+    let read = key_is ∙ ap (λ keys. slice_index_or keys index key) keys_are ∙ ap (λ index. slice_index_or c.keys index key) index_is in
+    slice_get_read c.keys (length c.keys) t.key key refl template.key read ∙ ap (λ key. Some key) (sym slice_is)
+
+-- what is known of the text of a call with its longest number
+pub record IsSized (c : Code) (n : ℕ) (key : Word) (size : ℕ) : Type 0 where
+  pub key_short : length key ≤ 250
+  pub small : size ≤ 1000
+  pub weight : slice_get (weights_of c measure.Bytes) n ≡ Some size
+
+pub text_sized : (c : Code) (n : ℕ) (t : Template) (key : Word) (size : ℕ) → IsCode c → slice_get c.templates n ≡ Some t
+    → slice_get c.keys t.key ≡ Some key → size ≡ length (request_text (request_with t key (longest_number t.argument))) → IsSized c n key size
+text_sized c n t key size is at declared size_is =
+    let key_is : slice_index_or c.keys t.key [] ≡ key = get_or_from_slice_get c.keys t.key key [] declared in
+    let short = call_short c n t is at in
+    let text = ap (λ key. length (request_text (request_with t key (longest_number t.argument)))) key_is in
+    let few = text_short _ short in
     record {
-      key = omega (arith, short.key);
-      small = text_short r short;
-      weight = weight_at c measure.Bytes call.template t at ∙ ap (λ r. Some (length (request_text r))) (sym same);
+      key_short = let keys = short.key in let same = ap length key_is in omega (arith, keys, same);
+      small = omega (arith, few, text, size_is);
+      weight = weight_at c measure.Bytes n t at ∙ ap (λ size. Some size) (text ∙ sym size_is);
     }

@@ -1,5 +1,5 @@
 -- What calls cost.
-use Rattle.std.proofs.Common.{◌≡◌, ℕ, ◌≤◌, ◌+◌, [], ◌∷◌, ◌++◌, arith}
+use Rattle.std.proofs.Common.{[], ◌∷◌, arith}
 use Rattle.mc_verify.specs.Laws.{PrefixesCostLess}
 
 pub cost_less : PrefixesCostLess

@@ -12,18 +12,11 @@ use Rattle.mc_code.specs.declared.kind.Kind.{Kind}
 use Rattle.mc_code.specs.declared.kind.Kind.TheVariants as kind
 use Rattle.mc_verify.specs.Faults.{MayComeTo, IsFault}
 use Rattle.mc_verify.specs.Kinds.{kind_index}
-use Rattle.mc_verify.specs.VariableFaults.{IsOfVariables, is_wrong, is_of_binds}
+use Rattle.mc_verify.specs.VariableFaults.{is_outcome, IsOfVariables, is_wrong, is_of_binds}
 use Rattle.mc_verify.specs.declared.refusal.RefusalKind.{RefusalKind}
 use Rattle.mc_verify.specs.declared.refusal.RefusalKind.TheVariants as refusal
 
 -- ---- faults as outcomes
-
--- the outcome is a fault of this kind
-abbrev pub is_outcome : RefusalKind → Option Outcome → Bool
-is_outcome refusal.Unbound (Some (unbound t)) = true
-is_outcome refusal.WrongKind (Some (wrong_kind t)) = true
-is_outcome refusal.NothingToBind (Some (nothing_to_bind variable)) = true
-is_outcome _ _ = false
 
 -- some run of the section comes to a fault of this kind at the place
 pub record MayFail (c : Code) (kind : RefusalKind) (actor : Actor) (place : ℕ) : Type 0 where
@@ -63,7 +56,7 @@ fault_fails c refusal.TooManyRequests actor place of fault = absurd (omega (arit
 fault_fails c refusal.TooManyBytes actor place of fault = absurd (omega (arith, of.1))
 fault_fails c refusal.OutOfMemory actor place of fault = absurd fault
 
-some_unbound : (o : Option Outcome) → is_outcome refusal.Unbound o ≡ true → (t : Template) × (o ≡ Some (unbound t))
+pub some_unbound : (o : Option Outcome) → is_outcome refusal.Unbound o ≡ true → (t : Template) × (o ≡ Some (unbound t))
 some_unbound (Some (unbound t)) e = (t, refl)
 some_unbound (Some (call t n)) e = absurd (cc)
 some_unbound (Some (wrong_kind t)) e = absurd (cc)
@@ -72,7 +65,7 @@ some_unbound (Some outside) e = absurd (cc)
 some_unbound (Some ended) e = absurd (cc)
 some_unbound None e = absurd (cc)
 
-some_wrong_kind : (o : Option Outcome) → is_outcome refusal.WrongKind o ≡ true → (t : Template) × (o ≡ Some (wrong_kind t))
+pub some_wrong_kind : (o : Option Outcome) → is_outcome refusal.WrongKind o ≡ true → (t : Template) × (o ≡ Some (wrong_kind t))
 some_wrong_kind (Some (wrong_kind t)) e = (t, refl)
 some_wrong_kind (Some (call t n)) e = absurd (cc)
 some_wrong_kind (Some (unbound t)) e = absurd (cc)
@@ -81,7 +74,7 @@ some_wrong_kind (Some outside) e = absurd (cc)
 some_wrong_kind (Some ended) e = absurd (cc)
 some_wrong_kind None e = absurd (cc)
 
-some_nothing : (o : Option Outcome) → is_outcome refusal.NothingToBind o ≡ true → (v : ℕ) × (o ≡ Some (nothing_to_bind v))
+pub some_nothing : (o : Option Outcome) → is_outcome refusal.NothingToBind o ≡ true → (v : ℕ) × (o ≡ Some (nothing_to_bind v))
 some_nothing (Some (nothing_to_bind v)) e = (v, refl)
 some_nothing (Some (call t n)) e = absurd (cc)
 some_nothing (Some (unbound t)) e = absurd (cc)

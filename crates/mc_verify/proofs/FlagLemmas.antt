@@ -1,6 +1,5 @@
 -- What requests need of flags, and what is sent along ways.
-use Rattle.std.proofs.Common.{◌≡◌, ℕ, ◌==◌, List, [], ◌∷◌, ◌++◌, refl, ap, ◌∙◌}
-use Rattle.std.proofs.lemmas.Bool.{false≢true}
+use Rattle.std.proofs.Common.{◌≡◌, ℕ, List, [], ◌∷◌, ◌++◌, refl, ap, ◌∙◌}
 use Rattle.std.proofs.lemmas.List.{map-append}
 use Rattle.mc_protocol.specs.declared.actor.Actor.{Actor}
 use Rattle.mc_protocol.specs.declared.actor.Actor.TheVariants as actor

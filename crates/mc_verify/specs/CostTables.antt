@@ -84,3 +84,7 @@ IsOpened c actor measure place cost =
 abbrev pub kind_of : Measure → RefusalKind
 kind_of measure.Requests = kind.TooManyRequests
 kind_of measure.Bytes = kind.TooManyBytes
+
+-- a fault of budgets
+abbrev pub IsOfBudgets : RefusalKind → Type 0
+IsOfBudgets k = (k ≡ kind.TooManyRequests) ⊎ (k ≡ kind.TooManyBytes)

@@ -6,6 +6,7 @@ pub mod Structure
 pub mod Faults
 pub mod Refusals
 pub mod Checked
+pub mod Shown
 pub mod Laws
 -- What private contracts cite.
 pub mod Entries
@@ -15,3 +16,11 @@ pub mod RunKinds
 pub mod FlagTables
 pub mod Lowest
 pub mod VariableFaults
+pub mod Traces
+pub mod CostTraces
+pub mod KindTraces
+pub mod FlagTraces
+pub mod Trails
+pub mod FlagTrails
+pub mod CostTrails
+pub mod KindTrails

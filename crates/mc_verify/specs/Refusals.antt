@@ -2,6 +2,7 @@
 use Rattle.std.specs.Prelude.{◌≡◌, ◌⊎◌, ℕ, ◌<◌, ◌≤◌, List, codes}
 use Rattle.mc_protocol.specs.declared.actor.Actor.{Actor}
 use Rattle.mc_protocol.specs.declared.actor.Actor.TheVariants as actor
+use Rattle.mc_protocol.specs.declared.reply.Class.{Class}
 use Rattle.mc_code.specs.Code.{Code}
 use Rattle.mc_verify.specs.Faults.{IsFault, HasNone}
 use Rattle.mc_verify.specs.declared.code_fault.CodeFault.{CodeFault}
@@ -37,6 +38,13 @@ kind_name kind.FlagMayBeSet = codes "FlagMayBeSet"
 kind_name kind.TooManyRequests = codes "TooManyRequests"
 kind_name kind.TooManyBytes = codes "TooManyBytes"
 kind_name kind.OutOfMemory = codes "OutOfMemory"
+
+-- why code is refused: its fault, and the section and the class of each reply before it
+pub record Refusal : Type 0 where
+  pub kind : RefusalKind
+  pub actor : Actor
+  pub place : ℕ
+  pub shown : List (Actor × Class)
 
 -- ---- the least fault
 

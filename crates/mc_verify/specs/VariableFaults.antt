@@ -1,8 +1,8 @@
 -- Which kinds of numbers are a fault at an instruction. What private contracts cite.
-use Rattle.std.specs.Prelude.{◌≡◌, ℕ, ◌≤◌, ◌<◌, ◌==◌, Bool, true, false, not, ◌&&◌, List, [], slice_index_or}
+use Rattle.std.specs.Prelude.{◌≡◌, ℕ, ◌≤◌, ◌<◌, ◌==◌, Bool, true, false, not, ◌&&◌, Option, Some, List, [], slice_index_or}
 use Rattle.mc_script.specs.declared.step.Argument.TheVariants as argument
 use Rattle.mc_script.specs.declared.step.Template.{Template}
-use Rattle.mc_code.specs.States.{wanted_by}
+use Rattle.mc_code.specs.States.{Outcome, unbound, wrong_kind, nothing_to_bind, wanted_by}
 use Rattle.mc_verify.specs.Kinds.{kind_index}
 use Rattle.mc_verify.specs.Refusals.{kind_number}
 use Rattle.mc_verify.specs.RunKinds.{may_stand}
@@ -13,6 +13,13 @@ use Rattle.mc_verify.specs.declared.refusal.RefusalKind.TheVariants as refusal
 -- a fault of variables, to which a run comes
 abbrev pub IsOfVariables : RefusalKind → Type 0
 IsOfVariables kind = (5 ≤ kind_number kind) × (kind_number kind < 8)
+
+-- the outcome is a fault of this kind
+abbrev pub is_outcome : RefusalKind → Option Outcome → Bool
+is_outcome refusal.Unbound (Some (unbound t)) = true
+is_outcome refusal.WrongKind (Some (wrong_kind t)) = true
+is_outcome refusal.NothingToBind (Some (nothing_to_bind variable)) = true
+is_outcome _ _ = false
 
 -- a request with a number of this kind in its variable is such a fault
 abbrev pub is_wrong : RefusalKind → Template → ℕ → Bool

@@ -3,18 +3,20 @@ ghost use Rattle.std.specs.Prelude.{◌≡◌, IfErr, IfOk};
 ghost use Rattle.mc_protocol.specs.Sections as sections;
 ghost use Rattle.mc_protocol.specs.declared.actor.Actor.{Actor as Section};
 ghost use Rattle.mc_code.specs.Code as codes;
+ghost use Rattle.mc_verify.specs.Checked as checked;
 ghost use Rattle.mc_verify.specs.Costs as spec;
 ghost use Rattle.mc_verify.specs.CostTables as tables;
 ghost use Rattle.mc_verify.specs.Faults as faults;
 ghost use Rattle.mc_verify.specs.Lowest as lowest_faults;
 ghost use Rattle.mc_verify.specs.Refusals as refusals;
+ghost use Rattle.mc_verify.specs.Shown.{IsShownBy};
 
 use crate::code_fault::CodeFault;
 use crate::lowest::check_kind;
 use crate::section_costs::CostTables;
-use crate::{Measure, RefusalKind};
+use crate::{Measure, Refusal, RefusalKind};
 use mc_code::Code;
-use mc_protocol::{Actor, OutOfMemory, Sections};
+use mc_protocol::{Actor, Class, OutOfMemory, Sections};
 use std::alloc::Global;
 
 /// The most that a path of a section costs, each by itself: the path with the most requests may have fewer bytes than
@@ -27,14 +29,14 @@ pub struct Cost {
     pub bytes: u32,
 }
 
-/// What each section costs at most. The inner error is the least fault of the budgets: a section that may send more
-/// requests, or more bytes, than its budget allows.
+/// What each section costs at most. The inner error is the least fault of the budgets, a section that may send more
+/// requests, or more bytes, than its budget allows; with a run that shows it.
 pub(crate) fn costs(
     alloc: Global,
     code: &Code,
-) -> Result<Result<Sections<Cost>, CodeFault>, OutOfMemory>
+) -> Result<Result<Sections<Cost>, Refusal>, OutOfMemory>
     requires { (actor : Section) → faults.IsStructured code.now actor }
-    ensures refused { IfOk result (λ answer. IfErr answer (refusals.IsLeastFrom code.now 10)) }
+    ensures refused { IfOk result (λ answer. IfErr answer (checked.IsRefusalFrom code.now 10)) }
     ensures none { IfOk result (λ answer. IfOk answer (λ _. refusals.HasNoneFrom code.now 10 12)) }
     ensures requests { IfOk result (λ answer. IfOk answer (λ most. (actor : Section)
         → spec.IsGreatestCost code.now actor Measure.Requests (sections.section_of most actor).requests)) }
@@ -43,7 +45,36 @@ pub(crate) fn costs(
 {
     let requests = CostTables::new(alloc, code, Measure::Requests)?;
     let bytes = CostTables::new(alloc, code, Measure::Bytes)?;
-    Ok(greatest_costs(code, &requests, &bytes))
+    match greatest_costs(code, &requests, &bytes) {
+        Ok(maxima) => Ok(Ok(maxima)),
+        Err(fault) => {
+            let shown = budget_run(alloc, code, &requests, &bytes, fault)?;
+            Ok(Err(Refusal::new(fault, shown)))
+        }
+    }
+}
+
+/// The replies of a run that shows the fault, by the tables of both measures.
+fn budget_run(
+    alloc: Global,
+    code: &Code,
+    requests: &CostTables,
+    bytes: &CostTables,
+    fault: CodeFault,
+) -> Result<Vec<(Actor, Class)>, OutOfMemory>
+    requires code { codes.IsCode code.now }
+    requires structured { (actor : Section) → faults.IsStructured code.now actor }
+    requires requests { tables.AreTablesBy code.now Measure.Requests requests.now }
+    requires bytes { tables.AreTablesBy code.now Measure.Bytes bytes.now }
+    requires kind { tables.IsOfBudgets fault.kind }
+    requires stands { faults.IsFault code.now fault.kind fault.actor fault.place }
+    ensures { IfOk result (λ replies. IsShownBy code.now fault.kind fault.actor fault.place replies.items) }
+{
+    let place = usize::from(fault.place);
+    match fault.kind {
+        RefusalKind::TooManyRequests => requests.run(alloc, code, fault.actor, place),
+        _ => bytes.run(alloc, code, fault.actor, place),
+    }
 }
 
 /// What each section costs at most, by the tables of both measures. The error is the least fault of the budgets.
@@ -57,6 +88,7 @@ fn greatest_costs(
     requires requests { tables.AreTablesBy code.now Measure.Requests requests.now }
     requires bytes { tables.AreTablesBy code.now Measure.Bytes bytes.now }
     ensures refused { IfErr result (refusals.IsLeastFrom code.now 10) }
+    ensures kind { IfErr result (λ fault. tables.IsOfBudgets fault.kind) }
     ensures none { IfOk result (λ _. refusals.HasNoneFrom code.now 10 12) }
     ensures requests { IfOk result (λ most. (actor : Section)
         → spec.IsGreatestCost code.now actor Measure.Requests (sections.section_of most actor).requests) }
@@ -78,6 +110,7 @@ fn check_budgets(code: &Code, requests: &CostTables, bytes: &CostTables) -> Resu
     requires requests { tables.AreTablesBy code.now Measure.Requests requests.now }
     requires bytes { tables.AreTablesBy code.now Measure.Bytes bytes.now }
     ensures least { IfErr result (refusals.IsLeastFrom code.now 10) }
+    ensures kind { IfErr result (λ fault. tables.IsOfBudgets fault.kind) }
     ensures none { IfOk result (λ _. lowest_faults.IsFreeOf code.now 10 12) }
 {
     let places = requests.lowest_places(code);

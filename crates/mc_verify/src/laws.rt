@@ -1,4 +1,5 @@
 //! What follows from the definitions of faults, whatever the code is.
+ghost use Rattle.mc_verify.specs.Shown.{ShownIsFault};
 ghost use Rattle.mc_verify.specs.Laws.{
   LackIsNotAdmitted,
   LeastIsOne,
@@ -42,4 +43,9 @@ pub fn sent_is_admitted()
 /// Code has one least fault at most, and has none where it is sound.
 pub fn least_is_one()
     ensures { LeastIsOne }
+{}
+
+/// What a list of replies shows is a fault of the code.
+pub fn shown_is_fault()
+    ensures { ShownIsFault }
 {}

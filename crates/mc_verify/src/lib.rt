@@ -5,7 +5,10 @@
 //! (`specs/Structure.antt`); those of variables are outcomes of runs of code, as `mc_code` defines them; those of flags are
 //! seen along ways, the paths of P and the merges of the branches' paths (`specs/Flags.antt`, `specs/Ways.antt`); and those
 //! of budgets along paths (`specs/Costs.antt`). Which fault is the least is said in `specs/Refusals.antt`,
-//! and what a refusal tells of it in `specs/Checked.antt`.
+//! which run shows it in `specs/Shown.antt`, and what a refusal tells of both in `specs/Checked.antt`.
+//!
+//! The faults are found by tables of what paths lead to. The run is found by going back through the same tables, from each
+//! entry to one that led to it.
 #![tactic(auto)]
 
 mod checked;
@@ -13,23 +16,39 @@ mod clearing;
 mod code_fault;
 mod cost;
 mod cost_table;
+mod cost_trace;
+mod cost_trail;
 mod flag_grid;
+mod flag_move;
 mod flag_row;
+mod flag_run;
 mod flag_sets;
 mod flag_tables;
+mod flag_trail;
 mod flags;
 mod kind_pairs;
 mod kind_set;
+mod kind_step;
 mod kind_table;
 mod kind_tables;
+mod kind_trace;
+mod kind_trail;
+mod knowledge;
 mod laws;
 mod lowest;
 mod measure;
+mod pair_trace;
+mod places;
+mod prefix_trace;
 mod refusal;
+mod replies;
 mod section;
 mod section_costs;
+mod shown;
 mod structure;
 mod targets;
+mod text_len;
+mod variable_run;
 mod variables;
 mod verifier;
 mod weights;
@@ -39,8 +58,9 @@ pub use checked::Checked;
 pub use cost::Cost;
 pub use laws::{
     lack_is_not_admitted, least_is_one, no_flags_no_faults, prefixes_cost_less, sent_is_admitted,
-    sound_is_admitted, sound_is_right,
+    shown_is_fault, sound_is_admitted, sound_is_right,
 };
 pub use measure::Measure;
 pub use refusal::{Refusal, RefusalKind};
+pub use shown::shows;
 pub use verifier::verify;

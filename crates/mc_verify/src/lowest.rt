@@ -2,7 +2,7 @@
 //!
 //! A search for the faults of several kinds tries them in their order, `check_kind(..)?` for each: what the one ensures is
 //! what the next requires. `lowest` may be a function, or a closure that looks the section up in a table.
-ghost use Rattle.std.specs.Prelude.{◌+◌, IfErr, IfOk};
+ghost use Rattle.std.specs.Prelude.{◌≡◌, ◌+◌, IfErr, IfOk};
 ghost use Rattle.mc_protocol.specs.declared.actor.Actor as actor;
 ghost use Rattle.mc_verify.specs.Lowest as lowest_faults;
 ghost use Rattle.mc_verify.specs.Refusals as refusals;
@@ -24,6 +24,7 @@ pub(crate) fn check_kind<F: Fn(&Code, Actor) -> Option<u8>>(
     requires finds { lowest_faults.FindsLowest code.now kind (F.post lowest code) }
     requires free { lowest_faults.IsFreeOf code.now (lowest_faults.first_number kind) (refusals.kind_number kind) }
     ensures least { IfErr result (refusals.IsLeastFrom code.now (lowest_faults.first_number kind)) }
+    ensures kind { IfErr result (λ fault. fault.kind ≡ kind) }
     ensures none { IfOk result (λ _. lowest_faults.IsFreeOf code.now (lowest_faults.first_number kind) (refusals.kind_number kind + 1)) }
 {
     'sections: for actor in [Actor::P, Actor::A, Actor::B] {

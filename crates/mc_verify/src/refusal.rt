@@ -4,7 +4,9 @@ ghost use Rattle.mc_verify.specs.Checked as checked;
 ghost use Rattle.mc_verify.specs.Refusals as refusals;
 
 use crate::code_fault::CodeFault;
-use mc_protocol::Actor;
+use mc_protocol::{Actor, Class};
+use std::alloc::Global;
+use std::marker::Model;
 use thiserror::Error;
 
 /// What is wrong with code that is refused, in the order in which the kinds are looked for.
@@ -91,8 +93,8 @@ impl RefusalKind {
     }
 }
 
-/// The fault for which code is refused, and where it stands.
-#[derive(Clone, Copy, Debug, PartialEq, Eq)]
+/// The fault for which code is refused, where it stands, and a run that shows it. Contracts see the vector as a list.
+#[derive(Debug, Drop)]
 pub struct Refusal {
     /// What is wrong.
     pub kind: RefusalKind,
@@ -100,28 +102,44 @@ pub struct Refusal {
     pub actor: Actor,
     /// The instruction at which it is wrong, counted from the section's first, which is 0; 0 where memory ran out.
     pub place: u8,
+    /// The requests before the fault, in order: of each the section that makes it, and the class of its reply. Along them P
+    /// comes to a fault of P. To a fault of a branch P comes to its end, and then the branch comes to the fault; where a flag
+    /// is wrong the requests of the other branch may stand between. Empty for the kinds that are seen at an instruction by
+    /// itself, from `BadTarget` to `NotCleared`, and where memory ran out.
+    pub shown: Vec<(Actor, Class)>,
+}
+
+impl Model for Refusal {
+    ghost use Rattle.mc_verify.specs.Refusals as spec;
+
+    ghost Value = { spec.Refusal };
+
+    ghost view = { λ r. record { kind = r.kind; actor = r.actor; place = r.place; shown = r.shown.items } };
 }
 
 impl Refusal {
-    /// The refusal of code for this fault.
-    pub(crate) fn of(fault: CodeFault) -> Self
-        ensures { checked.fault_of result ≡ fault }
+    /// The refusal of code for this fault, which these replies show.
+    pub(crate) fn new(fault: CodeFault, shown: Vec<(Actor, Class)>) -> Self
+        ensures fault { checked.fault_of result ≡ fault }
+        ensures shown { result.shown ≡ shown.items }
     {
         Refusal {
             kind: fault.kind,
             actor: fault.actor,
             place: fault.place,
+            shown,
         }
     }
 
-    /// The refusal that memory ran out.
-    pub(crate) fn out_of_memory() -> Self
+    /// The refusal that memory ran out. It takes none.
+    pub(crate) fn out_of_memory(alloc: Global) -> Self
         ensures { result ≡ checked.out_of_memory }
     {
         Refusal {
             kind: RefusalKind::OutOfMemory,
             actor: Actor::P,
             place: 0,
+            shown: Vec::new(alloc),
         }
     }
 }

@@ -19,8 +19,8 @@ use std::alloc::Global;
 /// What the paths to each place of a code's sections cost at most, by one measure.
 #[derive(Debug, Drop)]
 pub(crate) struct CostTables {
-    weights: Weights,
-    sections: Sections<Vec<Option<u32>>>,
+    pub(crate) weights: Weights,
+    pub(crate) sections: Sections<Vec<Option<u32>>>,
 }
 
 impl CostTables {
@@ -114,7 +114,7 @@ impl CostTables {
     }
 
     /// The entry of the place.
-    fn entry_at(&self, actor: Actor, place: usize) -> Option<u32>
+    pub(crate) fn entry_at(&self, actor: Actor, place: usize) -> Option<u32>
         requires { place < length (sections.section_of self.now.sections actor).items }
         ensures { result ≡ slice_index_or (sections.section_of self.now.sections actor).items place None }
     {
@@ -123,7 +123,7 @@ impl CostTables {
 }
 
 /// What the budget allows by the measure.
-fn bound(measure: Measure, budget: Budget) -> u32
+pub(crate) fn bound(measure: Measure, budget: Budget) -> u32
     ensures { result ≡ costs.bound_of measure budget }
 {
     match measure {

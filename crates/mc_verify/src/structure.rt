@@ -1,5 +1,5 @@
 //! The faults that an instruction has by itself, whether a run reaches it or not.
-ghost use Rattle.std.specs.Prelude.{◌≡◌, ◌-◌, IfErr, IfNone, IfOk, IfSome, Some, length, slice_get};
+ghost use Rattle.std.specs.Prelude.{◌≡◌, ◌-◌, ◌<◌, IfErr, IfNone, IfOk, IfSome, Some, length, slice_get};
 ghost use Rattle.mc_protocol.specs.declared.actor.Actor as actor;
 ghost use Rattle.mc_verify.specs.Faults as faults;
 ghost use Rattle.mc_verify.specs.Lowest as lowest_faults;
@@ -19,6 +19,7 @@ use mc_protocol::Actor;
 /// clear.
 pub(crate) fn structure_fault(code: &Code) -> Option<CodeFault>
     ensures found { IfSome result (refusals.IsLeastFrom code.now 1) }
+    ensures kind { IfSome result (λ fault. refusals.kind_number fault.kind < 5) }
     ensures none { IfNone result (refusals.HasNoneFrom code.now 1 5) }
     ensures structured { IfNone result ((actor : actor.Actor) → faults.IsStructured code.now actor) }
 {
@@ -28,6 +29,7 @@ pub(crate) fn structure_fault(code: &Code) -> Option<CodeFault>
 /// The error is the least fault of structure.
 fn check_structure(code: &Code) -> Result<(), CodeFault>
     ensures least { IfErr result (refusals.IsLeastFrom code.now 1) }
+    ensures kind { IfErr result (λ fault. refusals.kind_number fault.kind < 5) }
     ensures none { IfOk result (λ _. lowest_faults.IsFreeOf code.now 1 5) }
     ensures structured { IfOk result (λ _. (actor : actor.Actor) → faults.IsStructured code.now actor) }
 {

@@ -1,10 +1,8 @@
 //! All that is asked of code before it may run.
 ghost use Rattle.std.specs.Prelude.{◌≡◌, IfErr, IfOk};
 ghost use Rattle.mc_verify.specs.Checked as spec;
-ghost use Rattle.mc_verify.specs.Refusals.{IsLeast};
 
 use crate::checked::Checked;
-use crate::code_fault::CodeFault;
 use crate::cost::costs;
 use crate::flags::flag_fault;
 use crate::structure::structure_fault;
@@ -19,8 +17,8 @@ use std::alloc::Global;
 ///
 /// # Errors
 ///
-/// The least fault of code that isn't sound, by kind, section and place in this order; or that memory ran out. The code
-/// is handed back.
+/// The least fault of code that isn't sound, by kind, section and place in this order, with a run that shows it; or that
+/// memory ran out. The code is handed back.
 pub fn verify(alloc: Global, code: Code) -> Result<Checked, (Refusal, Code)>
     ensures accepted { IfOk result (λ checked. checked.code ≡ code) }
     ensures refused { IfErr result (λ refused. spec.IsRefusalOf code refused.0) }
@@ -28,26 +26,26 @@ pub fn verify(alloc: Global, code: Code) -> Result<Checked, (Refusal, Code)>
 {
     match examine(alloc, &code) {
         Ok(Ok(maxima)) => Ok(Checked { code, maxima }),
-        Ok(Err(fault)) => Err((Refusal::of(fault), code)),
-        Err(_) => Err((Refusal::out_of_memory(), code)),
+        Ok(Err(refusal)) => Err((refusal, code)),
+        Err(_) => Err((Refusal::out_of_memory(alloc), code)),
     }
 }
 
-/// The most that the sections of sound code may cost, or the least fault of other code.
-fn examine(alloc: Global, code: &Code) -> Result<Result<Sections<Cost>, CodeFault>, OutOfMemory>
+/// The most that the sections of sound code may cost, or the refusal of other code.
+fn examine(alloc: Global, code: &Code) -> Result<Result<Sections<Cost>, Refusal>, OutOfMemory>
     ensures accepted { IfOk result (λ found. IfOk found (λ maxima. spec.IsChecked (record { code = code.now; maxima = maxima }))) }
-    ensures refused { IfOk result (λ found. IfErr found (IsLeast code.now)) }
+    ensures refused { IfOk result (λ found. IfErr found (spec.IsRightRefusal code.now)) }
 {
     match structure_fault(code) {
-        Some(fault) => return Ok(Err(fault)),
+        Some(fault) => return Ok(Err(Refusal::new(fault, Vec::new(alloc)))),
         None => {}
     }
     match variable_fault(alloc, code)? {
-        Some(fault) => return Ok(Err(fault)),
+        Some(refusal) => return Ok(Err(refusal)),
         None => {}
     }
     match flag_fault(alloc, code)? {
-        Some(fault) => return Ok(Err(fault)),
+        Some(refusal) => return Ok(Err(refusal)),
         None => {}
     }
     costs(alloc, code)

@@ -2,17 +2,17 @@
 #![tactic(auto)]
 
 ghost use Rattle.std.specs.Prelude.{◌≡◌, false, true};
-ghost use Rattle.mc_command.specs.Command.{Answers};
+ghost use Rattle.mc_command.specs.Command.{Answers, Hosts};
 ghost use Rattle.mc_command.specs.Statuses.{status_number};
 ghost use Rattle.mc_command.specs.Streams.{TakesAtMost};
 
 use mc_command::{
-    Asked, InputFault, Reader, Remarks, Sink, Source, Status, Target, Unconnected, Writer, command,
-    read_run, run_script, unread_line, write_fault,
+    Asked, InputFault, Reader, Remarks, Service, Sink, Source, Status, Target, Told, Unconnected,
+    Writer, command, read_run, read_serve, run_script, serve_connections, unread_line, write_fault,
 };
 use std::alloc::Global;
 use std::io::{Eprint, ErrorKind};
-use std::net::{Net, TcpStream};
+use std::net::{Net, TcpListener, TcpStream};
 use std::process::ExitCode;
 use std::rt::{Clock, Env};
 use std::sync::Wait;
@@ -26,13 +26,17 @@ fn main(rt: HostRuntime) -> ExitCode {
     let status = match line_of(&rt) {
         Ok(line) => match read_run(rt.alloc(), line.as_slice()) {
             Ok(Some(target)) => play(&rt, rt.alloc(), target, &mut input, &mut output),
-            Ok(None) => command(
-                rt.alloc(),
-                line.as_slice(),
-                &mut input,
-                &mut output,
-                &mut faults,
-            ),
+            Ok(None) => match read_serve(rt.alloc(), line.as_slice()) {
+                Ok(Some(service)) => host(&rt, rt.alloc(), service, &mut output),
+                Ok(None) => command(
+                    rt.alloc(),
+                    line.as_slice(),
+                    &mut input,
+                    &mut output,
+                    &mut faults,
+                ),
+                Err(_) => write_fault(InputFault::OutOfMemory, &mut output).number(),
+            },
             Err(_) => write_fault(InputFault::OutOfMemory, &mut output).number(),
         },
         Err(error) => unread_line(&error, &mut output, &mut faults),
@@ -83,6 +87,28 @@ where
         }
     }
     status.number()
+}
+
+// Serves connections. Why there is no listener, or what came of the connections where some were refused, goes to standard error.
+fn host<R, O: Sink>(rt: &R, alloc: Global, service: Service, output: &mut O) -> u8
+where
+    R: Net<Listener = TcpListener, Stream = TcpStream> + Threads + Wait + Clock + Sync + Eprint,
+    ensures answered { O.has_failed output.old ≡ false → O.has_failed output.new ≡ false
+        → (ended : Status) × (result ≡ status_number ended)
+        × Hosts service (O.written output.old) (O.written output.new) ended }
+    ensures broken { O.has_failed output.old ≡ false → O.has_failed output.new ≡ true → result ≡ 4 }
+{
+    let (ended, told) = serve_connections(rt, alloc, service, output);
+    // There is nowhere else to say that this could not be said.
+    let _ = match told {
+        Told::NoListener(error) => eprintln!(rt; "mcrace: 127.0.0.1:{}: {error}", service.port),
+        Told::Connections(listened) if listened.refused > 0 => eprintln!(rt;
+            "mcrace: accepted {} refused {}",
+            listened.accepted, listened.refused
+        ),
+        Told::Connections(_) | Told::Nothing => Ok(()),
+    };
+    ended.number()
 }
 
 // Says on standard error why there is no connection to the server.

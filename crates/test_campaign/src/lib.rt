@@ -5,6 +5,8 @@
 #[cfg(test)]
 mod code_tests;
 #[cfg(test)]
+mod namespace_tests;
+#[cfg(test)]
 mod script_tests;
 #[cfg(test)]
 mod shrink_tests;

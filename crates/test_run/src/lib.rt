@@ -23,6 +23,8 @@ mod run_tests;
 #[cfg(test)]
 mod signal;
 #[cfg(test)]
+mod tcp_tests;
+#[cfg(test)]
 mod thread_tests;
 #[cfg(test)]
 mod trial_tests;

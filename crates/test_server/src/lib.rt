@@ -7,6 +7,10 @@ mod fault_tests;
 #[cfg(test)]
 mod lines;
 #[cfg(test)]
+mod listen_tests;
+#[cfg(test)]
+mod racy_tests;
+#[cfg(test)]
 mod serve_tests;
 #[cfg(test)]
 mod shared_tests;

@@ -1,11 +1,20 @@
 //! What `verify` answers to the code of an image.
 
 use mc_code::{Code, ImageFault, decode};
-use mc_verify::{Checked, Refusal, verify};
+use mc_protocol::Actor;
+use mc_verify::{Checked, Refusal, RefusalKind, verify};
 use std::alloc::Global;
 
 /// Sound code with its greatest costs, or the refusal with the code as it was.
 pub(crate) type Answer = Result<Checked, (Refusal, Code)>;
+
+/// What is wrong, in which section, and at which place.
+pub(crate) type Fault = (RefusalKind, Actor, u8);
+
+/// The fault that the refusal names.
+pub(crate) fn fault_of(refusal: &Refusal) -> Fault {
+    (refusal.kind, refusal.actor, refusal.place)
+}
 
 pub(crate) fn answer_to(alloc: Global, image: &[u8]) -> Result<Answer, ImageFault> {
     Ok(verify(alloc, decode(alloc, image)?))

@@ -8,9 +8,13 @@ mod changed_image_tests;
 #[cfg(test)]
 mod full_tables;
 #[cfg(test)]
+mod refusal_run_tests;
+#[cfg(test)]
 mod row;
 #[cfg(test)]
 mod short_tables;
+#[cfg(test)]
+mod shown_tests;
 #[cfg(test)]
 mod structure_tests;
 #[cfg(test)]

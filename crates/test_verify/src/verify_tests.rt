@@ -1,10 +1,10 @@
 //! What `verify` hands out: sound code with its greatest costs, or the refusal with the code as it was.
 
-use crate::answer::{Answer, answer_to};
+use crate::answer::{Answer, Fault, answer_to, fault_of};
 use crate::short_tables::COUNTER;
 use mc_code::{Code, encode};
-use mc_protocol::Actor;
-use mc_verify::{Checked, Refusal, RefusalKind};
+use mc_protocol::{Actor, Class};
+use mc_verify::{Checked, RefusalKind};
 use std::alloc::Global;
 use std::test::Fail;
 
@@ -44,22 +44,18 @@ fn costs_of(checked: &Checked) -> [(u32, u32); 3] {
 
 #[test]
 fn hands_back_what_it_refuses(rt: HostRuntime) -> Result<(), Fail> {
-    let expected = Refusal {
-        kind: RefusalKind::TooManyBytes,
-        actor: Actor::P,
-        place: 1,
-    };
-    let found = refusal_of_poor_counter(rt.alloc())?;
-    assert_eq!(rt; found, Some((expected, true)));
+    let expected = (RefusalKind::TooManyBytes, Actor::P, 1);
+    let found = refused_poor_counter(rt.alloc())?;
+    assert_eq!(rt; found, Some((expected, true, true)));
     Ok(())
 }
 
 /// What is wrong where P may send a byte fewer than it sends.
-fn refusal_of_poor_counter(alloc: Global) -> Result<Option<(Refusal, bool)>, Fail> {
+fn refused_poor_counter(alloc: Global) -> Result<Option<(Fault, bool, bool)>, Fail> {
     let mut bytes = Vec::from_slice(alloc, COUNTER)?;
     // the first byte of P's budget of bytes: 26 bytes become 25
     bytes[11] = 25;
-    refusal_of(alloc, &bytes)
+    refused(alloc, &bytes)
 }
 
 #[test]
@@ -68,21 +64,31 @@ fn names_its_refusals(rt: HostRuntime) {
     assert_eq!(rt; RefusalKind::TooManyBytes.name(), "TooManyBytes");
 }
 
-/// What is wrong with the code of the image, and whether the code that is handed back has the same image; nothing where it is sound.
-fn refusal_of(alloc: Global, image: &[u8]) -> Result<Option<(Refusal, bool)>, Fail> {
+/// What is wrong with the code of the image, whether P's delete alone is shown, and whether the code that is handed back has the
+/// same image; nothing where it is sound.
+fn refused(alloc: Global, image: &[u8]) -> Result<Option<(Fault, bool, bool)>, Fail> {
     let answer = answer_to(alloc, image)?;
-    refusal_in(alloc, &answer, image)
+    refused_in(alloc, &answer, image)
 }
 
-fn refusal_in(
+fn refused_in(
     alloc: Global,
     answer: &Answer,
     image: &[u8],
-) -> Result<Option<(Refusal, bool)>, Fail> {
+) -> Result<Option<(Fault, bool, bool)>, Fail> {
     match answer {
         Ok(_) => Ok(None),
-        Err((refusal, code)) => Ok(Some((*refusal, has_image(alloc, code, image)?))),
+        Err((refusal, code)) => {
+            let is_shown = shows_a_delete(&refusal.shown);
+            let is_same = has_image(alloc, code, image)?;
+            Ok(Some((fault_of(refusal), is_shown, is_same)))
+        }
     }
+}
+
+/// Whether one delete of P is shown: both of its replies lead on.
+fn shows_a_delete(shown: &[(Actor, Class)]) -> bool {
+    matches!(shown, [(Actor::P, Class::Deleted | Class::NotFound)])
 }
 
 fn has_image(alloc: Global, code: &Code, image: &[u8]) -> Result<bool, Fail> {

@@ -2,6 +2,7 @@ use Rattle.std.proofs.Common.{codes, inl, inr, map, rules, string_bytes, sym, So
 use Rattle.std.proofs.lemmas.Result.{err_from_is_err_and}
 use Rattle.mc_command.proofs.Line.{command_is, fault_by_clap, line_faults-is, no_job, no_limit_of_drive, no_limit_of_judge}
 use Rattle.mc_command.proofs.Line.{no_limit_of_run, no_meeting, no_seed, no_subcommand, program_is_simple, value_is}
+use Rattle.mc_command.proofs.Line.{no_connections, no_port}
 use Rattle.mc_command.proofs.arguments.read_line.Goals as goal
 
 pub returns-in_err-matches-clause-fault : goal.returns-in_err-matches-clause-fault
@@ -137,6 +138,41 @@ returns-in_err-job-in-generate-clause-fault c =
       | inr none ↦ inr (no_job words _ none.0 clear (command ∙ search rules) (rw job none.1))
     ])
 
+pub returns-in-serve-clause-asked : goal.returns-in-serve-clause-asked
+returns-in-serve-clause-asked c =
+    let words = map string_bytes c.args.line.now in
+    let program = c.in_ok-program.ensures in
+    let matches = c.in_ok-matches.ensures.matches in
+    let none = sym (line_faults-is _ words program) ∙ c.in_ok-matches.ensures.kinds (program_is_simple _ program) in
+    let command = command_is _ words _ program matches _ c.in-Some.ensures.name in
+    let port = value_is _ words _ program matches _ c.in-Some.ensures.rows (codes "port") in
+    let connections = value_is _ words _ program matches _ c.in-Some.ensures.rows (codes "connections") in
+    let racy = value_is _ words _ program matches _ c.in-Some.ensures.rows (codes "racy") in (
+      none,
+      (
+        command ∙ search rules,
+        rw port c.in_ok-service-in-serve.ensures.port,
+        rw connections c.in_ok-service-in-serve.ensures.connections,
+        rw racy c.in_ok-service-in-serve.ensures.racy,
+      ),
+    )
+
+pub returns-in_err-service-in-serve-clause-fault : goal.returns-in_err-service-in-serve-clause-fault
+returns-in_err-service-in-serve-clause-fault c =
+    let words = map string_bytes c.args.line.now in
+    let program = c.in_ok-program.ensures in
+    let matches = c.in_ok-matches.ensures.matches in
+    let clear = sym (line_faults-is _ words program) ∙ c.in_ok-matches.ensures.kinds (program_is_simple _ program) in
+    let command = command_is _ words _ program matches _ c.in-Some.ensures.name in
+    let port = value_is _ words _ program matches _ c.in-Some.ensures.rows (codes "port") in
+    let connections = value_is _ words _ program matches _ c.in-Some.ensures.rows (codes "connections") in
+    let p = err_from_is_err_and c.from_residual-in_err-service-in-serve.result c.from_residual-in_err-service-in-serve.ensures.1 in
+    rw (p.1, p.2) (elim c.in_err-service-in-serve.ensures.fault [
+      | inl memory ↦ inl memory
+      | inr (is, inl none) ↦ inr (no_port words _ is clear (command ∙ search rules) (rw port none))
+      | inr (is, inr none) ↦ inr (no_connections words _ is clear (command ∙ search rules) (rw connections none))
+    ])
+
 pub returns-in-asm-clause-asked : goal.returns-in-asm-clause-asked
 returns-in-asm-clause-asked c =
     let words = map string_bytes c.args.line.now in
@@ -167,6 +203,7 @@ returns-in-Some-clause-fault c =
       drive = λ is. c.in_default.not-drive (other (sym command ∙ is));
       run = λ is. c.in_default.not-run (other (sym command ∙ is));
       generate = λ is. c.in_default.not-generate (other (sym command ∙ is));
+      serve = λ is. c.in_default.not-serve (other (sym command ∙ is));
     }))
   where
     other : {X : Type 0} {x y : X} → Some x ≡ Some y → x ≡ y

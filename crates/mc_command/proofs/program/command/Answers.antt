@@ -17,6 +17,12 @@ returns-in-Err-clause-generated g c seed job asks output_old output_new =
     let written = c.explain.ensures.memory memory output_old output_new in
     (_, c.number-in-Err.ensures, record { output = _; right = inr (refl, written.1); written = written.0 })
 
+pub returns-in-Err-clause-served : goal.returns-in-Err-clause-served
+returns-in-Err-clause-served g c service asks output_old output_new =
+    let memory = asking_lacks_memory _ (asked.Serve service) _ asks c.in-Err.ensures.fault in
+    let written = c.explain.ensures.memory memory output_old output_new in
+    (_, c.number-in-Err.ensures, record { output = _; right = inr (refl, written.1); written = written.0 })
+
 pub returns-in-Err-clause-no_fault : goal.returns-in-Err-clause-no_fault
 returns-in-Err-clause-no_fault g c wanted asks =
     c.explain.ensures.no_fault (asking_lacks_memory _ wanted _ asks c.in-Err.ensures.fault)

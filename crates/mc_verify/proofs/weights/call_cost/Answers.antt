@@ -6,8 +6,8 @@ use Rattle.mc_verify.specs.declared.measure.Measure.TheVariants as measure
 use Rattle.mc_verify.proofs.CallCosts.{weight_at}
 use Rattle.mc_verify.proofs.weights.call_cost.Goals as goal
 
-pub returns-in-Requests : goal.returns-in-Requests
-returns-in-Requests c =
+pub returns-in-Requests-clause-weight : goal.returns-in-Requests-clause-weight
+returns-in-Requests-clause-weight c =
     let at = slice_get-get_or c.args.code.now.templates c.args.template no_template c.requires in
     subst (λ measure. slice_get (weights_of c.args.code.now measure) c.args.template ≡ Some 1) (sym c.in-Requests.is)
     (weight_at c.args.code.now measure.Requests c.args.template _ at)

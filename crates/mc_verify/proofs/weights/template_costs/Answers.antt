@@ -1,0 +1,15 @@
+use Rattle.std.proofs.Common.{take, ◌++◌, ◌∷◌, [], ap, sym, ◌∙◌}
+use Rattle.std.proofs.lemmas.List.{take_more}
+use Rattle.std.proofs.lemmas.Option.{slice_get_within, get_or_from_slice_get}
+use Rattle.mc_verify.specs.CostTables.{weights_of}
+use Rattle.mc_verify.proofs.weights.template_costs.Goals as goal
+
+pub templates-preserved : goal.templates-preserved
+templates-preserved c =
+    let weights = weights_of c.args.code.now c.args.measure in
+    let place = c.templates.template in
+    let inside = slice_get_within weights place c.call_cost.result c.call_cost.ensures.weight in
+    let is = get_or_from_slice_get weights place c.call_cost.result 0 c.call_cost.ensures.weight in
+    let pushed = c.in_ok-push.ensures.items in
+    pushed ∙ ap (λ costs. costs ++ c.call_cost.result ∷ []) c.templates.invariant
+    ∙ sym (take_more weights place 0 inside ∙ ap (λ n. take place weights ++ n ∷ []) is)

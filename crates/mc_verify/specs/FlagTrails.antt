@@ -1,0 +1,30 @@
+-- What of a run that shows a fault of flags is still to come. Private contracts cite it.
+use Rattle.std.specs.Prelude.{◌≡◌, ℕ, Bool, true, not, List}
+use Rattle.mc_protocol.specs.declared.actor.Actor.{Actor}
+use Rattle.mc_protocol.specs.declared.reply.Class.{Class}
+use Rattle.mc_script.specs.declared.step.Template.{Template}
+use Rattle.mc_code.specs.Calls.{SendsAt}
+use Rattle.mc_code.specs.Code.{Code}
+use Rattle.mc_verify.specs.Flags.{needs, flag_along}
+use Rattle.mc_verify.specs.FlagTables.{may_be}
+use Rattle.mc_verify.specs.Shown.{replies_along, LacksAlong}
+use Rattle.mc_verify.specs.Trails.{LeadsFrom}
+use Rattle.mc_verify.specs.Ways.{Stage, calls_along}
+use Rattle.mc_verify.specs.declared.flag_trail.FlagTrail.{FlagTrail}
+
+-- these replies show that a send at the place may lack a flag that it needs at this value
+abbrev pub ShowsLack : Code → Bool → Actor → ℕ → List (Actor × Class) → Type 0
+ShowsLack c value actor place shown = (way : List Stage) × (shown ≡ replies_along way) × LacksAlong c value actor place way
+
+-- from the trail on, these replies do
+pub record LacksFrom (c : Code) (value : Bool) (actor : Actor) (place : ℕ) (trail : FlagTrail) (shown : List (Actor × Class)) : Type 0 where
+  pub flag : ℕ
+  pub before : Bool
+  pub t : Template
+  pub way : List Stage
+  pub shown_is : shown ≡ replies_along way
+  pub leads : LeadsFrom c trail.places actor place way
+  pub sends : SendsAt c actor place t
+  pub begins : may_be flag before trail.flags ≡ true
+  pub needed : needs flag t value ≡ true
+  pub lacking : flag_along flag (calls_along way) before ≡ not value

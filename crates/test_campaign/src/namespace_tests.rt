@@ -1,0 +1,197 @@
+//! Code under a name.
+
+use mc_campaign::{Namespace, PutFault, put_under};
+use mc_code::{Code, assemble, encode};
+use mc_protocol::Actor;
+use mc_script::{Budget, parse};
+use mc_verify::verify;
+use std::alloc::Global;
+use std::test::Fail;
+
+// Two increments of one counter, with budgets that are just enough.
+const COUNTER: &str = "script 1
+keys a
+budget P 2 26
+budget A 1 10
+budget B 1 10
+P
+set a 0 =5
+A
+incr a 1
+B
+incr a 1
+end
+";
+
+// The same under `ci7`: each request is four bytes longer.
+const COUNTER_UNDER_CI7: &str = "script 1
+keys ci7-a
+budget P 2 34
+budget A 1 14
+budget B 1 14
+P
+set ci7-a 0 =5
+A
+incr ci7-a 1
+B
+incr ci7-a 1
+end
+";
+
+// A script of version 2, with flags, variables, jumps and other keys, and the greatest budgets.
+const SWAP: &str = "script 2
+keys first -second
+flags f
+vars v
+budget P 24 8192
+budget A 24 8192
+budget B 24 8181
+P
+set first 3 =one +f
+set -second 0 =two
+A
+get first ?f
+gets first miss:gone >v
+cas first 0 =three $v
+gone:
+B
+delete -second
+end
+";
+
+const SWAP_UNDER_X: &str = "script 2
+keys x-first x--second
+flags f
+vars v
+budget P 24 8192
+budget A 24 8192
+budget B 24 8192
+P
+set x-first 3 =one +f
+set x--second 0 =two
+A
+get x-first ?f
+gets x-first miss:gone >v
+cas x-first 0 =three $v
+gone:
+B
+delete x--second
+end
+";
+
+// 38 bytes.
+const LONGEST: &str = "a-name-of-38-bytes-is-the-longest-one-";
+
+#[test]
+fn names_have_1_to_38_bytes(rt: HostRuntime) {
+    for name in ["a", "z", "0", "9", "-", "ci7", LONGEST] {
+        let found = Namespace::new(name.as_bytes());
+        assert_eq!(rt;
+            found.map(|found| found.as_slice()),
+            Some(name.as_bytes()),
+            "{name}"
+        );
+    }
+    assert_eq!(rt; LONGEST.len(), 38);
+    for name in [
+        "",
+        "A",
+        "a b",
+        "a.b",
+        "a_b",
+        "a\n",
+        "é",
+        "a-name-of-39-bytes-is-longer-than-any-is",
+    ] {
+        assert!(rt; Namespace::new(name.as_bytes()).is_none(), "{name}");
+    }
+}
+
+#[test]
+fn code_under_a_name_is_that_of_the_script_with_its_keys(rt: HostRuntime) -> Result<(), Fail> {
+    let alloc = rt.alloc();
+    assert_eq!(rt;
+        image_under(alloc, COUNTER, "ci7")?,
+        image_of(alloc, COUNTER_UNDER_CI7)?
+    );
+    assert_eq!(rt;
+        image_under(alloc, SWAP, "x")?,
+        image_of(alloc, SWAP_UNDER_X)?
+    );
+    Ok(())
+}
+
+// A budget that is just enough is just enough under a name.
+#[test]
+fn budgets_stay_just_enough(rt: HostRuntime) -> Result<(), Fail> {
+    let alloc = rt.alloc();
+    for name in ["ci7", LONGEST] {
+        let under = put_under(alloc, &code_of(alloc, COUNTER)?, &named(name)?)?;
+        let added = name.len() as u32 + 1;
+        assert_eq!(rt;
+            under.budget(Actor::P),
+            Budget {
+                requests: 2,
+                bytes: 26 + 2 * added
+            },
+            "{name}"
+        );
+        assert_eq!(rt;
+            under.budget(Actor::A),
+            Budget {
+                requests: 1,
+                bytes: 10 + added
+            },
+            "{name}"
+        );
+        let checked = match verify(alloc, under) {
+            Ok(checked) => checked,
+            Err(_) => return Err(Fail::new("the code is refused")),
+        };
+        assert_eq!(rt; checked.maxima(Actor::P).bytes, 26 + 2 * added, "{name}");
+    }
+    Ok(())
+}
+
+// The key of 1 byte has room after a name of 38 bytes, that of 2 has none. The first key without room is named.
+#[test]
+fn keys_have_at_most_40_bytes(rt: HostRuntime) -> Result<(), Fail> {
+    let alloc = rt.alloc();
+    let short = code_of(alloc, COUNTER)?;
+    assert!(rt; put_under(alloc, &short, &named(LONGEST)?).is_ok());
+    let long = code_of(alloc, SWAP)?;
+    let fault = put_under(alloc, &long, &named(LONGEST)?).err();
+    assert_eq!(rt; fault, Some(PutFault::KeyTooLong(0)));
+    let fault = put_under(alloc, &long, &named("a-name-that-has-only-33-bytes-now")?).err();
+    assert_eq!(rt; fault, Some(PutFault::KeyTooLong(1)));
+    assert!(rt; put_under(alloc, &long, &named("a-name-that-has-but-32-bytes-now")?).is_ok());
+    Ok(())
+}
+
+fn named(name: &str) -> Result<Namespace<'_>, Fail> {
+    match Namespace::new(name.as_bytes()) {
+        Some(name) => Ok(name),
+        None => Err(Fail::new("the name is refused")),
+    }
+}
+
+fn code_of(alloc: Global, text: &str) -> Result<Code, Fail> {
+    Ok(assemble(alloc, &parse(alloc, text.as_bytes())?)?)
+}
+
+fn image_of(alloc: Global, text: &str) -> Result<Vec<u8>, Fail> {
+    image(alloc, &code_of(alloc, text)?)
+}
+
+fn image_under(alloc: Global, text: &str, name: &str) -> Result<Vec<u8>, Fail> {
+    image(
+        alloc,
+        &put_under(alloc, &code_of(alloc, text)?, &named(name)?)?,
+    )
+}
+
+fn image(alloc: Global, code: &Code) -> Result<Vec<u8>, Fail> {
+    let mut image = Vec::new(alloc);
+    encode(code, &mut image)?;
+    Ok(image)
+}
