@@ -2,6 +2,7 @@
 
 import pathlib
 import re
+import subprocess
 
 import cases
 
@@ -24,6 +25,12 @@ def inputs():
         if path.is_file() and path.suffix in (".history", ".script", ".drive"):
             found[path.read_bytes()] = None
     return [it for it in found if 0 < len(it) <= MOST_BYTES]
+
+
+def seed_of_commit():
+    """A number that another commit changes."""
+    found = subprocess.run(["git", "-C", str(ROOT), "rev-parse", "HEAD"], capture_output=True, text=True, check=False).stdout.strip()
+    return int(found[:12] or "1", 16)
 
 
 class Mutator:

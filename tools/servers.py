@@ -126,6 +126,7 @@ class Step(enum.Enum):
     """What a scripted server does on a connection, beside sending bytes."""
 
     READ = "read a request"
+    PAUSE = "wait 50 ms"
     MEET = "wait until another connection comes to this step too"
     END = "end the connection"
     RESET = "end it by a reset"
@@ -148,14 +149,46 @@ def answers_both(text):
     return [Step.READ, Step.MEET, text]
 
 
-class Scripted:
-    """A server on a free port that takes three connections, in the order P, A, B, and does the steps of each. After its last step
-    a connection stays open."""
+class Replying:
+    """A server on a free port that takes any number of connections, and answers the requests of each by these texts, one after another.
+    Once there is none left it reads on and answers nothing."""
 
-    def __init__(self, p, a, b):
+    def __init__(self, *texts):
+        self.texts = texts
+        self.listener = socket.create_server(("127.0.0.1", 0), backlog=100)
+        self.port = self.listener.getsockname()[1]
+
+    def __enter__(self):
+        threading.Thread(target=self.serve, daemon=True).start()
+        return self
+
+    def __exit__(self, *_):
+        self.listener.close()
+
+    def serve(self):
+        with contextlib.suppress(OSError):
+            while True:
+                threading.Thread(target=self.talk, args=(self.listener.accept()[0],), daemon=True).start()
+
+    def talk(self, connection):
+        connection.setsockopt(socket.IPPROTO_TCP, socket.TCP_NODELAY, 1)
+        with contextlib.suppress(OSError), connection, connection.makefile("rb") as reader:
+            for text in self.texts:
+                if not read_request(reader):
+                    return
+                connection.sendall(text)
+            while reader.read(1):
+                pass
+
+
+class Scripted:
+    """A server on this port, or a free one, that takes three connections, in the order P, A, B, and does the steps of each. After its last
+    step a connection stays open."""
+
+    def __init__(self, p, a, b, port=0):
         self.talks = [p, a, b]
         self.meeting = threading.Barrier(2)
-        self.listener = socket.create_server(("127.0.0.1", 0))
+        self.listener = socket.create_server(("127.0.0.1", port))
         self.port = self.listener.getsockname()[1]
 
     def __enter__(self):
@@ -184,6 +217,8 @@ class Scripted:
                 elif isinstance(step, Request):
                     if reader.read(len(step.text)) != step.text:
                         return
+                elif step is Step.PAUSE:
+                    time.sleep(0.05)
                 elif step is Step.MEET:
                     self.meeting.wait(SECONDS)
                 elif step is Step.RESET:

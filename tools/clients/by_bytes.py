@@ -109,6 +109,26 @@ def ends_where_it_is_asked(port):
         require(read(stream, 1000), b"END\r\n")
 
 
+def answers_the_whole_requests_of_each_prefix(port):
+    """A client ends its side after each byte: what it began isn't answered, and doesn't happen."""
+    for cut in range(len(ASKED)):
+        with connect(port) as stream:
+            stream.sendall(ASKED[:cut])
+            stream.shutdown(socket.SHUT_WR)
+            wanted, end = b"", 0
+            for request, reply in TALK:
+                end += len(request)
+                wanted += reply if end <= cut else b""
+            require(read(stream, len(ANSWERED)), wanted)
+
+
+def closes_after_a_line_that_is_too_long(port):
+    for line in (b"x" * 2048, b"get " + b"a " * 1022 + b"\r\n", b"delete a noreply" + b" " * 2048):
+        with connect(port) as stream:
+            stream.sendall(line)
+            require(read(stream, 1000), b"CLIENT_ERROR line too long\r\n")
+
+
 def goes_on_after_a_client_left_in_a_request(port):
     for cut in (3, 14, 20):
         with connect(port) as stream:
@@ -124,6 +144,8 @@ if __name__ == "__main__":
         answers_byte_by_byte,
         answers_a_pipeline_of_a_thousand,
         ends_where_it_is_asked,
+        answers_the_whole_requests_of_each_prefix,
+        closes_after_a_line_that_is_too_long,
         goes_on_after_a_client_left_in_a_request,
     ]
     sys.exit(main(tests))

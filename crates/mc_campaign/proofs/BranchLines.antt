@@ -1,15 +1,14 @@
 -- The lines that are printed of a generated branch are those of its pieces.
-use Rattle.std.proofs.Common.{◌≡◌, ℕ, ◌+◌, ◌<◌, ◌≤◌, ◌==◌, Bool, true, false, cond, List, [], ◌∷◌, ◌++◌, map, length, get_or}
-use Rattle.std.proofs.Common.{refl, sym, ap, subst, ◌∙◌, arith, append_assoc, length-append}
+use Rattle.std.proofs.Common.{◌≡◌, ℕ, ◌+◌, ◌<◌, ◌≤◌, ◌==◌, Bool, true, false, cond, List, [], ◌∷◌, ◌++◌, map, length}
+use Rattle.std.proofs.Common.{refl, sym, ap, ◌∙◌, arith, append_assoc, length-append}
 use Rattle.std.proofs.lemmas.Bool.{ne_eqb, eq-eqb}
 use Rattle.std.proofs.lemmas.List.{append-nil}
-use Rattle.mc_protocol.specs.Lines.{Words}
 use Rattle.mc_script.specs.declared.section.Label.{Label}
 use Rattle.mc_script.specs.ScriptWords.{label_word}
-use Rattle.mc_script.specs.PrintedScript.{label_at, label_lines, step_words, step_lines, section_lines}
+use Rattle.mc_script.specs.PrintedScript.{label_at, label_lines, step_words, step_lines}
 use Rattle.mc_campaign.specs.declared.piece.Piece.{Piece}
 use Rattle.mc_campaign.specs.declared.piece.Piece.TheVariants as piece
-use Rattle.mc_campaign.specs.Generated.{key_name, label_name, names_of, steps_of, steps_of_all, labels_of_all, branch_of}
+use Rattle.mc_campaign.specs.Generated.{label_name, names_of, steps_of, steps_of_all, labels_of_all}
 use Rattle.mc_campaign.specs.GeneratedLines.{piece_lines, pieces_lines}
 use Rattle.mc_campaign.proofs.PieceFacts.{IsPiece, ArePieces, IsSingle, key_of}
 use Rattle.mc_campaign.proofs.NameFacts.{key-name, decimal-zero}

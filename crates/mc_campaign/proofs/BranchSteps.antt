@@ -1,8 +1,7 @@
 -- The steps and the labels of a generated branch keep the rules of a section.
-use Rattle.std.proofs.Common.{◌≡◌, ℕ, ◌+◌, ◌*◌, ◌<◌, ◌≤◌, nat_le, Bool, true, false, not, Some, None, List, [], ◌∷◌, ◌++◌, length, decimal}
-use Rattle.std.proofs.Common.{refl, sym, ap, subst, ◌∙◌, arith, append_assoc, length-append, lit<}
+use Rattle.std.proofs.Common.{◌≡◌, ℕ, ◌+◌, ◌*◌, ◌<◌, ◌≤◌, nat_le, true, false, Some, List, [], ◌∷◌, ◌++◌, length, decimal}
+use Rattle.std.proofs.Common.{refl, sym, subst, arith, append_assoc, length-append, lit<}
 use Rattle.std.specs.Prelude.{slice_get}
-use Rattle.std.specs.List.{list_any}
 use Rattle.std.specs.Str.{bytes_eq}
 use Rattle.std.proofs.lemmas.Bool.{and_from, le-leb}
 use Rattle.mc_protocol.specs.Decimals.{MAX_64}
@@ -13,15 +12,14 @@ use Rattle.mc_protocol.specs.declared.request.Verb.TheVariants as verb
 use Rattle.mc_script.specs.declared.section.Label.{Label}
 use Rattle.mc_script.specs.declared.step.Argument.{Argument}
 use Rattle.mc_script.specs.declared.step.Argument.TheVariants as argument
-use Rattle.mc_script.specs.ScriptWords.{is_label_name}
 use Rattle.mc_script.specs.SectionText.{label_names}
 use Rattle.mc_script.specs.Templates.{has_fields, IsTemplate}
-use Rattle.mc_script.specs.WellFormed.{IsBehind, AreSteps, AreLabels}
+use Rattle.mc_script.specs.WellFormed.{IsAfter, AreSteps, AreLabels}
 use Rattle.mc_campaign.specs.declared.piece.Piece.{Piece}
 use Rattle.mc_campaign.specs.declared.piece.Piece.TheVariants as piece
 use Rattle.mc_campaign.specs.Generated.{label_name, names_of, request, storing, bare, setting_flag, needing_flag}
 use Rattle.mc_campaign.specs.Generated.{steps_of, steps_of_all, labels_of_all}
-use Rattle.mc_campaign.proofs.PieceFacts.{IsPiece, ArePieces, IsSingle, number_of}
+use Rattle.mc_campaign.proofs.PieceFacts.{IsPiece, ArePieces, IsSingle}
 use Rattle.mc_campaign.proofs.NameFacts.{decimal-body, label-named, labels-differ}
 
 -- ---- requests
@@ -100,7 +98,7 @@ branch-steps job index place done (piece.Swap key body ∷ pieces) are =
     let size : length (done ++ label ∷ []) ≡ length done + 1 = length-append done (label ∷ []) in
     let next : place + 1 + 1 ≡ place + 2 = omega arith in
     let key-below = are.0.key in
-    let behind : IsBehind all place (length done) = (label, label-found done label after, omega arith) in
+    let behind : IsAfter all place (length done) = (label, label-found done label after, omega arith) in
     let P : List Label → ℕ → ℕ → Type 0 = λ labels at count. AreSteps (names_of job) labels at (steps_of_all count pieces) in
     let others : P ((done ++ label ∷ []) ++ after) (place + 2) (length (done ++ label ∷ []))
     = branch-steps job (index + 1) (place + 2) (done ++ label ∷ []) pieces are.1 in (

@@ -1,6 +1,6 @@
 -- Scripts and code under a name keep the limits of scripts and of code, and the code of the one is the other.
-use Rattle.std.proofs.Common.{◌≡◌, ℕ, ◌+◌, ◌*◌, ◌≤◌, true, Some, None, List, [], ◌∷◌, map, length, min, refl, sym, ap, subst, ◌∙◌, arith}
-use Rattle.std.specs.Prelude.{slice_get, Option}
+use Rattle.std.proofs.Common.{◌≡◌, ℕ, ◌+◌, ◌*◌, ◌≤◌, true, Some, None, List, [], ◌∷◌, length, refl, sym, ap, subst, ◌∙◌}
+use Rattle.std.specs.Prelude.{Option}
 use Rattle.std.specs.Option.{option_map}
 use Rattle.std.specs.List.{All}
 use Rattle.std.proofs.lemmas.Option.{slice_get-map}
@@ -9,7 +9,6 @@ use Rattle.mc_protocol.specs.Lines.{Word}
 use Rattle.mc_protocol.specs.declared.actor.Actor.{Actor}
 use Rattle.mc_protocol.specs.declared.actor.Actor.TheVariants as actor
 use Rattle.mc_protocol.specs.declared.limits.TheConstants.{REQUEST_BYTES_LIMIT}
-use Rattle.mc_protocol.specs.declared.request.Request.{Request}
 use Rattle.mc_protocol.specs.declared.request.Verb.{Verb}
 use Rattle.mc_protocol.specs.declared.reply.Class.{Class}
 use Rattle.mc_script.specs.declared.section.Budget.{Budget}
@@ -20,12 +19,9 @@ use Rattle.mc_script.specs.Script as script
 use Rattle.mc_script.specs.Templates.{IsTemplate}
 use Rattle.mc_script.specs.WellFormed as formed
 use Rattle.mc_code.specs.Code as code
-use Rattle.mc_code.specs.Layout.{code_of}
-use Rattle.mc_code.specs.Requests.{IsRequest}
 use Rattle.mc_code.specs.ScriptRuns.{clearing_steps}
-use Rattle.mc_code.specs.declared.instr.Call.{Call}
 use Rattle.mc_campaign.specs.Namespaces.{CodesFollowScripts, ScriptsStayScripts, RequestsDifferByKeys}
-use Rattle.mc_campaign.specs.Namespaces.{is_namespace, key_under, keys_under, budget_under, section_under, script_under, code_section_under, code_under}
+use Rattle.mc_campaign.specs.Namespaces.{is_namespace, key_under, keys_under, budget_under, section_under, code_section_under, code_under}
 use Rattle.mc_campaign.specs.Namespaces.{added_bytes, request_under, AreShort}
 use Rattle.mc_campaign.specs.ImageFronts.{IsSmall}
 use Rattle.mc_campaign.proofs.KeysUnder.{count-under, some-key-under, declared-under}

@@ -1,6 +1,6 @@
 -- What the outputs of a generator say is a script.
-use Rattle.std.proofs.Common.{◌≡◌, ℕ, ◌+◌, ◌*◌, ◌%◌, ◌<◌, ◌≤◌, ◌==◌, nat_le, Bool, true, false, Option, Some, None, List, [], ◌∷◌, length}
-use Rattle.std.proofs.Common.{refl, sym, ap, ◌∙◌, arith, max}
+use Rattle.std.proofs.Common.{◌≡◌, ℕ, ◌+◌, ◌<◌, ◌≤◌, ◌==◌, Option, Some, None, List, [], length}
+use Rattle.std.proofs.Common.{refl, arith}
 use Rattle.std.proofs.lemmas.Bool.{le-leb, cond_both}
 use Rattle.mc_protocol.specs.Decimals.{MAX_64}
 use Rattle.mc_script.specs.declared.version.Version.TheVariants as version
@@ -10,7 +10,7 @@ use Rattle.mc_campaign.specs.declared.piece.Piece.{Piece}
 use Rattle.mc_campaign.specs.Outputs.{Outputs, rest, draw, outputs_for}
 use Rattle.mc_campaign.specs.Pieces.{branch_in}
 use Rattle.mc_campaign.specs.Generated.{names_of, branch_of, prefix_of, second_in, Plan, plan_in, script_of, generated}
-use Rattle.mc_campaign.specs.Generated.{steps_of_all, labels_of_all}
+use Rattle.mc_campaign.specs.Generated.{steps_of_all}
 use Rattle.mc_campaign.proofs.PieceFacts.{ArePieces, are-pieces, length-pieces}
 use Rattle.mc_campaign.proofs.NameFacts.{declared}
 use Rattle.mc_campaign.proofs.BranchSteps.{stores, sets-flag, branch-steps, few-steps, branch-labels, labels-distinct}

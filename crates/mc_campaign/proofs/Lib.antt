@@ -6,6 +6,10 @@ pub mod Formed
 pub mod Texts
 pub mod RefusalFacts
 pub mod Less
+pub mod Closing
+pub mod Judged
+pub mod MoreJobs
+pub mod WrittenReport
 pub mod KeysUnder
 pub mod CodeUnder
 pub mod ImageUnder

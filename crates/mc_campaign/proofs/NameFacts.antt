@@ -1,7 +1,7 @@
 -- The names of a generated script are names, and differ; the decimal of a small number is a body.
 use Rattle.std.proofs.Common.{◌≡◌, ℕ, zero, suc, ◌+◌, ◌<◌, ◌≤◌, ◌==◌, nat_le, Bool, true, false, not, ◌&&◌, ◌||◌, List, [], ◌∷◌, ◌++◌}
-use Rattle.std.proofs.Common.{length, codes, decimal, refl, sym, ap, subst, ◌∙◌, arith, length-append}
-use Rattle.std.specs.List.{list_all, list_any}
+use Rattle.std.proofs.Common.{length, codes, decimal, refl, ap, subst, ◌∙◌, arith, length-append}
+use Rattle.std.specs.List.{list_all}
 use Rattle.std.specs.Str.{bytes_eq}
 use Rattle.std.proofs.lemmas.Bool.{and_parts, and_from, le-leb, false_from_ne_true}
 use Rattle.std.proofs.lemmas.Bool.Decides.{nat_tests}
@@ -12,9 +12,9 @@ use Rattle.std.proofs.lemmas.Slice.Eq.{bytes_eq-Decides}
 use Rattle.mc_protocol.proofs.Decimals.{decimal-spells, one_number}
 use Rattle.mc_protocol.specs.Decimals.{SpellsNumber, is_digit, are_digits, MAX_64}
 use Rattle.mc_protocol.specs.Lines.{Word}
-use Rattle.mc_protocol.specs.Names.{is_name_byte, are_name_bytes, is_name, is_new, are_distinct}
+use Rattle.mc_protocol.specs.Names.{is_name_byte, are_name_bytes, is_name, are_distinct}
 use Rattle.mc_script.specs.PrintedScript.{name_at}
-use Rattle.mc_script.specs.Script.{AreDeclared, may_be_declared}
+use Rattle.mc_script.specs.Script.{AreDeclared}
 use Rattle.mc_script.specs.ScriptWords.{is_label_name, is_body_byte, are_body_bytes, is_body}
 use Rattle.mc_campaign.specs.Generated.{key_name, label_name, names_of}
 

@@ -1,5 +1,5 @@
 -- What is so of each piece that outputs say: it has one of two keys, and a number of at most two digits.
-use Rattle.std.proofs.Common.{◌≡◌, ℕ, zero, suc, ◌+◌, ◌%◌, ◌<◌, ◌==◌, Bool, true, false, List, [], ◌∷◌, length, refl, ap, arith}
+use Rattle.std.proofs.Common.{◌≡◌, ℕ, zero, suc, ◌+◌, ◌<◌, ◌==◌, Bool, true, false, List, [], ◌∷◌, length, refl, ap, arith}
 use Rattle.std.specs.Prelude.{if◌then◌else◌}
 use Rattle.mc_campaign.specs.declared.piece.Piece.{Piece}
 use Rattle.mc_campaign.specs.declared.piece.Piece.TheVariants as piece

@@ -1,5 +1,5 @@
 -- What a refusal of the code of a generated script tells.
-use Rattle.std.proofs.Common.{◌≡◌, ◌⊎◌, inl, inr, Result, Ok, Err, IfErr, refl, ap, subst}
+use Rattle.std.proofs.Common.{◌≡◌, inl, inr, Result, Ok, Err, IfErr, refl, ap, subst}
 use Rattle.mc_script.specs.Script.{Script}
 use Rattle.mc_code.specs.Code.{Code}
 use Rattle.mc_code.specs.Layout.{code_of}

@@ -1,5 +1,5 @@
 -- Which script a generator makes.
-use Rattle.std.specs.Prelude.{ℕ, ◌+◌, ◌==◌, Option, Some, None, List, [], ◌∷◌, ◌++◌, length, codes, decimal, if◌then◌else◌}
+use Rattle.std.specs.Prelude.{ℕ, ◌+◌, ◌==◌, Option, Some, None, List, [], ◌∷◌, ◌++◌, codes, decimal, if◌then◌else◌}
 use Rattle.mc_protocol.specs.Lines.{Word}
 use Rattle.mc_protocol.specs.declared.reply.Class.TheVariants as class
 use Rattle.mc_protocol.specs.declared.request.Verb.{Verb}

@@ -4,6 +4,12 @@ pub mod Pieces
 pub mod Generated
 pub mod Refusals
 pub mod Shrunk
+pub mod Meetings
+pub mod Outcomes
+pub mod Messages
+pub mod Reports
+pub mod ReportText
+pub mod ReportStatus
 pub mod Namespaces
 -- What private contracts cite.
 pub mod GeneratedLines

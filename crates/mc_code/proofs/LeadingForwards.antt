@@ -15,7 +15,7 @@ use Rattle.mc_script.specs.declared.step.Step.{Step}
 use Rattle.mc_script.specs.declared.step.Step.TheVariants as step
 use Rattle.mc_script.specs.declared.step.Template.{Template}
 use Rattle.mc_script.specs.Script.{Names, Script}
-use Rattle.mc_script.specs.WellFormed.{AreJumps, AreSteps, IsBehind, IsScript, IsStep, is_number_class}
+use Rattle.mc_script.specs.WellFormed.{AreJumps, AreSteps, IsAfter, IsScript, IsStep, is_number_class}
 use Rattle.mc_code.specs.declared.instr.Instr.{Instr}
 use Rattle.mc_code.specs.declared.instr.Instr.TheVariants as instr
 use Rattle.mc_code.specs.declared.limits.TheConstants.{NO_ENTRY}
@@ -33,9 +33,9 @@ use Rattle.mc_code.proofs.WellLaid.{script_laid}
 
 -- the labels of the step at this place stand after it
 abbrev IsOnward : List Label → ℕ → Step → Type 0
-IsOnward labels p (step.Send t jumps bind) = (class : Class) (index : ℕ) → jump_on class jumps ≡ Some index → IsBehind labels p index
+IsOnward labels p (step.Send t jumps bind) = (class : Class) (index : ℕ) → jump_on class jumps ≡ Some index → IsAfter labels p index
 IsOnward labels p (step.Bind variable) = Unit {0}
-IsOnward labels p (step.Goto label) = IsBehind labels p label
+IsOnward labels p (step.Goto label) = IsAfter labels p label
 IsOnward labels p step.Halt = Unit {0}
 
 -- those of all steps, the first one at this place
@@ -61,19 +61,19 @@ clearing_onward : (labels : List Label) (p key : ℕ) (keys : List Word) → Are
 clearing_onward labels p key [] = tt
 clearing_onward labels p key (_ ∷ keys) = (λ c index e. absurd (cc), clearing_onward labels (p + 1) (key + 1) keys)
 
-after_moved : (labels : List Label) (count p q index : ℕ) → q ≡ count + p → IsBehind labels p index → IsBehind (map (shift_label count) labels) q index
+after_moved : (labels : List Label) (count p q index : ℕ) → q ≡ count + p → IsAfter labels p index → IsAfter (map (shift_label count) labels) q index
 after_moved labels count p q index place (label, at, after) =
     (shift_label count label, slice_get-map (shift_label count) labels index ∙ ap (option_map (shift_label count)) at, omega (arith, place, after))
 
 jump_after : (v : Verb) (labels : List Label) (place least : ℕ) (jumps : List (Class × ℕ)) → AreJumps v labels place least jumps
-    → (c : Class) (index : ℕ) → jump_on c jumps ≡ Some index → IsBehind labels place index
+    → (c : Class) (index : ℕ) → jump_on c jumps ≡ Some index → IsAfter labels place index
 jump_after v labels place least [] are c index on = absurd (cc)
 jump_after v labels place least (jump ∷ jumps) are c index on =
     by_class (class_index c == class_index jump.0) on (jump_after v labels place (class_index jump.0 + 1) jumps are.3 c index)
   where
-    by_class : (b : Bool) → (if b then Some jump.1 else jump_on c jumps) ≡ Some index → (jump_on c jumps ≡ Some index → IsBehind labels place index)
-        → IsBehind labels place index
-    by_class true on others = subst (IsBehind labels place) (some_is jump.1 index on) are.2
+    by_class : (b : Bool) → (if b then Some jump.1 else jump_on c jumps) ≡ Some index → (jump_on c jumps ≡ Some index → IsAfter labels place index)
+        → IsAfter labels place index
+    by_class true on others = subst (IsAfter labels place) (some_is jump.1 index on) are.2
     by_class false on others = others on
 
 step_onward : (names : Names) (labels : List Label) (count p q : ℕ) (s : Step) → q ≡ count + p → IsStep names labels p s
@@ -118,7 +118,7 @@ some_code step.Halt = omega arith
 abbrev IsAhead : List Step → ℕ → ℕ → Type 0
 IsAhead steps x y = (x < y) × (y ≤ size_of_all steps)
 
-label_ahead : (labels : List Label) (steps : List Step) (p : ℕ) (s : Step) (index : ℕ) → slice_get steps p ≡ Some s → IsBehind labels p index
+label_ahead : (labels : List Label) (steps : List Step) (p : ℕ) (s : Step) (index : ℕ) → slice_get steps p ≡ Some s → IsAfter labels p index
     → IsAhead steps (code_place steps p) (label_place labels steps index)
 label_ahead labels steps p s index at (label, is, after) =
     subst (IsAhead steps (code_place steps p)) (sym (ap (after_label steps) is))
@@ -126,7 +126,7 @@ label_ahead labels steps p s index at (label, is, after) =
     (omega (arith, more, some_code s), place-below steps label.place))
 
 entry_ahead : (labels : List Label) (steps : List Step) (p : ℕ) (t : Template) (jumps : List (Class × ℕ)) (bind : Option ℕ) (c : Class) (to : Option ℕ)
-    → slice_get steps p ≡ Some (step.Send t jumps bind) → ((index : ℕ) → to ≡ Some index → IsBehind labels p index)
+    → slice_get steps p ≡ Some (step.Send t jumps bind) → ((index : ℕ) → to ≡ Some index → IsAfter labels p index)
     → IsAhead steps (code_place steps p) (entry_for labels steps p bind c to)
 entry_ahead labels steps p t jumps bind c (Some index) at after = label_ahead labels steps p (step.Send t jumps bind) index at (after index refl)
 entry_ahead labels steps p t jumps None c None at after =

@@ -8,6 +8,7 @@ pub mod MeetLines
 pub mod NamedServers
 pub mod OptionValue
 pub mod PlainLines
+pub mod Played
 pub mod Right
 pub mod RunLines
 pub mod ServeLines

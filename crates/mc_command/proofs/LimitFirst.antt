@@ -5,8 +5,8 @@ use Rattle.clap.specs.Walk.{Held, Text, Walk, nothing_held, settled, walk_from, 
 use Rattle.clap.proofs.OnLiterals.{clap_on_literals}
 use Rattle.mc_command.proofs.LimitLines.{limit_words}
 use Rattle.mc_command.proofs.OptionValue.{IsNoFlag, value_walked, value_has_no_fault, waiting_walk}
-use Rattle.mc_command.proofs.RunLines.{run_shape, first_walked, first_fault, end_of, faults_after, found_after}
-use Rattle.mc_command.specs.CommandLine.{line_command, line_faults, line_limit, line_meeting, line_target, line_value}
+use Rattle.mc_command.proofs.RunLines.{NoRunWords, run_shape, first_walked, first_fault, end_of, faults_after, found_after}
+use Rattle.mc_command.specs.CommandLine.{line_command, line_faults, line_limit, line_target, line_value}
 
 -- what is held once `--limit` has its value as a word of its own, and what is held once the value is read
 abbrev limit_held : Text → Held
@@ -41,9 +41,14 @@ module _ (program : Text) (server : Text) (plain : IsNoFlag server) (number : Te
   unfolding line_value clap_on_literals run_shape server_taken
   joined_has_limit = ap (found_after (codes "limit") []) joined_takes_server
 
-  pub joined_has_no_meeting : line_meeting (program ∷ codes "run" ∷ (codes "--limit=" ++ number) ∷ server ∷ []) ≡ None
+  pub joined_has_no_words : NoRunWords (line_value (program ∷ codes "run" ∷ (codes "--limit=" ++ number) ∷ server ∷ []))
   unfolding line_value clap_on_literals run_shape server_taken
-  joined_has_no_meeting = ap (found_after (codes "meet") []) joined_takes_server
+  joined_has_no_words = record {
+    meeting = ap (found_after (codes "meet") []) joined_takes_server;
+    name = ap (found_after (codes "name") []) joined_takes_server;
+    timeout = ap (found_after (codes "timeout") []) joined_takes_server;
+    wait = ap (found_after (codes "wait") []) joined_takes_server;
+  }
 
   pub joined_names : line_target (program ∷ codes "run" ∷ (codes "--limit=" ++ number) ∷ server ∷ []) ≡ Some server
   unfolding line_value clap_on_literals run_shape server_taken
@@ -89,9 +94,14 @@ module _ (program : Text) (server : Text) (plain : IsNoFlag server) (number : Te
     unfolding line_value clap_on_literals run_shape server_taken limit_waits
     apart_has_limit = ap (found_after (codes "limit") []) takes_both
 
-    pub apart_has_no_meeting : line_meeting (program ∷ codes "run" ∷ (limit_words number ++ server ∷ [])) ≡ None
+    pub apart_has_no_words : NoRunWords (line_value (program ∷ codes "run" ∷ (limit_words number ++ server ∷ [])))
     unfolding line_value clap_on_literals run_shape server_taken limit_waits
-    apart_has_no_meeting = ap (found_after (codes "meet") []) takes_both
+    apart_has_no_words = record {
+      meeting = ap (found_after (codes "meet") []) takes_both;
+      name = ap (found_after (codes "name") []) takes_both;
+      timeout = ap (found_after (codes "timeout") []) takes_both;
+      wait = ap (found_after (codes "wait") []) takes_both;
+    }
 
     pub apart_names : line_target (program ∷ codes "run" ∷ (limit_words number ++ server ∷ [])) ≡ Some server
     unfolding line_value clap_on_literals run_shape server_taken limit_waits

@@ -13,8 +13,8 @@ use Rattle.clap.proofs.WalkLemmas.{first_value-rows}
 use Rattle.mc_command.specs.declared.arguments.Asked.{Asked}
 use Rattle.mc_command.specs.declared.arguments.Asked.TheVariants as asked
 use Rattle.mc_command.specs.declared.serve.Service.{Service}
-use Rattle.mc_command.specs.Command.{AsksFor, IsAskedBy, IsConnections, IsFaultOf, IsJob, IsLimit, IsPort, IsSeed, IsShown, NamesMeeting}
-use Rattle.mc_command.specs.CommandLine.{given_name, given_value, line_command, line_faults, line_limit, line_meeting, line_value, program_app}
+use Rattle.mc_command.specs.Command.{AreRunWords, AsksFor, IsAskedBy, IsConnections, IsFaultOf, IsJob, IsLimit, IsPort, IsSeed, IsShown}
+use Rattle.mc_command.specs.CommandLine.{given_name, given_value, line_command, line_faults, line_limit, line_value, program_app}
 
 -- the faults of the command that the program makes
 pub line_faults-is : (app : App) (words : List (List ℕ)) → app ≡ program_app
@@ -64,6 +64,15 @@ module _ (app : App) (words : List (List ℕ)) (m : ArgMatches) (is : app ≡ pr
       → (name : Text) → line_value words name ≡ first_value (found_of options) name
   value_is options rows name = sym (line_value-is app words m is found name)
       ∙ (value_of_rows (subcommand_rows_of m) _ name rows ∙ sym (first_value-rows (found_of options) name))
+
+-- the same words of `run`, however they are found
+pub run_words_agree : {one other : Text → Option Text} → ((name : Text) → one name ≡ other name) → AreRunWords other → AreRunWords one
+run_words_agree same are = record {
+  meeting = rw (same (codes "meet")) are.meeting;
+  name = rw (same (codes "name")) are.name;
+  timeout = rw (same (codes "timeout")) are.timeout;
+  wait = rw (same (codes "wait")) are.wait;
+}
 
 -- a fault that clap finds
 found_by_clap : (words : List (List ℕ)) (found : ErrorKind) → IsAmong found (line_faults words) → IsFaultOf words found
@@ -149,7 +158,7 @@ nothing_driven command value named none (asked.Generate seed job) asks = asks_ot
 nothing_driven command value named none (asked.Serve service) asks = asks_otherwise value named (asked.Serve service) refl asks
 
 nothing_run : (command : Option Text) (value : Text → Option Text) → command ≡ Some (codes "run")
-    → ((limit : ℕ) → IsLimit (value (codes "limit")) limit × NamesMeeting (value (codes "meet")) → ⊥) → (wanted : Asked) → IsAskedBy command value wanted → ⊥
+    → ((limit : ℕ) → IsLimit (value (codes "limit")) limit × AreRunWords value → ⊥) → (wanted : Asked) → IsAskedBy command value wanted → ⊥
 nothing_run command value named none (asked.Judge limit) asks = asks_otherwise value named (asked.Judge limit) refl asks
 nothing_run command value named none asked.Check asks = asks_otherwise value named asked.Check refl asks
 nothing_run command value named none asked.Asm asks = asks_otherwise value named asked.Asm refl asks
@@ -193,8 +202,8 @@ module _ (words : List (List ℕ)) (found : ErrorKind) (is : found ≡ kind.Valu
   pub no_limit_of_run : line_command words ≡ Some (codes "run") → ((limit : ℕ) → IsLimit (line_limit words) limit → ⊥) → IsFaultOf words found
   no_limit_of_run named none = no_value (nothing_run _ (line_value words) named (λ limit both. none limit both.0))
 
-  pub no_meeting : line_command words ≡ Some (codes "run") → (NamesMeeting (line_meeting words) → ⊥) → IsFaultOf words found
-  no_meeting named none = no_value (nothing_run _ (line_value words) named (λ limit both. none both.1))
+  pub no_run_words : line_command words ≡ Some (codes "run") → (AreRunWords (line_value words) → ⊥) → IsFaultOf words found
+  no_run_words named none = no_value (nothing_run _ (line_value words) named (λ limit both. none both.1))
 
   pub no_seed : line_command words ≡ Some (codes "generate") → ((seed : ℕ) → IsSeed (line_value words (codes "seed")) seed → ⊥) → IsFaultOf words found
   no_seed named none = no_value (nothing_generated _ (line_value words) named (λ seed job both. none seed both.0))

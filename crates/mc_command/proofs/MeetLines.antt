@@ -6,10 +6,11 @@ use Rattle.clap.specs.Walk.{Held, Text, Walk, settled}
 use Rattle.clap.proofs.OnLiterals.{clap_on_literals}
 use Rattle.mc_command.proofs.Line.{line_asks_otherwise}
 use Rattle.mc_command.proofs.OptionValue.{IsNoFlag, value_walked, value_has_no_fault}
-use Rattle.mc_command.proofs.PlainLines.{name_is_no_flag}
+use Rattle.mc_command.proofs.PlainLines.{name_is_no_flag, no_word_is_no_name, no_word_is_no_time}
 use Rattle.mc_command.proofs.RunLines.{run_shape, server_taken, takes_server, takes_it_without_faults, end_of, found_after, faults_after, faults_at}
 use Rattle.mc_command.specs.Command.{AsksFor, IsFaulty, IsMeeting, NamesMeeting, meeting_word}
-use Rattle.mc_command.specs.CommandLine.{DEFAULT_LIMIT, line_command, line_faults, line_limit, line_meeting, line_target, line_value}
+use Rattle.mc_command.specs.CommandLine.{DEFAULT_LIMIT, line_command, line_faults, line_limit, line_meeting, line_name, line_target}
+use Rattle.mc_command.specs.CommandLine.{line_timeout, line_value, line_wait}
 use Rattle.mc_command.specs.LineLaws.{RunLinesMeet}
 use Rattle.mc_command.specs.declared.arguments.Asked.TheVariants as asked
 use Rattle.mc_command.specs.declared.meeting.Meeting.{Meeting}
@@ -44,6 +45,9 @@ record Found (words : List Text) (server : Text) (word : Text) : Type 0 where
   unlimited : line_limit words ≡ None
   meeting : line_meeting words ≡ Some word
   target : line_target words ≡ Some server
+  unnamed : line_name words ≡ None
+  unending : line_timeout words ≡ None
+  hasty : line_wait words ≡ None
 
 module _ (program : Text) (server : Text) (plain : IsNoFlag server) (word : Text) where
   -- `run SERVER --meet=WORD`
@@ -70,6 +74,18 @@ module _ (program : Text) (server : Text) (plain : IsNoFlag server) (word : Text
   unfolding line_value clap_on_literals run_shape server_taken joined
   joined_names = ap (found_after (codes "target") (joined ∷ [])) (takes_server server plain)
 
+  joined_is_unnamed : line_name (program ∷ codes "run" ∷ server ∷ joined ∷ []) ≡ None
+  unfolding line_value clap_on_literals run_shape server_taken joined
+  joined_is_unnamed = ap (found_after (codes "name") (joined ∷ [])) (takes_server server plain)
+
+  joined_is_unending : line_timeout (program ∷ codes "run" ∷ server ∷ joined ∷ []) ≡ None
+  unfolding line_value clap_on_literals run_shape server_taken joined
+  joined_is_unending = ap (found_after (codes "timeout") (joined ∷ [])) (takes_server server plain)
+
+  joined_is_hasty : line_wait (program ∷ codes "run" ∷ server ∷ joined ∷ []) ≡ None
+  unfolding line_value clap_on_literals run_shape server_taken joined
+  joined_is_hasty = ap (found_after (codes "wait") (joined ∷ [])) (takes_server server plain)
+
   joined_found : Found (program ∷ codes "run" ∷ server ∷ (codes "--meet=" ++ word) ∷ []) server word
   unfolding joined
   joined_found = record {
@@ -78,6 +94,9 @@ module _ (program : Text) (server : Text) (plain : IsNoFlag server) (word : Text
     unlimited = joined_is_unlimited;
     meeting = joined_has_meeting;
     target = joined_names;
+    unnamed = joined_is_unnamed;
+    unending = joined_is_unending;
+    hasty = joined_is_hasty;
   }
 
   -- `run SERVER --meet WORD`
@@ -106,6 +125,21 @@ module _ (program : Text) (server : Text) (plain : IsNoFlag server) (word : Text
     apart_names = ap (found_after (codes "target") (meet_words word)) (takes_server server plain)
         ∙ ap (found_after (codes "target") []) (takes_value server word value)
 
+    apart_is_unnamed : line_name (program ∷ codes "run" ∷ server ∷ meet_words word) ≡ None
+    unfolding line_value clap_on_literals run_shape server_taken value_taken
+    apart_is_unnamed = ap (found_after (codes "name") (meet_words word)) (takes_server server plain)
+        ∙ ap (found_after (codes "name") []) (takes_value server word value)
+
+    apart_is_unending : line_timeout (program ∷ codes "run" ∷ server ∷ meet_words word) ≡ None
+    unfolding line_value clap_on_literals run_shape server_taken value_taken
+    apart_is_unending = ap (found_after (codes "timeout") (meet_words word)) (takes_server server plain)
+        ∙ ap (found_after (codes "timeout") []) (takes_value server word value)
+
+    apart_is_hasty : line_wait (program ∷ codes "run" ∷ server ∷ meet_words word) ≡ None
+    unfolding line_value clap_on_literals run_shape server_taken value_taken
+    apart_is_hasty = ap (found_after (codes "wait") (meet_words word)) (takes_server server plain)
+        ∙ ap (found_after (codes "wait") []) (takes_value server word value)
+
     apart_found : Found (program ∷ codes "run" ∷ server ∷ meet_words word) server word
     apart_found = record {
       right = apart_is_right;
@@ -113,13 +147,28 @@ module _ (program : Text) (server : Text) (plain : IsNoFlag server) (word : Text
       unlimited = apart_is_unlimited;
       meeting = apart_has_meeting;
       target = apart_names;
+      unnamed = apart_is_unnamed;
+      unending = apart_is_unending;
+      hasty = apart_is_hasty;
     }
 
 -- what such a line asks for, and that it has a fault where the word names no meeting
 found_asks : (words : List Text) (server : Text) (word : Text) → Found words server word → (wanted : Meeting) → word ≡ meeting_word wanted
     → AsksFor words (asked.Run DEFAULT_LIMIT) × (line_target words ≡ Some server) × IsMeeting (line_meeting words) wanted
 found_asks words server word found wanted is = (
-  (found.right, (found.named, rw found.unlimited refl, (wanted, rw found.meeting is))),
+  (
+    found.right,
+    (
+      found.named,
+      rw found.unlimited refl,
+      record {
+        meeting = (wanted, rw found.meeting is);
+        name = no_word_is_no_name found.unnamed;
+        timeout = no_word_is_no_time found.unending;
+        wait = no_word_is_no_time found.hasty;
+      },
+    ),
+  ),
   found.target,
   rw found.meeting is,
 )
@@ -131,7 +180,7 @@ found_is_faulty words server word found none asked.Asm asks = line_asks_otherwis
 found_is_faulty words server word found none (asked.Drive limit) asks = line_asks_otherwise words found.named (asked.Drive limit) refl asks
 found_is_faulty words server word found none (asked.Generate seed job) asks = line_asks_otherwise words found.named (asked.Generate seed job) refl asks
 found_is_faulty words server word found none (asked.Serve service) asks = line_asks_otherwise words found.named (asked.Serve service) refl asks
-found_is_faulty words server word found none (asked.Run limit) asks = none (rw found.meeting at asks.1.2)
+found_is_faulty words server word found none (asked.Run limit) asks = none (rw found.meeting at asks.1.2.meeting)
 
 pub run_lines_meet : RunLinesMeet
 run_lines_meet words server word (program, names, inl apart) =

@@ -2,7 +2,7 @@
 use Rattle.std.proofs.Common.{refl, inl, inr, codes, ℕ, List, ◌∷◌, ◌++◌, [], ◌≡◌, Some}
 use Rattle.mc_command.proofs.LimitFirst as first
 use Rattle.mc_command.proofs.OptionValue.{IsNoFlag}
-use Rattle.mc_command.proofs.PlainLines.{decimal_is_no_flag, name_is_no_flag, no_word_is_drawn, run_asks}
+use Rattle.mc_command.proofs.PlainLines.{decimal_is_no_flag, name_is_no_flag, no_words_are_right, run_asks}
 use Rattle.mc_command.proofs.RunLines as run
 use Rattle.mc_command.specs.declared.arguments.Asked.TheVariants as asked
 use Rattle.mc_command.specs.Command.{AsksFor}
@@ -31,7 +31,7 @@ limit_first program server others limit plain (inr (number, spells, inl apart)) 
         (
           first.apart_is_named program server plain number value,
           rw (first.apart_has_limit program server plain number value) spells,
-          no_word_is_drawn (first.apart_has_no_meeting program server plain number value),
+          no_words_are_right (first.apart_has_no_words program server plain number value),
         ),
       ),
       first.apart_names program server plain number value,
@@ -43,7 +43,7 @@ limit_first program server others limit plain (inr (number, spells, inr joined))
         (
           first.joined_is_named program server plain number,
           rw (first.joined_has_limit program server plain number) spells,
-          no_word_is_drawn (first.joined_has_no_meeting program server plain number),
+          no_words_are_right (first.joined_has_no_words program server plain number),
         ),
       ),
       first.joined_names program server plain number,

@@ -3,7 +3,9 @@ use Rattle.std.proofs.Common.{refl, sym, arith, ap, ap₂, inl, inr, codes, true
 use Rattle.clap.proofs.OnLiterals.{clap_on_literals}
 use Rattle.mc_protocol.specs.Decimals.{SpellsNumber, are_digits, is_digit}
 use Rattle.mc_command.proofs.Line.{first_byte, is_named_by, line_asks_otherwise, name_of_asked}
+use Rattle.clap.specs.Words.{Text}
 use Rattle.mc_command.proofs.RunLines as run
+use Rattle.mc_command.proofs.RunLines.{NoRunWords}
 use Rattle.mc_command.proofs.ServeLines as serve
 use Rattle.mc_command.proofs.LimitLines.{TakesLimit, drive_takes_limit, judge_takes_limit}
 use Rattle.mc_command.proofs.OptionValue.{IsNoFlag, no_flag}
@@ -11,7 +13,7 @@ use Rattle.mc_command.specs.declared.arguments.Asked.{Asked}
 use Rattle.mc_command.specs.declared.arguments.Asked.TheVariants as asked
 use Rattle.mc_command.specs.declared.meeting.Meeting.TheVariants as meeting
 use Rattle.mc_command.specs.declared.serve.Service.{Service}
-use Rattle.mc_command.specs.Command.{AsksFor, IsConnections, IsLimit, IsNumber, NamesMeeting, is_set}
+use Rattle.mc_command.specs.Command.{AreRunWords, AsksFor, IsConnections, IsLimit, IsNumber, MayBeTime, MayName, NamesMeeting, is_set}
 use Rattle.mc_command.specs.CommandLine.{GREATEST_LIMIT, line_command, line_faults, line_limit, line_value}
 use Rattle.mc_command.specs.LineLaws.{IsName, NamesJob, NamesLimit, NamesService, LinesAskOnce, PlainLinesAsk, SignedLimitsAreFaulty}
 use Rattle.std.proofs.lemmas.Bool.{ne_eqb}
@@ -112,8 +114,22 @@ names_limit name takes program others limit (inr (number, spells, inr joined)) =
 pub name_is_no_flag : (server : List ℕ) → IsName server → IsNoFlag server
 name_is_no_flag server (first, others, is, other) = rw is (no_flag first others other)
 
-pub no_word_is_drawn : {word : Option (List ℕ)} → word ≡ None → NamesMeeting word
+no_word_is_drawn : {word : Option (List ℕ)} → word ≡ None → NamesMeeting word
 no_word_is_drawn is = rw is (meeting.Drawn, refl)
+
+pub no_word_is_no_name : {word : Option (List ℕ)} → word ≡ None → MayName word
+no_word_is_no_name is = rw is tt
+
+pub no_word_is_no_time : {word : Option (List ℕ)} → word ≡ None → MayBeTime word
+no_word_is_no_time is = rw is tt
+
+pub no_words_are_right : {value : Text → Option Text} → NoRunWords value → AreRunWords value
+no_words_are_right none = record {
+  meeting = no_word_is_drawn none.meeting;
+  name = no_word_is_no_name none.name;
+  timeout = no_word_is_no_time none.timeout;
+  wait = no_word_is_no_time none.wait;
+}
 
 pub run_asks : (program : List ℕ) (server : List ℕ) (others : List (List ℕ)) (limit : ℕ) → IsNoFlag server → NamesLimit others limit
     → AsksFor (program ∷ codes "run" ∷ server ∷ others) (asked.Run limit)
@@ -123,7 +139,7 @@ run_asks program server others limit plain (inl none) =
       (
         run.alone_is_named program server plain,
         rw (run.alone_has_no_limit program server plain) none.1,
-        no_word_is_drawn (run.alone_has_no_meeting program server plain),
+        no_words_are_right (run.alone_has_no_words program server plain),
       ),
     )
 run_asks program server others limit plain (inr (number, spells, inl apart)) =
@@ -133,7 +149,7 @@ run_asks program server others limit plain (inr (number, spells, inl apart)) =
       (
         run.apart_is_named program server plain number value,
         rw (run.apart_has_limit program server plain number value) spells,
-        no_word_is_drawn (run.apart_has_no_meeting program server plain number value),
+        no_words_are_right (run.apart_has_no_words program server plain number value),
       ),
     )
 run_asks program server others limit plain (inr (number, spells, inr joined)) =
@@ -142,7 +158,7 @@ run_asks program server others limit plain (inr (number, spells, inr joined)) =
       (
         run.joined_is_named program server plain number,
         rw (run.joined_has_limit program server plain number) spells,
-        no_word_is_drawn (run.joined_has_no_meeting program server plain number),
+        no_words_are_right (run.joined_has_no_words program server plain number),
       ),
     )
 

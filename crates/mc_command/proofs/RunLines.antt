@@ -14,7 +14,16 @@ use Rattle.clap.specs.Walk.{nothing_held, settled, short_or_plain, to_positional
 use Rattle.clap.proofs.OnLiterals.{clap_on_literals}
 use Rattle.mc_command.proofs.LimitLines.{limit_words}
 use Rattle.mc_command.proofs.OptionValue.{IsNoFlag, value_walked, value_has_no_fault}
-use Rattle.mc_command.specs.CommandLine.{line_command, line_faults, line_limit, line_meeting, line_target, line_value, program_app, run_app}
+use Rattle.mc_command.specs.CommandLine.{line_command, line_faults, line_limit, line_target, line_value, program_app, run_app}
+
+-- ---- the words that `run` may take beside its limit
+
+-- none of them is there
+pub record NoRunWords (value : Text → Option Text) : Type 0 where
+  pub meeting : value (codes "meet") ≡ None
+  pub name : value (codes "name") ≡ None
+  pub timeout : value (codes "timeout") ≡ None
+  pub wait : value (codes "wait") ≡ None
 
 -- ---- a word that is no flag, where nothing waits for one
 
@@ -112,9 +121,14 @@ module _ (program : Text) (server : Text) (plain : IsNoFlag server) where
   unfolding line_value clap_on_literals run_shape server_taken
   alone_has_no_limit = ap (found_after (codes "limit") []) (takes_server server plain)
 
-  pub alone_has_no_meeting : line_meeting (program ∷ codes "run" ∷ server ∷ []) ≡ None
+  pub alone_has_no_words : NoRunWords (line_value (program ∷ codes "run" ∷ server ∷ []))
   unfolding line_value clap_on_literals run_shape server_taken
-  alone_has_no_meeting = ap (found_after (codes "meet") []) (takes_server server plain)
+  alone_has_no_words = record {
+    meeting = ap (found_after (codes "meet") []) (takes_server server plain);
+    name = ap (found_after (codes "name") []) (takes_server server plain);
+    timeout = ap (found_after (codes "timeout") []) (takes_server server plain);
+    wait = ap (found_after (codes "wait") []) (takes_server server plain);
+  }
 
   pub alone_names : line_target (program ∷ codes "run" ∷ server ∷ []) ≡ Some server
   unfolding line_value clap_on_literals run_shape server_taken
@@ -135,9 +149,14 @@ module _ (program : Text) (server : Text) (plain : IsNoFlag server) where
     unfolding line_value clap_on_literals run_shape server_taken
     joined_has_limit = ap (found_after (codes "limit") ((codes "--limit=" ++ number) ∷ [])) (takes_server server plain)
 
-    pub joined_has_no_meeting : line_meeting (program ∷ codes "run" ∷ server ∷ (codes "--limit=" ++ number) ∷ []) ≡ None
+    pub joined_has_no_words : NoRunWords (line_value (program ∷ codes "run" ∷ server ∷ (codes "--limit=" ++ number) ∷ []))
     unfolding line_value clap_on_literals run_shape server_taken
-    joined_has_no_meeting = ap (found_after (codes "meet") ((codes "--limit=" ++ number) ∷ [])) (takes_server server plain)
+    joined_has_no_words = record {
+      meeting = ap (found_after (codes "meet") ((codes "--limit=" ++ number) ∷ [])) (takes_server server plain);
+      name = ap (found_after (codes "name") ((codes "--limit=" ++ number) ∷ [])) (takes_server server plain);
+      timeout = ap (found_after (codes "timeout") ((codes "--limit=" ++ number) ∷ [])) (takes_server server plain);
+      wait = ap (found_after (codes "wait") ((codes "--limit=" ++ number) ∷ [])) (takes_server server plain);
+    }
 
     pub joined_names : line_target (program ∷ codes "run" ∷ server ∷ (codes "--limit=" ++ number) ∷ []) ≡ Some server
     unfolding line_value clap_on_literals run_shape server_taken
@@ -159,10 +178,18 @@ module _ (program : Text) (server : Text) (plain : IsNoFlag server) where
     apart_has_limit = ap (found_after (codes "limit") (limit_words number)) (takes_server server plain)
         ∙ ap (found_after (codes "limit") []) (takes_value server number limit)
 
-    pub apart_has_no_meeting : line_meeting (program ∷ codes "run" ∷ server ∷ limit_words number) ≡ None
+    pub apart_has_no_words : NoRunWords (line_value (program ∷ codes "run" ∷ server ∷ limit_words number))
     unfolding line_value clap_on_literals run_shape server_taken value_taken
-    apart_has_no_meeting = ap (found_after (codes "meet") (limit_words number)) (takes_server server plain)
-        ∙ ap (found_after (codes "meet") []) (takes_value server number limit)
+    apart_has_no_words = record {
+      meeting = ap (found_after (codes "meet") (limit_words number)) (takes_server server plain)
+          ∙ ap (found_after (codes "meet") []) (takes_value server number limit);
+      name = ap (found_after (codes "name") (limit_words number)) (takes_server server plain)
+          ∙ ap (found_after (codes "name") []) (takes_value server number limit);
+      timeout = ap (found_after (codes "timeout") (limit_words number)) (takes_server server plain)
+          ∙ ap (found_after (codes "timeout") []) (takes_value server number limit);
+      wait = ap (found_after (codes "wait") (limit_words number)) (takes_server server plain)
+          ∙ ap (found_after (codes "wait") []) (takes_value server number limit);
+    }
 
     pub apart_names : line_target (program ∷ codes "run" ∷ server ∷ limit_words number) ≡ Some server
     unfolding line_value clap_on_literals run_shape server_taken value_taken

@@ -1,5 +1,6 @@
 -- What is answered to a text, whatever the line asks for.
-use Rattle.std.specs.Prelude.{◌≡◌, ◌⊎◌, ℕ, ◌<◌, ◌≤◌, List, length, codes}
+use Rattle.std.specs.Prelude.{◌≡◌, ◌⊎◌, ℕ, ◌<◌, ◌≤◌, Option, None, List, length, codes}
+use Rattle.mc_protocol.specs.Lines.{Word}
 use Rattle.mc_command.specs.declared.arguments.Asked.{Asked}
 use Rattle.mc_command.specs.declared.arguments.Asked.TheVariants as asked
 use Rattle.mc_command.specs.declared.status.Status.{Status}
@@ -22,7 +23,7 @@ Does (asked.Judge limit) text output ended = Judges limit text output ended
 Does asked.Check text output ended = Checks text output ended
 Does asked.Asm text output ended = Assembles text output ended
 Does (asked.Drive limit) text output ended = Drives text output ended
-Does (asked.Run limit) text output ended = Plays text output ended
+Does (asked.Run limit) text output ended = Plays None text output ended
 Does (asked.Generate seed job) text output ended = Generates seed job output ended
 Does (asked.Serve service) text output ended = Serves service output ended
 
@@ -36,7 +37,14 @@ abbrev pub not_utf8_text : List ℕ
 not_utf8_text = codes "error: the command line is not UTF-8\n"
 
 -- the same; or the text is too long, and that is written; or that memory ran out, which it may over any text
-abbrev pub IsAnswer : Asked → List ℕ → List ℕ → Status → Type 0
-IsAnswer asked text output ended = ((length text ≤ INPUT_LIMIT) × Does asked text output ended)
+abbrev pub IsAnswerBy : (List ℕ → List ℕ → Status → Type 0) → List ℕ → List ℕ → Status → Type 0
+IsAnswerBy does text output ended = ((length text ≤ INPUT_LIMIT) × does text output ended)
     ⊎ (((INPUT_LIMIT < length text) × (output ≡ too_long_text) × (ended ≡ status.Refused))
     ⊎ ((output ≡ out_of_memory_text) × (ended ≡ status.NoAnswer)))
+
+abbrev pub IsAnswer : Asked → List ℕ → List ℕ → Status → Type 0
+IsAnswer asked text output ended = IsAnswerBy (Does asked) text output ended
+
+-- the same of a run whose keys are put under the name, if there is one
+abbrev pub IsRunAnswer : Option Word → List ℕ → List ℕ → Status → Type 0
+IsRunAnswer name text output ended = IsAnswerBy (Plays name) text output ended

@@ -1,10 +1,11 @@
 -- What the program does with a line of words.
-use Rattle.std.specs.Prelude.{◌≡◌, ◌⊎◌, ℕ, Bool, true, false, Option, Some, None, List, [], codes}
+use Rattle.std.specs.Prelude.{◌≡◌, ◌⊎◌, ℕ, Bool, true, false, Option, Some, None, is_some, List, [], codes}
 use Rattle.std.specs.Str.{bytes_eq}
 use Rattle.clap.specs.Words.{IsAmong, Text}
 use Rattle.clap.specs.declared.error.kind.ErrorKind.{ErrorKind}
 use Rattle.clap.specs.declared.error.kind.ErrorKind.TheVariants as kind
 use Rattle.mc_protocol.specs.Decimals.{MAX_64, SpellsNumber}
+use Rattle.mc_campaign.specs.Namespaces.{is_namespace}
 use Rattle.mc_command.specs.declared.arguments.Asked.{Asked}
 use Rattle.mc_command.specs.declared.arguments.Asked.TheVariants as asked
 use Rattle.mc_command.specs.declared.meeting.Meeting.{Meeting}
@@ -12,10 +13,11 @@ use Rattle.mc_command.specs.declared.meeting.Meeting.TheVariants as meeting
 use Rattle.mc_command.specs.declared.serve.Service.{Service}
 use Rattle.mc_command.specs.declared.status.Status.{Status}
 use Rattle.mc_command.specs.declared.status.Status.TheVariants as status
-use Rattle.mc_command.specs.Answers.{IsAnswer, out_of_memory_text}
+use Rattle.mc_command.specs.Answers.{IsAnswer, IsRunAnswer, out_of_memory_text}
 use Rattle.mc_command.specs.CommandLine.{DEFAULT_CONNECTIONS, DEFAULT_JOB, DEFAULT_LIMIT, DEFAULT_SEED, GREATEST_LIMIT}
 use Rattle.mc_command.specs.CommandLine.{line_command, line_faults, line_value}
 use Rattle.mc_command.specs.GenerateAnswers.{Generates}
+use Rattle.mc_command.specs.Seconds.{milliseconds_in}
 use Rattle.mc_command.specs.ServeAnswers.{Serves}
 use Rattle.mc_command.specs.Streams.{Grows}
 
@@ -62,6 +64,23 @@ IsMeeting (Some word) wanted = word ≡ meeting_word wanted
 abbrev pub NamesMeeting : Option (List ℕ) → Type 0
 NamesMeeting word = (wanted : Meeting) × IsMeeting word wanted
 
+-- there is no word, or one that keys may be put under
+abbrev pub MayName : Option (List ℕ) → Type 0
+MayName None = Unit {0}
+MayName (Some word) = is_namespace word ≡ true
+
+-- there is no word, or one that is a time
+abbrev pub MayBeTime : Option (List ℕ) → Type 0
+MayBeTime None = Unit {0}
+MayBeTime (Some word) = is_some (milliseconds_in word) ≡ true
+
+-- the values of the options of `run` that have no number say what they may
+pub record AreRunWords (value : Text → Option Text) : Type 0 where
+  pub meeting : NamesMeeting (value (codes "meet"))
+  pub name : MayName (value (codes "name"))
+  pub timeout : MayBeTime (value (codes "timeout"))
+  pub wait : MayBeTime (value (codes "wait"))
+
 -- what a subcommand asks for with the values of its options
 abbrev pub IsAskedBy : Option Text → (Text → Option Text) → Asked → Type 0
 IsAskedBy command value (asked.Judge limit) = (command ≡ Some (codes "judge")) × IsLimit (value (codes "limit")) limit
@@ -69,7 +88,7 @@ IsAskedBy command value asked.Check = command ≡ Some (codes "check")
 IsAskedBy command value asked.Asm = command ≡ Some (codes "asm")
 IsAskedBy command value (asked.Drive limit) = (command ≡ Some (codes "drive")) × IsLimit (value (codes "limit")) limit
 IsAskedBy command value (asked.Run limit) =
-    (command ≡ Some (codes "run")) × IsLimit (value (codes "limit")) limit × NamesMeeting (value (codes "meet"))
+    (command ≡ Some (codes "run")) × IsLimit (value (codes "limit")) limit × AreRunWords value
 IsAskedBy command value (asked.Generate seed job) =
     (command ≡ Some (codes "generate")) × IsSeed (value (codes "seed")) seed × IsJob (value (codes "job")) job
 IsAskedBy command value (asked.Serve service) = (command ≡ Some (codes "serve")) × IsPort (value (codes "port")) service.port
@@ -106,12 +125,19 @@ IsWhole None text = Unit {0}
 IsWhole (Some left) text = left ≡ text
 
 -- what was written is right for the whole input, and so is the status
-pub record Answers (asked : Asked) (left : Option (List ℕ)) (old : Option (List ℕ)) (new : Option (List ℕ)) (ended : Status) : Type 0 where
+pub record AnswersBy (right_for : List ℕ → List ℕ → Status → Type 0) (left old new : Option (List ℕ)) (ended : Status) : Type 0 where
   pub text : List ℕ
   pub whole : IsWhole left text
   pub output : List ℕ
-  pub right : IsAnswer asked text output ended
+  pub right : right_for text output ended
   pub written : Grows old new output
+
+abbrev pub Answers : Asked → Option (List ℕ) → Option (List ℕ) → Option (List ℕ) → Status → Type 0
+Answers asked left old new ended = AnswersBy (IsAnswer asked) left old new ended
+
+-- the same of a run whose keys are put under the name, if there is one
+abbrev pub AnswersRun : Option (List ℕ) → Option (List ℕ) → Option (List ℕ) → Option (List ℕ) → Status → Type 0
+AnswersRun name left old new ended = AnswersBy (IsRunAnswer name) left old new ended
 
 -- the input is read: all lines but those of `generate` and of `serve` do
 abbrev pub reads_input : Asked → Bool

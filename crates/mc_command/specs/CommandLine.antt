@@ -70,10 +70,31 @@ b_rule = record (new_rule (codes "b")) {
   value_names = 1;
 }
 
+-- the option `--name`, with a word as its value
+abbrev pub name_rule : Rule
+name_rule = record (new_rule (codes "name")) {
+  long = Some (codes "name");
+  value_names = 1;
+}
+
+-- the options `--timeout` and `--wait`, each with a word as its value
+abbrev pub timeout_rule : Rule
+timeout_rule = record (new_rule (codes "timeout")) {
+  long = Some (codes "timeout");
+  value_names = 1;
+}
+
+abbrev pub wait_rule : Rule
+wait_rule = record (new_rule (codes "wait")) {
+  long = Some (codes "wait");
+  value_names = 1;
+}
+
 -- the subcommand `run`
 abbrev pub run_app : App
-run_app = with_rule (with_rule
-    (with_rule (with_rule (with_rule (new_app (codes "run")) target_rule) limit_rule) meet_rule) a_rule) b_rule
+run_app = with_rule (with_rule (with_rule (with_rule (with_rule
+    (with_rule (with_rule (with_rule (new_app (codes "run")) target_rule) limit_rule) meet_rule) a_rule) b_rule) name_rule)
+    timeout_rule) wait_rule
 
 -- the options `--seed` and `--job`, each with a word as its value
 abbrev pub seed_rule : Rule
@@ -155,7 +176,8 @@ line_command words = given_name (subcommand_of program_app words)
 unfoldable pub line_value : List (List ℕ) → Text → Option Text
 line_value words name = given_value (subcommand_of program_app words) name
 
--- the value of `--limit`, that of `--meet`, the name of a server, and the value of `--a` or of `--b`
+-- the value of `--limit`, that of `--meet`, the name of a server, and the value of `--a`, of `--b`, of `--name`, of `--timeout`
+-- or of `--wait`
 abbrev pub line_limit : List (List ℕ) → Option Text
 line_limit words = line_value words (codes "limit")
 
@@ -170,6 +192,15 @@ line_server_of_a words = line_value words (codes "a")
 
 abbrev pub line_server_of_b : List (List ℕ) → Option Text
 line_server_of_b words = line_value words (codes "b")
+
+abbrev pub line_name : List (List ℕ) → Option Text
+line_name words = line_value words (codes "name")
+
+abbrev pub line_timeout : List (List ℕ) → Option Text
+line_timeout words = line_value words (codes "timeout")
+
+abbrev pub line_wait : List (List ℕ) → Option Text
+line_wait words = line_value words (codes "wait")
 
 -- of the servers of P, A and B, the one that a section runs against: P's where the section has none of its own
 abbrev pub section_server : {A : Type 0} → Actor → A → Option A → Option A → A

@@ -13,6 +13,7 @@ pub mod LineLaws
 pub mod Loading
 pub mod Refusals
 pub mod RunAnswers
+pub mod Seconds
 pub mod ServeAnswers
 pub mod Soundness
 pub mod Statuses

@@ -1,5 +1,6 @@
 -- What `run` answers to a script.
-use Rattle.std.specs.Prelude.{◌≡◌, ℕ, List, ◌++◌, codes, Ok, Err}
+use Rattle.std.specs.Prelude.{◌≡◌, ◌⊎◌, ℕ, Option, Some, None, List, [], ◌++◌, codes, Ok, Err}
+use Rattle.mc_protocol.specs.Lines.{Word}
 use Rattle.mc_protocol.specs.Words.{actor_word}
 use Rattle.mc_model.specs.Notes.{History}
 use Rattle.mc_code.specs.Code.{Code}
@@ -12,6 +13,8 @@ use Rattle.mc_explain.specs.Verdicts.{IsStated}
 use Rattle.mc_explain.specs.declared.verdict.Verdict.{Verdict}
 use Rattle.mc_run.specs.Agreement.{Agree, LaneRecords}
 use Rattle.mc_run.specs.Headline.{IsTrial}
+use Rattle.mc_campaign.specs.Namespaces.{IsPutFault, code_under}
+use Rattle.mc_campaign.specs.declared.naming.PutFault.TheVariants as put_fault
 use Rattle.mc_command.specs.Endings.{endings_text, run_status}
 use Rattle.mc_command.specs.Loading.{LoadsScript, load_refusal}
 use Rattle.mc_command.specs.Soundness.{unsound_text}
@@ -25,6 +28,22 @@ use Rattle.mc_command.specs.declared.status.Status.TheVariants as status
 pub record Spells (text : List ℕ) (code : Code) : Type 0 where
   pub code_of_script : LoadsScript text (Ok code)
   pub sound : IsSound code
+
+-- the code that is played of this one: itself, or it under a name
+abbrev pub played_code : Option Word → Code → Code
+played_code None code = code
+played_code (Some name) code = code_under name code
+
+-- the text spells a script, whose code is sound; it, or it under the name, is this code, which is sound too
+pub record SpellsUnder (name : Option Word) (text : List ℕ) (code : Code) : Type 0 where
+  pub written : Code
+  pub spelled : Spells text written
+  pub under : code ≡ played_code name written
+  pub sound : IsSound code
+
+-- the code is sound, and the other one under the name
+abbrev pub IsUnder : Word → Code → Code → Type 0
+IsUnder name written code = (code ≡ code_under name written) × IsSound code
 
 -- What came of a run of this code: there are records of three lanes with which what was noted agrees, and all that is true of a
 -- trial is true of it, with none of its events refused. The history is that of the run, and the verdict is on it. That these are
@@ -44,14 +63,27 @@ IsRightFor code (played.NoConnection section) = Unit {0}
 IsRightFor code played.NotRun = Unit {0}
 IsRightFor code (played.NoCode fault) = ⊥
 IsRightFor code (played.Unsound refusal) = ⊥
+IsRightFor code (played.KeyTooLong index) = ⊥
 
--- the answer is right for the text
-abbrev pub IsRight : List ℕ → Played → Type 0
-IsRight text (played.Ended held h found) = (code : Code) × Spells text code × IsRightFor code (played.Ended held h found)
-IsRight text (played.NoConnection section) = (code : Code) × Spells text code
-IsRight text played.NotRun = (code : Code) × Spells text code
-IsRight text (played.NoCode fault) = LoadsScript text (Err fault)
-IsRight text (played.Unsound refusal) = (code : Code) × LoadsScript text (Ok code) × IsRightRefusal code refusal
+-- the code is that of the script which the text spells; or it is that under the name, and the one without it is sound
+abbrev pub IsVerified : Option Word → List ℕ → Code → Type 0
+IsVerified name text code =
+    LoadsScript text (Ok code) ⊎ ((written : Code) × Spells text written × (code ≡ played_code name written))
+
+-- the text spells a script whose code is sound, and this is the first of its keys that becomes too long under the name
+abbrev pub HasLongKey : Option Word → List ℕ → ℕ → Type 0
+HasLongKey None text index = ⊥
+HasLongKey (Some name) text index = (written : Code) × Spells text written × IsPutFault name written.keys (put_fault.KeyTooLong index)
+
+-- the answer is right for the text, where the keys are put under the name, if there is one
+abbrev pub IsRight : Option Word → List ℕ → Played → Type 0
+IsRight name text (played.Ended held h found) =
+    (code : Code) × SpellsUnder name text code × IsRightFor code (played.Ended held h found)
+IsRight name text (played.NoConnection section) = (code : Code) × SpellsUnder name text code
+IsRight name text played.NotRun = (code : Code) × SpellsUnder name text code
+IsRight name text (played.NoCode fault) = LoadsScript text (Err fault)
+IsRight name text (played.Unsound refusal) = (code : Code) × IsVerified name text code × IsRightRefusal code refusal
+IsRight name text (played.KeyTooLong index) = HasLongKey name text index
 
 -- what is written of a run: how its sections ended, the verdict, and the history
 abbrev pub ended_text : Held → History → Verdict → List ℕ
@@ -64,6 +96,7 @@ text_of (played.NoConnection section) = codes "no connection " ++ (actor_word se
 text_of played.NotRun = codes "not run\n"
 text_of (played.NoCode fault) = load_refusal fault
 text_of (played.Unsound refusal) = unsound_text refusal
+text_of (played.KeyTooLong index) = []
 
 -- the exit status of an answer
 abbrev pub status_of : Played → Status
@@ -72,7 +105,8 @@ status_of (played.NoConnection section) = status.NoAnswer
 status_of played.NotRun = status.NoAnswer
 status_of (played.NoCode fault) = status.Refused
 status_of (played.Unsound refusal) = status.Refused
+status_of (played.KeyTooLong index) = status.WrongLine
 
 -- an answer that is right for the text is what is written, with its status
-abbrev pub Plays : List ℕ → List ℕ → Status → Type 0
-Plays text output ended = (given : Played) × IsRight text given × (output ≡ text_of given) × (ended ≡ status_of given)
+abbrev pub Plays : Option Word → List ℕ → List ℕ → Status → Type 0
+Plays name text output ended = (given : Played) × IsRight name text given × (output ≡ text_of given) × (ended ≡ status_of given)

@@ -16,7 +16,7 @@ listening_text port = codes "listening 127.0.0.1:" ++ (decimal port ++ codes "\n
 abbrev pub no_listener_text : List ℕ
 no_listener_text = codes "no listener\n"
 
--- the exit status where this came of so many connections
+-- the exit status where this came of the connections that were asked for
 abbrev pub status_of : ℕ → Listened → Status
 status_of connections listened = if listened.accepted == connections then status.Success else status.NoAnswer
 

@@ -1,5 +1,5 @@
 //! What is answered to a text, whatever the line asks for.
-ghost use Rattle.std.specs.Prelude.{◌≡◌, IfOk};
+ghost use Rattle.std.specs.Prelude.{◌≡◌, IfOk, None};
 ghost use Rattle.mc_command.specs.Answers as answers;
 ghost use Rattle.mc_command.specs.AsmAnswers.{Assembles};
 ghost use Rattle.mc_command.specs.CheckAnswers.{Checks};
@@ -121,7 +121,7 @@ fn no_listener_answer(alloc: Global) -> Result<Answer, AllocError>
 }
 
 fn unplayed_answer(alloc: Global, text: &[u8]) -> Result<Answer, AllocError>
-    ensures { IfOk result (λ answer. Plays text.now answer.output.items answer.status) }
+    ensures { IfOk result (λ answer. Plays None text.now answer.output.items answer.status) }
 {
     let played = run::check_text(alloc, text)?;
     let output = run::text_of(alloc, &played)?;

@@ -1,15 +1,19 @@
 //! The command line.
-ghost use Rattle.std.specs.Prelude.{◌≡◌, ◌≢◌, ◌⊎◌, ℕ, codes, false, map, option_map, string_bytes, IfErr, IfOk, IfSome, None, Some};
+ghost use Rattle.std.specs.Prelude.{◌≡◌, ◌≢◌, ◌⊎◌, ℕ, codes, false, map, option_and_then, option_map, string_bytes};
+ghost use Rattle.std.specs.Prelude.{IfErr, IfOk, IfSome, None, Some};
 ghost use Rattle.clap.specs.Words.{app_of, first_value, found_of, kind_of};
-ghost use Rattle.mc_command.specs.CommandLine.{bare_app, line_meeting, line_server_of_a, line_server_of_b, line_target, program_app};
-ghost use Rattle.mc_command.specs.CommandLine.{section_server};
-ghost use Rattle.mc_command.specs.Command.{AsksFor, IsFaultOf, IsLimit, IsMeeting, NamesMeeting};
+ghost use Rattle.mc_command.specs.CommandLine.{bare_app, line_meeting, line_name, line_server_of_a, line_server_of_b, line_target};
+ghost use Rattle.mc_command.specs.CommandLine.{line_timeout, line_wait, program_app, section_server};
+ghost use Rattle.mc_command.specs.Seconds.{milliseconds_in};
+ghost use Rattle.mc_command.specs.Command.{AreRunWords, AsksFor, IsFaultOf, IsLimit, IsMeeting, MayBeTime, MayName, NamesMeeting};
 
 use crate::meeting::Meeting;
+use crate::seconds::Seconds;
 use crate::serve::Service;
-use crate::{asm, check, drive, generate, judge, limit, meeting, run, serve};
+use crate::{asm, check, drive, generate, judge, limit, meeting, namespace, run, seconds, serve};
 use clap::error::ErrorKind;
 use clap::{ArgMatches, Command, Error};
+use mc_campaign::Namespace;
 use mc_protocol::Actor;
 use std::alloc::{AllocError, Global};
 
@@ -68,7 +72,7 @@ pub fn read_line(alloc: Global, line: &[String]) -> Result<Asked, Error>
             }
             "run" => {
                 let limit = limit::read_or_fault(alloc, options, run::subcommand(alloc)?)?;
-                check_meeting(alloc, options)?;
+                check_run_words(alloc, options)?;
                 Ok(Asked::Run(limit))
             }
             "generate" => {
@@ -87,7 +91,7 @@ pub fn read_line(alloc: Global, line: &[String]) -> Result<Asked, Error>
 }
 
 /// The run that a line asks for.
-#[derive(Clone, Copy, Debug, Drop, PartialEq, Eq)]
+#[derive(Debug, Drop)]
 pub struct Target<'a> {
     /// The server, as HOST:PORT.
     pub server: &'a str,
@@ -99,6 +103,12 @@ pub struct Target<'a> {
     pub limit: u64,
     /// How the branches meet.
     pub meeting: Meeting,
+    /// The name that the script's keys are put under, if they are.
+    pub name: Option<Namespace<'a>>,
+    /// The longest that one connect to one address, one read or one write may take, if there is such a time.
+    pub timeout: Option<Seconds<'a>>,
+    /// How long P may try again to connect, if it may.
+    pub wait: Option<Seconds<'a>>,
 }
 
 impl<'a> Target<'a> {
@@ -127,6 +137,11 @@ pub fn read_run(alloc: Global, line: &[String]) -> Result<Option<Target<'_>>, Al
     ensures b { IfOk result (λ found. IfSome found (λ target.
         option_map (λ server. server.now) target.b ≡ line_server_of_b (map string_bytes line.now))) }
     ensures meeting { IfOk result (λ found. IfSome found (λ target. IsMeeting (line_meeting (map string_bytes line.now)) target.meeting)) }
+    ensures name { IfOk result (λ found. IfSome found (λ target. target.name ≡ line_name (map string_bytes line.now))) }
+    ensures timeout { IfOk result (λ found. IfSome found (λ target. option_map (λ time. time.milliseconds) target.timeout
+        ≡ option_and_then milliseconds_in (line_timeout (map string_bytes line.now)))) }
+    ensures wait { IfOk result (λ found. IfSome found (λ target.
+        option_map (λ time. time.milliseconds) target.wait ≡ option_and_then milliseconds_in (line_wait (map string_bytes line.now)))) }
     ensures other { IfOk result (λ found. found ≡ None → (limit : ℕ) → AsksFor (map string_bytes line.now) (Asked.Run limit)
         → line_target (map string_bytes line.now) ≡ None) }
 {
@@ -181,21 +196,78 @@ fn read_run_options<'a>(options: &ArgMatches<'a>) -> Option<Target<'a>>
         × (first_value (found_of options.now) (codes "target") ≡ Some target.server.now)
         × IsMeeting (first_value (found_of options.now) (codes "meet")) target.meeting
         × (option_map (λ server. server.now) target.a ≡ first_value (found_of options.now) (codes "a"))
-        × (option_map (λ server. server.now) target.b ≡ first_value (found_of options.now) (codes "b"))) }
+        × (option_map (λ server. server.now) target.b ≡ first_value (found_of options.now) (codes "b"))
+        × (target.name ≡ first_value (found_of options.now) (codes "name"))
+        × MayName (first_value (found_of options.now) (codes "name"))
+        × (option_map (λ time. time.milliseconds) target.timeout
+        ≡ option_and_then milliseconds_in (first_value (found_of options.now) (codes "timeout")))
+        × MayBeTime (first_value (found_of options.now) (codes "timeout"))
+        × (option_map (λ time. time.milliseconds) target.wait
+        ≡ option_and_then milliseconds_in (first_value (found_of options.now) (codes "wait")))
+        × MayBeTime (first_value (found_of options.now) (codes "wait"))) }
     ensures none { result ≡ None → (limit : ℕ) → IsLimit (first_value (found_of options.now) (codes "limit")) limit
         → (meeting : Meeting) → IsMeeting (first_value (found_of options.now) (codes "meet")) meeting
+        → MayName (first_value (found_of options.now) (codes "name"))
+        → MayBeTime (first_value (found_of options.now) (codes "timeout"))
+        → MayBeTime (first_value (found_of options.now) (codes "wait"))
         → first_value (found_of options.now) (codes "target") ≡ None }
 {
     let server = options.get_str("target")?;
     let limit = limit::read(options).ok()?;
     let meeting = meeting::read(options).ok()?;
+    let Ok(name) = namespace::read(options) else {
+        return None;
+    };
+    let timeout = seconds::read(options, "timeout").ok()?;
+    let wait = seconds::read(options, "wait").ok()?;
     Some(Target {
         server,
         a: options.get_str("a"),
         b: options.get_str("b"),
         limit,
         meeting,
+        name,
+        timeout,
+        wait,
     })
+}
+
+// Nothing, or the fault of a line of `run` of which a word doesn't say what it may.
+fn check_run_words(alloc: Global, options: &ArgMatches) -> Result<(), Error>
+    ensures words { IfOk result (λ _. AreRunWords (first_value (found_of options.now))) }
+    ensures fault { IfErr result (λ error. (kind_of error ≡ ErrorKind.OutOfMemory)
+        ⊎ ((kind_of error ≡ ErrorKind.ValueValidation) × (AreRunWords (first_value (found_of options.now)) → ⊥))) }
+{
+    check_meeting(alloc, options)?;
+    check_name(alloc, options)?;
+    check_time(alloc, options, "timeout")?;
+    check_time(alloc, options, "wait")
+}
+
+// Nothing, or the fault of a line of `run` whose word is no time.
+fn check_time(alloc: Global, options: &ArgMatches, name: &str) -> Result<(), Error>
+    ensures time { IfOk result (λ _. MayBeTime (first_value (found_of options.now) name.now)) }
+    ensures fault { IfErr result (λ error. (kind_of error ≡ ErrorKind.OutOfMemory)
+        ⊎ ((kind_of error ≡ ErrorKind.ValueValidation)
+        × (MayBeTime (first_value (found_of options.now) name.now) → ⊥))) }
+{
+    match seconds::read(options, name) {
+        Ok(_) => Ok(()),
+        Err(word) => Err(seconds::fault(alloc, run::subcommand(alloc)?, name, word)?),
+    }
+}
+
+// Nothing, or the fault of a line of `run` whose word is no name that keys may be put under.
+fn check_name(alloc: Global, options: &ArgMatches) -> Result<(), Error>
+    ensures name { IfOk result (λ _. MayName (first_value (found_of options.now) (codes "name"))) }
+    ensures fault { IfErr result (λ error. (kind_of error ≡ ErrorKind.OutOfMemory)
+        ⊎ ((kind_of error ≡ ErrorKind.ValueValidation)
+        × (MayName (first_value (found_of options.now) (codes "name")) → ⊥))) }
+{
+    match namespace::read(options) {
+        Ok(_) => Ok(()),
+        Err(word) => Err(namespace::fault(alloc, run::subcommand(alloc)?, word)?),
+    }
 }
 
 // Nothing, or the fault of a line of `run` whose word names no meeting.

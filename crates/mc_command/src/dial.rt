@@ -1,95 +1,166 @@
 //! Connections to a server.
-ghost use Rattle.std.specs.Prelude.{◌≡◌, false, IfOk};
+ghost use Rattle.std.specs.Prelude.{◌≡◌, false};
 ghost use Rattle.mc_lane.specs.Streams.{silent, no_counts};
 ghost use Rattle.mc_run.specs.Running.{AreNew, IsNew};
 
 use crate::arguments::Target;
+use crate::seconds::Seconds;
+use crate::socket::Socket;
 use mc_lane::{Lane, Stream, Wire};
-use mc_protocol::Actor;
+use mc_protocol::{Actor, Sections};
 use mc_run::Lanes;
 use std::alloc::Global;
 use std::io;
 use std::io::ErrorKind;
 use std::net::{Net, SocketAddr, TcpStream, ToSocketAddrs};
+use std::rt::Clock;
+use std::sync::atomic::{AtomicBool, Ordering};
+use std::thread::sleep;
+use std::time::{Duration, Instant};
 
 // The most bytes that are received over a connection.
 const RECEIVED_LIMIT: u32 = 262_144;
 
-/// A new lane of each section, over a connection of its own to the server that `target` names for it. They are connected in the order
-/// P, A, B. A name is looked up once: P tries its addresses one after another, and A and B connect to the one that took P, but where they
-/// have a server of their own, of which each tries the addresses.
+// The milliseconds between two tries to connect.
+const PAUSE: u64 = 50;
+
+/// The connection of each section.
+#[derive(Debug, Drop)]
+pub struct Connections {
+    streams: Sections<TcpStream>,
+    late: Sections<AtomicBool>,
+}
+
+impl Connections {
+    /// A new lane of each section, over its connection.
+    pub fn lanes(&self, alloc: Global) -> Lanes<Wire<Socket<'_>>>
+        ensures new { AreNew result }
+        ensures limits { (result.p.limit ≡ 262144) × (result.a.limit ≡ 262144) × (result.b.limit ≡ 262144) }
+    {
+        Lanes {
+            p: self.lane(alloc, Actor::P),
+            a: self.lane(alloc, Actor::A),
+            b: self.lane(alloc, Actor::B),
+        }
+    }
+
+    fn lane(&self, alloc: Global, section: Actor) -> Lane<Wire<Socket<'_>>>
+        ensures new { IsNew result }
+        ensures limit { result.limit ≡ 262144 }
+    {
+        let socket = Socket::new(self.streams.get(section), self.late.get(section));
+        Lane::new(alloc, Wire::new(socket), RECEIVED_LIMIT)
+    }
+
+    /// The connection of a section.
+    pub fn stream(&self, section: Actor) -> &TcpStream {
+        self.streams.get(section)
+    }
+
+    /// Whether a read or a write of the section took longer than it may.
+    pub fn is_late(&self, section: Actor) -> bool {
+        self.late.get(section).load(Ordering::SeqCst)
+    }
+}
+
+/// A connection of each section to the server that `target` names for it. They are connected in the order P, A, B. P looks the name up and
+/// tries its addresses one after another, and all of this again every 50 ms for as long as `target.wait` says. A and B connect to the
+/// address that took P, but where they have a server of their own, whose addresses each of them tries once.
 ///
 /// # Errors
 ///
 /// The first section that gets no connection, and why.
-pub fn connect_lanes<R: Net<Stream = TcpStream>>(
+pub fn connect_sections<R: Net<Stream = TcpStream> + Clock>(
     rt: &R,
-    alloc: Global,
-    target: Target<'_>,
-) -> Result<Lanes<Wire<TcpStream>>, (Actor, io::Error)>
-    ensures new { IfOk result AreNew }
-    ensures limits { IfOk result (λ lanes. (lanes.p.limit ≡ 262144) × (lanes.a.limit ≡ 262144) × (lanes.b.limit ≡ 262144)) }
-{
-    let (p, address) = match connect_first(rt, target.server) {
-        Ok((wire, address)) => (lane_over(alloc, wire), address),
+    target: &Target<'_>,
+) -> Result<Connections, (Actor, io::Error)> {
+    let timeout = target.timeout;
+    let (p, address) = match connect_patiently(rt, target.server, timeout, target.wait) {
+        Ok(found) => found,
         Err(error) => return Err((Actor::P, error)),
     };
-    let a = connect_branch(rt, alloc, target.a, address, Actor::A)?;
-    let b = connect_branch(rt, alloc, target.b, address, Actor::B)?;
-    Ok(Lanes { p, a, b })
+    let a = connect_branch(rt, target.a, address, timeout, Actor::A)?;
+    let b = connect_branch(rt, target.b, address, timeout, Actor::B)?;
+    Ok(Connections {
+        streams: Sections { p, a, b },
+        late: Sections {
+            p: AtomicBool::new(false),
+            a: AtomicBool::new(false),
+            b: AtomicBool::new(false),
+        },
+    })
 }
 
-// A lane to the branch's own server, or else to the address that took P.
+// A connection to the server, and the address that took it. It is tried again until `wait` is over.
+fn connect_patiently<R: Net<Stream = TcpStream> + Clock>(
+    rt: &R,
+    server: &str,
+    timeout: Option<Seconds<'_>>,
+    wait: Option<Seconds<'_>>,
+) -> io::Result<(TcpStream, SocketAddr)> {
+    let Some(wait) = wait else {
+        return connect_first(rt, server, timeout);
+    };
+    let begun = Instant::now(rt)?;
+    for _ in 0..wait.milliseconds / PAUSE {
+        if let Ok(found) = connect_first(rt, server, timeout) {
+            return Ok(found);
+        }
+        sleep(rt, Duration::from_millis(PAUSE));
+        if begun.elapsed(rt)? >= wait.duration() {
+            break;
+        }
+    }
+    connect_first(rt, server, timeout)
+}
+
+// A connection to the branch's own server, or else to the address that took P.
 fn connect_branch<R: Net<Stream = TcpStream>>(
     rt: &R,
-    alloc: Global,
     own: Option<&str>,
     address: SocketAddr,
+    timeout: Option<Seconds<'_>>,
     branch: Actor,
-) -> Result<Lane<Wire<TcpStream>>, (Actor, io::Error)>
-    ensures new { IfOk result IsNew }
-    ensures limit { IfOk result (λ lane. lane.limit ≡ 262144) }
-{
+) -> Result<TcpStream, (Actor, io::Error)> {
     let connected = match own {
-        Some(server) => connect_first(rt, server).map(|(wire, _)| wire),
-        None => connect(rt, address),
+        Some(server) => connect_first(rt, server, timeout).map(|(stream, _)| stream),
+        None => connect(rt, address, timeout),
     };
     match connected {
-        Ok(wire) => Ok(lane_over(alloc, wire)),
+        Ok(stream) => Ok(stream),
         Err(error) => Err((branch, error)),
     }
 }
 
-fn lane_over(alloc: Global, wire: Wire<TcpStream>) -> Lane<Wire<TcpStream>>
-    requires { ⟦<Wire<TcpStream> as Stream>⟧.state wire ≡ silent no_counts false }
-    ensures new { IsNew result }
-    ensures limit { result.limit ≡ 262144 }
-{
-    Lane::new(alloc, wire, RECEIVED_LIMIT)
-}
-
-// A connection to the first of the name's addresses that takes one, and this address; or why the last of them took none.
+// A connection to the first of the name's addresses that takes one, with this address; or why the last of them took none.
 fn connect_first<R: Net<Stream = TcpStream>>(
     rt: &R,
     target: &str,
-) -> io::Result<(Wire<TcpStream>, SocketAddr)>
-    ensures { IfOk result (λ found. ⟦<Wire<TcpStream> as Stream>⟧.state found.0 ≡ silent no_counts false) }
-{
+    timeout: Option<Seconds<'_>>,
+) -> io::Result<(TcpStream, SocketAddr)> {
     let mut last = io::Error::from(ErrorKind::InvalidInput);
     for address in target.to_socket_addrs(rt)? {
-        match connect(rt, address) {
-            Ok(wire) => return Ok((wire, address)),
+        match connect(rt, address, timeout) {
+            Ok(stream) => return Ok((stream, address)),
             Err(error) => last = error,
         }
     }
     Err(last)
 }
 
-fn connect<R: Net<Stream = TcpStream>>(rt: &R, address: SocketAddr) -> io::Result<Wire<TcpStream>>
-    ensures { IfOk result (λ wire. ⟦<Wire<TcpStream> as Stream>⟧.state wire ≡ silent no_counts false) }
-{
-    let stream = TcpStream::connect(rt, address)?;
+fn connect<R: Net<Stream = TcpStream>>(
+    rt: &R,
+    address: SocketAddr,
+    timeout: Option<Seconds<'_>>,
+) -> io::Result<TcpStream> {
+    let limit = timeout.map(|timeout| timeout.duration());
+    let stream = match limit {
+        Some(limit) => TcpStream::connect_timeout(rt, &address, limit)?,
+        None => TcpStream::connect(rt, address)?,
+    };
     // Else a request may wait until the server has acknowledged the one before it.
     stream.set_nodelay(true)?;
-    Ok(Wire::new(stream))
+    stream.set_read_timeout(limit)?;
+    stream.set_write_timeout(limit)?;
+    Ok(stream)
 }

@@ -1,24 +1,44 @@
-//! What is told of a run beside its answer: what came in the place of a reply, and what came after the last one.
+//! What the program says of a run beside its answer: what came in the place of a reply, what didn't come in time, and what came after the
+//! last reply.
+use crate::dial::Connections;
+use crate::seconds::Seconds;
 use mc_lane::{Lane, Stream};
 use mc_model::{History, Sent};
 use mc_protocol::{Actor, Fault, Request, render_request};
 use mc_reader::{ReadFault, ReplyReader, Shape};
 use mc_run::Lanes;
 use std::alloc::{AllocError, Global};
+use std::io::Read;
+use std::net::TcpStream;
 
 // At most this many bytes of a request, and of what came, are told.
 const MOST_TOLD: usize = 200;
 
-/// A line for each section that failed by what it received, with what it had asked and what came; and for each that has all its replies
-/// and received more. What isn't printable ASCII is escaped.
+// Bytes that nobody asked for are read at most this many times.
+const MOST_READS: usize = 64;
+
+// At most this many of them are read at once.
+const PIECE: usize = 4096;
+
+/// A line for each section that failed by what it received, or by what it didn't receive within the time, with what it had asked and what
+/// came; and for each that has all its replies and received more, or for which more is there at once. What isn't printable ASCII is
+/// escaped.
 pub fn evidence_text<S: Stream>(
     alloc: Global,
     history: &History,
     lanes: &Lanes<S>,
+    connections: &Connections,
+    timeout: Option<Seconds<'_>>,
 ) -> Result<String, AllocError> {
     let mut text = String::new(alloc);
     for section in [Actor::P, Actor::A, Actor::B] {
-        if let Some(told) = section_text(alloc, history.sent(section), lanes.get(section))? {
+        let sent = history.sent(section);
+        let lane = lanes.get(section);
+        let told = match timeout {
+            Some(time) if connections.is_late(section) => late_text(alloc, sent, lane, time)?,
+            _ => section_text(alloc, sent, lane, connections.stream(section))?,
+        };
+        if let Some(told) = told {
             let line = format!(in alloc; "mcrace: {}: {told}\n", section.word())?;
             text.push_str(line.as_str())?;
         }
@@ -26,11 +46,36 @@ pub fn evidence_text<S: Stream>(
     Ok(text)
 }
 
-// What is told of a section.
+// What the program says of a section whose last read or write took too long.
+fn late_text<S: Stream>(
+    alloc: Global,
+    sent: &[Sent],
+    lane: &Lane<S>,
+    time: Seconds<'_>,
+) -> Result<Option<String>, AllocError> {
+    let Some(Sent { request, .. }) = sent.last() else {
+        return Ok(None);
+    };
+    let word = time.word;
+    let asked = asked_text(alloc, request)?;
+    let came = first_told(&lane.got()[lane.taken()..]);
+    let told = match lane.fault() {
+        Some(Fault::WriteFailed) => format!(in alloc; "\"{asked}\" wasn't sent within {word} s")?,
+        _ if came.is_empty() => format!(in alloc; "no reply to \"{asked}\" within {word} s")?,
+        _ => {
+            let came = came.escape_ascii();
+            format!(in alloc; "no more than \"{came}\" to \"{asked}\" within {word} s")?
+        }
+    };
+    Ok(Some(told))
+}
+
+// What the program says of another section: what came in the place of a reply, or after its last one.
 fn section_text<S: Stream>(
     alloc: Global,
     sent: &[Sent],
     lane: &Lane<S>,
+    stream: &TcpStream,
 ) -> Result<Option<String>, AllocError> {
     let more = &lane.got()[lane.taken()..];
     let told = match (lane.fault(), sent.last()) {
@@ -43,20 +88,48 @@ fn section_text<S: Stream>(
                 },
             ),
         ) => wrong_reply_text(alloc, request, more)?,
-        (None, _) if !more.is_empty() => surplus_text(alloc, more)?,
+        (None, Some(Sent { reply: Some(_), .. })) => {
+            let mut all = Vec::from_slice(alloc, more)?;
+            take_waiting(stream, &mut all)?;
+            if all.is_empty() {
+                return Ok(None);
+            }
+            surplus_text(alloc, &all)?
+        }
         _ => return Ok(None),
     };
     Ok(Some(told))
 }
 
-// To a request came what is no reply to it.
-fn wrong_reply_text(alloc: Global, request: &Request, came: &[u8]) -> Result<String, AllocError> {
+// Appends the bytes that have come over the connection, without waiting for any.
+fn take_waiting(stream: &TcpStream, bytes: &mut Vec<u8>) -> Result<(), AllocError> {
+    if stream.set_nonblocking(true).is_err() {
+        return Ok(());
+    }
+    let mut stream = stream;
+    let mut piece = [0; PIECE];
+    for _ in 0..MOST_READS {
+        match stream.read(&mut piece) {
+            Ok(count) if count > 0 => bytes.extend_from_slice(&piece[..count])?,
+            _ => return Ok(()),
+        }
+    }
+    Ok(())
+}
+
+// The text of a request, without its end.
+fn asked_text(alloc: Global, request: &Request) -> Result<String, AllocError> {
     let mut asked = Vec::new(alloc);
     render_request(request, &mut asked)?;
-    let asked = first_told(asked.as_slice().strip_suffix(b"\r\n").unwrap_or(&[]));
-    let told = first_told(came);
-    let asked = asked.escape_ascii();
-    let told = told.escape_ascii();
+    let line = first_told(asked.as_slice().strip_suffix(b"\r\n").unwrap_or(&[]));
+    let asked = line.escape_ascii();
+    format!(in alloc; "{asked}")
+}
+
+// To a request came what is no reply to it.
+fn wrong_reply_text(alloc: Global, request: &Request, came: &[u8]) -> Result<String, AllocError> {
+    let asked = asked_text(alloc, request)?;
+    let told = first_told(came).escape_ascii();
     match reason(alloc, request, came) {
         Some(reason) => format!(in alloc; "to \"{asked}\" came \"{told}\": {reason}"),
         None => format!(in alloc; "to \"{asked}\" came \"{told}\""),

@@ -15,7 +15,7 @@ const DEFAULT_LIMIT: u64 = 1_000_000;
 // The most turns that the line may name.
 const GREATEST_LIMIT: u64 = 1_000_000_000;
 
-const HELP: &str = "Turns of the search, 0 to 1000000000 [default: 1000000]";
+const HELP: &str = "Search turns, 0 to 1000000000 [default: 1000000]";
 
 /// The option.
 pub fn option<'a>(alloc: Global) -> Arg<'a>

@@ -21,7 +21,7 @@ pub enum Meeting {
     Never,
 }
 
-const HELP: &str = "The meeting: drawn, each, first or never [default: drawn]";
+const HELP: &str = "Meeting: drawn, each, first or never [default: drawn]";
 
 /// The option.
 pub fn option<'a>(alloc: Global) -> Arg<'a>

@@ -1,7 +1,7 @@
 //! The command `run`, over any streams for input and output.
 ghost use Rattle.std.specs.Prelude.{◌≡◌, ℕ, List, true, false, IfOk};
-ghost use Rattle.mc_command.specs.Answers.{IsAnswer};
-ghost use Rattle.mc_command.specs.Command.{Answers, IsWhole};
+ghost use Rattle.mc_command.specs.Answers.{IsRunAnswer};
+ghost use Rattle.mc_command.specs.Command.{Answers, AnswersRun, IsWhole};
 ghost use Rattle.mc_command.specs.Input as input_rule;
 ghost use Rattle.mc_command.specs.Statuses.{status_number};
 ghost use Rattle.mc_command.specs.Streams.{TakesAtMost};
@@ -50,8 +50,11 @@ where
         b: None,
         limit,
         meeting: Meeting::Drawn,
+        name: None,
+        timeout: None,
+        wait: None,
     };
-    let (status, _) = run_script(rt, alloc, target, input, output);
+    let (status, _) = run_script(rt, alloc, &target, input, output);
     status.number()
 }
 
@@ -59,7 +62,7 @@ where
 pub fn run_script<R, I: Source, O: Sink>(
     rt: &R,
     alloc: Global,
-    target: Target<'_>,
+    target: &Target<'_>,
     input: &mut I,
     output: &mut O,
 ) -> (Status, Remarks)
@@ -67,7 +70,7 @@ where
     R: Net<Stream = TcpStream> + Threads + Wait + Clock + Sync,
     ensures answered { I.has_failed input.old ≡ false → I.has_failed input.new ≡ false
         → O.has_failed output.old ≡ false → O.has_failed output.new ≡ false
-        → Answers (Asked.Run target.entry.limit) (I.left input.old) (O.written output.old) (O.written output.new) result.0 }
+        → AnswersRun target.now.name (I.left input.old) (O.written output.old) (O.written output.new) result.0 }
     ensures broken_input { I.has_failed input.old ≡ false → I.has_failed input.new ≡ true
         → (result.0 ≡ Status.NoAnswer) × (output.new ≡ output.old) }
     ensures broken_output { O.has_failed output.old ≡ false → O.has_failed output.new ≡ true → result.0 ≡ Status.NoAnswer }
@@ -86,13 +89,13 @@ where
 fn read_and_run<R, I: Source>(
     rt: &R,
     alloc: Global,
-    target: Target<'_>,
+    target: &Target<'_>,
     input: &mut I,
 ) -> Result<(Answer, Remarks), InputFault>
 where
     R: Net<Stream = TcpStream> + Threads + Wait + Clock + Sync,
     ensures right { IfOk result (λ found. (text : List ℕ) × IsWhole (I.left input.old) text
-        × IsAnswer (Asked.Run target.entry.limit) text found.0.output.items found.0.status) }
+        × IsRunAnswer target.now.name text found.0.output.items found.0.status) }
     ensures fails { input_rule.Fails (I.has_failed input.old) (I.has_failed input.new) result }
     ensures taken { TakesAtMost 1048577 (I.left input.old) (I.left input.new) }
 {
@@ -104,12 +107,12 @@ where
 fn answer_to<R>(
     rt: &R,
     alloc: Global,
-    target: Target<'_>,
+    target: &Target<'_>,
     text: &[u8],
 ) -> Result<(Answer, Remarks), AllocError>
 where
     R: Net<Stream = TcpStream> + Threads + Wait + Clock + Sync,
-    ensures { IfOk result (λ found. IsAnswer (Asked.Run target.entry.limit) text.now found.0.output.items found.0.status) }
+    ensures { IfOk result (λ found. IsRunAnswer target.now.name text.now found.0.output.items found.0.status) }
 {
     if text.len() > INPUT_LIMIT {
         return Ok((too_long(alloc)?, Remarks::None));

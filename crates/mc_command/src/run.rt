@@ -1,31 +1,30 @@
 //! What `run` answers to a script: it runs it against a server.
-ghost use Rattle.std.specs.Prelude.{◌≡◌, false, IfOk};
+ghost use Rattle.std.specs.Prelude.{◌≡◌, false, IfOk, None};
 ghost use Rattle.clap.specs.Words.{app_of, rule_of};
-ghost use Rattle.mc_run.specs.Running.{AreNew};
-ghost use Rattle.mc_command.specs.CommandLine.{a_rule, b_rule, run_app, target_rule};
+ghost use Rattle.mc_command.specs.CommandLine.{a_rule, b_rule, run_app, target_rule, timeout_rule, wait_rule};
 ghost use Rattle.mc_command.specs.RunAnswers as answers;
 
 use crate::arguments::Target;
-use crate::dial::connect_lanes;
+use crate::dial::{Connections, connect_sections};
 use crate::drawing::draw_meet;
 use crate::endings::endings_text;
 use crate::evidence::evidence_text;
-use crate::loading::{LoadFault, load_script};
+use crate::loading::LoadFault;
+use crate::naming::{put_code_under, read_code};
 use crate::outcome::status_of_run;
 use crate::refusal::refusal_text;
 use crate::status::Status;
 use crate::verdicts::verdict_text;
-use crate::verifying::{unsound_text, verify_code};
-use crate::{limit, loading, meeting};
+use crate::verifying::unsound_text;
+use crate::{limit, loading, meeting, namespace};
 use clap::{Arg, Command};
 use core::thread::Stack;
 use mc_core::World;
 use mc_explain::Verdict;
 use mc_history::print_history;
-use mc_lane::Stream;
 use mc_model::History;
 use mc_protocol::Actor;
-use mc_run::{FreeGate, Lanes, Meet, Run, RunError, run_lanes_with};
+use mc_run::{FreeGate, Run, RunError, run_lanes_with};
 use mc_verify::Checked;
 use std::alloc::{AllocError, Global};
 use std::io;
@@ -45,8 +44,10 @@ pub enum Played {
     NotRun,
     /// The text has no code.
     NoCode(LoadFault),
-    /// The script's code isn't sound, and this is its least fault.
+    /// The script's code, or that under the line's name, isn't sound, and this is its least fault.
     Unsound(mc_verify::Refusal),
+    /// Under the line's name the key with this index becomes too long.
+    KeyTooLong(usize),
 }
 
 /// The first section that got no connection, and why.
@@ -63,43 +64,46 @@ pub enum Remarks {
     None,
     /// A section got no connection.
     NoConnection(Unconnected),
+    /// The fault of the line that was found when the script had been read.
+    WrongLine(String),
     /// What the sections received in the place of a reply, or after their last one: a line for each, or none.
     Evidence(String),
 }
 
 /// Reads the script, runs it over three connections to the server, and judges what came of it in at most `limit` turns. How its
 /// branches meet is drawn where the target says so. Nothing is connected for a script that is refused. What is to be told
-/// beside the answer comes with it.
+/// beside the answer comes with it. Where the target has a name, the script's keys are put under it first.
 pub fn play_text<R: Net<Stream = TcpStream> + Threads + Wait + Clock + Sync>(
     rt: &R,
     alloc: Global,
-    target: Target<'_>,
+    target: &Target<'_>,
     text: &[u8],
 ) -> Result<(Played, Remarks), AllocError>
-    ensures { IfOk result (λ played. answers.IsRight text.now played.0) }
+    ensures { IfOk result (λ played. answers.IsRight target.now.name text.now played.0) }
 {
-    match load_script(alloc, text)? {
-        Ok(code) => match verify_code(alloc, code)? {
+    let written = match read_code(alloc, text)? {
+        Ok(checked) => checked,
+        Err(refused) => return Ok((refused, Remarks::None)),
+    };
+    match &target.name {
+        Some(name) => match put_code_under(alloc, &written, name)? {
             Ok(checked) => play_code(rt, alloc, target, &checked),
-            Err(refusal) => Ok((Played::Unsound(refusal), Remarks::None)),
+            Err(refused) => Ok(refused),
         },
-        Err(fault) => Ok((Played::NoCode(fault), Remarks::None)),
+        None => play_code(rt, alloc, target, &written),
     }
 }
 
 fn play_code<R: Net<Stream = TcpStream> + Threads + Wait + Clock + Sync>(
     rt: &R,
     alloc: Global,
-    target: Target<'_>,
+    target: &Target<'_>,
     checked: &Checked,
 ) -> Result<(Played, Remarks), AllocError>
     ensures { IfOk result (λ played. answers.IsRightFor checked.now.code played.0) }
 {
-    match connect_lanes(rt, alloc, target) {
-        Ok(lanes) => {
-            let meet = draw_meet(rt, target.meeting);
-            play_lanes(rt, alloc, checked, lanes, meet, target.limit)
-        }
+    match connect_sections(rt, target) {
+        Ok(connections) => play_connections(rt, alloc, target, checked, &connections),
         Err((section, error)) => Ok((
             Played::NoConnection(section),
             Remarks::NoConnection(Unconnected { section, error }),
@@ -107,22 +111,22 @@ fn play_code<R: Net<Stream = TcpStream> + Threads + Wait + Clock + Sync>(
     }
 }
 
-fn play_lanes<S: Stream + Send, R: Threads + Wait + Sync>(
+fn play_connections<R: Threads + Wait + Clock + Sync>(
     rt: &R,
     alloc: Global,
+    target: &Target<'_>,
     checked: &Checked,
-    lanes: Lanes<S>,
-    meet: Meet,
-    limit: u64,
+    connections: &Connections,
 ) -> Result<(Played, Remarks), AllocError>
-    requires { AreNew lanes }
     ensures { IfOk result (λ played. answers.IsRightFor checked.now.code played.0) }
 {
+    let lanes = connections.lanes(alloc);
+    let meet = draw_meet(rt, target.meeting);
     match run_lanes_with(rt, alloc, checked, lanes, &FreeGate, Stack::new(), meet) {
         Ok(run) => {
-            let (history, verdict, _) = run.judge(alloc, checked, limit)?;
+            let (history, verdict, _) = run.judge(alloc, checked, target.limit)?;
             let Run { world, lanes } = run;
-            let evidence = evidence_text(alloc, &history, &lanes)?;
+            let evidence = evidence_text(alloc, &history, &lanes, connections, target.timeout)?;
             Ok((
                 Played::Ended(world, history, verdict),
                 Remarks::Evidence(evidence),
@@ -135,14 +139,12 @@ fn play_lanes<S: Stream + Send, R: Threads + Wait + Sync>(
 
 /// What is answered to a text where no server can be reached.
 pub fn check_text(alloc: Global, text: &[u8]) -> Result<Played, AllocError>
-    ensures { IfOk result (answers.IsRight text.now) }
+    ensures { IfOk result (answers.IsRight None text.now) }
 {
-    match load_script(alloc, text)? {
-        Ok(code) => match verify_code(alloc, code)? {
-            Ok(_) => Ok(Played::NotRun),
-            Err(refusal) => Ok(Played::Unsound(refusal)),
-        },
-        Err(fault) => Ok(Played::NoCode(fault)),
+    let read = read_code(alloc, text)?;
+    match read {
+        Ok(_) => Ok(Played::NotRun),
+        Err(refused) => Ok(refused),
     }
 }
 
@@ -156,6 +158,7 @@ pub fn text_of(alloc: Global, answer: &Played) -> Result<Vec<u8>, AllocError>
         Played::NotRun => Vec::from_slice(alloc, b"not run\n"),
         Played::NoCode(fault) => refusal_text(alloc, loading::refusal_of(*fault)),
         Played::Unsound(refusal) => unsound_text(alloc, refusal),
+        Played::KeyTooLong(_) => Ok(Vec::new(alloc)),
     }
 }
 
@@ -189,6 +192,7 @@ pub fn status_of(answer: &Played) -> Status
         Played::Ended(world, _, verdict) => status_of_run(world, verdict),
         Played::NoConnection(_) | Played::NotRun => Status::NoAnswer,
         Played::NoCode(_) | Played::Unsound(_) => Status::Refused,
+        Played::KeyTooLong(_) => Status::WrongLine,
     }
 }
 
@@ -210,6 +214,15 @@ connection, one request after another.
 `--a` and `--b` name other servers for A and B, which may be two proxies before
 one cluster, or a primary and its replica. P runs against the first address.
 
+`--name` puts a name and a dash before each key, so that runs at once on one
+server leave each other alone: six of one script on one correct server gave
+three false `unexplained`. A key may have 40 bytes with it. Each section may
+send the added bytes times its budget of requests more, up to 8,192 in all.
+
+`--timeout` is the longest that a connect, a read or a write may take; where a
+read takes longer its section ends with ReadFailed. `--wait` is how long P tries
+again to connect. Both have 0.001 to 86400 seconds, with at most 3 places.
+
 A race shows where requests of A and B come at once. So the branches may meet:
 one that is ready to send waits for the other. `--meet` says when they do:
   each   before the first request until both are ready, and before each later
@@ -220,8 +233,8 @@ one that is ready to send waits for the other. `--meet` says when they do:
          meeting hides some faults in the order of replies; this is the default
 One run proves little about a server: repeat it.
 
-Give the server keys of its own to such a run: other clients must not use them,
-and P deletes them at the start. An example:
+Give such a run keys of its own: other clients must not use them, and P deletes
+them at the start. An example:
 
   script 1
   keys a
@@ -286,7 +299,8 @@ error says why:
 
 Where there is no thread for a branch it is `not run`.
 
-A run waits for the server as long as it takes. Ctrl-C ends it.";
+Without `--timeout` a run waits for the server as long as it takes. Ctrl-C ends
+it.";
 
 const STATUSES: &str = "Exit status:
   0  explained, and all sections are done
@@ -310,7 +324,10 @@ pub fn subcommand<'a>(alloc: Global) -> Result<Command<'a>, AllocError>
         .arg(limit::option(alloc))?
         .arg(meeting::option(alloc))?
         .arg(server_of_a(alloc))?
-        .arg(server_of_b(alloc))
+        .arg(server_of_b(alloc))?
+        .arg(namespace::option(alloc))?
+        .arg(timeout(alloc))?
+        .arg(wait(alloc))
 }
 
 // The argument that names the server.
@@ -322,6 +339,27 @@ fn target<'a>(alloc: Global) -> Arg<'a>
         .value_name("HOST:PORT")
         .required(true)
         .help("Run against the server at this address")
+}
+
+// The options that name times.
+fn timeout<'a>(alloc: Global) -> Arg<'a>
+    ensures rule { rule_of result ≡ timeout_rule }
+    ensures local { result.global ≡ false }
+{
+    Arg::new(alloc, "timeout")
+        .long("timeout")
+        .value_name("SECONDS")
+        .help("The most that a connect, a read or a write may take")
+}
+
+fn wait<'a>(alloc: Global) -> Arg<'a>
+    ensures rule { rule_of result ≡ wait_rule }
+    ensures local { result.global ≡ false }
+{
+    Arg::new(alloc, "wait")
+        .long("wait")
+        .value_name("SECONDS")
+        .help("Try this long to connect")
 }
 
 // The options that name a server of a branch's own.

@@ -6,7 +6,7 @@ use Rattle.std.specs.List.{concat}
 use Rattle.std.proofs.lemmas.Fmt.{length-decimal-le}
 use Rattle.mc_protocol.specs.Decimals.{MAX_64}
 use Rattle.mc_protocol.specs.Fields.{fields_of}
-use Rattle.mc_protocol.specs.Texts.{behind_key, request_text}
+use Rattle.mc_protocol.specs.Texts.{after_key, request_text}
 use Rattle.mc_protocol.specs.declared.reply.Reply.{Reply}
 use Rattle.mc_protocol.specs.declared.reply.Reply.TheVariants as reply
 use Rattle.mc_protocol.specs.declared.request.Fields.{Fields}
@@ -114,7 +114,7 @@ digits_within (argument.Variable v) n small =
     omega (arith, few, most)
 
 fields_within : (f : Fields) (t : Template) (key : List ℕ) (m n : ℕ) → length (decimal m) ≤ length (decimal n)
-    → length (concat (behind_key f (request_with t key m))) ≤ length (concat (behind_key f (request_with t key n)))
+    → length (concat (after_key f (request_with t key m))) ≤ length (concat (after_key f (request_with t key n)))
 fields_within fields.KeyAlone t key m n less = omega arith
 fields_within fields.Expiry t key m n less = omega arith
 fields_within fields.Item t key m n less = omega arith

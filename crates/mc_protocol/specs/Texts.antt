@@ -19,18 +19,18 @@ abbrev pub block : List ℕ → List (List ℕ)
 block body = body ∷ line_end ∷ []
 
 -- what stands after the key, piece by piece
-abbrev pub behind_key : Fields → Request → List (List ℕ)
-behind_key fields.KeyAlone r = line_end ∷ []
-behind_key fields.Expiry r = codes " 0" ∷ line_end ∷ []
-behind_key fields.Item r =
+abbrev pub after_key : Fields → Request → List (List ℕ)
+after_key fields.KeyAlone r = line_end ∷ []
+after_key fields.Expiry r = codes " 0" ∷ line_end ∷ []
+after_key fields.Item r =
     codes " " ∷ decimal r.flags ∷ codes " 0 " ∷ decimal (length r.body) ∷ line_end ∷ block r.body
-behind_key fields.Swap r =
+after_key fields.Swap r =
     codes " " ∷ decimal r.flags ∷ codes " 0 " ∷ decimal (length r.body) ∷ codes " " ∷ decimal r.number ∷ line_end ∷ block r.body
-behind_key fields.Amount r = codes " " ∷ decimal r.number ∷ line_end ∷ []
+after_key fields.Amount r = codes " " ∷ decimal r.number ∷ line_end ∷ []
 
 -- a command's word, the key, and these fields after the key
 abbrev pub text_as : List ℕ → Fields → Request → List ℕ
-text_as word fields r = concat (word ∷ codes " " ∷ r.key ∷ behind_key fields r)
+text_as word fields r = concat (word ∷ codes " " ∷ r.key ∷ after_key fields r)
 
 -- a request: its verb, its key, and what the verb has after the key
 abbrev pub request_text : Request → List ℕ

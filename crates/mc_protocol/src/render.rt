@@ -181,7 +181,7 @@ pub fn request_len(request: &Request) -> usize
 
 /// How many bytes come after the key of a request that stores an item.
 fn item_len(request: &Request) -> usize
-    ensures len { result ≡ length (concat (text.behind_key Fields.Item request.now)) }
+    ensures len { result ≡ length (concat (text.after_key Fields.Item request.now)) }
     ensures small { result < 2 ^ 63 + 64 }
 {
     let body = request.body.as_slice().len();

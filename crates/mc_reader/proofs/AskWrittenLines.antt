@@ -7,7 +7,7 @@ use Rattle.std.proofs.lemmas.Fmt.{decimal_nonempty}
 use Rattle.std.proofs.lemmas.List.Folds.{concat-append}
 use Rattle.mc_protocol.specs.Decimals.{MAX_64}
 use Rattle.mc_protocol.specs.Lines.{Word, Words, words_of}
-use Rattle.mc_protocol.specs.Texts.{line_end, behind_key, text_as}
+use Rattle.mc_protocol.specs.Texts.{line_end, after_key, text_as}
 use Rattle.mc_protocol.specs.declared.lines.Separator.TheVariants.{Space}
 use Rattle.mc_protocol.specs.declared.request.Fields.{Fields}
 use Rattle.mc_protocol.specs.declared.request.Fields.TheVariants as fields
@@ -40,7 +40,7 @@ after_line fields.Item r = r.body ∷ codes "\r\n" ∷ []
 after_line fields.Swap r = r.body ∷ codes "\r\n" ∷ []
 after_line fields.Amount r = []
 
-pieces_split : (f : Fields) (r : Request) → behind_key f r ≡ on_line f r ++ (line_end ∷ after_line f r)
+pieces_split : (f : Fields) (r : Request) → after_key f r ≡ on_line f r ++ (line_end ∷ after_line f r)
 pieces_split fields.KeyAlone r = refl
 pieces_split fields.Expiry r = refl
 pieces_split fields.Item r = refl

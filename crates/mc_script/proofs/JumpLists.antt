@@ -17,7 +17,7 @@ use Rattle.mc_script.specs.declared.entry.Mark.TheVariants as mark
 use Rattle.mc_script.specs.declared.section.Label.{Label}
 use Rattle.mc_script.specs.Marks.{may_stand, is_number_jump, target_of}
 use Rattle.mc_script.specs.Steps.{label_after, with_jump, jump_before, jumps_on}
-use Rattle.mc_script.specs.WellFormed.{IsBehind, AreJumps, is_number_class, jumps_on_number}
+use Rattle.mc_script.specs.WellFormed.{IsAfter, AreJumps, is_number_class, jumps_on_number}
 use Rattle.mc_script.proofs.Outcomes.{some-same, cond-cases}
 
 -- ---- classes
@@ -87,7 +87,7 @@ target-number (mark.Jump d l ∷ marks) c name h g =
 
 -- ---- labels
 
-pub label-after : (labels : List Label) (place index : ℕ) (name : Word) → label_after labels place name ≡ Some index → IsBehind labels place index
+pub label-after : (labels : List Label) (place index : ℕ) (name : Word) → label_after labels place name ≡ Some index → IsAfter labels place index
 label-after labels place index name h =
     let none : Label = record { name = []; place = 0 } in
     let p = position-Some (λ (label : Label). bytes_eq label.name name && nat_lt place label.place) labels index none h in

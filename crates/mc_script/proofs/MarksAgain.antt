@@ -18,7 +18,7 @@ use Rattle.mc_script.specs.declared.step.Template.{Template}
 use Rattle.mc_script.specs.Marks.{sign_byte, says, mask_of, target_of, bound_by}
 use Rattle.mc_script.specs.SectionText.{label_names}
 use Rattle.mc_script.specs.Steps.{with_jump, jump_before, jumps_on}
-use Rattle.mc_script.specs.WellFormed.{IsBehind, AreJumps}
+use Rattle.mc_script.specs.WellFormed.{IsAfter, AreJumps}
 use Rattle.mc_script.specs.PrintedScript.{label_at}
 use Rattle.mc_script.proofs.JumpLists.{class-same}
 use Rattle.mc_script.proofs.Masks.{gathered}
@@ -202,7 +202,7 @@ below-ten class.NotNumber = omega arith
 -- a jump that comes first, or none on this class
 first-jump : (v : Verb) (labels : List Label) (place n : ℕ) (c : Class) (jumps : List (Class × ℕ)) → class_index c ≡ n → AreJumps v labels place n jumps
     → AreJumps v labels place (n + 1) jumps
-    ⊎ ((index : ℕ) × (js : List (Class × ℕ)) × (jumps ≡ (c, index) ∷ js) × IsBehind labels place index × AreJumps v labels place (n + 1) js)
+    ⊎ ((index : ℕ) × (js : List (Class × ℕ)) × (jumps ≡ (c, index) ∷ js) × IsAfter labels place index × AreJumps v labels place (n + 1) js)
 first-jump v labels place n c [] e h = inl tt
 first-jump v labels place n c ((d, index) ∷ js) e h =
     let from = h.0 in

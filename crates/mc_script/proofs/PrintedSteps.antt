@@ -36,7 +36,7 @@ use Rattle.mc_script.specs.Marks.{sign_byte, jump_word, bind_word, bound_by}
 use Rattle.mc_script.specs.SectionText.{SpellsEntry, SpellsFields, SpellsUnique, SpellsAmount, label_names}
 use Rattle.mc_script.specs.Steps.{in_front, sends, goes, with_marks, steps_from}
 use Rattle.mc_script.specs.Templates.{IsTemplate, has_fields, is_nothing, is_variable, is_amount, is_empty}
-use Rattle.mc_script.specs.WellFormed.{IsBehind, AreJumps, MayBind, IsStep}
+use Rattle.mc_script.specs.WellFormed.{IsAfter, AreJumps, MayBind, IsStep}
 use Rattle.mc_script.specs.PrintedScript.{name_at, label_at, item_words, argument_words, flag_words, all_flag_words}
 use Rattle.mc_script.specs.PrintedScript.{jump_words, bind_words, mark_words, field_words, step_words}
 use Rattle.mc_script.proofs.MarkLists.{three}
@@ -304,7 +304,7 @@ names-length : (ls : List Label) → length (label_names ls) ≡ length ls
 names-length [] = refl
 names-length (l ∷ ls) = let e = names-length ls in omega (arith, e)
 
-behind-named : (labels : List Label) (place index : ℕ) → list_all is_label_name (label_names labels) ≡ true → IsBehind labels place index
+behind-named : (labels : List Label) (place index : ℕ) → list_all is_label_name (label_names labels) ≡ true → IsAfter labels place index
     → is_label_name (label_at labels index) ≡ true
 behind-named labels place index all (label, get, lt) =
     let inside = slice_get_within labels index label get in

@@ -1,4 +1,4 @@
--- A script less a step is a script: each jump keeps its label, which still stands behind the jump.
+-- A script less a step is a script: each jump keeps its label, which still stands after the jump.
 use Rattle.std.proofs.Common.{◌≡◌, ℕ, ◌+◌, ◌-◌, ◌<◌, ◌≤◌, zero, suc, Some, List, [], ◌∷◌}
 use Rattle.std.proofs.Common.{⊎_elim, length, map, slice_get, refl, ap, subst, ◌∙◌, arith}
 use Rattle.std.specs.List.{remove}
@@ -16,7 +16,7 @@ use Rattle.mc_script.specs.declared.step.Step.{Step}
 use Rattle.mc_script.specs.declared.step.Step.TheVariants as step
 use Rattle.mc_script.specs.Script.{Names, Section, Script, section_of}
 use Rattle.mc_script.specs.SectionText.{label_names}
-use Rattle.mc_script.specs.WellFormed.{IsBehind, AreJumps, IsStep, AreSteps, AreLabels, IsSection, IsScript}
+use Rattle.mc_script.specs.WellFormed.{IsAfter, AreJumps, IsStep, AreSteps, AreLabels, IsSection, IsScript}
 use Rattle.mc_script.specs.WithoutStep.{place_without, label_without, section_without, sections_without, without_step}
 
 -- ---- labels
@@ -58,8 +58,8 @@ moved-label k (first ∷ labels) (suc index) label h = moved-label k labels inde
 
 -- a label behind a step is behind it without an earlier or a later step: it falls by one place only where it stood behind
 -- that step too, and then it stood at least two places behind an earlier one, or a later one falls with it
-behind-earlier : (k place : ℕ) (labels : List Label) → place < k → (index : ℕ) → IsBehind labels place index
-    → IsBehind (map (label_without k) labels) place index
+behind-earlier : (k place : ℕ) (labels : List Label) → place < k → (index : ℕ) → IsAfter labels place index
+    → IsAfter (map (label_without k) labels) place index
 behind-earlier k place labels below index (label, found, behind) =
     let less : place < place_without k label.place =
     ⊎_elim
@@ -68,8 +68,8 @@ behind-earlier k place labels below index (label, found, behind) =
     (cases_lt k label.place) in
     (label_without k label, moved-label k labels index label found, less)
 
-behind-later : (k place : ℕ) (labels : List Label) → k ≤ place → (index : ℕ) → IsBehind labels (place + 1) index
-    → IsBehind (map (label_without k) labels) place index
+behind-later : (k place : ℕ) (labels : List Label) → k ≤ place → (index : ℕ) → IsAfter labels (place + 1) index
+    → IsAfter (map (label_without k) labels) place index
 behind-later k place labels from index (label, found, behind) =
     let l = moves-behind k label.place (omega (arith, from, behind)) in
     (label_without k label, moved-label k labels index label found, omega (arith, l, behind))
@@ -77,14 +77,14 @@ behind-later k place labels from index (label, found, behind) =
 -- ---- steps
 
 jumps-stay : (verb : Verb) (labels others : List Label) (place at least : ℕ) (jumps : List (Class × ℕ))
-    → ((index : ℕ) → IsBehind labels place index → IsBehind others at index)
+    → ((index : ℕ) → IsAfter labels place index → IsAfter others at index)
     → AreJumps verb labels place least jumps → AreJumps verb others at least jumps
 jumps-stay verb labels others place at least [] f h = tt
 jumps-stay verb labels others place at least (jump ∷ jumps) f h =
     (h.0, h.1, f jump.1 h.2, jumps-stay verb labels others place at (class_index jump.0 + 1) jumps f h.3)
 
 step-stays : (names : Names) (labels others : List Label) (place at : ℕ) (s : Step)
-    → ((index : ℕ) → IsBehind labels place index → IsBehind others at index) → IsStep names labels place s → IsStep names others at s
+    → ((index : ℕ) → IsAfter labels place index → IsAfter others at index) → IsStep names labels place s → IsStep names others at s
 step-stays names labels others place at (step.Send t jumps bind) f h = (h.0, jumps-stay t.verb labels others place at 0 jumps f h.1, h.2)
 step-stays names labels others place at (step.Bind v) f h = h
 step-stays names labels others place at (step.Goto label) f h = f label h

@@ -19,15 +19,15 @@ use Rattle.mc_script.specs.SectionText.{label_names}
 use Rattle.mc_script.specs.Templates.{IsTemplate}
 
 -- the label with this index stands after the step at this place
-abbrev pub IsBehind : List Label → ℕ → ℕ → Type 0
-IsBehind labels place index = (label : Label) × (slice_get labels index ≡ Some label) × (place < label.place)
+abbrev pub IsAfter : List Label → ℕ → ℕ → Type 0
+IsAfter labels place index = (label : Label) × (slice_get labels index ≡ Some label) × (place < label.place)
 
 -- the jumps of a step at this place, on classes from the index `least` on: legal classes in their order, labels after the
 -- step
 abbrev pub AreJumps : Verb → List Label → ℕ → ℕ → List (Class × ℕ) → Type 0
 AreJumps verb labels place least [] = Unit {0}
 AreJumps verb labels place least (jump ∷ jumps) =
-    (least ≤ class_index jump.0) × (is_legal verb jump.0 ≡ true) × IsBehind labels place jump.1
+    (least ≤ class_index jump.0) × (is_legal verb jump.0 ≡ true) × IsAfter labels place jump.1
     × AreJumps verb labels place (class_index jump.0 + 1) jumps
 
 -- a reply of this class shows a number, where the verb's replies may show one
@@ -51,7 +51,7 @@ IsStep names labels place (step.Send t jumps bind) =
     IsTemplate (length names.keys) (length names.flags) (length names.vars) t
     × AreJumps t.verb labels place 0 jumps × MayBind names t.verb jumps bind
 IsStep names labels place (step.Bind variable) = variable < length names.vars
-IsStep names labels place (step.Goto label) = IsBehind labels place label
+IsStep names labels place (step.Goto label) = IsAfter labels place label
 IsStep names labels place step.Halt = Unit {0}
 
 -- the steps of a section from this place on

@@ -11,7 +11,7 @@ use Rattle.mc_script.specs.PrintedScript.{step_words, section_lines}
 use Rattle.mc_script.specs.Script.{Names, Section, Script, section_of}
 use Rattle.mc_script.specs.WellFormed.{IsScript}
 
--- where a label at `place` stands without the step at place k: one place earlier, where it stood behind the step
+-- where a label at `place` stands without the step at place k: one place earlier, where it stood after the step
 abbrev pub place_without : ℕ → ℕ → ℕ
 place_without k place = if nat_lt k place then place - 1 else place
 
@@ -39,7 +39,7 @@ without_step s actor k = record { names = s.names; sections = sections_without a
 -- ---- the law
 
 -- the second section has the lines of the first but for that of its step at this place, which has before it a line for
--- each step before it, and one for each label that doesn't stand behind it
+-- each step before it, and one for each label that doesn't stand after it
 pub record HasOtherLines (names : Names) (s t : Section) (k : ℕ) : Type 0 where
   pub step : Step
   pub before : List Words

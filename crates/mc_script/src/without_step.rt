@@ -11,7 +11,7 @@ use crate::{Label, Script};
 use mc_protocol::{Actor, OutOfMemory, Sections};
 use std::alloc::Global;
 
-/// The script less one step of a section, which must exist. A label behind the step stands one place earlier; one at the
+/// The script less one step of a section, which must exist. A label after the step stands one place earlier; one at the
 /// step is then a label of the next step, or of the section's end.
 pub fn without(
     alloc: Global,

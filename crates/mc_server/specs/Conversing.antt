@@ -50,8 +50,8 @@ EndsTalk got held left before after requests _ = ⊥
 abbrev pub EndsTalkAt : List ℕ → List ℕ → List ℕ → StreamState → StreamState → ℕ → ℕ → Why → Type 0
 EndsTalkAt got held left before after n m w = (k : ℕ) × (m ≡ n + k) × EndsTalk got held left before after k w
 
--- The next request in the bytes, after the text that was read of it: it isn't whole; or it was answered, and so many bytes belong
--- to it; or this is the end.
+-- The next request in the bytes, after the text that was read of it: it isn't whole; or it was answered, and this is how many bytes
+-- belong to it; or this is the end.
 abbrev pub AnswersNext : Progress → Progress → List ℕ → List ℕ → List ℕ → StreamState → StreamState → ℕ → ℕ
     → Result (Option ℕ) Why → Type 0
 AnswersNext old new unread held left before after n m (Ok None) =
@@ -122,7 +122,7 @@ AnswersPiece old new piece before after n m (Err w) =
 
 -- ---- all pieces
 
--- so many bytes were read of a connection, all that they ask was answered, and so many requests were among it
+-- `received` bytes were read of a connection, all that they ask was answered, and `requests` is how many requests were among it
 pub record IsServedSoFar (before after : StreamState) (reader : Progress) (received requests : ℕ) : Type 0 where
   pub got : List ℕ
   pub put : List ℕ

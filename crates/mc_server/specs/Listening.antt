@@ -1,10 +1,7 @@
 -- How many connections are served.
 use Rattle.std.specs.Prelude.{◌≡◌, ℕ, ◌+◌, ◌≤◌, ◌⊎◌}
 use Rattle.mc_server.specs.declared.counts.Listened.{Listened}
-
--- After so many failed accepts in a row no more connections are accepted.
-abbrev pub MOST_FAILED : ℕ
-MOST_FAILED = 100
+use Rattle.mc_server.specs.declared.counts.TheConstants.{MOST_FAILED}
 
 -- No more are served than were asked for, and each of those was served or refused unless too many accepts failed. Where none was asked
 -- for, nothing is accepted.

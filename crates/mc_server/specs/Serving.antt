@@ -22,7 +22,7 @@ abbrev pub IsFrontOfNext : List Asking → List ℕ → Type 0
 IsFrontOfNext [] text = text ≡ []
 IsFrontOfNext (asked ∷ others) text = MayBegin asked text
 
--- all that the bytes ask, which are left then, was answered by this text; and so many requests were among it
+-- all that the bytes ask, which are left then, was answered by this text; and `requests` is how many requests were among it
 pub record IsAnswered (got rest text : List ℕ) (asked : List Asking) (requests : ℕ) : Type 0 where
   pub asks : Asks got asked rest
   pub answered : AreAnswered asked text
@@ -55,7 +55,7 @@ pub record IsServedFirst (got text : List ℕ) (requests : ℕ) : Type 0 where
   pub joined : text ≡ first ++ front
   pub counted : requests ≤ count (asked ++ others)
 
--- where these bytes were read and these were written, so many requests were served, and this is why nothing more is read
+-- where these bytes were read and these were written, this number of requests was served, and this is why nothing more is read
 abbrev pub Serves : List ℕ → List ℕ → ℕ → Why → Type 0
 Serves got put requests why.Ended = IsServed got put requests
 Serves got put requests why.ReadFailed = IsServed got put requests

@@ -6,10 +6,11 @@ ghost use Rattle.mc_reader.specs.Asks.{ask_of, Many};
 ghost use Rattle.mc_server.specs.Answers as text;
 ghost use Rattle.mc_server.specs.Answering as spec;
 
+use crate::blocks::{append_block, append_reply};
 use crate::outbox::make_room;
 use crate::{Caller, StoreFault, Why};
 use mc_lane::Stream;
-use mc_protocol::{Bytes, Reply, Request, Verb, render_reply, render_value};
+use mc_protocol::{Bytes, Reply, Request, Verb};
 use mc_reader::{Ask, Refuse};
 use std::sync::Wait;
 
@@ -62,7 +63,7 @@ fn reply_to<R: Wait, S: Stream, C: Caller>(
         return Ok(());
     }
     make_room(stream, held, body_len(&reply))?;
-    render_reply(request.key.as_slice(), &reply, held)?;
+    append_reply(request.key.as_slice(), &reply, held)?;
     Ok(())
 }
 
@@ -117,7 +118,7 @@ fn show<R: Wait, S: Stream, C: Caller>(
         return Ok(());
     };
     make_room(stream, held, body.as_slice().len())?;
-    render_value(request.key.as_slice(), flags, body.as_slice(), cas, held)?;
+    append_block(request.key.as_slice(), flags, body.as_slice(), cas, held)?;
     Ok(())
 }
 

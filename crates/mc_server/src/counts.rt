@@ -1,7 +1,8 @@
 //! How many connections were served and refused, and how many are left.
 ghost use Rattle.std.specs.Prelude.{◌≡◌, ◌+◌, ◌^◌, ◌<◌, ◌≤◌, ◌⊎◌, IsTrue, IsFalse};
+ghost use Rattle.mc_server.specs.declared.counts.TheConstants.{MOST_FAILED};
 
-/// After so many accepts in a row that failed there are no more.
+/// How many accepts in a row may fail before no more connections are accepted.
 const MOST_FAILED: u64 = 100;
 
 /// What came of connections.
@@ -28,7 +29,7 @@ pub(crate) struct Counts {
 }
 
 impl Counts {
-    /// Nothing so far, where so many connections are to come.
+    /// Nothing so far, where `connections` are to come.
     pub(crate) fn new(connections: u64) -> Self
         ensures connections { result.connections ≡ connections }
         ensures left { result.left ≡ connections }
@@ -54,7 +55,7 @@ impl Counts {
 
     /// Whether nothing more is accepted.
     pub(crate) fn are_over(&self) -> bool
-        ensures over { IsTrue result → (self.now.left ≡ 0) ⊎ (100 ≤ self.now.failed) }
+        ensures over { IsTrue result → (self.now.left ≡ 0) ⊎ (MOST_FAILED ≤ self.now.failed) }
         ensures left { IsFalse result → 0 < self.now.left }
     {
         self.left == 0 || self.failed >= MOST_FAILED

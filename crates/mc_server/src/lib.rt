@@ -9,6 +9,7 @@
 #![tactic(auto)]
 
 mod answer;
+mod blocks;
 mod caller;
 mod conversation;
 mod counts;

@@ -26,8 +26,8 @@ const PATIENCE: u64 = 200;
 /// How many reads there are at most after the last line.
 const LAST_READS: u32 = 64;
 
-/// Serves so many connections, each by a thread of its own, and returns when all of them have ended. A connection that got no thread
-/// counts as one of them; an accept that failed doesn't. After 100 failed accepts in a row, of which each is followed by a rest of
+/// Serves `connections` connections, each by a thread of its own, and returns when all of them have ended. A connection that got no
+/// thread counts as one of them; an accept that failed doesn't. After 100 failed accepts in a row, of which each is followed by a rest of
 /// 10 ms, no more connections are accepted.
 pub fn listen<R: Threads + Wait + Clock + Sync, C: Caller>(
     rt: &R,
@@ -47,7 +47,7 @@ pub fn listen<R: Threads + Wait + Clock + Sync, C: Caller>(
     )
 }
 
-/// Serves so many connections, each by a thread of the scope.
+/// Serves `connections` connections, each by a thread of the scope.
 fn serve_all<'s, E, R: Wait + Clock + Sync, C: Caller>(
     rt: &'s R,
     alloc: Global,
@@ -96,7 +96,9 @@ fn carry<R: Wait, C: Caller>(rt: &R, alloc: Global, stream: TcpStream, caller: &
 }
 
 /// Lets the last line reach a client that may still be sending: nothing more is written, and what comes is read a little longer. If the
-/// connection were closed with bytes that weren't read, the line could be lost.
+/// connection were closed with bytes that weren't read, the line could be lost. It isn't inlined, since its buffer would then lie on the
+/// stack for as long as the connection is served.
+#[inline(never)]
 fn let_go(mut stream: &TcpStream) {
     let _ = stream.shutdown(Shutdown::Write);
     let _ = stream.set_read_timeout(Some(Duration::from_millis(PATIENCE)));

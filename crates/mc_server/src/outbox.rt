@@ -10,8 +10,8 @@ use mc_lane::Stream;
 /// How many bytes are held back at most before they are written, unless one answer is longer.
 const HELD_LIMIT: usize = 65_536;
 
-/// How much room is kept for answers after they were written.
-const KEPT_ROOM: usize = 16_384;
+/// How much room is kept for answers after they were written, by a connection that may wait long for its client.
+const KEPT_ROOM: usize = 1_024;
 
 /// Writes all of the bytes, piece by piece as the stream takes them.
 pub(crate) fn write_all<S: Stream>(stream: &mut S, bytes: &[u8]) -> Result<(), Why>
@@ -28,7 +28,7 @@ pub(crate) fn write_all<S: Stream>(stream: &mut S, bytes: &[u8]) -> Result<(), W
     Ok(())
 }
 
-/// Writes what is held back. Room for more than is mostly needed is given back.
+/// Writes what is held back. Room for long answers is given back.
 pub(crate) fn flush<S: Stream>(stream: &mut S, held: &mut Vec<u8>) -> Result<(), Why>
     requires { CanFail (S.state stream.old) }
     ensures written { spec.WritesAll held.old.items (S.state stream.old) (S.state stream.new) result }

@@ -11,10 +11,10 @@ use mc_protocol::OutOfMemory;
 use std::alloc::Global;
 use std::sync::Wait;
 
-/// How many bytes are read at once at first, and where little comes.
+/// How many bytes are read at once by a connection that waits for its client.
 const LEAST_PIECE: usize = 4_096;
 
-/// How many bytes are read at once at most.
+/// How many bytes are read at once after a read that found as many as it could take.
 const MOST_PIECE: usize = 65_536;
 
 /// Reads requests from the stream until it ends, and writes the answers of the caller to them, in their order. All answers to the
@@ -88,18 +88,16 @@ fn room_for(alloc: Global, count: usize) -> Result<Vec<u8>, OutOfMemory>
     Ok(room)
 }
 
-/// Makes more room for the next piece where the last one filled it, and the least where little came. Where there is no memory for it
-/// the room stays as it is.
+/// Makes room for the next piece: the most where the last one filled its room, since more is there already, and else the least, since
+/// the next read may wait long. Where there is no memory for it the room stays as it is.
 fn fit(alloc: Global, piece: &mut Vec<u8>, count: usize)
     requires { 0 < vec_len piece.old }
     ensures { 0 < vec_len piece.new }
 {
     let len = if count == piece.len() {
-        count.saturating_mul(4).min(MOST_PIECE)
-    } else if count < LEAST_PIECE / 2 {
-        LEAST_PIECE
+        MOST_PIECE
     } else {
-        return;
+        LEAST_PIECE
     };
     if len == piece.len() {
         return;

@@ -12,7 +12,7 @@ use Rattle.mc_protocol.specs.Decimals.{MAX_32, MAX_64}
 use Rattle.mc_protocol.specs.Fields.{fields_of}
 use Rattle.mc_protocol.specs.Lines.{Word}
 use Rattle.mc_protocol.specs.Names.{is_name}
-use Rattle.mc_protocol.specs.Texts.{behind_key, request_text}
+use Rattle.mc_protocol.specs.Texts.{after_key, request_text}
 use Rattle.mc_protocol.specs.Words.{verb_word}
 use Rattle.mc_protocol.specs.declared.limits.TheConstants.{KEY_BYTES_LIMIT}
 use Rattle.mc_protocol.specs.declared.request.Fields.{Fields}
@@ -60,7 +60,7 @@ pub record IsShort (r : Request) : Type 0 where
   pub body : length r.body ≤ 64
   pub number : r.number ≤ MAX_64
 
-fields_short : (f : Fields) (r : Request) → IsShort r → length (concat (behind_key f r)) ≤ 200
+fields_short : (f : Fields) (r : Request) → IsShort r → length (concat (after_key f r)) ≤ 200
 fields_short fields.KeyAlone r short = lit≤ tt
 fields_short fields.Expiry r short = lit≤ tt
 fields_short fields.Item r short =
@@ -78,9 +78,9 @@ text_short : (r : Request) → IsShort r → length (request_text r) ≤ 1000
 text_short r short =
     let after = fields_short (fields_of r.verb) r short in
     let word = word_short r.verb in
-    let word_then = length-append (verb_word r.verb) (codes " " ++ (r.key ++ concat (behind_key (fields_of r.verb) r))) in
-    let space_then = length-append (codes " ") (r.key ++ concat (behind_key (fields_of r.verb) r)) in
-    let key_then = length-append r.key (concat (behind_key (fields_of r.verb) r)) in
+    let word_then = length-append (verb_word r.verb) (codes " " ++ (r.key ++ concat (after_key (fields_of r.verb) r))) in
+    let space_then = length-append (codes " ") (r.key ++ concat (after_key (fields_of r.verb) r)) in
+    let key_then = length-append r.key (concat (after_key (fields_of r.verb) r)) in
     omega (arith, short.key, word_then, space_then, key_then)
 
 -- ---- templates

@@ -14,7 +14,7 @@ use Rattle.mc_verify.specs.declared.cost_trace.CostMove.{CostMove}
 use Rattle.mc_verify.specs.declared.cost_trace.CostStep.{CostStep}
 use Rattle.mc_verify.specs.declared.measure.Measure.{Measure}
 
--- these are the replies of a path to the place that costs this or more; for a branch behind those of a complete path of P
+-- these are the replies of a path to the place that costs this or more; for a branch after those of a complete path of P
 pub record CostsAlong (c : Code) (actor : Actor) (measure : Measure) (place cost : ℕ) (replies : List (Actor × Class)) : Type 0 where
   pub before : List Edge
   pub edges : List Edge

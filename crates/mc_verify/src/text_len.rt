@@ -28,7 +28,7 @@ pub(crate) fn text_len(key: &[u8], template: &Template) -> usize
 
 /// How many bytes come after the key of a request that stores an item.
 fn item_len(template: &Template) -> usize
-    ensures len { result ≡ length (concat (text.behind_key Fields.Item (request_with template.now [] 0))) }
+    ensures len { result ≡ length (concat (text.after_key Fields.Item (request_with template.now [] 0))) }
     ensures small { result < 2 ^ 63 + 64 }
 {
     let body = template.body.as_slice().len();

@@ -2,16 +2,17 @@
 #![tactic(auto)]
 
 ghost use Rattle.std.specs.Prelude.{◌≡◌, false, true};
-ghost use Rattle.mc_command.specs.Command.{Answers, Hosts};
+ghost use Rattle.mc_command.specs.Command.{AnswersRun, Hosts};
 ghost use Rattle.mc_command.specs.Statuses.{status_number};
 ghost use Rattle.mc_command.specs.Streams.{TakesAtMost};
 
 use mc_command::{
-    Asked, InputFault, Reader, Remarks, Service, Sink, Source, Status, Target, Told, Unconnected,
-    Writer, command, read_run, read_serve, run_script, serve_connections, unread_line, write_fault,
+    InputFault, Reader, Remarks, Service, Sink, Source, Status, Target, Told, Unconnected, Writer,
+    command, input_name, read_run, read_serve, run_script, serve_connections, unread_line,
+    write_fault,
 };
 use std::alloc::Global;
-use std::io::{Eprint, ErrorKind};
+use std::io::{Eprint, ErrorKind, IsTerminal};
 use std::net::{Net, TcpListener, TcpStream};
 use std::process::ExitCode;
 use std::rt::{Clock, Env};
@@ -20,12 +21,18 @@ use std::thread::Threads;
 use std::{env, io};
 
 fn main(rt: HostRuntime) -> ExitCode {
-    let mut input = Reader::new(rt.reader());
+    let stdin = rt.reader();
+    let is_terminal = stdin.is_terminal();
+    let mut input = Reader::new(stdin);
     let mut output = Writer::new(rt.stdout());
     let mut faults = Writer::new(rt.stderr());
-    let status = match line_of(&rt) {
+    let line = line_of(&rt);
+    if is_terminal && let Ok(line) = &line {
+        tell_terminal(&rt, line.as_slice());
+    }
+    let status = match &line {
         Ok(line) => match read_run(rt.alloc(), line.as_slice()) {
-            Ok(Some(target)) => play(&rt, rt.alloc(), target, &mut input, &mut output),
+            Ok(Some(target)) => play(&rt, rt.alloc(), &target, &mut input, &mut output),
             Ok(None) => match read_serve(rt.alloc(), line.as_slice()) {
                 Ok(Some(service)) => host(&rt, rt.alloc(), service, &mut output),
                 Ok(None) => command(
@@ -39,11 +46,19 @@ fn main(rt: HostRuntime) -> ExitCode {
             },
             Err(_) => write_fault(InputFault::OutOfMemory, &mut output).number(),
         },
-        Err(error) => unread_line(&error, &mut output, &mut faults),
+        Err(error) => unread_line(error, &mut output, &mut faults),
     };
     tell_failure(&rt, "standard input", input.error());
     tell_failure(&rt, "standard output", output.error());
     ExitCode::from(status)
+}
+
+// Says on standard error what is read, where a person is to type it.
+fn tell_terminal<R: Eprint + AllocGlobal>(rt: &R, line: &[String]) {
+    if let Some(name) = input_name(rt.alloc(), line) {
+        // There is nowhere else to say that this could not be said.
+        let _ = eprintln!(rt; "mcrace: reading {name} from the terminal; Ctrl-D ends it");
+    }
 }
 
 // Says on standard error why a stream failed. Who closed the other end of a pipe knows it.
@@ -60,7 +75,7 @@ fn tell_failure<R: Eprint>(rt: &R, stream: &str, error: Option<&io::Error>) {
 fn play<R, I: Source, O: Sink>(
     rt: &R,
     alloc: Global,
-    target: Target<'_>,
+    target: &Target<'_>,
     input: &mut I,
     output: &mut O,
 ) -> u8
@@ -69,7 +84,7 @@ where
     ensures answered { I.has_failed input.old ≡ false → I.has_failed input.new ≡ false
         → O.has_failed output.old ≡ false → O.has_failed output.new ≡ false
         → (ended : Status) × (result ≡ status_number ended)
-        × Answers (Asked.Run target.entry.limit) (I.left input.old) (O.written output.old) (O.written output.new) ended }
+        × AnswersRun target.now.name (I.left input.old) (O.written output.old) (O.written output.new) ended }
     ensures broken_input { I.has_failed input.old ≡ false → I.has_failed input.new ≡ true
         → (result ≡ 4) × (output.new ≡ output.old) }
     ensures broken_output { O.has_failed output.old ≡ false → O.has_failed output.new ≡ true → result ≡ 4 }
@@ -81,7 +96,7 @@ where
         Remarks::NoConnection(Unconnected { section, error }) => {
             tell_reason(rt, target.server_of(section), &error);
         }
-        Remarks::Evidence(lines) => {
+        Remarks::Evidence(lines) | Remarks::WrongLine(lines) => {
             // There is nowhere else to say that this could not be said.
             let _ = eprint!(rt; "{lines}");
         }

@@ -14,21 +14,29 @@ impl Caller for NoMemory {
     }
 }
 
+/// Requests for which there is no memory. The last one asks for no reply.
+static UNSERVED: [&[u8]; 3] = [
+    b"foo\r\nget a b\r\nget a\r\n",
+    b"foo\r\nset a 0 0 1\r\n1\r\nget a\r\n",
+    b"foo\r\nset a 0 0 1 noreply\r\n1\r\nget a\r\n",
+];
+
 #[test]
 fn closes_where_there_is_no_memory(rt: HostRuntime) -> Result<(), Fail> {
-    let sent: &[u8] = b"foo\r\nget a b\r\nget a\r\n";
-    let (written, served) = conversation(&rt, rt.alloc(), &NoMemory, &[sent], None)?;
-    assert_eq!(rt;
-        written.as_slice(),
-        b"ERROR\r\nSERVER_ERROR out of memory\r\n".as_slice()
-    );
-    assert_eq!(rt;
-        served,
-        Served {
-            requests: 1,
-            why: Why::Memory
-        }
-    );
+    for sent in UNSERVED {
+        let (written, served) = conversation(&rt, rt.alloc(), &NoMemory, &[sent], None)?;
+        assert_eq!(rt;
+            written.as_slice(),
+            b"ERROR\r\nSERVER_ERROR out of memory\r\n".as_slice()
+        );
+        assert_eq!(rt;
+            served,
+            Served {
+                requests: 1,
+                why: Why::Memory
+            }
+        );
+    }
     Ok(())
 }
 

@@ -5,6 +5,8 @@
 #[cfg(test)]
 mod fault_tests;
 #[cfg(test)]
+mod limit_tests;
+#[cfg(test)]
 mod lines;
 #[cfg(test)]
 mod listen_tests;

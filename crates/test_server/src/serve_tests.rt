@@ -290,6 +290,16 @@ fn closes_after_a_line_that_is_too_long(rt: HostRuntime) -> Result<(), Fail> {
     let line = [b'a'; 2_048];
     let answer = b"CLIENT_ERROR line too long\r\n";
     assert!(rt; is_served(&rt, &[&line[..2_047]], None, b"", served(0, Why::Ended))?);
+    // also where no reply is asked for
+    assert!(rt;
+        is_served(
+            &rt,
+            &[b"delete a noreply", &line],
+            None,
+            answer,
+            served(0, Why::Refused)
+        )?
+    );
     assert!(rt; is_served(&rt, &[&line], None, answer, served(0, Why::Refused))?);
     assert!(rt;
         is_served(
@@ -303,15 +313,21 @@ fn closes_after_a_line_that_is_too_long(rt: HostRuntime) -> Result<(), Fail> {
     Ok(())
 }
 
+/// The lines of a request whose body is too large, which asks for a reply or doesn't.
+static TOO_LARGE: [&[u8]; 2] = [b"set a 0 0 65537\r\n", b"set a 0 0 65537 noreply\r\n"];
+
+/// Whether the body after such a line is skipped, and what comes after it is answered.
+fn is_skipped<R: Wait + AllocGlobal>(rt: &R, line: &[u8]) -> Result<bool, AllocError> {
+    let body = vec![in rt.alloc(); b'1'; 65_537]?;
+    let pieces = [line, body.as_slice(), b"\r\nget a\r\n".as_slice()];
+    let answers = b"SERVER_ERROR object too large for cache\r\nEND\r\n";
+    is_served(rt, &pieces, None, answers, served(1, Why::Ended))
+}
+
 #[test]
 fn skips_a_body_that_is_too_large(rt: HostRuntime) -> Result<(), Fail> {
-    let body = vec![in rt.alloc(); b'1'; 65_537]?;
-    let answers = b"SERVER_ERROR object too large for cache\r\nEND\r\n";
-    let pieces = [
-        b"set a 0 0 65537\r\n".as_slice(),
-        body.as_slice(),
-        b"\r\nget a\r\n".as_slice(),
-    ];
-    assert!(rt; is_served(&rt, &pieces, None, answers, served(1, Why::Ended))?);
+    for line in TOO_LARGE {
+        assert!(rt; is_skipped(&rt, line)?);
+    }
     Ok(())
 }

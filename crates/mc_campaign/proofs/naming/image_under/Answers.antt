@@ -1,4 +1,4 @@
-use Rattle.std.proofs.Common.{◌≡◌, ◌∙◌}
+use Rattle.std.proofs.Common.{◌∙◌}
 use Rattle.mc_campaign.proofs.ImageUnder.{front-within, image-joined}
 use Rattle.mc_campaign.proofs.KeysUnder.{short-under}
 use Rattle.mc_campaign.proofs.naming.image_under.Goals as goal

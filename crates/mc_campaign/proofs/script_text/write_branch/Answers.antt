@@ -1,4 +1,4 @@
-use Rattle.std.proofs.Common.{ℕ, ◌+◌, ◌<◌, ◌++◌, arith}
+use Rattle.std.proofs.Common.{ℕ, ◌+◌, ◌++◌, arith}
 use Rattle.mc_script.specs.PrintedScript.{lines_text}
 use Rattle.mc_campaign.specs.Outputs.{outputs_of}
 use Rattle.mc_campaign.specs.Pieces.{pieces_in}

@@ -1,7 +1,8 @@
 use Rattle.std.proofs.Common.{codes, inl, inr, map, rules, string_bytes, sym, Some, ◌≡◌, ◌∙◌}
 use Rattle.std.proofs.lemmas.Result.{err_from_is_err_and}
 use Rattle.mc_command.proofs.Line.{command_is, fault_by_clap, line_faults-is, no_job, no_limit_of_drive, no_limit_of_judge}
-use Rattle.mc_command.proofs.Line.{no_limit_of_run, no_meeting, no_seed, no_subcommand, program_is_simple, value_is}
+use Rattle.mc_command.proofs.Line.{no_limit_of_run, no_run_words, no_seed, no_subcommand, program_is_simple}
+use Rattle.mc_command.proofs.Line.{run_words_agree, value_is}
 use Rattle.mc_command.proofs.Line.{no_connections, no_port}
 use Rattle.mc_command.proofs.arguments.read_line.Goals as goal
 
@@ -68,8 +69,8 @@ returns-in-run-clause-asked c =
     let none = sym (line_faults-is _ words program) ∙ c.in_ok-matches.ensures.kinds (program_is_simple _ program) in
     let command = command_is _ words _ program matches _ c.in-Some.ensures.name in
     let limit = value_is _ words _ program matches _ c.in-Some.ensures.rows (codes "limit") in
-    let meeting = value_is _ words _ program matches _ c.in-Some.ensures.rows (codes "meet") in
-    (none, (command ∙ search rules, rw limit c.in_ok-limit-in-run.ensures.limit, rw meeting c.in_ok-check_meeting-in-run.ensures.meeting))
+    let same = value_is _ words _ program matches _ c.in-Some.ensures.rows in
+    (none, (command ∙ search rules, rw limit c.in_ok-limit-in-run.ensures.limit, run_words_agree same c.in_ok-check_run_words-in-run.ensures.words))
 
 pub returns-in_err-limit-in-run-clause-fault : goal.returns-in_err-limit-in-run-clause-fault
 returns-in_err-limit-in-run-clause-fault c =
@@ -85,18 +86,19 @@ returns-in_err-limit-in-run-clause-fault c =
       | inr none ↦ inr (no_limit_of_run words _ none.0 clear (command ∙ search rules) (rw limit none.1))
     ])
 
-pub returns-in_err-check_meeting-in-run-clause-fault : goal.returns-in_err-check_meeting-in-run-clause-fault
-returns-in_err-check_meeting-in-run-clause-fault c =
+pub returns-in_err-check_run_words-in-run-clause-fault : goal.returns-in_err-check_run_words-in-run-clause-fault
+returns-in_err-check_run_words-in-run-clause-fault c =
     let words = map string_bytes c.args.line.now in
     let program = c.in_ok-program.ensures in
     let matches = c.in_ok-matches.ensures.matches in
     let clear = sym (line_faults-is _ words program) ∙ c.in_ok-matches.ensures.kinds (program_is_simple _ program) in
     let command = command_is _ words _ program matches _ c.in-Some.ensures.name in
-    let meeting = value_is _ words _ program matches _ c.in-Some.ensures.rows (codes "meet") in
-    let p = err_from_is_err_and c.from_residual-in_err-check_meeting-in-run.result c.from_residual-in_err-check_meeting-in-run.ensures.1 in
-    rw (p.1, p.2) (elim c.in_err-check_meeting-in-run.ensures.fault [
+    let same = value_is _ words _ program matches _ c.in-Some.ensures.rows in
+    let p = err_from_is_err_and c.from_residual-in_err-check_run_words-in-run.result c.from_residual-in_err-check_run_words-in-run.ensures.1 in
+    rw (p.1, p.2) (elim c.in_err-check_run_words-in-run.ensures.fault [
       | inl memory ↦ inl memory
-      | inr none ↦ inr (no_meeting words _ none.0 clear (command ∙ search rules) (rw meeting none.1))
+      | inr none ↦ inr (no_run_words words _ none.0 clear (command ∙ search rules)
+          (λ are. none.1 (run_words_agree (λ name. sym (same name)) are)))
     ])
 
 pub returns-in-generate-clause-asked : goal.returns-in-generate-clause-asked

@@ -1,4 +1,6 @@
-use Rattle.std.proofs.Common.{codes, map, rules, string_bytes, sym, Some, ◌≡◌, ◌∙◌}
+use Rattle.std.proofs.Common.{ap, codes, map, rules, string_bytes, sym, Some, ◌≡◌, ◌∙◌}
+use Rattle.std.specs.Prelude.{option_and_then}
+use Rattle.mc_command.specs.Seconds.{milliseconds_in}
 use Rattle.std.proofs.lemmas.Option.{IfSome_then}
 use Rattle.mc_command.proofs.Line.{asking_lacks_memory, command_is, fault_by_clap, line_faults-is, program_is_simple, value_is}
 use Rattle.mc_command.specs.declared.arguments.Asked.TheVariants as asked
@@ -20,8 +22,23 @@ returns-in-run-clause-asked c =
     let command = command_is _ words _ program matches _ c.in-Some.ensures.name in
     let limit = value_is _ words _ program matches _ c.in-Some.ensures.rows (codes "limit") in
     let meeting = value_is _ words _ program matches _ c.in-Some.ensures.rows (codes "meet") in
+    let name = value_is _ words _ program matches _ c.in-Some.ensures.rows (codes "name") in
+    let timeout = value_is _ words _ program matches _ c.in-Some.ensures.rows (codes "timeout") in
+    let wait = value_is _ words _ program matches _ c.in-Some.ensures.rows (codes "wait") in
     IfSome_then c.read_run_options.result c.read_run_options.ensures.found
-    (λ target found. (clear, (command ∙ search rules, rw limit found.0, (target.meeting, rw meeting found.2))))
+    (λ target found. (
+      clear,
+      (
+        command ∙ search rules,
+        rw limit found.0,
+        record {
+          meeting = (target.meeting, rw meeting found.2);
+          name = rw name found.6;
+          timeout = rw timeout found.8;
+          wait = rw wait found.10;
+        },
+      ),
+    ))
 
 pub returns-in-run-clause-server : goal.returns-in-run-clause-server
 returns-in-run-clause-server c =
@@ -41,6 +58,24 @@ returns-in-run-clause-b c =
     let own = value_is _ words _ c.in_ok-program.ensures c.in-Ok.ensures.matches _ c.in-Some.ensures.rows (codes "b") in
     IfSome_then c.read_run_options.result c.read_run_options.ensures.found (λ found is. is.4 ∙ sym own)
 
+pub returns-in-run-clause-name : goal.returns-in-run-clause-name
+returns-in-run-clause-name c =
+    let words = map string_bytes c.args.line.now in
+    let own = value_is _ words _ c.in_ok-program.ensures c.in-Ok.ensures.matches _ c.in-Some.ensures.rows (codes "name") in
+    IfSome_then c.read_run_options.result c.read_run_options.ensures.found (λ found is. is.5 ∙ sym own)
+
+pub returns-in-run-clause-timeout : goal.returns-in-run-clause-timeout
+returns-in-run-clause-timeout c =
+    let words = map string_bytes c.args.line.now in
+    let own = value_is _ words _ c.in_ok-program.ensures c.in-Ok.ensures.matches _ c.in-Some.ensures.rows (codes "timeout") in
+    IfSome_then c.read_run_options.result c.read_run_options.ensures.found (λ found is. is.7 ∙ ap (option_and_then milliseconds_in) (sym own))
+
+pub returns-in-run-clause-wait : goal.returns-in-run-clause-wait
+returns-in-run-clause-wait c =
+    let words = map string_bytes c.args.line.now in
+    let own = value_is _ words _ c.in_ok-program.ensures c.in-Ok.ensures.matches _ c.in-Some.ensures.rows (codes "wait") in
+    IfSome_then c.read_run_options.result c.read_run_options.ensures.found (λ found is. is.9 ∙ ap (option_and_then milliseconds_in) (sym own))
+
 pub returns-in-run-clause-meeting : goal.returns-in-run-clause-meeting
 returns-in-run-clause-meeting c =
     let words = map string_bytes c.args.line.now in
@@ -55,7 +90,12 @@ returns-in-run-clause-other c none limit asks =
     let limited = value_is _ words _ program matches _ c.in-Some.ensures.rows (codes "limit") in
     let target = value_is _ words _ program matches _ c.in-Some.ensures.rows (codes "target") in
     let meeting = value_is _ words _ program matches _ c.in-Some.ensures.rows (codes "meet") in
-    target ∙ c.read_run_options.ensures.none none limit (rw limited at asks.1.1) asks.1.2.0 (rw meeting at asks.1.2.1)
+    let name = value_is _ words _ program matches _ c.in-Some.ensures.rows (codes "name") in
+    let timeout = value_is _ words _ program matches _ c.in-Some.ensures.rows (codes "timeout") in
+    let wait = value_is _ words _ program matches _ c.in-Some.ensures.rows (codes "wait") in
+    let are = asks.1.2 in
+    target ∙ c.read_run_options.ensures.none none limit (rw limited at asks.1.1) are.meeting.0 (rw meeting at are.meeting.1) (rw name at are.name)
+    (rw timeout at are.timeout) (rw wait at are.wait)
 
 pub returns-clause-other : goal.returns-clause-other
 returns-clause-other c none limit asks =

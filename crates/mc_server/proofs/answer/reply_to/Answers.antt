@@ -12,6 +12,6 @@ returns g c =
     let text = reply_text c.args.request.now.key c.in-Ok.reply in (
       text,
       inl (c.in-Ok.reply, c.in-Ok.ensures, rw c.if-noreply.false refl),
-      put_with_room text c.args.held.now.items c.make_room.new.held.items c.render_reply.new.out.items (g.S.Stream.state c.args.stream.now)
-          (g.S.Stream.state c.make_room.new.stream) c.in_ok-make_room.ensures (rw c.as_slice.ensures at c.in_ok-render_reply.ensures.ok),
+      put_with_room text c.args.held.now.items c.make_room.new.held.items c.append_reply.new.out.items (g.S.Stream.state c.args.stream.now)
+          (g.S.Stream.state c.make_room.new.stream) c.in_ok-make_room.ensures (rw c.as_slice.ensures at c.in_ok-append_reply.ensures.ok),
     )

@@ -1,0 +1,10 @@
+use Rattle.std.proofs.Common.{◌≡◌, map}
+use Rattle.std.specs.List.{All, range_with_len}
+use Rattle.mc_campaign.specs.Outcomes.{IsOutcome}
+use Rattle.mc_campaign.proofs.collector.settle_all.Given as goal
+
+abbrev pub invariant-jobs : goal.invariant-jobs
+invariant-jobs g l = record {
+  jobs : map (λ r. r.job) l.results.items ≡ range_with_len l.campaign.first l.place;
+  outcomes : All (λ r. IsOutcome l.campaign.seed r.job r.outcome) l.results.items;
+}

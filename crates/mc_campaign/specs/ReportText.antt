@@ -1,0 +1,86 @@
+-- The text of a report.
+use Rattle.std.specs.Prelude.{ℕ, Bool, true, false, List, [], ◌++◌, length, codes, decimal, flat_map, count_by}
+use Rattle.mc_protocol.specs.Faults.{fault_name}
+use Rattle.mc_protocol.specs.Words.{actor_word}
+use Rattle.mc_protocol.specs.declared.actor.Actor.{Actor}
+use Rattle.mc_protocol.specs.declared.actor.Actor.TheVariants as actor
+use Rattle.mc_protocol.specs.declared.sections.Sections.{Sections}
+use Rattle.mc_core.specs.declared.ending.Ending.{Ending}
+use Rattle.mc_core.specs.declared.ending.Ending.TheVariants as ending
+use Rattle.mc_explain.specs.declared.verdict.Verdict.{Verdict}
+use Rattle.mc_explain.specs.declared.verdict.Verdict.TheVariants as verdict
+use Rattle.mc_campaign.specs.declared.outcome.JobOutcome.{JobOutcome}
+use Rattle.mc_campaign.specs.declared.outcome.JobOutcome.TheVariants as outcome
+use Rattle.mc_campaign.specs.declared.outcome.JobResult.{JobResult}
+use Rattle.mc_campaign.specs.declared.standing.Standing.{Standing}
+use Rattle.mc_campaign.specs.declared.standing.Standing.TheVariants as standing
+
+-- ---- the line of a job
+
+abbrev pub verdict_word : Verdict → List ℕ
+verdict_word (verdict.Explained claim) = codes "explained"
+verdict_word verdict.Unexplained = codes "unexplained"
+verdict_word verdict.Undecided = codes "undecided"
+
+-- a section that failed, and by which fault
+abbrev pub failure_words : Actor → Ending → List ℕ
+failure_words who ending.NotBegun = []
+failure_words who ending.Running = []
+failure_words who ending.Done = []
+failure_words who (ending.Failed fault) = codes " " ++ (actor_word who ++ (codes " " ++ fault_name fault))
+
+-- the sections that failed
+abbrev pub failures_words : Sections Ending → List ℕ
+failures_words endings =
+    failure_words actor.P endings.p ++ (failure_words actor.A endings.a ++ failure_words actor.B endings.b)
+
+abbrev pub outcome_words : {S : Type 0} → JobOutcome S → List ℕ
+outcome_words (outcome.NotMade fault) = codes "not made"
+outcome_words (outcome.NoLane who) = codes "no connection " ++ actor_word who
+outcome_words (outcome.NotRun error) = codes "not run"
+outcome_words (outcome.Ran run history found) = verdict_word found ++ failures_words run.world.endings
+
+abbrev pub job_line : {S : Type 0} → JobResult S → List ℕ
+job_line r = decimal r.job ++ (codes " " ++ (outcome_words r.outcome ++ codes "\n"))
+
+-- ---- the line of totals
+
+abbrev pub standing_by : Verdict → Standing
+standing_by (verdict.Explained claim) = standing.Explained
+standing_by verdict.Unexplained = standing.Unexplained
+standing_by verdict.Undecided = standing.Other
+
+-- what a job counts as
+abbrev pub standing_of : {S : Type 0} → JobOutcome S → Standing
+standing_of (outcome.NotMade fault) = standing.Other
+standing_of (outcome.NoLane who) = standing.Other
+standing_of (outcome.NotRun error) = standing.Other
+standing_of (outcome.Ran run history found) = standing_by found
+
+abbrev pub is_same_standing : Standing → Standing → Bool
+is_same_standing standing.Explained standing.Explained = true
+is_same_standing standing.Explained standing.Unexplained = false
+is_same_standing standing.Explained standing.Other = false
+is_same_standing standing.Unexplained standing.Explained = false
+is_same_standing standing.Unexplained standing.Unexplained = true
+is_same_standing standing.Unexplained standing.Other = false
+is_same_standing standing.Other standing.Explained = false
+is_same_standing standing.Other standing.Unexplained = false
+is_same_standing standing.Other standing.Other = true
+
+-- how many jobs count as this
+abbrev pub count_of : {S : Type 0} → Standing → List (JobResult S) → ℕ
+count_of wanted results = count_by (λ r. is_same_standing wanted (standing_of r.outcome)) results
+
+-- all jobs, those that are explained, those that are unexplained, and the others
+abbrev pub totals_line : {S : Type 0} → List (JobResult S) → List ℕ
+totals_line results =
+    codes "jobs " ++ (decimal (length results)
+    ++ (codes " explained " ++ (decimal (count_of standing.Explained results)
+    ++ (codes " unexplained " ++ (decimal (count_of standing.Unexplained results)
+    ++ (codes " other " ++ (decimal (count_of standing.Other results) ++ codes "\n")))))))
+
+-- ---- all of it
+
+abbrev pub report_text : {S : Type 0} → List (JobResult S) → List ℕ
+report_text results = flat_map job_line results ++ totals_line results

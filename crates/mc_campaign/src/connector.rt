@@ -1,0 +1,15 @@
+//! Where the streams of jobs come from.
+
+ghost use Rattle.std.specs.Prelude.{IfSome};
+
+use mc_lane::Stream;
+use mc_protocol::Actor;
+
+/// What connects the sections of jobs to the server that is tested, from any thread.
+pub trait Connector<S: Stream>: Sync {
+    ghost use Rattle.mc_lane.specs.Streams.{CanFail};
+
+    /// A new connection for a section of a job, or nothing where there is none. One more failure of it can be counted.
+    fn connect(&self, job: u64, actor: Actor) -> Option<S>
+        ensures { IfSome result (λ stream. CanFail (S.state stream)) };
+}

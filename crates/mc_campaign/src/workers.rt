@@ -1,0 +1,193 @@
+//! The threads of a campaign.
+
+ghost use Rattle.std.specs.Prelude.{◌≡◌, ◌≤◌, ◌+◌, ◌^◌, map, All, IfOk};
+ghost use Rattle.std.specs.List.{range_with_len};
+ghost use Rattle.mc_campaign.specs.Outcomes.{IsOutcome};
+
+use crate::{
+    Campaign, CampaignError, Collector, Connector, JobMessage, Meeting, Report, Unwatched, Watcher,
+};
+use crossbeam_channel::{Receiver, Sender, unbounded};
+use mc_lane::Stream;
+use mc_run::Gate;
+use std::alloc::Global;
+use std::sync::Wait;
+use std::thread::{self, Scope, Threads};
+
+/// Runs the jobs 0 to `jobs - 1` of a seed, as many at once as there are workers, and judges each history in at most `limit` turns.
+/// With 0 workers they are run one after the other. `gate` is passed by the calls of all jobs. It waits for the streams, for the
+/// gate and for the threads.
+///
+/// # Errors
+///
+/// Why there is no report: see [`CampaignError`]. The workers have ended then.
+pub fn run_campaign<S: Stream + Send, C: Connector<S>, G: Gate, R: Threads + Wait + Sync>(
+    rt: &R,
+    alloc: Global,
+    seed: u64,
+    jobs: u64,
+    workers: u32,
+    limit: u64,
+    connector: &C,
+    gate: &G,
+) -> Result<Report<S>, CampaignError>
+    requires jobs { jobs ≤ 10000 }
+    requires workers { workers ≤ 16 }
+    ensures seed { IfOk result (λ report. report.seed ≡ seed) }
+    ensures jobs { IfOk result (λ report. map (λ r. r.job) report.results ≡ range_with_len 0 jobs) }
+    ensures outcomes { IfOk result (λ report. All (λ r. IsOutcome seed r.job r.outcome) report.results) }
+{
+    let campaign = Campaign {
+        seed,
+        first: 0,
+        jobs,
+        limit,
+        meeting: Meeting::Each,
+    };
+    run_jobs(
+        rt,
+        alloc,
+        campaign,
+        workers,
+        connector,
+        gate,
+        &mut Unwatched,
+    )
+}
+
+/// The same for any campaign, which may begin with a later number and say how branches meet. The watcher is called with what each job
+/// came to.
+pub fn run_jobs<
+    S: Stream + Send,
+    C: Connector<S>,
+    G: Gate,
+    R: Threads + Wait + Sync,
+    W: Watcher<S>,
+>(
+    rt: &R,
+    alloc: Global,
+    campaign: Campaign,
+    workers: u32,
+    connector: &C,
+    gate: &G,
+    watcher: &mut W,
+) -> Result<Report<S>, CampaignError>
+    requires jobs { campaign.jobs ≤ 10000 }
+    requires last { campaign.first + campaign.jobs ≤ 2 ^ 64 }
+    requires workers { workers ≤ 16 }
+    ensures seed { IfOk result (λ report. report.seed ≡ campaign.seed) }
+    ensures jobs { IfOk result (λ report. map (λ r. r.job) report.results ≡ range_with_len campaign.first campaign.jobs) }
+    ensures outcomes { IfOk result (λ report. All (λ r. IsOutcome campaign.seed r.job r.outcome) report.results) }
+{
+    let collector = run_workers(rt, alloc, campaign, workers, connector, gate, watcher)?;
+    Ok(collector.finish(rt, alloc, connector, gate, watcher)?)
+}
+
+/// Starts the workers, gives them the jobs, and gathers what they send until all have ended.
+fn run_workers<S: Stream + Send, C: Connector<S>, G: Gate, R: Threads + Wait + Sync, W: Watcher<S>>(
+    rt: &R,
+    alloc: Global,
+    campaign: Campaign,
+    workers: u32,
+    connector: &C,
+    gate: &G,
+    watcher: &mut W,
+) -> Result<Collector<S>, CampaignError>
+    ensures { IfOk result (λ collector. collector ≡ campaign) }
+{
+    let collector = Collector::new(alloc, campaign)?;
+    let (to_workers, jobs) = unbounded(alloc)?;
+    let (to_collector, results) = unbounded(alloc)?;
+    thread::scope(
+        thread::scope_env(),
+        rt,
+        move |scope| -> Result<Collector<S>, CampaignError>
+            ensures { IfOk result (λ gathered. gathered ≡ collector) }
+        {
+            start_workers(
+                rt,
+                alloc,
+                campaign,
+                workers,
+                connector,
+                gate,
+                jobs,
+                to_collector,
+                scope,
+            )?;
+            // The jobs come only now: where a worker has no thread, those before it end without one.
+            send_jobs(rt, campaign, to_workers);
+            Ok(gather(rt, results, collector, watcher))
+        },
+    )
+}
+
+/// Starts the workers, each with these ends of the channels, as threads of the scope.
+fn start_workers<'s, E, S: Stream + Send + 's, C: Connector<S>, G: Gate, R: Threads + Wait + Sync>(
+    rt: &'s R,
+    alloc: Global,
+    campaign: Campaign,
+    workers: u32,
+    connector: &'s C,
+    gate: &'s G,
+    jobs: Receiver<u64>,
+    to_collector: Sender<JobMessage<S>>,
+    scope: &Scope<'s, E>,
+) -> Result<(), CampaignError> {
+    'workers: for _ in 0..workers {
+        let jobs = jobs.clone()?;
+        let to_collector = to_collector.clone()?;
+        let worker = move || work(rt, alloc, campaign, connector, gate, jobs, to_collector);
+        if scope.spawn(worker).is_err() {
+            return Err(CampaignError::NoThread);
+        }
+    }
+    Ok(())
+}
+
+/// Sends the numbers of the jobs. One for which there is no memory, or no worker, is left to the collector.
+fn send_jobs<R: Wait>(rt: &R, campaign: Campaign, to_workers: Sender<u64>) {
+    'jobs: for place in 0..campaign.jobs {
+        if let Some(job) = campaign.first.checked_add(place) {
+            let _unsent = to_workers.send(rt, job);
+        }
+    }
+}
+
+/// Gathers what comes, until no worker is left to send.
+fn gather<S: Stream + Send, R: Wait, W: Watcher<S>>(
+    rt: &R,
+    results: Receiver<JobMessage<S>>,
+    mut collector: Collector<S>,
+    watcher: &mut W,
+) -> Collector<S>
+    ensures { result ≡ collector }
+{
+    'results: for _ in rt.forever() {
+        let Ok(message) = results.recv(rt) else {
+            break;
+        };
+        collector.keep(message, watcher);
+    }
+    collector
+}
+
+/// Runs one job after the other, until there are no more, and sends what each came to. A result for which there is no memory is
+/// lost, and its job is left to the collector.
+fn work<S: Stream + Send, C: Connector<S>, G: Gate, R: Threads + Wait + Sync>(
+    rt: &R,
+    alloc: Global,
+    campaign: Campaign,
+    connector: &C,
+    gate: &G,
+    jobs: Receiver<u64>,
+    to_collector: Sender<JobMessage<S>>,
+) {
+    'jobs: for _ in rt.forever() {
+        let Ok(job) = jobs.recv(rt) else {
+            break;
+        };
+        let message = JobMessage::run(rt, alloc, campaign, connector, gate, job);
+        let _unsent = to_collector.send(rt, message);
+    }
+}

@@ -1,0 +1,66 @@
+//! The option `--name`: the name that the keys of a run are put under.
+ghost use Rattle.std.specs.Prelude.{◌≡◌, false, codes, IfOk, MatchResult};
+ghost use Rattle.clap.specs.Words.{first_value, found_of, kind_of, rule_of};
+ghost use Rattle.mc_command.specs.Command.{MayName};
+ghost use Rattle.mc_command.specs.CommandLine.{name_rule};
+
+use clap::error::ErrorKind;
+use clap::{Arg, ArgMatches, Command, Error};
+use mc_campaign::Namespace;
+use mc_protocol::{Bytes, KEY_BYTES_LIMIT};
+use std::alloc::{AllocError, Global};
+
+const HELP: &str = "Put NAME and a dash before each key";
+
+/// The option.
+pub fn option<'a>(alloc: Global) -> Arg<'a>
+    ensures rule { rule_of result ≡ name_rule }
+    ensures local { result.global ≡ false }
+{
+    Arg::new(alloc, "name")
+        .long("name")
+        .value_name("NAME")
+        .help(HELP)
+}
+
+/// The name that the words of a subcommand give, if they give one; or the word that is no such name.
+pub fn read<'a>(options: &ArgMatches<'a>) -> Result<Option<Namespace<'a>>, &'a str>
+    ensures { MatchResult result
+        (λ name. (name ≡ first_value (found_of options.now) (codes "name")) × MayName (first_value (found_of options.now) (codes "name")))
+        (λ _. MayName (first_value (found_of options.now) (codes "name")) → ⊥) }
+{
+    let Some(word) = options.get_str("name") else {
+        return Ok(None);
+    };
+    match Namespace::new(word.as_bytes()) {
+        Some(name) => Ok(Some(name)),
+        None => Err(word),
+    }
+}
+
+/// The fault of a subcommand's line whose word is no such name.
+pub fn fault(alloc: Global, mut command: Command<'_>, word: &str) -> Result<Error, AllocError>
+    ensures { IfOk result (λ error. kind_of error ≡ ErrorKind.ValueValidation) }
+{
+    let message = format!(in alloc;
+        "invalid value '{word}' for '--name <NAME>': expected 1 to 38 of a to z, 0 to 9 and -"
+    )?;
+    command.error(ErrorKind::ValueValidation, message.as_str())
+}
+
+/// What is told where a key becomes too long under the name: the fault of the subcommand's line.
+pub fn long_key_text(
+    alloc: Global,
+    mut command: Command<'_>,
+    name: &Namespace<'_>,
+    key: &Bytes,
+) -> Result<String, AllocError> {
+    let length = name.as_slice().len() + 1 + key.as_slice().len();
+    let name = name.as_slice().escape_ascii();
+    let key = key.as_slice().escape_ascii();
+    let message = format!(in alloc;
+        "invalid value '{name}' for '--name <NAME>': the key '{key}' has {length} bytes with it, and may have {KEY_BYTES_LIMIT}"
+    )?;
+    let error = command.error(ErrorKind::ValueValidation, message.as_str())?;
+    error.to_string(alloc)
+}

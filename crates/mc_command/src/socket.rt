@@ -1,0 +1,54 @@
+//! Connections that tell whether a read or a write took longer than it may.
+use std::io;
+use std::io::{ErrorKind, Read, Write};
+use std::net::TcpStream;
+use std::sync::atomic::{AtomicBool, Ordering};
+
+/// A connection of a section, which notes where a read or a write of it took longer than it may.
+#[derive(Debug, Drop)]
+pub struct Socket<'a> {
+    stream: &'a TcpStream,
+    is_late: &'a AtomicBool,
+}
+
+impl<'a> Socket<'a> {
+    /// What reads and writes over the connection, and notes in `is_late` that a call took too long.
+    pub fn new(stream: &'a TcpStream, is_late: &'a AtomicBool) -> Self {
+        Socket { stream, is_late }
+    }
+
+    // Notes whether the error is the one of a call that took longer than it may. TimedOut is none: by it the system reports a connection
+    // that it has given up, however long that took.
+    fn note(&self, error: &io::Error) {
+        if error.kind() == ErrorKind::WouldBlock {
+            self.is_late.store(true, Ordering::SeqCst);
+        }
+    }
+}
+
+impl<'a> Read for Socket<'a> {
+    fn read(&mut self, buffer: &mut [u8]) -> io::Result<usize> {
+        let mut stream = self.stream;
+        let result = stream.read(buffer);
+        if let Err(error) = &result {
+            self.note(error);
+        }
+        result
+    }
+}
+
+impl<'a> Write for Socket<'a> {
+    fn write(&mut self, bytes: &[u8]) -> io::Result<usize> {
+        let mut stream = self.stream;
+        let result = stream.write(bytes);
+        if let Err(error) = &result {
+            self.note(error);
+        }
+        result
+    }
+
+    fn flush(&mut self) -> io::Result<()> {
+        let mut stream = self.stream;
+        stream.flush()
+    }
+}

@@ -1,0 +1,7 @@
+use Rattle.std.proofs.Common.{subst}
+use Rattle.mc_why.specs.declared.locating.Located.{Located}
+use Rattle.mc_why.specs.Locating.{IsPlaceOf}
+use Rattle.mc_why.proofs.why.why_unexplained.Goals as goal
+
+pub answers_at-requires : goal.answers_at-requires
+answers_at-requires c = (subst (λ (l : Located). IsPlaceOf c.args.history.now l) c.in-At.is c.in_ok-place.ensures).1

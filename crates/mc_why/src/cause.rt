@@ -1,0 +1,25 @@
+//! What is found of a history that nothing explains.
+use crate::Answer;
+use mc_explain::Explanation;
+use mc_protocol::Sections;
+
+/// From where on nothing explains a history, and what a cache answers there.
+#[derive(Debug, Drop)]
+pub struct Cause {
+    /// The place in the history's notes, counted from 0: nothing explains the notes up to this one, or any longer beginning.
+    /// Where the history keeps no notes it is a place in its requests, P's first, then A's, then B's.
+    pub place: usize,
+    /// What explains the part of the history before that place.
+    pub explanation: Explanation,
+    /// What a cache that acts by the explanation answers: to the next request of each section that stands up to the place, and to
+    /// one in the explanation that was not answered before it.
+    pub answers: Sections<Option<Answer>>,
+}
+
+/// What is found of a history that nothing explains.
+#[derive(Debug, Drop)]
+pub enum Finding {
+    Cause(Cause),
+    /// The search for an explanation of what stands before this place used up its turns.
+    Undecided(usize),
+}

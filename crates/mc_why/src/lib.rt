@@ -1,0 +1,26 @@
+//! Why nothing explains a history: the place from which on that is so, what explains the part before it, and what a cache
+//! answers there.
+//!
+//! Below it stand `mc_explain`, whose `judge` searches for explanations, and `mc_claims`, which says what one is. The crate above
+//! uses one contract: what stands before the place that `why_unexplained` answers is explained by the explanation that it answers,
+//! nothing explains any longer beginning, and each answer is that of the model (`specs/Causes.antt`, `specs/Answers.antt`).
+#![tactic(auto)]
+
+mod answer;
+mod answer_laws;
+mod cause;
+mod cut_laws;
+mod cutting;
+mod locating;
+mod moved;
+mod why;
+
+pub use answer::Answer;
+pub use answer_laws::{moves_are_replayed, turns_come_next};
+pub use cause::{Cause, Finding};
+pub use cut_laws::{
+    cuts_are_explained, cuts_are_histories, last_cut_is_whole, places_are_one,
+    replies_stand_at_places,
+};
+pub use cutting::cut;
+pub use why::why_unexplained;

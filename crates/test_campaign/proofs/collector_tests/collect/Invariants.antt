@@ -1,0 +1,6 @@
+use Rattle.std.proofs.Common.{◌≡◌}
+use Rattle.test_campaign.proofs.collector_tests.collect.Given as goal
+
+-- the collector is still that of the campaign
+abbrev pub invariant-messages : goal.invariant-messages
+invariant-messages g l = l.collector ≡ l.initial.collector

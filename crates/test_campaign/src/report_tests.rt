@@ -1,0 +1,113 @@
+//! Reports of campaigns against a store in memory: what is written of them, and the exit status.
+
+ghost use Rattle.std.specs.Prelude.{◌≡◌, ◌≤◌, ◌+◌, ◌^◌};
+
+use crate::connectors::Stores;
+use crate::store_stream::StoreStream;
+use mc_campaign::{
+    Campaign, Meeting, Report, Unwatched, print_report, report_status, run_campaign, run_jobs,
+};
+use mc_lane::Wire;
+use mc_protocol::Actor;
+use mc_run::FreeGate;
+use mc_server::Shared;
+use std::alloc::Global;
+use std::sync::Wait;
+use std::test::Fail;
+use std::thread::Threads;
+
+/// More turns than the history of a job takes.
+const LIMIT: u64 = 1_000_000;
+
+/// The text of a report, and its status.
+fn text_and_status<R: Wait>(
+    alloc: Global,
+    report: &Report<Wire<StoreStream<'_, R>>>,
+) -> Result<(Vec<u8>, u8), Fail> {
+    let mut text = Vec::new(alloc);
+    print_report(report, &mut text)?;
+    Ok((text, report_status(report)))
+}
+
+#[test]
+fn tells_what_each_job_came_to(rt: HostRuntime) -> Result<(), Fail> {
+    let store = Shared::new(rt.alloc())?;
+    let connector = Stores {
+        closed: Some((1, Actor::A)),
+        refusing: Some((2, Actor::P)),
+        ..Stores::honest(&rt, rt.alloc(), &store)
+    };
+    let report = run_campaign(&rt, rt.alloc(), 1, 3, 2, LIMIT, &connector, &FreeGate)?;
+    let (text, status) = text_and_status(rt.alloc(), &report)?;
+    assert_eq!(rt;
+        text.as_slice(),
+        b"0 explained\n1 no connection A\n2 explained P ErrorLine\n\
+        jobs 3 explained 2 unexplained 0 other 1\n"
+            .as_slice()
+    );
+    assert_eq!(rt; status, 4);
+    Ok(())
+}
+
+/// A campaign of seed 1.
+fn campaign(first: u64, jobs: u64) -> Campaign
+    ensures first { result.first ≡ first }
+    ensures jobs { result.jobs ≡ jobs }
+{
+    Campaign {
+        seed: 1,
+        first,
+        jobs,
+        limit: LIMIT,
+        meeting: Meeting::Drawn,
+    }
+}
+
+/// Whether this is the text of the campaign's report against a store that answers rightly, its status is 0, and each job connected
+/// three times.
+fn comes_to<R: Threads + Wait + Sync>(
+    rt: &R,
+    alloc: Global,
+    campaign: Campaign,
+    workers: u32,
+    expected: &[u8],
+) -> Result<bool, Fail>
+    requires jobs { campaign.jobs ≤ 10000 }
+    requires last { campaign.first + campaign.jobs ≤ 2 ^ 64 }
+    requires workers { workers ≤ 16 }
+{
+    let store = Shared::new(alloc)?;
+    let connector = Stores::honest(rt, alloc, &store);
+    let report = run_jobs(
+        rt,
+        alloc,
+        campaign,
+        workers,
+        &connector,
+        &FreeGate,
+        &mut Unwatched,
+    )?;
+    let (text, status) = text_and_status(alloc, &report)?;
+    let connected = connector.count() == 3 * campaign.jobs;
+    Ok(text.as_slice() == expected && status == 0 && connected)
+}
+
+#[test]
+fn jobs_are_run_by_any_number_of_workers(rt: HostRuntime) -> Result<(), Fail> {
+    let expected = b"8 explained\n9 explained\n10 explained\n\
+        jobs 3 explained 3 unexplained 0 other 0\n"
+        .as_slice();
+    assert!(rt; comes_to(&rt, rt.alloc(), campaign(8, 3), 0, expected)?);
+    assert!(rt; comes_to(&rt, rt.alloc(), campaign(8, 3), 1, expected)?);
+    assert!(rt; comes_to(&rt, rt.alloc(), campaign(8, 3), 16, expected)?);
+    Ok(())
+}
+
+#[test]
+fn no_jobs_give_an_empty_report(rt: HostRuntime) -> Result<(), Fail> {
+    let expected = b"jobs 0 explained 0 unexplained 0 other 0\n".as_slice();
+    assert!(rt; comes_to(&rt, rt.alloc(), campaign(0, 0), 0, expected)?);
+    assert!(rt; comes_to(&rt, rt.alloc(), campaign(0, 0), 1, expected)?);
+    assert!(rt; comes_to(&rt, rt.alloc(), campaign(0, 0), 16, expected)?);
+    Ok(())
+}
