@@ -11,7 +11,7 @@ use std::alloc::{AllocError, Global};
 use std::io::Read;
 use std::net::TcpStream;
 
-// At most this many bytes of a request, and of what came, are told.
+// At most this many bytes of a request, and of what came, are shown.
 const MOST_TOLD: usize = 200;
 
 // Bytes that nobody asked for are read at most this many times.

@@ -48,7 +48,7 @@ pub fn fault(alloc: Global, mut command: Command<'_>, word: &str) -> Result<Erro
     command.error(ErrorKind::ValueValidation, message.as_str())
 }
 
-/// What is told where a key becomes too long under the name: the fault of the subcommand's line.
+/// What standard error says where a key becomes too long under the name: the fault of the subcommand's line.
 pub fn long_key_text(
     alloc: Global,
     mut command: Command<'_>,

@@ -25,7 +25,7 @@ pub fn read_code(alloc: Global, text: &[u8]) -> Result<Result<Checked, Played>, 
     }
 }
 
-/// The code under the name; or what is answered in place of a run, with what is told beside it.
+/// The code under the name; or what is answered in place of a run, with what standard error says.
 pub fn put_code_under(
     alloc: Global,
     checked: &Checked,

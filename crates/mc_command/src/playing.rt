@@ -58,7 +58,7 @@ where
     status.number()
 }
 
-/// The same for a run whose branches may meet otherwise, with the status as it stands, and what is to be told beside the answer.
+/// The same for a run whose branches may meet otherwise, with the status as it stands, and what standard error is to say.
 pub fn run_script<R, I: Source, O: Sink>(
     rt: &R,
     alloc: Global,

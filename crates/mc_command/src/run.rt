@@ -57,7 +57,7 @@ pub struct Unconnected {
     pub error: io::Error,
 }
 
-/// What is told of a run beside its answer.
+/// What standard error says of a run, beside its answer.
 #[derive(Debug, Drop)]
 pub enum Remarks {
     /// Nothing.
@@ -71,8 +71,8 @@ pub enum Remarks {
 }
 
 /// Reads the script, runs it over three connections to the server, and judges what came of it in at most `limit` turns. How its
-/// branches meet is drawn where the target says so. Nothing is connected for a script that is refused. What is to be told
-/// beside the answer comes with it. Where the target has a name, the script's keys are put under it first.
+/// branches meet is drawn where the target says so. Nothing is connected for a script that is refused. What standard
+/// error is to say comes with the answer. Where the target has a name, the script's keys are put under it first.
 pub fn play_text<R: Net<Stream = TcpStream> + Threads + Wait + Clock + Sync>(
     rt: &R,
     alloc: Global,

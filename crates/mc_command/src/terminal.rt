@@ -1,4 +1,4 @@
-//! What a person who types the input is told.
+//! What the program asks for where its input is typed at a terminal.
 ghost use Rattle.std.specs.Prelude.{◌≡◌, true, map, string_bytes, IfSome};
 ghost use Rattle.mc_command.specs.Command.{AsksFor, reads_input};
 ghost use Rattle.mc_command.specs.declared.arguments.Asked.{Asked};

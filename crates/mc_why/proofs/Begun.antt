@@ -99,7 +99,7 @@ answered_same actor.B notes next i less =
     let own = length-sent actor.B notes in
     before_same actor.B actor.A notes next i (omega (arith, each, own, less))
 
--- the turns in front of one are fewer than the requests of its section
+-- before a turn stand fewer turns of its section than the section has requests
 few_in_front : (h : History) (claim : Claim) (x : Explains h claim) (front : List Turn) (turn : Turn) (back : List Turn) → x.order ≡ front ++ turn ∷ back
     → is_same_section turn.0 turn.0 ≡ true → turn_count turn.0 front < length (section_of h.sections turn.0)
 few_in_front h claim x front turn back e own =

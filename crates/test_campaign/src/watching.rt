@@ -1,17 +1,17 @@
-//! What is told of jobs, kept.
+//! A watcher that keeps which jobs ended.
 
 use mc_campaign::{JobOutcome, Watcher};
 use mc_lane::Stream;
 use std::alloc::Global;
 
-/// Keeps the numbers of the jobs that it is told of, in the order in which they come.
+/// Keeps the number of each job that ended, in the order in which they come.
 #[derive(Drop)]
 pub(crate) struct Seen {
     pub(crate) jobs: Vec<u64>,
 }
 
 impl Seen {
-    /// One that was told of none.
+    /// No job has ended yet.
     pub(crate) fn new(alloc: Global) -> Seen {
         Seen {
             jobs: Vec::new(alloc),
