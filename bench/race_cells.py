@@ -39,10 +39,7 @@ class Race:
     @property
     def script(self):
         """The text that `mcrace run` reads."""
-        lines = self.prefix + self.a + self.b
-        names = ["vars unique"] if any("$unique" in it for it in lines) else []
-        budgets = [f"budget {it} 24 1000" for it in "PAB"]
-        return "\n".join(["script 1", "keys a", *names, *budgets, "P", *self.prefix, "A", *self.a, "B", *self.b, "end", ""])
+        return script_of(self.prefix, self.a, self.b)
 
     @property
     def requests(self):
@@ -59,6 +56,13 @@ class Cell:
     race: Race
     window: float
     delay: Optional[float]
+
+
+def script_of(prefix, a, b):
+    """The text of a script with these lines, whose key is a."""
+    names = ["vars unique"] if any("$unique" in it for it in a + b) else []
+    budgets = [f"budget {it} 24 1000" for it in "PAB"]
+    return "\n".join(["script 1", "keys a", *names, *budgets, "P", *prefix, "A", *a, "B", *b, "end", ""])
 
 
 def bytes_of(line):
@@ -86,6 +90,11 @@ def win_with_one_number(a, b):
     return a[0].text == b[0].text and a[1].text == b[1].text == "STORED|"
 
 
+def lose_an_increment(a, b):
+    """A counts up from 5, and B down. Whoever is second gets 5."""
+    return (a[0].text, b[0].text) == ("6|", "4|")
+
+
 def lack_an_append(a, b):
     """Each branch appends and then gets. These are all the pairs that two appends and two gets can give where none is lost."""
     return (a[-1].body, b[-1].body) not in [("56", "567"), ("567", "567"), ("576", "576"), ("576", "57")]
@@ -111,6 +120,7 @@ def winner(body):
 RACES = [
     increments("incr", 1),
     increments("incr-4", 4),
+    Race("decr", "decr", ["set a 0 =5"], ["incr a 1"], ["decr a 1"], lose_an_increment),
     Race("cas", "cas", ["set a 0 =5"], winner(6), winner(7), win_with_one_number),
     Race("add", "add", [], ["add a 0 =6"], ["add a 0 =7"], both_end_with("STORED|")),
     Race("append", "append", ["set a 0 =5"], ["append a 0 =6", "get a"], ["append a 0 =7", "get a"], lack_an_append),

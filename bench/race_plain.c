@@ -1,11 +1,12 @@
 // What a plain program finds of a race, beside mcrace: it plays runs of the same bytes over three connections to 127.0.0.1, P's requests
 // first, then those of A, on a thread of its own that starts now, and of B, on the thread that is there.
 //
-// usage: race_plain PORT RUNS thread|barrier REQUEST..
+// usage: race_plain PORT RUNS thread|barrier|connections|kept REQUEST..
 //
-// With `thread` each branch sends as soon as it can; with `barrier` both wait for each other before their first requests, in the
-// C library's barrier, which blocks. A request is its section's letter and the bytes to be sent, in which $ stands for the cas number
-// that the reply before showed to the section.
+// With `thread` each branch sends as soon as it can; with `barrier` both wait for each other before their first requests, in
+// the C library's barrier, which blocks. With `connections` they do so too, but the connections serve all runs, and with `kept`
+// A's thread as well. A request is its section's letter and the bytes to be sent, in which $ stands for the cas number that the
+// reply before showed to the section.
 //
 // It writes a line for each run: of each request of A, and then of B, four fields, which tabs separate: the section, when it was about
 // to be sent and when its reply had been read, in µs, and the reply, with | in the place of each end of a line.
@@ -38,8 +39,8 @@ struct section {
 };
 
 static struct section sections[SECTIONS];
-static pthread_barrier_t meeting;
-static int meets;
+static pthread_barrier_t meeting, ended;
+static int meets, runs;
 
 static void stop(const char *what) {
   perror(what);
@@ -112,21 +113,34 @@ static void *branch(void *section) {
   return 0;
 }
 
-static void run_branches(void) {
+static pthread_t started(void *(*what)(void *)) {
   pthread_t of_a;
-  if (pthread_create(&of_a, 0, branch, &sections[A]))
+  if (pthread_create(&of_a, 0, what, &sections[A]))
     stop("pthread_create");
+  return of_a;
+}
+
+static void run_branches(void) {
+  pthread_t of_a = started(branch);
   branch(&sections[B]);
   pthread_join(of_a, 0);
 }
 
-static void play(int port) {
+static void open_all(int port) {
   for (int section = P; section < SECTIONS; section++)
     sections[section].connection = connected(port);
-  ask_all(&sections[P]);
-  run_branches();
+}
+
+static void close_all(void) {
   for (int section = P; section < SECTIONS; section++)
     close(sections[section].connection);
+}
+
+static void play(int port) {
+  open_all(port);
+  ask_all(&sections[P]);
+  run_branches();
+  close_all();
 }
 
 static void print_reply(const struct request *request) {
@@ -149,6 +163,38 @@ static void print_run(void) {
   putchar('\n');
 }
 
+// A's branch of all runs, one after another.
+static void *branches(void *section) {
+  for (int run = 0; run < runs; run++) {
+    branch(section);
+    pthread_barrier_wait(&ended);
+  }
+  return 0;
+}
+
+static void play_kept(void) {
+  pthread_t of_a = started(branches);
+  for (int run = 0; run < runs; run++) {
+    ask_all(&sections[P]);
+    branch(&sections[B]);
+    pthread_barrier_wait(&ended);
+    print_run();
+  }
+  pthread_join(of_a, 0);
+}
+
+static void play_all(int port, int keeps_thread) {
+  open_all(port);
+  if (keeps_thread)
+    play_kept();
+  for (int run = 0; run < runs && !keeps_thread; run++) {
+    ask_all(&sections[P]);
+    run_branches();
+    print_run();
+  }
+  close_all();
+}
+
 static void take(const char *word) {
   const char *letter = word[0] ? strchr(LETTERS, word[0]) : 0;
   struct section *section = letter ? &sections[letter - LETTERS] : 0;
@@ -161,15 +207,19 @@ static void take(const char *word) {
 }
 
 int main(int count, char **words) {
-  int port = count > 4 ? atoi(words[1]) : 0, runs = count > 4 ? atoi(words[2]) : 0;
+  int port = count > 4 ? atoi(words[1]) : 0;
+  runs = count > 4 ? atoi(words[2]) : 0;
   if (!port || runs <= 0)
     return 2;
-  meets = !strcmp(words[3], "barrier");
+  int keeps_thread = !strcmp(words[3], "kept"), keeps = keeps_thread || !strcmp(words[3], "connections");
+  meets = keeps || !strcmp(words[3], "barrier");
   for (int at = 4; at < count; at++)
     take(words[at]);
-  if (pthread_barrier_init(&meeting, 0, 2))
+  if (pthread_barrier_init(&meeting, 0, 2) || pthread_barrier_init(&ended, 0, 2))
     stop("pthread_barrier_init");
-  for (int run = 0; run < runs; run++) {
+  if (keeps)
+    play_all(port, keeps_thread);
+  for (int run = 0; run < runs && !keeps; run++) {
     play(port);
     print_run();
   }

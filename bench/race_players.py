@@ -32,7 +32,7 @@ def kept_or_built():
     is_kept = subprocess.run(["bash", "-c", command], cwd=ROOT).returncode == 0
     program = ROOT / ("release/mcrace" if is_kept else "crates/mcrace/out/mcrace")
     if not os.access(program, os.X_OK):
-        sys.exit(f"bench/races: {program} is not built: run ./mcrace --help first")
+        sys.exit(f"{program} is not built: run ./mcrace --help first")
     return program
 
 
@@ -42,13 +42,27 @@ def knows_meet(program):
     return ran.returncode != 2
 
 
+def knows_spread(program):
+    """The same of --spread."""
+    ran = subprocess.run([program, "run", "127.0.0.1:1", "--spread", "0"], input=b"", capture_output=True)
+    return ran.returncode != 2
+
+
+def go_first():
+    """Lets this process, and those that it starts from now on, go before all others."""
+    try:
+        os.sched_setscheduler(0, os.SCHED_FIFO, os.sched_param(1))
+    except PermissionError:
+        sys.exit("only root may ask for --first")
+
+
 class Mcrace:
     """`mcrace run`, started for each run; a race is found where the verdict is `unexplained`."""
 
-    def __init__(self, program, meet=None):
+    def __init__(self, program, meet=None, spread=None):
         self.program = program
-        self.name = f"mcrace {meet}" if meet else "mcrace"
-        self.words = ["--meet", meet] if meet else []
+        self.name = " ".join(["mcrace", *([meet] if meet else []), *([f"spread {spread}"] if spread is not None else [])])
+        self.words = [*(["--meet", meet] if meet else []), *(["--spread", str(spread)] if spread is not None else [])]
 
     def play(self, port, race, runs):
         return [self.finds(port, race.script) for _ in range(runs)]

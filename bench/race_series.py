@@ -82,10 +82,11 @@ class Tally:
 
 
 class Server:
-    """A server with the cell's race, as long as the block runs."""
+    """A server with the cell's race, as long as the block runs. Where it is shared it serves any number of connections, and none of them
+    as a run."""
 
-    def __init__(self, program, cell):
-        words = [program, cell.race.server, str(cell.window), str(cell.delay or 0)]
+    def __init__(self, program, cell, is_shared=False):
+        words = [program, cell.race.server, str(cell.window), str(cell.delay or 0), *(["shared"] if is_shared else [])]
         self.process = subprocess.Popen(words, stdin=subprocess.PIPE, stdout=subprocess.PIPE, text=True)
         self.port = int(self.line().split()[1])
 
@@ -102,14 +103,21 @@ class Server:
     def line(self):
         line = self.process.stdout.readline()
         if not line:
-            sys.exit("bench/races: the server ended")
+            sys.exit("bench/race_servers ended")
         return line.rstrip()
+
+    def report(self):
+        self.process.stdin.write("report\n")
+        self.process.stdin.flush()
+        return list(iter(self.line, "end"))
 
     def visits(self):
         """The runs since this was asked last."""
-        self.process.stdin.write("report\n")
-        self.process.stdin.flush()
-        return [visit_of(line) for line in iter(self.line, "end")]
+        return [visit_of(line) for line in self.report()]
+
+    def forget(self):
+        """Empties the cache of a shared server, while nobody is connected."""
+        self.report()
 
 
 def check(cell, player, found, visits):

@@ -1,14 +1,22 @@
 // A cache server that is right but for one race, so that programs can be compared by how often they run into it.
 //
-// usage: race_servers RACE WINDOW DELAY
+// usage: race_servers RACE WINDOW DELAY [shared]
 //
-// RACE is incr, cas, add, append or delete: of this command the server looks at the item DELAY µs after the request came, and acts
+// RACE is incr, decr, cas, add, append or delete: of this command the server looks at the item DELAY µs after the request came, and acts
 // WINDOW µs later on what it saw then, whatever another connection did meanwhile: an increment or an append is lost, a cas number wins
-// twice, an item is added or deleted twice. Or it is late: a set over an item is answered at once, and takes effect WINDOW µs later.
+// twice, an item is added or deleted twice. A decrement loses an increment too, which itself has no race. Or it is late: a set over an
+// item is answered at once, and takes effect WINDOW µs later.
 //
-// It knows one key, whatever its name, and listens on a free port of 127.0.0.1, which it prints. A run is three connections, that of P
-// first, then A's, then B's. A line on standard input asks for a report, while no run is under way: for each run since the last
-// report a line FIRST OVERLAP DISTANCE SHOWN LATE, and then `end`:
+// Or it is none: the server is right, and acts DELAY µs after each request came.
+//
+// It listens on a free port of 127.0.0.1, which it prints.
+//
+// With `shared` it is a server as others are: any number of connections, each on a thread of its own, and one cache, of 32,768 keys at
+// most. A line on standard input, while nobody is connected, empties the cache, and is answered by `end`.
+//
+// Without it a run is three connections, that of P first, then A's, then B's, and nothing is kept from one run for the next. A line on
+// standard input asks for a report, while no run is under way: for each run since the last report a line
+// FIRST OVERLAP DISTANCE SHOWN LATE, and then `end`:
 //
 //   FIRST     the branch whose first request came first, A or B, or - where one of them sent none
 //   OVERLAP   1 where the other's first request came before the reply to that one was sent, else 0
@@ -17,21 +25,20 @@
 //             showed the old value, which a client sees that was fast enough
 //   LATE      the µs from the sending of STORED to the coming of the last get that showed the old value; - where there is no such get
 #define _GNU_SOURCE
+#include "race_cache.h"
+
 #include <arpa/inet.h>
-#include <inttypes.h>
 #include <netinet/in.h>
 #include <netinet/tcp.h>
-#include <pthread.h>
 #include <stdatomic.h>
 #include <stdio.h>
 #include <stdlib.h>
 #include <string.h>
 #include <sys/socket.h>
-#include <time.h>
 #include <unistd.h>
 
 enum { P, A, B, SECTIONS };
-enum { MOST_RUNS = 100000, LONGEST = 4096, BODY = 256 };
+enum { MOST_RUNS = 100000 };
 
 // When a request came, and when its reply had been sent, in µs; 0 before.
 struct visit {
@@ -44,22 +51,7 @@ struct run {
   int shown, effective;
 };
 
-struct item {
-  int there;
-  unsigned flags;
-  char body[BODY];
-  uint64_t version;
-};
-
-struct request {
-  char verb[16];
-  unsigned flags;
-  size_t size;
-  uint64_t number;
-  const char *body;
-  double came;
-};
-
+// A connection, and the run that it belongs to. `first` is the first visit of a branch, of P and of a shared server null.
 struct talk {
   int connection;
   struct run *run;
@@ -74,192 +66,61 @@ struct ticket {
   struct run *run;
 };
 
-static const char *race;
-static double window, delay;
+static double delay;
 static int listener, tickets[SECTIONS][2];
 static struct run runs[MOST_RUNS];
 static atomic_int taken, open_connections;
-static pthread_mutex_t lock = PTHREAD_MUTEX_INITIALIZER;
-static struct item cache;
-
-static void stop(const char *what) {
-  perror(what);
-  exit(1);
-}
-
-static double microseconds(void) {
-  struct timespec now;
-  clock_gettime(CLOCK_MONOTONIC, &now);
-  return now.tv_sec * 1e6 + now.tv_nsec / 1e3;
-}
-
-static void spin_until(double time) {
-  while (microseconds() < time)
-    ;
-}
-
-// Stands in a command between its look at the item and its write. Where this is the command that races, it unlocks the cache for the
-// window, and notes whether another connection wrote meanwhile.
-static void open_window(struct talk *talk, const char *verb) {
-  uint64_t seen = cache.version;
-  if (strcmp(race, verb))
-    return;
-  pthread_mutex_unlock(&lock);
-  spin_until(microseconds() + window);
-  pthread_mutex_lock(&lock);
-  if (cache.version != seen)
-    talk->run->shown = 1;
-}
-
-static void put(struct item item) {
-  item.version = cache.version + 1;
-  cache = item;
-}
-
-static struct item item_of(const struct request *request) {
-  struct item item = {.there = 1, .flags = request->flags};
-  memcpy(item.body, request->body, request->size);
-  return item;
-}
-
-static const char *set(const struct request *request) {
-  put(item_of(request));
-  return "STORED\r\n";
-}
-
-static const char *add(struct talk *talk, const struct request *request) {
-  if (cache.there)
-    return "NOT_STORED\r\n";
-  open_window(talk, "add");
-  return set(request);
-}
-
-static const char *cas(struct talk *talk, const struct request *request) {
-  if (!cache.there)
-    return "NOT_FOUND\r\n";
-  if (cache.version != request->number)
-    return "EXISTS\r\n";
-  open_window(talk, "cas");
-  return set(request);
-}
-
-static const char *append(struct talk *talk, const struct request *request) {
-  struct item seen = cache;
-  size_t size = strlen(seen.body);
-  if (!seen.there)
-    return "NOT_STORED\r\n";
-  if (size + request->size >= BODY)
-    return "SERVER_ERROR object too large for cache\r\n";
-  open_window(talk, "append");
-  memcpy(seen.body + size, request->body, request->size);
-  put(seen);
-  return "STORED\r\n";
-}
-
-static const char *incr(struct talk *talk, const struct request *request, char *reply) {
-  struct item seen = cache;
-  uint64_t number = strtoull(seen.body, 0, 10) + request->number;
-  if (!seen.there)
-    return "NOT_FOUND\r\n";
-  open_window(talk, "incr");
-  snprintf(seen.body, BODY, "%" PRIu64, number);
-  put(seen);
-  snprintf(reply, LONGEST, "%" PRIu64 "\r\n", number);
-  return reply;
-}
-
-static const char *delete_item(struct talk *talk) {
-  struct item none = {0};
-  if (!cache.there)
-    return "NOT_FOUND\r\n";
-  open_window(talk, "delete");
-  put(none);
-  return "DELETED\r\n";
-}
-
-static const char *get(struct talk *talk, const struct request *request, char *reply) {
-  char unique[32] = "";
-  if (!cache.there)
-    return "END\r\n";
-  if (!strcmp(race, "late") && talk->first && !talk->run->effective)
-    talk->run->last_old = request->came;
-  if (!strcmp(request->verb, "gets"))
-    snprintf(unique, sizeof unique, " %" PRIu64, cache.version);
-  snprintf(reply, LONGEST, "VALUE a %u %zu%s\r\n%s\r\nEND\r\n", cache.flags, strlen(cache.body), unique, cache.body);
-  return reply;
-}
-
-// The reply; the cache is locked.
-static const char *act(struct talk *talk, const struct request *request, char *reply) {
-  const char *verb = request->verb;
-  if (!strcmp(verb, "get") || !strcmp(verb, "gets"))
-    return get(talk, request, reply);
-  if (!strcmp(verb, "set"))
-    return set(request);
-  if (!strcmp(verb, "add"))
-    return add(talk, request);
-  if (!strcmp(verb, "cas"))
-    return cas(talk, request);
-  if (!strcmp(verb, "append"))
-    return append(talk, request);
-  if (!strcmp(verb, "incr"))
-    return incr(talk, request, reply);
-  if (!strcmp(verb, "delete"))
-    return delete_item(talk);
-  return "ERROR\r\n";
-}
 
 static void say(struct talk *talk, const char *reply) {
   // a client that has gone needs no reply
   send(talk->connection, reply, strlen(reply), MSG_NOSIGNAL);
 }
 
+static void note_left(struct talk *talk) {
+  if (talk->first && !talk->first->left)
+    talk->first->left = microseconds();
+}
+
+// Whether this is a set over an item, in a server where these are late.
+static int is_late(const struct request *request) {
+  int there;
+  if (strcmp(race, "late") || strcmp(request->verb, "set"))
+    return 0;
+  pthread_mutex_lock(&lock);
+  there = place_of(request->key)->there;
+  pthread_mutex_unlock(&lock);
+  return there;
+}
+
 // A set that is answered at once and takes effect when the window is over.
 static void set_late(struct talk *talk, const struct request *request) {
+  char room[LONGEST];
   say(talk, "STORED\r\n");
   talk->run->stored = microseconds();
-  if (!talk->first->left)
-    talk->first->left = talk->run->stored;
+  note_left(talk);
   spin_until(talk->run->stored + window);
   pthread_mutex_lock(&lock);
-  set(request);
+  act(request, room, &talk->run->shown);
   talk->run->effective = 1;
   pthread_mutex_unlock(&lock);
 }
 
 static void answer(struct talk *talk, const struct request *request) {
-  char reply[LONGEST];
+  char room[LONGEST];
   const char *made;
-  if (talk->first && !strcmp(race, "late") && !strcmp(request->verb, "set")) {
+  if (is_late(request)) {
     set_late(talk, request);
     return;
   }
-  if (!strcmp(race, request->verb))
+  if (!strcmp(race, request->verb) || !strcmp(race, "none"))
     spin_until(request->came + delay);
   pthread_mutex_lock(&lock);
-  made = act(talk, request, reply);
+  made = act(request, room, &talk->run->shown);
+  if (made[0] == 'V' && talk->first && !talk->run->effective)
+    talk->run->last_old = request->came;
   pthread_mutex_unlock(&lock);
   say(talk, made);
-  if (talk->first && !talk->first->left)
-    talk->first->left = microseconds();
-}
-
-static int stores(const char *verb) {
-  return !strcmp(verb, "set") || !strcmp(verb, "add") || !strcmp(verb, "cas") || !strcmp(verb, "append");
-}
-
-// The bytes of the request that the text begins with; 0 where it hasn't come whole.
-static size_t understood(const struct talk *talk, struct request *request) {
-  const char *end = strstr(talk->text, "\r\n");
-  size_t line = end ? end + 2 - talk->text : 0;
-  *request = (struct request){.body = talk->text + line, .came = microseconds()};
-  if (!end || sscanf(talk->text, "%15s %*s %" SCNu64, request->verb, &request->number) < 1)
-    return 0;
-  if (!stores(request->verb))
-    return line;
-  if (sscanf(talk->text, "%*s %*s %u %*s %zu %" SCNu64, &request->flags, &request->size, &request->number) < 2 || request->size >= BODY)
-    stop("a request that stores");
-  return talk->got >= line + request->size + 2 ? line + request->size + 2 : 0;
+  note_left(talk);
 }
 
 static void converse(struct talk *talk) {
@@ -270,8 +131,10 @@ static void converse(struct talk *talk) {
       return;
     talk->got += more;
     talk->text[talk->got] = 0;
+    if (!strcmp(talk->text, "quit\r\n"))
+      return;
     // a client waits for each reply, so that nothing follows a request
-    if (!understood(talk, &request))
+    if (!understood(talk->text, talk->got, &request))
       continue;
     if (talk->first && !talk->first->came)
       talk->first->came = request.came;
@@ -293,27 +156,61 @@ static void *serve(void *own) {
   return 0;
 }
 
-static void wait_until_none_is_open(void) {
-  while (open_connections)
+static void wait_until_open(int connections) {
+  while (open_connections != connections)
     usleep(20);
+}
+
+static void start(void *(*body)(void *), intptr_t own) {
+  pthread_t thread;
+  if (pthread_create(&thread, 0, body, (void *)own) || pthread_detach(thread))
+    stop("a thread");
+}
+
+static int accepted(void) {
+  int on = 1, one = accept4(listener, 0, 0, SOCK_CLOEXEC);
+  if (one < 0)
+    stop("accept");
+  if (setsockopt(one, IPPROTO_TCP, TCP_NODELAY, &on, sizeof on))
+    stop("setsockopt");
+  open_connections++;
+  return one;
+}
+
+static void hand_to_section(int count, int connection) {
+  struct ticket it = {connection, &runs[count / SECTIONS]};
+  if (write(tickets[count % SECTIONS][1], &it, sizeof it) != sizeof it)
+    stop("write");
 }
 
 static void *welcome(void *unused) {
   for (;;) {
-    int on = 1, one = accept4(listener, 0, 0, SOCK_CLOEXEC);
-    int count = taken++;
-    struct ticket it = {one, &runs[count / SECTIONS]};
-    if (one < 0 || count >= MOST_RUNS * SECTIONS)
-      stop("accept");
-    if (setsockopt(one, IPPROTO_TCP, TCP_NODELAY, &on, sizeof on))
-      stop("setsockopt");
+    int one = accepted(), count = taken++;
+    if (count >= MOST_RUNS * SECTIONS)
+      stop("a run too many");
     // what the run before did late is over before this one begins
-    if (count % SECTIONS == P)
-      wait_until_none_is_open();
-    open_connections++;
-    if (write(tickets[count % SECTIONS][1], &it, sizeof it) != sizeof it)
-      stop("write");
+    if (count % SECTIONS == P) {
+      wait_until_open(1);
+      forget();
+    }
+    hand_to_section(count, one);
   }
+  return unused;
+}
+
+// Serves a connection of a shared server.
+static void *serve_shared(void *own) {
+  struct run unseen = {0};
+  struct talk talk = {.connection = (int)(intptr_t)own, .run = &unseen};
+  converse(&talk);
+  close(talk.connection);
+  open_connections--;
+  return 0;
+}
+
+static void *welcome_shared(void *unused) {
+  for (;;)
+    start(serve_shared, accepted());
   return unused;
 }
 
@@ -328,15 +225,11 @@ static void report_run(const struct run *run) {
     printf("-\n");
 }
 
-static void report(void) {
-  wait_until_none_is_open();
+static void report_runs(void) {
   for (int count = 0; count * SECTIONS < taken; count++)
     report_run(&runs[count]);
   memset(runs, 0, sizeof *runs * ((taken + SECTIONS - 1) / SECTIONS));
   taken = 0;
-  // only now, since the next run may begin as soon as this is read
-  puts("end");
-  fflush(stdout);
 }
 
 static void listen_somewhere(void) {
@@ -351,27 +244,36 @@ static void listen_somewhere(void) {
   fflush(stdout);
 }
 
-static void start(void *(*body)(void *), intptr_t own) {
-  pthread_t thread;
-  if (pthread_create(&thread, 0, body, (void *)own))
-    stop("pthread_create");
-}
-
-int main(int count, char **words) {
-  char line[64];
-  if (count != 4)
-    return 2;
-  race = words[1];
-  window = atof(words[2]);
-  delay = atof(words[3]);
+// Lets each section have its thread.
+static void start_sections(void) {
   for (int section = P; section < SECTIONS; section++) {
     if (pipe(tickets[section]))
       stop("pipe");
     start(serve, section);
   }
+}
+
+int main(int count, char **words) {
+  int is_shared = count == 5 && !strcmp(words[4], "shared");
+  char line[64];
+  if (count != 4 && !is_shared)
+    return 2;
+  race = words[1];
+  window = atof(words[2]);
+  delay = atof(words[3]);
+  if (!is_shared)
+    start_sections();
   listen_somewhere();
-  start(welcome, 0);
-  while (fgets(line, sizeof line, stdin))
-    report();
+  start(is_shared ? welcome_shared : welcome, 0);
+  while (fgets(line, sizeof line, stdin)) {
+    wait_until_open(0);
+    if (is_shared)
+      forget();
+    else
+      report_runs();
+    // only now, since the next run may begin as soon as this is read
+    puts("end");
+    fflush(stdout);
+  }
   return 0;
 }

@@ -26,7 +26,7 @@ class Target:
 
 INFINITE = float("inf")
 
-EACH, DEFAULT, C = "each", "default", "C"
+EACH, DEFAULT, C, AT_ONCE, SPREAD = "each", "default", "C", "spread 0", "spread 64"
 
 
 def share(words, measure, least, most=INFINITE):
@@ -41,6 +41,16 @@ def ratio(words, way, of, least):
         return of(tallies[way]) / plain if plain else 0
 
     return Target(f"{words}, beside C", measure, least, INFINITE, lambda it: f"{it:.2f}")
+
+
+def spread_ratio(words, least):
+    """The share found with a spread of 64 µs beside that with none."""
+
+    def measure(tallies):
+        found, at_once_found = found_of(tallies[SPREAD]), found_of(tallies[AT_ONCE])
+        return found / at_once_found if at_once_found else INFINITE if found else 0
+
+    return Target(f"`--spread 64`: {words}, beside `--spread 0`", measure, least, INFINITE, lambda it: f"{it:.2f}")
 
 
 def count(words, measure, least):
@@ -72,6 +82,11 @@ def at_once(name, window):
     """A race that opens at once, or a late set, which has no delay."""
     race = race_of(name)
     return Cell(race, window, None if race.is_late else 0)
+
+
+def opening(delay):
+    """An increment beside a decrement whose window of 5 µs opens so late."""
+    return Cell(race_of("decr"), 5, delay)
 
 
 ONE_GET = "one get beside a set that is late by"
@@ -111,6 +126,9 @@ TARGETS = [
             per_thousand(f"default: {ONE_GET} 200 µs, found of 1,000 runs", 50),
         ],
     ),
+    (opening(0), [AT_ONCE, SPREAD], [spread_ratio("a window of 5 µs that opens at once", 0.65)]),
+    (opening(10), [AT_ONCE, SPREAD], [spread_ratio("one that opens after 10 µs", 5)]),
+    (opening(20), [AT_ONCE, SPREAD], [spread_ratio("one that opens after 20 µs", 5)]),
     (at_once("late-4", 60), [DEFAULT], [clear_share(f"default: {FOUR_GETS} 60 µs, found of the clear ones", 0.8)]),
     (at_once("late-4", 200), [DEFAULT], [clear_share(f"default: {FOUR_GETS} 200 µs, found of the clear ones", 0.98)]),
 ]

@@ -2,6 +2,7 @@
 
 import contextlib
 import os
+import select
 import socket
 import subprocess
 import tempfile
@@ -48,6 +49,10 @@ def run_unread(words, **more):
     """What the program answers where its output is a pipe that nobody reads."""
     reader, writer = os.pipe()
     os.close(reader)
+    # A process that another thread starts holds the reader too, until it runs its own program.
+    unread = select.poll()
+    unread.register(writer, 0)
+    unread.poll()
     try:
         ran = subprocess.run(words, stdout=writer, stderr=subprocess.PIPE, **more)
     finally:

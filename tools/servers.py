@@ -2,6 +2,7 @@
 
 import contextlib
 import enum
+import itertools
 import pathlib
 import re
 import shutil
@@ -25,6 +26,12 @@ SECONDS = 60
 HISTORY = re.compile(rb"^history 2\n", re.M)
 
 ENDINGS = re.compile(rb"(?:[PAB] (?:done|running|not begun|failed \d \w+)\n){3}")
+
+# The lines of `--stats`: one of the runs, and one of each verb.
+STATISTICS = re.compile(
+    r"mcrace: (\d+) runs?, (\d+) overlapped, A's first reply first in (\d+) of (\d+)\n"
+    r"((?:mcrace: [a-z]+: \d+ [a-z ]+(?:, \d+ [a-z ]+)*\n)*)$"
+)
 
 
 @dataclass
@@ -59,6 +66,27 @@ def play(program, port, script, prepare=None, environment=None, options=()):
 def judged(program, history):
     """What `mcrace judge` answers to a history."""
     return subprocess.run([program, "judge"], input=history, capture_output=True, timeout=SECONDS).stdout
+
+
+@dataclass
+class Statistics:
+    """What `--stats` says: of the runs, and for each verb, how often it was answered how."""
+
+    runs: int
+    overlapped: int
+    a_first: int
+    answered: int
+    answers: dict
+
+
+def statistics_in(told):
+    """What standard error says before the statistics at its end, and these; or None where they aren't there."""
+    found = STATISTICS.search(told)
+    if not found:
+        return told, None
+    lines = [line.removeprefix("mcrace: ").partition(": ") for line in found[5].splitlines()]
+    answers = {verb: {what: int(count) for count, _, what in (part.partition(" ") for part in rest.split(", "))} for verb, _, rest in lines}
+    return told[: found.start()], Statistics(*(int(found[place]) for place in range(1, 5)), answers)
 
 
 def scripts():
@@ -149,12 +177,17 @@ def answers_both(text):
     return [Step.READ, Step.MEET, text]
 
 
+def reset(connection):
+    """Has the close of a connection send a reset."""
+    connection.setsockopt(socket.SOL_SOCKET, socket.SO_LINGER, struct.pack("ii", 1, 0))
+
+
 class Replying:
     """A server on a free port that takes any number of connections, and answers the requests of each by these texts, one after another.
     Once there is none left it reads on and answers nothing."""
 
     def __init__(self, *texts):
-        self.texts = texts
+        self.talks = [texts]
         self.listener = socket.create_server(("127.0.0.1", 0), backlog=100)
         self.port = self.listener.getsockname()[1]
 
@@ -167,18 +200,30 @@ class Replying:
 
     def serve(self):
         with contextlib.suppress(OSError):
-            while True:
-                threading.Thread(target=self.talk, args=(self.listener.accept()[0],), daemon=True).start()
+            for texts in itertools.cycle(self.talks):
+                threading.Thread(target=self.talk, args=(self.listener.accept()[0], texts), daemon=True).start()
 
-    def talk(self, connection):
+    def talk(self, connection, texts):
         connection.setsockopt(socket.IPPROTO_TCP, socket.TCP_NODELAY, 1)
         with contextlib.suppress(OSError), connection, connection.makefile("rb") as reader:
-            for text in self.texts:
+            for text in texts:
                 if not read_request(reader):
+                    return
+                if text is Step.RESET:
+                    reset(connection)
                     return
                 connection.sendall(text)
             while reader.read(1):
                 pass
+
+
+class ReplyingInTurn(Replying):
+    """The same, where each of these lists of texts is that of one connection after the other, over and over again. In the place of a text a
+    connection may end by a reset."""
+
+    def __init__(self, *talks):
+        super().__init__()
+        self.talks = talks
 
 
 class Scripted:
@@ -222,8 +267,7 @@ class Scripted:
                 elif step is Step.MEET:
                     self.meeting.wait(SECONDS)
                 elif step is Step.RESET:
-                    # The close then sends a reset.
-                    connection.setsockopt(socket.SOL_SOCKET, socket.SO_LINGER, struct.pack("ii", 1, 0))
+                    reset(connection)
                     return
                 elif step is Step.END:
                     return

@@ -14,6 +14,9 @@ import unedited
 # checks the code of all that they call.
 CHECK = 5
 CHECK_WITH_BODIES = 25
+# How many edits one check carries at most. A function takes up to a minute where the machine is busy, so that a check of this many ends
+# long before `checks.SECONDS` have gone; and checks of like length leave no processor idle at the end.
+MOST = 30
 
 
 @dataclass
@@ -166,12 +169,12 @@ class Tries:
 
 
 def batches_of(found):
-    """Splits edits into batches in which no two stand in one function or change one line. One that changes more than bodies
-    has a batch of its own."""
+    """Splits edits into batches of at most `MOST`, in which no two stand in one function or change one line. One that changes more than
+    bodies has a batch of its own."""
     batches = []
     for edit in [it for it in found if not it.is_alone]:
         for batch in batches:
-            if not any(set(edit.functions) & set(it.functions) or edit.meets(it) for it in batch):
+            if len(batch) < MOST and not any(set(edit.functions) & set(it.functions) or edit.meets(it) for it in batch):
                 batch.append(edit)
                 break
         else:

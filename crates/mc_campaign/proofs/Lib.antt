@@ -13,3 +13,7 @@ pub mod WrittenReport
 pub mod KeysUnder
 pub mod CodeUnder
 pub mod ImageUnder
+pub mod MoreDigits
+pub mod FittingKeys
+pub mod JobFaults
+pub mod ShortKeys

@@ -1,9 +1,12 @@
 -- One more job: its number after those before it, what it came to, and its line after theirs.
 use Rattle.std.proofs.Common.{◌≡◌, ℕ, ◌+◌, ◌<◌, List, [], ◌∷◌, ◌++◌, length, map, take, get_or, refl, sym, ap, subst, ◌∙◌}
+use Rattle.std.specs.Prelude.{Option}
 use Rattle.std.specs.List.{All, flat_map, range_with_len}
+use Rattle.std.specs.Option.{option_copied}
 use Rattle.std.proofs.lemmas.List.{map-append, map-id, take_more, flat_map_more}
 use Rattle.std.proofs.lemmas.List.Elements.{All-push}
 use Rattle.std.proofs.lemmas.List.FromFn.{map-range_with_len_more}
+use Rattle.mc_protocol.specs.Lines.{Word}
 use Rattle.mc_campaign.specs.Outcomes.{IsOutcome}
 use Rattle.mc_campaign.specs.declared.campaign.Campaign.{Campaign}
 use Rattle.mc_campaign.specs.declared.outcome.JobResult.{JobResult}
@@ -20,23 +23,27 @@ one_more_number number old new x a n is here before =
     ∙ (map-append number old (x ∷ [])
     ∙ (ap (λ xs. xs ++ number x ∷ []) before ∙ (ap (λ y. range_with_len a n ++ y ∷ []) here ∙ sym (range_more a n))))
 
--- a job of the seed came to what its result says
-abbrev pub IsRight : {S : Type 0} → ℕ → JobResult S → Type 0
-IsRight seed r = IsOutcome seed r.job r.outcome
+-- a job of a campaign with this seed and this name, if it has one, came to what its result says
+abbrev pub IsRight : {S : Type 0} → ℕ → Option Word → JobResult S → Type 0
+IsRight seed name r = IsOutcome seed name r.job r.outcome
 
-pub one_more_outcome : {S : Type 0} (seed job : ℕ) (old new : List (JobResult S)) (r : JobResult S) → new ≡ old ++ r ∷ [] → r.job ≡ job
-    → IsOutcome seed job r.outcome → All (IsRight seed) old → All (IsRight seed) new
-one_more_outcome seed job old new r is here right before =
-    subst (All (IsRight seed)) (sym is)
-    (All-push (IsRight seed) old r before (subst (λ (n : ℕ). IsOutcome seed n r.outcome) (sym here) right))
+pub one_more_outcome : {S : Type 0} (seed : ℕ) (name : Option Word) (job : ℕ) (old new : List (JobResult S)) (r : JobResult S) → new ≡ old ++ r ∷ []
+    → r.job ≡ job → IsOutcome seed name job r.outcome → All (IsRight seed name) old → All (IsRight seed name) new
+one_more_outcome seed name job old new r is here right before =
+    subst (All (IsRight seed name)) (sym is)
+    (All-push (IsRight seed name) old r before (subst (λ (n : ℕ). IsOutcome seed name n r.outcome) (sym here) right))
 
 -- the numbers of the jobs
 abbrev pub numbers : {S : Type 0} → List (JobResult S) → List ℕ
 numbers results = map (λ r. r.job) results
 
+-- each result is right for the campaign
+abbrev pub AreRight : {S : Type 0} → Campaign → List (JobResult S) → Type 0
+AreRight c results = All (IsRight c.seed (option_copied c.name)) results
+
 -- what is right of results for a campaign is so for the same campaign
-pub same_campaign : {S : Type 0} (a b : Campaign) (results : List (JobResult S)) → a ≡ b → All (IsRight a.seed) results → All (IsRight b.seed) results
-same_campaign a b results same right = subst (λ (c : Campaign). All (IsRight c.seed) results) same right
+pub same_campaign : {S : Type 0} (a b : Campaign) (results : List (JobResult S)) → a ≡ b → AreRight a results → AreRight b results
+same_campaign a b results same right = subst (λ (c : Campaign). AreRight c results) same right
 
 pub one_more_line : {X : Type 0} (line : X → List ℕ) (front old new : List ℕ) (xs : List X) (i : ℕ) (x : X) → i < length xs
     → x ≡ get_or xs i x → old ≡ front ++ flat_map line (take i xs) → new ≡ old ++ line x

@@ -5,6 +5,7 @@ pub mod Generated
 pub mod Refusals
 pub mod Shrunk
 pub mod Meetings
+pub mod JobCodes
 pub mod Outcomes
 pub mod Messages
 pub mod Reports

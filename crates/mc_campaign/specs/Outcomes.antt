@@ -1,16 +1,11 @@
 -- What the jobs of a campaign come to.
-use Rattle.std.specs.Prelude.{◌≡◌, ℕ, None}
-use Rattle.mc_model.specs.Notes.{History}
+use Rattle.std.specs.Prelude.{◌≡◌, ◌≢◌, ℕ, Option, None}
+use Rattle.mc_protocol.specs.Lines.{Word}
 use Rattle.mc_code.specs.Code.{Code}
-use Rattle.mc_code.specs.Layout.{code_of}
-use Rattle.mc_core.specs.Held.{Held, IsHeldBy}
-use Rattle.mc_core.specs.Histories.{history_of}
-use Rattle.mc_explain.specs.Verdicts.{IsStated}
-use Rattle.mc_explain.specs.declared.verdict.Verdict.{Verdict}
-use Rattle.mc_run.specs.Agreement.{Agree, LaneRecords}
-use Rattle.mc_run.specs.Headline.{IsTrial}
-use Rattle.mc_campaign.specs.Generated.{generated}
-use Rattle.mc_campaign.specs.Refusals.{IsRefused}
+use Rattle.mc_run.specs.Agreement.{LaneRecords}
+use Rattle.mc_run.specs.Judged.{IsJudged}
+use Rattle.mc_campaign.specs.JobCodes.{code_for, IsJobFault}
+use Rattle.mc_campaign.specs.declared.fault.JobFault.TheVariants as fault
 use Rattle.mc_campaign.specs.declared.outcome.JobOutcome.{JobOutcome}
 use Rattle.mc_campaign.specs.declared.outcome.JobOutcome.TheVariants as outcome
 
@@ -26,27 +21,22 @@ closed_lanes lanes = record {
   b = record lanes.b { stream = None };
 }
 
--- A run of this code and the verdict on it: what was noted agrees with what the lanes recorded, and the lanes are closed. What
--- was noted is a trial of the code with none of its events refused, and with this verdict, which is true of the run's history
--- both ways.
-pub record IsJudged (c : Code) (held : Held) (lanes : LaneRecords) (h : History) (v : Verdict) : Type 0 where
-  pub agree : Agree c held.world lanes
-  pub held_by : IsHeldBy c held
-  pub closed : AreClosed lanes
-  pub trial : IsTrial c held.world.notes held.world 0 v
-  pub history : h ≡ history_of c held.world
-  pub stated : IsStated h v
-
--- a job that has this code may come to this
+-- a job that has this code may come to this: a run that was judged, and the lanes are closed
 abbrev pub IsOutcomeOf : {S : Type 0} → Code → JobOutcome S → Type 0
 IsOutcomeOf c (outcome.NotMade fault) = ⊥
 IsOutcomeOf c (outcome.NoLane actor) = Unit {0}
 IsOutcomeOf c (outcome.NotRun error) = Unit {0}
-IsOutcomeOf c (outcome.Ran run history verdict) = IsJudged c run.world run.lanes history verdict
+IsOutcomeOf c (outcome.Ran run history verdict) = IsJudged c run.world run.lanes history verdict × AreClosed run.lanes
 
--- a job of a campaign with this seed may come to this: its script is refused, or has a code
-abbrev pub IsOutcome : {S : Type 0} → ℕ → ℕ → JobOutcome S → Type 0
-IsOutcome seed job (outcome.NotMade fault) = IsRefused (generated seed job) fault
-IsOutcome seed job (outcome.NoLane actor) = Unit {0}
-IsOutcome seed job (outcome.NotRun error) = Unit {0}
-IsOutcome seed job (outcome.Ran run history verdict) = IsJudged (code_of (generated seed job)) run.world run.lanes history verdict
+-- a job of a campaign with this seed and this name, if it has one, may come to this: it has no code, or that which its script has
+-- under the name
+abbrev pub IsOutcome : {S : Type 0} → ℕ → Option Word → ℕ → JobOutcome S → Type 0
+IsOutcome seed name job (outcome.NotMade fault) = IsJobFault name seed job fault
+IsOutcome seed name job (outcome.NoLane actor) = Unit {0}
+IsOutcome seed name job (outcome.NotRun error) = Unit {0}
+IsOutcome seed name job (outcome.Ran run history verdict) =
+    IsJudged (code_for name seed job) run.world run.lanes history verdict × AreClosed run.lanes
+
+-- that a key becomes too long isn't what kept the job from running
+abbrev pub HasShortKeys : {S : Type 0} → JobOutcome S → Type 0
+HasShortKeys found = found ≢ outcome.NotMade fault.KeyTooLong

@@ -1,5 +1,5 @@
 -- The text of a report.
-use Rattle.std.specs.Prelude.{ℕ, Bool, true, false, List, [], ◌++◌, length, codes, decimal, flat_map, count_by}
+use Rattle.std.specs.Prelude.{ℕ, Bool, true, false, List, [], ◌++◌, length, codes, decimal, flat_map, count_by, if◌then◌else◌}
 use Rattle.mc_protocol.specs.Faults.{fault_name}
 use Rattle.mc_protocol.specs.Words.{actor_word}
 use Rattle.mc_protocol.specs.declared.actor.Actor.{Actor}
@@ -14,6 +14,7 @@ use Rattle.mc_campaign.specs.declared.outcome.JobOutcome.TheVariants as outcome
 use Rattle.mc_campaign.specs.declared.outcome.JobResult.{JobResult}
 use Rattle.mc_campaign.specs.declared.standing.Standing.{Standing}
 use Rattle.mc_campaign.specs.declared.standing.Standing.TheVariants as standing
+use Rattle.mc_campaign.specs.ReportStatus.{is_clean}
 
 -- ---- the line of a job
 
@@ -84,3 +85,11 @@ totals_line results =
 
 abbrev pub report_text : {S : Type 0} → List (JobResult S) → List ℕ
 report_text results = flat_map job_line results ++ totals_line results
+
+-- the line of a job, if something was wrong with it
+abbrev pub brief_job_line : {S : Type 0} → JobResult S → List ℕ
+brief_job_line r = if is_clean r.outcome then [] else job_line r
+
+-- the same without the lines of jobs with which nothing was wrong; the totals count them
+abbrev pub brief_report_text : {S : Type 0} → List (JobResult S) → List ℕ
+brief_report_text results = flat_map brief_job_line results ++ totals_line results

@@ -1,12 +1,12 @@
 //! Which jobs a campaign has, and why there is no report of it.
 
-use crate::Meeting;
+use crate::{Meeting, Namespace};
 use std::alloc::AllocError;
 use thiserror::Error;
 
 /// The jobs of a campaign: `jobs` of them, from `first` on; and how each is run.
-#[derive(Clone, Copy, Debug, PartialEq, Eq)]
-pub struct Campaign {
+#[derive(Clone, Copy, Debug)]
+pub struct Campaign<'a> {
     /// What their scripts are generated from, beside their numbers.
     pub seed: u64,
     /// The number of the first.
@@ -17,6 +17,12 @@ pub struct Campaign {
     pub limit: u64,
     /// How the branches of each meet.
     pub meeting: Meeting,
+    /// The most microseconds by which a branch is late that has met the other one. With 0 none is.
+    pub spread: u16,
+    /// What the keys of each are put under, if they are. [`keys_fit`] says whether none becomes too long.
+    ///
+    /// [`keys_fit`]: crate::keys_fit
+    pub name: Option<&'a Namespace<'a>>,
 }
 
 /// Why there is no report of a campaign.

@@ -1,10 +1,12 @@
 //! What gathers the results of a campaign.
 
-ghost use Rattle.std.specs.Prelude.{◌≡◌, ◌≤◌, ◌+◌, ◌^◌, map, All, IfOk};
+ghost use Rattle.std.specs.Prelude.{◌≡◌, ◌≤◌, ◌+◌, ◌^◌, map, true, All, IfOk};
 ghost use Rattle.std.specs.List.{range_with_len};
+ghost use Rattle.std.specs.Option.{option_copied};
 ghost use Rattle.mc_campaign.specs.Outcomes.{IsOutcome};
 
 use crate::job::run_job;
+use crate::namespace::is_same_name;
 use crate::{Campaign, Connector, JobMessage, JobOutcome, JobResult, Report, Watcher};
 use mc_lane::Stream;
 use mc_protocol::OutOfMemory;
@@ -17,13 +19,13 @@ use std::thread::Threads;
 /// Gathers what workers send, in any order, and makes the report of it. Contracts see its campaign: which messages came to it is
 /// nothing that a report rests on.
 #[derive(Debug, Drop)]
-pub struct Collector<S: Stream> {
-    campaign: Campaign,
+pub struct Collector<'a, S: Stream> {
+    campaign: Campaign<'a>,
     /// The message of each job, in the order of their numbers, where one has come.
-    kept: Vec<Option<JobMessage<S>>>,
+    kept: Vec<Option<JobMessage<'a, S>>>,
 }
 
-impl<S: Stream> Model for Collector<S> {
+impl<'a, S: Stream> Model for Collector<'a, S> {
     ghost use Rattle.mc_campaign.specs.declared.campaign.Campaign.{Campaign};
 
     ghost Value = { Campaign };
@@ -31,10 +33,10 @@ impl<S: Stream> Model for Collector<S> {
     ghost view = { λ c. c.campaign };
 }
 
-impl<S: Stream + Send> Collector<S> {
+impl<'a, S: Stream + Send> Collector<'a, S> {
     /// A collector to which nothing has come.
-    pub fn new(alloc: Global, campaign: Campaign) -> Result<Self, OutOfMemory>
-        ensures { IfOk result (λ collector. collector ≡ campaign) }
+    pub fn new(alloc: Global, campaign: Campaign<'a>) -> Result<Self, OutOfMemory>
+        ensures { IfOk result (λ collector. collector ≡ campaign.entry) }
     {
         let mut kept = Vec::new(alloc);
         'places: for _ in 0..campaign.jobs {
@@ -44,11 +46,11 @@ impl<S: Stream + Send> Collector<S> {
     }
 
     /// Keeps the message, and calls the watcher, where it is of a job of the campaign and the first of that job; else drops it.
-    pub fn keep<W: Watcher<S>>(&mut self, message: JobMessage<S>, watcher: &mut W)
+    pub fn keep<W: Watcher<S>>(&mut self, message: JobMessage<'a, S>, watcher: &mut W)
         ensures { self.new ≡ self.old }
     {
         let campaign = self.campaign;
-        if message.seed() == campaign.seed {
+        if is_of_campaign(&message, campaign) {
             let place = message.job().checked_sub(campaign.first);
             keep_at(self.kept.as_mut_slice(), place, message, watcher);
         }
@@ -69,9 +71,10 @@ impl<S: Stream + Send> Collector<S> {
         watcher: &mut W,
     ) -> Result<Report<S>, OutOfMemory>
         requires { self.first + self.jobs ≤ 2 ^ 64 }
-        ensures seed { IfOk result (λ report. report.seed ≡ self.seed) }
-        ensures jobs { IfOk result (λ report. map (λ r. r.job) report.results ≡ range_with_len self.first self.jobs) }
-        ensures outcomes { IfOk result (λ report. All (λ r. IsOutcome self.seed r.job r.outcome) report.results) }
+        ensures seed { IfOk result (λ report. report.seed ≡ self.entry.seed) }
+        ensures jobs { IfOk result (λ report. map (λ r. r.job) report.results ≡ range_with_len self.entry.first self.entry.jobs) }
+        ensures outcomes { IfOk result (λ report.
+            All (λ r. IsOutcome self.entry.seed (option_copied self.entry.name) r.job r.outcome) report.results) }
     {
         let Collector { campaign, kept } = self;
         settle_all(rt, alloc, campaign, connector, gate, kept, watcher)
@@ -82,16 +85,17 @@ impl<S: Stream + Send> Collector<S> {
 fn settle_all<S: Stream + Send, C: Connector<S>, G: Gate, R: Threads + Wait + Sync, W: Watcher<S>>(
     rt: &R,
     alloc: Global,
-    campaign: Campaign,
+    campaign: Campaign<'_>,
     connector: &C,
     gate: &G,
-    kept: Vec<Option<JobMessage<S>>>,
+    kept: Vec<Option<JobMessage<'_, S>>>,
     watcher: &mut W,
 ) -> Result<Report<S>, OutOfMemory>
     requires { campaign.first + campaign.jobs ≤ 2 ^ 64 }
-    ensures seed { IfOk result (λ report. report.seed ≡ campaign.seed) }
-    ensures jobs { IfOk result (λ report. map (λ r. r.job) report.results ≡ range_with_len campaign.first campaign.jobs) }
-    ensures outcomes { IfOk result (λ report. All (λ r. IsOutcome campaign.seed r.job r.outcome) report.results) }
+    ensures seed { IfOk result (λ report. report.seed ≡ campaign.entry.seed) }
+    ensures jobs { IfOk result (λ report. map (λ r. r.job) report.results ≡ range_with_len campaign.entry.first campaign.entry.jobs) }
+    ensures outcomes { IfOk result (λ report.
+        All (λ r. IsOutcome campaign.entry.seed (option_copied campaign.entry.name) r.job r.outcome) report.results) }
 {
     let mut kept = kept.into_iter();
     let mut results = Vec::new(alloc);
@@ -106,11 +110,19 @@ fn settle_all<S: Stream + Send, C: Connector<S>, G: Gate, R: Threads + Wait + Sy
     })
 }
 
+/// Whether the message has the seed and the name of the campaign.
+fn is_of_campaign<S: Stream + Send>(message: &JobMessage<'_, S>, campaign: Campaign<'_>) -> bool
+    ensures seed { result ≡ true → message.now.seed ≡ campaign.entry.seed }
+    ensures name { result ≡ true → message.now.name ≡ option_copied campaign.entry.name }
+{
+    message.seed() == campaign.seed && is_same_name(message.name(), campaign.name)
+}
+
 /// Puts the message at this place, and calls the watcher, where there is one and nothing stands there; else drops it.
-fn keep_at<S: Stream + Send, W: Watcher<S>>(
-    kept: &mut [Option<JobMessage<S>>],
+fn keep_at<'a, S: Stream + Send, W: Watcher<S>>(
+    kept: &mut [Option<JobMessage<'a, S>>],
     place: Option<u64>,
-    message: JobMessage<S>,
+    message: JobMessage<'a, S>,
     watcher: &mut W,
 ) {
     let Some(place) = place else {
@@ -128,18 +140,18 @@ fn keep_at<S: Stream + Send, W: Watcher<S>>(
 fn settle<S: Stream + Send, C: Connector<S>, G: Gate, R: Threads + Wait + Sync, W: Watcher<S>>(
     rt: &R,
     alloc: Global,
-    campaign: Campaign,
+    campaign: Campaign<'_>,
     connector: &C,
     gate: &G,
     job: u64,
-    message: Option<JobMessage<S>>,
+    message: Option<JobMessage<'_, S>>,
     watcher: &mut W,
 ) -> JobResult<S>
     ensures job { result.job ≡ job }
-    ensures outcome { IsOutcome campaign.seed job result.outcome }
+    ensures outcome { IsOutcome campaign.entry.seed (option_copied campaign.entry.name) job result.outcome }
 {
     let outcome = match message {
-        Some(message) if message.seed() == campaign.seed && message.job() == job => {
+        Some(message) if is_of_campaign(&message, campaign) && message.job() == job => {
             message.into_outcome()
         }
         _ => run_watched(rt, alloc, campaign, connector, gate, job, watcher),
@@ -151,13 +163,13 @@ fn settle<S: Stream + Send, C: Connector<S>, G: Gate, R: Threads + Wait + Sync, 
 fn run_watched<S: Stream + Send, C: Connector<S>, G: Gate, R: Threads + Wait + Sync, W: Watcher<S>>(
     rt: &R,
     alloc: Global,
-    campaign: Campaign,
+    campaign: Campaign<'_>,
     connector: &C,
     gate: &G,
     job: u64,
     watcher: &mut W,
 ) -> JobOutcome<S>
-    ensures { IsOutcome campaign.seed job result }
+    ensures { IsOutcome campaign.entry.seed (option_copied campaign.entry.name) job result }
 {
     let outcome = run_job(rt, alloc, campaign, connector, gate, job);
     watcher.ended(job, &outcome);

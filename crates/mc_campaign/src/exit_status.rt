@@ -54,7 +54,7 @@ fn accuses<S: Stream>(outcome: &JobOutcome<S>) -> bool
 }
 
 /// Whether nothing was wrong with the job.
-fn is_clean<S: Stream>(outcome: &JobOutcome<S>) -> bool
+pub(crate) fn is_clean<S: Stream>(outcome: &JobOutcome<S>) -> bool
     ensures { result ≡ spec.is_clean outcome.now }
 {
     match outcome {

@@ -1,9 +1,9 @@
-//! Why a job has no code.
+//! Why a script, or a job, has no code.
 
 use std::alloc::AllocError;
 use thiserror::Error;
 
-/// Why a job has no code that may run.
+/// Why a script that is generated has no code that may run.
 #[derive(Clone, Copy, Debug, Drop, PartialEq, Eq, Error)]
 pub enum GenFault {
     /// Memory ran out.
@@ -22,5 +22,44 @@ impl From<AllocError> for GenFault {
 
     fn from(_e: AllocError) -> GenFault {
         GenFault::OutOfMemory
+    }
+}
+
+/// Why a job has no code that may run, under the name of its campaign.
+#[derive(Clone, Copy, Debug, Drop, PartialEq, Eq, Error)]
+pub enum JobFault {
+    /// Memory ran out.
+    #[error("out of memory")]
+    OutOfMemory,
+    /// Its script is too large for the assembler, or its code has a fault.
+    #[error("expected a script whose code may run")]
+    Refused,
+    /// Under the name one of its keys has more than 40 bytes.
+    #[error("expected keys of at most 40 bytes under the name")]
+    KeyTooLong,
+}
+
+impl From<AllocError> for JobFault {
+    ghost use Rattle.std.specs.Prelude.{◌≡◌};
+    ghost use Rattle.mc_campaign.specs.declared.fault.JobFault.TheVariants.{OutOfMemory};
+
+    ghost from_gives = { λ _ e. e ≡ OutOfMemory };
+
+    fn from(_e: AllocError) -> JobFault {
+        JobFault::OutOfMemory
+    }
+}
+
+impl From<GenFault> for JobFault {
+    ghost use Rattle.std.specs.Prelude.{◌≡◌};
+    ghost use Rattle.mc_campaign.specs.JobCodes.{fault_of};
+
+    ghost from_gives = { λ fault e. e ≡ fault_of fault };
+
+    fn from(fault: GenFault) -> JobFault {
+        match fault {
+            GenFault::OutOfMemory => JobFault::OutOfMemory,
+            GenFault::Refused => JobFault::Refused,
+        }
     }
 }

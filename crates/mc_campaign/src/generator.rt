@@ -59,7 +59,8 @@ fn assemble_script(alloc: Global, script: &Script) -> Result<Code, GenFault>
     }
 }
 
-fn verify_code(alloc: Global, code: Code) -> Result<Checked, GenFault>
+/// The code, if it is sound.
+pub(crate) fn verify_code(alloc: Global, code: Code) -> Result<Checked, GenFault>
     ensures code { IfOk result (λ checked. checked.code ≡ code) }
     ensures refused { IfErr result (λ fault. fault ≡ GenFault.Refused → HasFault code) }
 {

@@ -1,74 +1,88 @@
 //! The run of one job.
 
-ghost use Rattle.std.specs.Prelude.{◌≡◌, IfOk};
-ghost use Rattle.mc_core.specs.Held.{IsHeldBy};
-ghost use Rattle.mc_run.specs.Agreement.{Agree};
+ghost use Rattle.std.specs.Prelude.{◌≡◌, IfOk, None};
+ghost use Rattle.std.specs.Option.{option_copied};
 ghost use Rattle.mc_run.specs.Running.{AreNew, IsNew};
 ghost use Rattle.mc_campaign.specs.Outcomes.{IsOutcome, IsOutcomeOf, closed_lanes};
 
-use crate::{Campaign, Connector, JobOutcome, generate};
+use crate::job_code::generate_under;
+use crate::{Campaign, Connector, JobOutcome};
 use core::thread::Stack;
 use mc_lane::{Lane, Stream};
-use mc_protocol::Actor;
-use mc_run::{Gate, Lanes, Run, RunError, run_lanes_with};
+use mc_protocol::{Actor, Sections};
+use mc_run::{Gate, Judged, Lanes, Run, play};
 use mc_verify::Checked;
 use std::alloc::Global;
 use std::sync::Wait;
 use std::thread::Threads;
 
 /// The most bytes that a lane receives.
-const RECEIVED_LIMIT: u32 = 262_144;
+pub const RECEIVED_LIMIT: u32 = 262_144;
 
-/// Makes the code of a job, connects its sections, runs it, closes the lanes, and judges its history. It waits for the streams, for
-/// the gate and for the threads of the branches.
+/// Makes the code of a job, under the campaign's name if it has one, and runs it as [`play_job`].
 pub(crate) fn run_job<S: Stream + Send, C: Connector<S>, G: Gate, R: Threads + Wait + Sync>(
     rt: &R,
     alloc: Global,
-    campaign: Campaign,
+    campaign: Campaign<'_>,
     connector: &C,
     gate: &G,
     job: u64,
 ) -> JobOutcome<S>
-    ensures { IsOutcome campaign.seed job result }
+    ensures { IsOutcome campaign.entry.seed (option_copied campaign.entry.name) job result }
 {
-    let checked = match generate(alloc, campaign.seed, job) {
-        Ok(checked) => checked,
-        Err(fault) => return JobOutcome::NotMade(fault),
-    };
+    match generate_under(alloc, campaign.seed, campaign.name, job) {
+        Ok(checked) => play_job(rt, alloc, campaign, connector, gate, job, &checked),
+        Err(fault) => JobOutcome::NotMade(fault),
+    }
+}
+
+/// Connects the sections of a job, runs this code over them, which may be other code than that of the job, judges its history,
+/// closes the lanes, and gives their streams back. It waits for the streams, for the gate and for the threads of the branches.
+pub fn play_job<S: Stream + Send, C: Connector<S>, G: Gate, R: Threads + Wait + Sync>(
+    rt: &R,
+    alloc: Global,
+    campaign: Campaign<'_>,
+    connector: &C,
+    gate: &G,
+    job: u64,
+    checked: &Checked,
+) -> JobOutcome<S>
+    ensures { IsOutcomeOf checked.now.code result }
+{
     let lanes = match connect_lanes(alloc, connector, job) {
         Ok(lanes) => lanes,
         Err(actor) => return JobOutcome::NoLane(actor),
     };
     let meet = campaign.meet(job);
-    match run_lanes_with(rt, alloc, &checked, lanes, gate, Stack::new(), meet) {
-        Ok(run) => judge_run(alloc, &checked, run, campaign.limit),
-        Err(error) => JobOutcome::NotRun(error),
-    }
-}
-
-/// Closes the lanes of a run, and judges it in at most `limit` turns.
-fn judge_run<S: Stream>(alloc: Global, checked: &Checked, run: Run<S>, limit: u64) -> JobOutcome<S>
-    requires agree { Agree checked.now.code run.world.world run.lanes }
-    requires held { IsHeldBy checked.now.code run.world }
-    ensures { IsOutcomeOf checked.now.code result }
-{
-    let Run { world, lanes } = run;
-    let run = Run {
-        world,
-        lanes: closed(lanes),
+    let played = play(
+        rt,
+        alloc,
+        checked,
+        lanes,
+        gate,
+        Stack::new(),
+        meet,
+        campaign.limit,
+    );
+    let Judged {
+        run,
+        history,
+        verdict,
+    } = match played {
+        Ok(judged) => judged,
+        Err(error) => return JobOutcome::NotRun(error),
     };
-    match run.judge(alloc, checked, limit) {
-        Ok((history, verdict, _)) => JobOutcome::Ran {
-            run,
-            history,
-            verdict,
-        },
-        Err(_) => JobOutcome::NotRun(RunError::OutOfMemory),
+    let Run { world, lanes } = run;
+    let lanes = close_lanes(connector, lanes);
+    JobOutcome::Ran {
+        run: Run { world, lanes },
+        history,
+        verdict,
     }
 }
 
-/// The lanes, closed.
-fn closed<S: Stream>(lanes: Lanes<S>) -> Lanes<S>
+/// The lanes, closed. Their streams are given back.
+fn close_lanes<S: Stream, C: Connector<S>>(connector: &C, lanes: Lanes<S>) -> Lanes<S>
     ensures { result ≡ closed_lanes lanes }
 {
     let Lanes {
@@ -76,10 +90,21 @@ fn closed<S: Stream>(lanes: Lanes<S>) -> Lanes<S>
         mut a,
         mut b,
     } = lanes;
-    p.close();
-    a.close();
-    b.close();
+    connector.release(Sections {
+        p: close_lane(&mut p),
+        a: close_lane(&mut a),
+        b: close_lane(&mut b),
+    });
     Lanes { p, a, b }
+}
+
+/// Closes the lane, and hands out its stream, if no fault has closed it.
+fn close_lane<S: Stream>(lane: &mut Lane<S>) -> Option<S>
+    ensures { lane.new ≡ record lane.old { stream = None } }
+{
+    let fault = lane.fault();
+    let stream = lane.close();
+    if fault.is_none() { stream } else { None }
 }
 
 /// A new lane of each section, connected in the order P, A, B.

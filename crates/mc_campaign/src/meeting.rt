@@ -1,17 +1,20 @@
-//! How the branches of a job meet: as its campaign says, or by lot.
+//! How the branches of a run meet: as it is asked for, or by lot; and which of them is late.
 
-ghost use Rattle.std.specs.Prelude.{◌≡◌};
+ghost use Rattle.std.specs.Prelude.{◌≡◌, IfSome};
 ghost use Rattle.mc_campaign.specs.Meetings as spec;
+ghost use Rattle.mc_campaign.specs.Meetings.{IsWithin};
+ghost use Rattle.mc_campaign.specs.Outputs.{outputs_of};
 
 use crate::Campaign;
-use mc_run::{Branch, Manner, Meet};
-use rand_core::utils::NextWord;
+use crate::draws::draw;
+use crate::lateness::draw_late;
+use mc_run::{Branch, Late, Manner, Meet};
 use rand_pcg::Pcg32;
 
-/// How the branches of each job wait for each other before a request.
+/// How the branches of a run wait for each other before a request.
 #[derive(Clone, Copy, Debug, PartialEq, Eq)]
 pub enum Meeting {
-    /// By lot: before each request in three of four jobs, and else before none.
+    /// By lot: before each request in three of four runs, and else before none.
     Drawn,
     /// Before each request.
     Each,
@@ -25,18 +28,31 @@ pub enum Meeting {
 /// seed is the job's number, the generator of the script goes along the sequence of that number too.
 const SEQUENCES: u64 = 0x6d65_6574_696e_6773;
 
-impl Campaign {
-    /// How the branches of a job meet, and which of them runs on a thread of its own. Which one that is, and where it is drawn how they
-    /// wait, is by the first word of a generator of the seed and the job, which isn't the one that makes the script; so a job that is
-    /// repeated meets alike.
+impl Campaign<'_> {
+    /// How the branches of a job meet, as [`draw_meet`] draws it from a generator of the seed and the job, which isn't the one that makes
+    /// the script; so a job that is repeated meets alike.
     pub fn meet(&self, job: u64) -> Meet
-        ensures { result ≡ spec.meet_for self.now.meeting self.now.seed job }
+        ensures meet { result ≡ spec.meet_for self.now.meeting self.now.spread self.now.seed job }
+        ensures late { IfSome result.late (IsWithin self.now.spread) }
     {
-        let lot = Pcg32::new(job, self.seed ^ SEQUENCES).next_word() % 8;
-        Meet {
-            manner: manner_of(self.meeting, lot),
-            apart: if lot % 2 == 0 { Branch::A } else { Branch::B },
-        }
+        let mut generator = Pcg32::new(job, self.seed ^ SEQUENCES);
+        draw_meet(&mut generator, self.meeting, self.spread)
+    }
+}
+
+/// How the branches of a run meet that are asked to meet so, by the generator's next words. Which of them runs on a thread of its own is
+/// drawn, and where it is drawn how they wait, that is by the same word. In half of the runs that meet one branch is late, either as
+/// often as the other, by `spread` microseconds at most; with 0 none ever is.
+pub fn draw_meet(generator: &mut Pcg32, meeting: Meeting, spread: u16) -> Meet
+    ensures meet { result ≡ spec.meet_in meeting spread (outputs_of generator.old) }
+    ensures late { IfSome result.late (IsWithin spread) }
+{
+    let lot = draw(generator, 8);
+    let manner = manner_of(meeting, lot);
+    Meet {
+        manner,
+        apart: if lot % 2 == 0 { Branch::A } else { Branch::B },
+        late: late_of(generator, manner, spread),
     }
 }
 
@@ -48,5 +64,15 @@ fn manner_of(meeting: Meeting, lot: u32) -> Manner
         Meeting::Drawn | Meeting::Each => Manner::Each,
         Meeting::First => Manner::First,
         Meeting::Never => Manner::Never,
+    }
+}
+
+fn late_of(generator: &mut Pcg32, manner: Manner, spread: u16) -> Option<Late>
+    ensures late { result ≡ spec.late_of manner spread (outputs_of generator.old) }
+    ensures within { IfSome result (IsWithin spread) }
+{
+    match manner {
+        Manner::Each | Manner::First => draw_late(generator, spread),
+        Manner::Never => None,
     }
 }

@@ -1,10 +1,11 @@
 //! What the workers of a campaign send: results of jobs.
 
 ghost use Rattle.std.specs.Prelude.{◌≡◌};
+ghost use Rattle.std.specs.Option.{option_copied};
 ghost use Rattle.mc_campaign.specs.Outcomes.{IsOutcome};
 
 use crate::job::run_job;
-use crate::{Campaign, Connector, JobOutcome};
+use crate::{Campaign, Connector, JobOutcome, Namespace};
 use mc_lane::Stream;
 use mc_run::Gate;
 use std::alloc::Global;
@@ -12,44 +13,48 @@ use std::marker::Model;
 use std::sync::Wait;
 use std::thread::Threads;
 
-/// What a job came to, with the seed of its campaign. Whoever receives it knows that the job may come to this. Contracts see the
-/// seed, the job and the outcome.
+/// What a job came to, with the seed and the name of its campaign. Whoever receives it knows that the job may come to this. Contracts
+/// see the seed, the name, the job and the outcome.
 #[derive(Debug, Drop)]
-pub struct JobMessage<S: Stream> {
+pub struct JobMessage<'a, S: Stream> {
     seed: u64,
+    name: Option<&'a Namespace<'a>>,
     job: u64,
     outcome: JobOutcome<S>,
 }
 
-impl<S: Stream> Model for JobMessage<S> {
+impl<'a, S: Stream> Model for JobMessage<'a, S> {
     ghost use Rattle.mc_campaign.specs.Messages.{Message};
 
     ghost Value = { Message S };
 
+    ghost use Rattle.std.specs.Option.{option_copied};
     ghost use Rattle.mc_campaign.specs.Outcomes.{IsOutcome};
 
-    ghost view = { λ m. record { seed = m.seed; job = m.job; outcome = m.outcome } };
+    ghost view = { λ m. record { seed = m.seed; name = option_copied m.name; job = m.job; outcome = m.outcome } };
 
-    ghost invariant = { λ m. IsOutcome m.seed m.job m.outcome };
+    ghost invariant = { λ m. IsOutcome m.seed (option_copied m.name) m.job m.outcome };
 }
 
-impl<S: Stream + Send> JobMessage<S> {
+impl<'a, S: Stream + Send> JobMessage<'a, S> {
     /// Makes the code of a job of the campaign, connects its sections, runs it, closes the lanes, and judges its history. It waits
     /// for the streams, for the gate and for the threads of the branches.
     pub fn run<C: Connector<S>, G: Gate, R: Threads + Wait + Sync>(
         rt: &R,
         alloc: Global,
-        campaign: Campaign,
+        campaign: Campaign<'a>,
         connector: &C,
         gate: &G,
         job: u64,
     ) -> Self
-        ensures seed { result.seed ≡ campaign.seed }
+        ensures seed { result.seed ≡ campaign.entry.seed }
+        ensures name { result.name ≡ option_copied campaign.entry.name }
         ensures job { result.job ≡ job }
-        ensures outcome { IsOutcome campaign.seed job result.outcome }
+        ensures outcome { IsOutcome campaign.entry.seed (option_copied campaign.entry.name) job result.outcome }
     {
         JobMessage {
             seed: campaign.seed,
+            name: campaign.name,
             job,
             outcome: run_job(rt, alloc, campaign, connector, gate, job),
         }
@@ -60,6 +65,13 @@ impl<S: Stream + Send> JobMessage<S> {
         ensures { result ≡ self.now.seed }
     {
         self.seed
+    }
+
+    /// The name of its campaign, if it has one.
+    pub fn name(&self) -> Option<&'a Namespace<'a>>
+        ensures { option_copied result ≡ self.now.name }
+    {
+        self.name
     }
 
     /// The number of the job.
@@ -78,8 +90,8 @@ impl<S: Stream + Send> JobMessage<S> {
 
     /// What the job came to, without the message.
     pub fn into_outcome(self) -> JobOutcome<S>
-        ensures same { result ≡ self.outcome }
-        ensures right { IsOutcome self.seed self.job result }
+        ensures same { result ≡ self.entry.outcome }
+        ensures right { IsOutcome self.entry.seed self.entry.name self.entry.job result }
     {
         self.outcome
     }

@@ -1,5 +1,6 @@
 //! The names that keys may be put under.
 ghost use Rattle.std.specs.Prelude.{◌≡◌, false, true, IfNone, IfSome};
+ghost use Rattle.std.specs.Option.{option_copied};
 ghost use Rattle.mc_campaign.specs.Namespaces.{is_namespace};
 
 use mc_protocol::is_name;
@@ -44,5 +45,18 @@ impl<'a> Namespace<'a> {
         ensures kept { is_namespace self.now ≡ true }
     {
         self.name
+    }
+}
+
+/// Whether both are one name, or both are none.
+pub(crate) fn is_same_name(one: Option<&Namespace<'_>>, other: Option<&Namespace<'_>>) -> bool
+    ensures { result ≡ true → option_copied one.entry ≡ option_copied other.entry }
+{
+    match one {
+        Some(one) => match other {
+            Some(other) => one.as_slice() == other.as_slice(),
+            None => false,
+        },
+        None => other.is_none(),
     }
 }

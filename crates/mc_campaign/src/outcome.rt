@@ -1,6 +1,6 @@
 //! What jobs came to.
 
-use crate::GenFault;
+use crate::JobFault;
 use mc_explain::Verdict;
 use mc_lane::Stream;
 use mc_model::History;
@@ -12,7 +12,7 @@ use std::marker::Model;
 #[derive(Debug, Drop)]
 pub enum JobOutcome<S: Stream> {
     /// It has no code that may run.
-    NotMade(GenFault),
+    NotMade(JobFault),
     /// This section got no connection, and nothing ran.
     NoLane(Actor),
     /// There is no run of it, or memory ran out before there was a verdict.

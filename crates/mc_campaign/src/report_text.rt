@@ -3,6 +3,7 @@
 ghost use Rattle.std.specs.Prelude.{◌≡◌, ◌++◌, flat_map, string_bytes, IfOk, OnOk, OnErr};
 ghost use Rattle.mc_campaign.specs.ReportText as spec;
 
+use crate::exit_status::is_clean;
 use crate::{JobOutcome, JobResult, Report, Standing};
 use mc_core::{Ending, World};
 use mc_explain::Verdict;
@@ -18,6 +19,19 @@ pub fn print_report<S: Stream>(report: &Report<S>, out: &mut Vec<u8>) -> Result<
     ensures err { OnErr result (out.new.items ≡ out.old.items) }
 {
     let text = text_of(*out.allocator(), report.results.as_slice())?;
+    out.extend_from_slice(text.as_slice())
+}
+
+/// The same without the lines of the jobs with which nothing was wrong: that are explained, with all their sections done. The last line
+/// counts them.
+pub fn print_brief_report<S: Stream>(
+    report: &Report<S>,
+    out: &mut Vec<u8>,
+) -> Result<(), OutOfMemory>
+    ensures ok { OnOk result (out.new.items ≡ out.old.items ++ spec.brief_report_text report.now.results) }
+    ensures err { OnErr result (out.new.items ≡ out.old.items) }
+{
+    let text = brief_text_of(*out.allocator(), report.results.as_slice())?;
     out.extend_from_slice(text.as_slice())
 }
 
@@ -42,6 +56,43 @@ fn print_jobs<S: Stream>(
         print_job(alloc, one, out)?;
     }
     Ok(())
+}
+
+fn brief_text_of<S: Stream>(alloc: Global, results: &[JobResult<S>]) -> Result<Vec<u8>, OutOfMemory>
+    ensures { IfOk result (λ text. text.items ≡ spec.brief_report_text results.now) }
+{
+    let mut text = Vec::new(alloc);
+    print_brief_jobs(alloc, results, &mut text)?;
+    text.extend_from_slice(totals_line(alloc, results)?.as_bytes())?;
+    Ok(text)
+}
+
+/// Appends the lines of the jobs with which something was wrong.
+fn print_brief_jobs<S: Stream>(
+    alloc: Global,
+    results: &[JobResult<S>],
+    out: &mut Vec<u8>,
+) -> Result<(), OutOfMemory>
+    ensures { OnOk result (out.new.items ≡ out.old.items ++ flat_map spec.brief_job_line results.now) }
+{
+    'jobs: for one in results {
+        print_brief_job(alloc, one, out)?;
+    }
+    Ok(())
+}
+
+/// Appends the line of a job, if something was wrong with it.
+fn print_brief_job<S: Stream>(
+    alloc: Global,
+    one: &JobResult<S>,
+    out: &mut Vec<u8>,
+) -> Result<(), OutOfMemory>
+    ensures { OnOk result (out.new.items ≡ out.old.items ++ spec.brief_job_line one.now) }
+{
+    if is_clean(&one.outcome) {
+        return Ok(());
+    }
+    print_job(alloc, one, out)
 }
 
 /// Appends the line of a job.

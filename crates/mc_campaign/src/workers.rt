@@ -1,8 +1,10 @@
 //! The threads of a campaign.
 
-ghost use Rattle.std.specs.Prelude.{◌≡◌, ◌≤◌, ◌+◌, ◌^◌, map, All, IfOk};
+ghost use Rattle.std.specs.Prelude.{◌≡◌, ◌≤◌, ◌+◌, ◌^◌, map, All, IfOk, None};
 ghost use Rattle.std.specs.List.{range_with_len};
-ghost use Rattle.mc_campaign.specs.Outcomes.{IsOutcome};
+ghost use Rattle.std.specs.Option.{option_copied};
+ghost use Rattle.mc_campaign.specs.JobCodes.{NameFits};
+ghost use Rattle.mc_campaign.specs.Outcomes.{HasShortKeys, IsOutcome};
 
 use crate::{
     Campaign, CampaignError, Collector, Connector, JobMessage, Meeting, Report, Unwatched, Watcher,
@@ -35,7 +37,7 @@ pub fn run_campaign<S: Stream + Send, C: Connector<S>, G: Gate, R: Threads + Wai
     requires workers { workers ≤ 16 }
     ensures seed { IfOk result (λ report. report.seed ≡ seed) }
     ensures jobs { IfOk result (λ report. map (λ r. r.job) report.results ≡ range_with_len 0 jobs) }
-    ensures outcomes { IfOk result (λ report. All (λ r. IsOutcome seed r.job r.outcome) report.results) }
+    ensures outcomes { IfOk result (λ report. All (λ r. IsOutcome seed None r.job r.outcome) report.results) }
 {
     let campaign = Campaign {
         seed,
@@ -43,6 +45,8 @@ pub fn run_campaign<S: Stream + Send, C: Connector<S>, G: Gate, R: Threads + Wai
         jobs,
         limit,
         meeting: Meeting::Each,
+        spread: 0,
+        name: None,
     };
     run_jobs(
         rt,
@@ -55,8 +59,8 @@ pub fn run_campaign<S: Stream + Send, C: Connector<S>, G: Gate, R: Threads + Wai
     )
 }
 
-/// The same for any campaign, which may begin with a later number and say how branches meet. The watcher is called with what each job
-/// came to.
+/// The same for any campaign, which may begin with a later number, say how branches meet, and put keys under a name. The watcher is
+/// called with what each job came to.
 pub fn run_jobs<
     S: Stream + Send,
     C: Connector<S>,
@@ -66,7 +70,7 @@ pub fn run_jobs<
 >(
     rt: &R,
     alloc: Global,
-    campaign: Campaign,
+    campaign: Campaign<'_>,
     workers: u32,
     connector: &C,
     gate: &G,
@@ -75,63 +79,122 @@ pub fn run_jobs<
     requires jobs { campaign.jobs ≤ 10000 }
     requires last { campaign.first + campaign.jobs ≤ 2 ^ 64 }
     requires workers { workers ≤ 16 }
-    ensures seed { IfOk result (λ report. report.seed ≡ campaign.seed) }
-    ensures jobs { IfOk result (λ report. map (λ r. r.job) report.results ≡ range_with_len campaign.first campaign.jobs) }
-    ensures outcomes { IfOk result (λ report. All (λ r. IsOutcome campaign.seed r.job r.outcome) report.results) }
+    ensures seed { IfOk result (λ report. report.seed ≡ campaign.entry.seed) }
+    ensures jobs { IfOk result (λ report. map (λ r. r.job) report.results ≡ range_with_len campaign.entry.first campaign.entry.jobs) }
+    ensures outcomes { IfOk result (λ report.
+        All (λ r. IsOutcome campaign.entry.seed (option_copied campaign.entry.name) r.job r.outcome) report.results) }
+    ensures short { IfOk result (λ report. NameFits (option_copied campaign.entry.name) campaign.entry.first campaign.entry.jobs
+        → All (λ r. HasShortKeys r.outcome) report.results) }
 {
-    let collector = run_workers(rt, alloc, campaign, workers, connector, gate, watcher)?;
-    Ok(collector.finish(rt, alloc, connector, gate, watcher)?)
+    run_workers(rt, alloc, campaign, workers, connector, gate, watcher)
 }
 
-/// Starts the workers, gives them the jobs, and gathers what they send until all have ended.
-fn run_workers<S: Stream + Send, C: Connector<S>, G: Gate, R: Threads + Wait + Sync, W: Watcher<S>>(
-    rt: &R,
+/// Starts the workers, gives them the jobs, gathers what they send until all have ended, and makes the report of it.
+fn run_workers<
+    'a,
+    S: Stream + Send,
+    C: Connector<S>,
+    G: Gate,
+    R: Threads + Wait + Sync,
+    W: Watcher<S>,
+>(
+    rt: &'a R,
     alloc: Global,
-    campaign: Campaign,
+    campaign: Campaign<'a>,
     workers: u32,
-    connector: &C,
-    gate: &G,
+    connector: &'a C,
+    gate: &'a G,
     watcher: &mut W,
-) -> Result<Collector<S>, CampaignError>
-    ensures { IfOk result (λ collector. collector ≡ campaign) }
+) -> Result<Report<S>, CampaignError>
+    requires { campaign.first + campaign.jobs ≤ 2 ^ 64 }
+    ensures seed { IfOk result (λ report. report.seed ≡ campaign.entry.seed) }
+    ensures jobs { IfOk result (λ report. map (λ r. r.job) report.results ≡ range_with_len campaign.entry.first campaign.entry.jobs) }
+    ensures outcomes { IfOk result (λ report.
+        All (λ r. IsOutcome campaign.entry.seed (option_copied campaign.entry.name) r.job r.outcome) report.results) }
 {
-    let collector = Collector::new(alloc, campaign)?;
-    let (to_workers, jobs) = unbounded(alloc)?;
-    let (to_collector, results) = unbounded(alloc)?;
+    let watcher = &mut *watcher;
     thread::scope(
         thread::scope_env(),
         rt,
-        move |scope| -> Result<Collector<S>, CampaignError>
-            ensures { IfOk result (λ gathered. gathered ≡ collector) }
+        move |scope| -> Result<Report<S>, CampaignError>
+            requires { campaign.first + campaign.jobs ≤ 2 ^ 64 }
+            ensures seed { IfOk result (λ report. report.seed ≡ campaign.entry.seed) }
+            ensures jobs { IfOk result (λ report.
+                map (λ r. r.job) report.results ≡ range_with_len campaign.entry.first campaign.entry.jobs) }
+            ensures outcomes { IfOk result (λ report.
+                All (λ r. IsOutcome campaign.entry.seed (option_copied campaign.entry.name) r.job r.outcome) report.results) }
         {
-            start_workers(
-                rt,
-                alloc,
-                campaign,
-                workers,
-                connector,
-                gate,
-                jobs,
-                to_collector,
-                scope,
-            )?;
-            // The jobs come only now: where a worker has no thread, those before it end without one.
-            send_jobs(rt, campaign, to_workers);
-            Ok(gather(rt, results, collector, watcher))
+            run_in_scope(
+                rt, alloc, campaign, workers, connector, gate, watcher, scope,
+            )
         },
     )
 }
 
-/// Starts the workers, each with these ends of the channels, as threads of the scope.
-fn start_workers<'s, E, S: Stream + Send + 's, C: Connector<S>, G: Gate, R: Threads + Wait + Sync>(
+/// The same, where the workers are threads of this scope.
+fn run_in_scope<
+    's,
+    'a: 's,
+    E,
+    S: Stream + Send + 's,
+    C: Connector<S>,
+    G: Gate,
+    R: Threads + Wait + Sync,
+    W: Watcher<S>,
+>(
     rt: &'s R,
     alloc: Global,
-    campaign: Campaign,
+    campaign: Campaign<'a>,
+    workers: u32,
+    connector: &'s C,
+    gate: &'s G,
+    watcher: &mut W,
+    scope: &Scope<'s, E>,
+) -> Result<Report<S>, CampaignError>
+    requires { campaign.first + campaign.jobs ≤ 2 ^ 64 }
+    ensures seed { IfOk result (λ report. report.seed ≡ campaign.entry.seed) }
+    ensures jobs { IfOk result (λ report. map (λ r. r.job) report.results ≡ range_with_len campaign.entry.first campaign.entry.jobs) }
+    ensures outcomes { IfOk result (λ report.
+        All (λ r. IsOutcome campaign.entry.seed (option_copied campaign.entry.name) r.job r.outcome) report.results) }
+{
+    let collector = Collector::new(alloc, campaign)?;
+    let (to_workers, jobs) = unbounded(alloc)?;
+    let (to_collector, results) = unbounded(alloc)?;
+    start_workers(
+        rt,
+        alloc,
+        campaign,
+        workers,
+        connector,
+        gate,
+        jobs,
+        to_collector,
+        scope,
+    )?;
+    // The jobs come only now: where a worker has no thread, those before it end without one.
+    send_jobs(rt, campaign, to_workers);
+    let collector = gather(rt, results, collector, watcher);
+    Ok(collector.finish(rt, alloc, connector, gate, watcher)?)
+}
+
+/// Starts the workers, each with these ends of the channels, as threads of the scope.
+fn start_workers<
+    's,
+    'a: 's,
+    E,
+    S: Stream + Send + 's,
+    C: Connector<S>,
+    G: Gate,
+    R: Threads + Wait + Sync,
+>(
+    rt: &'s R,
+    alloc: Global,
+    campaign: Campaign<'a>,
     workers: u32,
     connector: &'s C,
     gate: &'s G,
     jobs: Receiver<u64>,
-    to_collector: Sender<JobMessage<S>>,
+    to_collector: Sender<JobMessage<'a, S>>,
     scope: &Scope<'s, E>,
 ) -> Result<(), CampaignError> {
     'workers: for _ in 0..workers {
@@ -146,7 +209,7 @@ fn start_workers<'s, E, S: Stream + Send + 's, C: Connector<S>, G: Gate, R: Thre
 }
 
 /// Sends the numbers of the jobs. One for which there is no memory, or no worker, is left to the collector.
-fn send_jobs<R: Wait>(rt: &R, campaign: Campaign, to_workers: Sender<u64>) {
+fn send_jobs<R: Wait>(rt: &R, campaign: Campaign<'_>, to_workers: Sender<u64>) {
     'jobs: for place in 0..campaign.jobs {
         if let Some(job) = campaign.first.checked_add(place) {
             let _unsent = to_workers.send(rt, job);
@@ -155,13 +218,13 @@ fn send_jobs<R: Wait>(rt: &R, campaign: Campaign, to_workers: Sender<u64>) {
 }
 
 /// Gathers what comes, until no worker is left to send.
-fn gather<S: Stream + Send, R: Wait, W: Watcher<S>>(
+fn gather<'a, S: Stream + Send, R: Wait, W: Watcher<S>>(
     rt: &R,
-    results: Receiver<JobMessage<S>>,
-    mut collector: Collector<S>,
+    results: Receiver<JobMessage<'a, S>>,
+    mut collector: Collector<'a, S>,
     watcher: &mut W,
-) -> Collector<S>
-    ensures { result ≡ collector }
+) -> Collector<'a, S>
+    ensures { result ≡ collector.entry }
 {
     'results: for _ in rt.forever() {
         let Ok(message) = results.recv(rt) else {
@@ -174,14 +237,14 @@ fn gather<S: Stream + Send, R: Wait, W: Watcher<S>>(
 
 /// Runs one job after the other, until there are no more, and sends what each came to. A result for which there is no memory is
 /// lost, and its job is left to the collector.
-fn work<S: Stream + Send, C: Connector<S>, G: Gate, R: Threads + Wait + Sync>(
+fn work<'a, S: Stream + Send, C: Connector<S>, G: Gate, R: Threads + Wait + Sync>(
     rt: &R,
     alloc: Global,
-    campaign: Campaign,
+    campaign: Campaign<'a>,
     connector: &C,
     gate: &G,
     jobs: Receiver<u64>,
-    to_collector: Sender<JobMessage<S>>,
+    to_collector: Sender<JobMessage<'a, S>>,
 ) {
     'jobs: for _ in rt.forever() {
         let Ok(job) = jobs.recv(rt) else {

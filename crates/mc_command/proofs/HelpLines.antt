@@ -40,6 +40,14 @@ serve_help : (program : List ℕ) → line_faults (program ∷ codes "serve" ∷
 unfolding line_faults clap_on_literals
 serve_help program = refl
 
+campaign_help : (program : List ℕ) → line_faults (program ∷ codes "campaign" ∷ codes "--help" ∷ []) ≡ kind.DisplayHelp ∷ []
+unfolding line_faults clap_on_literals
+campaign_help program = refl
+
+selftest_help : (program : List ℕ) → line_faults (program ∷ codes "selftest" ∷ codes "--help" ∷ []) ≡ kind.DisplayHelp ∷ []
+unfolding line_faults clap_on_literals
+selftest_help program = refl
+
 version : (program : List ℕ) → line_faults (program ∷ codes "--version" ∷ []) ≡ kind.DisplayVersion ∷ []
 unfolding line_faults clap_on_literals
 version program = refl
@@ -69,5 +77,7 @@ help_is_shown words (program, line) = elim line [
   | inr (inr (inr (inr (inr (inl is))))) ↦ rw is (shown_alone _ kind.DisplayHelp (run_help program) (inl refl))
   | inr (inr (inr (inr (inr (inr (inl is)))))) ↦ rw is (shown_alone _ kind.DisplayHelp (generate_help program) (inl refl))
   | inr (inr (inr (inr (inr (inr (inr (inl is))))))) ↦ rw is (shown_alone _ kind.DisplayHelp (serve_help program) (inl refl))
-  | inr (inr (inr (inr (inr (inr (inr (inr is))))))) ↦ rw is (shown_alone _ kind.DisplayVersion (version program) (inr refl))
+  | inr (inr (inr (inr (inr (inr (inr (inr (inl is)))))))) ↦ rw is (shown_alone _ kind.DisplayHelp (campaign_help program) (inl refl))
+  | inr (inr (inr (inr (inr (inr (inr (inr (inr (inl is))))))))) ↦ rw is (shown_alone _ kind.DisplayHelp (selftest_help program) (inl refl))
+  | inr (inr (inr (inr (inr (inr (inr (inr (inr (inr is))))))))) ↦ rw is (shown_alone _ kind.DisplayVersion (version program) (inr refl))
 ]

@@ -1,5 +1,5 @@
 -- The lines of `run` that name the limit before the server: what clap finds in them.
-use Rattle.std.proofs.Common.{refl, ap, ap₂, codes, [], ◌∷◌, ◌++◌, ◌≡◌, ◌∙◌, None, Some}
+use Rattle.std.proofs.Common.{refl, ap, ap₂, codes, [], ◌∷◌, ◌++◌, ◌≡◌, ◌∙◌, Some}
 use Rattle.clap.specs.Faults.{turn_fault}
 use Rattle.clap.specs.Walk.{Held, Text, Walk, nothing_held, settled, walk_from, walked}
 use Rattle.clap.proofs.OnLiterals.{clap_on_literals}
@@ -48,7 +48,15 @@ module _ (program : Text) (server : Text) (plain : IsNoFlag server) (number : Te
     name = ap (found_after (codes "name") []) joined_takes_server;
     timeout = ap (found_after (codes "timeout") []) joined_takes_server;
     wait = ap (found_after (codes "wait") []) joined_takes_server;
+    spread = ap (found_after (codes "spread") []) joined_takes_server;
+    times = ap (found_after (codes "times") []) joined_takes_server;
+    time = ap (found_after (codes "for") []) joined_takes_server;
+    stops = ap (found_after (codes "keep-going") []) joined_takes_server;
   }
+
+  pub joined_is_calm : line_value (program ∷ codes "run" ∷ (codes "--limit=" ++ number) ∷ server ∷ []) (codes "why") ≡ Some (codes "false")
+  unfolding line_value clap_on_literals run_shape server_taken
+  joined_is_calm = ap (found_after (codes "why") []) joined_takes_server
 
   pub joined_names : line_target (program ∷ codes "run" ∷ (codes "--limit=" ++ number) ∷ server ∷ []) ≡ Some server
   unfolding line_value clap_on_literals run_shape server_taken
@@ -101,7 +109,15 @@ module _ (program : Text) (server : Text) (plain : IsNoFlag server) (number : Te
       name = ap (found_after (codes "name") []) takes_both;
       timeout = ap (found_after (codes "timeout") []) takes_both;
       wait = ap (found_after (codes "wait") []) takes_both;
+      spread = ap (found_after (codes "spread") []) takes_both;
+      times = ap (found_after (codes "times") []) takes_both;
+      time = ap (found_after (codes "for") []) takes_both;
+      stops = ap (found_after (codes "keep-going") []) takes_both;
     }
+
+    pub apart_is_calm : line_value (program ∷ codes "run" ∷ (limit_words number ++ server ∷ [])) (codes "why") ≡ Some (codes "false")
+    unfolding line_value clap_on_literals run_shape server_taken limit_waits
+    apart_is_calm = ap (found_after (codes "why") []) takes_both
 
     pub apart_names : line_target (program ∷ codes "run" ∷ (limit_words number ++ server ∷ [])) ≡ Some server
     unfolding line_value clap_on_literals run_shape server_taken limit_waits

@@ -91,6 +91,39 @@ judge_joined_is_named : (program : List ℕ) (number : List ℕ)
 unfolding line_command clap_on_literals
 judge_joined_is_named program number = refl
 
+-- ---- `judge --why`, and that the other lines don't ask why
+
+pub judge_why_is_right : (program : List ℕ) → line_faults (program ∷ codes "judge" ∷ codes "--why" ∷ []) ≡ []
+unfolding line_faults clap_on_literals
+judge_why_is_right program = refl
+
+pub judge_why_has_no_limit : (program : List ℕ) → line_limit (program ∷ codes "judge" ∷ codes "--why" ∷ []) ≡ None
+unfolding line_value clap_on_literals
+judge_why_has_no_limit program = refl
+
+pub judge_why_is_named : (program : List ℕ) → line_command (program ∷ codes "judge" ∷ codes "--why" ∷ []) ≡ Some (codes "judge")
+unfolding line_command clap_on_literals
+judge_why_is_named program = refl
+
+pub judge_why_asks : (program : List ℕ) → line_value (program ∷ codes "judge" ∷ codes "--why" ∷ []) (codes "why") ≡ Some (codes "true")
+unfolding line_value clap_on_literals
+judge_why_asks program = refl
+
+pub judge_is_calm : (program : List ℕ) → line_value (program ∷ codes "judge" ∷ []) (codes "why") ≡ Some (codes "false")
+unfolding line_value clap_on_literals
+judge_is_calm program = refl
+
+pub judge_with_limit_is_calm : (program : List ℕ) (number : List ℕ) → IsNoFlag number
+    → line_value (program ∷ codes "judge" ∷ limit_words number) (codes "why") ≡ Some (codes "false")
+unfolding line_value clap_on_literals judge_shape
+judge_with_limit_is_calm program number plain =
+    ap (λ (w : Walk). first_of (codes "why") (finished judge_shape.rules w.held)) (judge_takes_value number plain)
+
+pub judge_joined_is_calm : (program : List ℕ) (number : List ℕ)
+    → line_value (program ∷ codes "judge" ∷ (codes "--limit=" ++ number) ∷ []) (codes "why") ≡ Some (codes "false")
+unfolding line_value clap_on_literals
+judge_joined_is_calm program number = refl
+
 -- ---- `drive`
 
 drive_has_no_faults : (program : List ℕ) → line_faults (program ∷ codes "drive" ∷ []) ≡ []
@@ -156,6 +189,39 @@ drive_joined_is_named : (program : List ℕ) (number : List ℕ)
     → line_command (program ∷ codes "drive" ∷ (codes "--limit=" ++ number) ∷ []) ≡ Some (codes "drive")
 unfolding line_command clap_on_literals
 drive_joined_is_named program number = refl
+
+-- ---- `drive --why`, and that the other lines don't ask why
+
+pub drive_why_is_right : (program : List ℕ) → line_faults (program ∷ codes "drive" ∷ codes "--why" ∷ []) ≡ []
+unfolding line_faults clap_on_literals
+drive_why_is_right program = refl
+
+pub drive_why_has_no_limit : (program : List ℕ) → line_limit (program ∷ codes "drive" ∷ codes "--why" ∷ []) ≡ None
+unfolding line_value clap_on_literals
+drive_why_has_no_limit program = refl
+
+pub drive_why_is_named : (program : List ℕ) → line_command (program ∷ codes "drive" ∷ codes "--why" ∷ []) ≡ Some (codes "drive")
+unfolding line_command clap_on_literals
+drive_why_is_named program = refl
+
+pub drive_why_asks : (program : List ℕ) → line_value (program ∷ codes "drive" ∷ codes "--why" ∷ []) (codes "why") ≡ Some (codes "true")
+unfolding line_value clap_on_literals
+drive_why_asks program = refl
+
+pub drive_is_calm : (program : List ℕ) → line_value (program ∷ codes "drive" ∷ []) (codes "why") ≡ Some (codes "false")
+unfolding line_value clap_on_literals
+drive_is_calm program = refl
+
+pub drive_with_limit_is_calm : (program : List ℕ) (number : List ℕ) → IsNoFlag number
+    → line_value (program ∷ codes "drive" ∷ limit_words number) (codes "why") ≡ Some (codes "false")
+unfolding line_value clap_on_literals drive_shape
+drive_with_limit_is_calm program number plain =
+    ap (λ (w : Walk). first_of (codes "why") (finished drive_shape.rules w.held)) (drive_takes_value number plain)
+
+pub drive_joined_is_calm : (program : List ℕ) (number : List ℕ)
+    → line_value (program ∷ codes "drive" ∷ (codes "--limit=" ++ number) ∷ []) (codes "why") ≡ Some (codes "false")
+unfolding line_value clap_on_literals
+drive_joined_is_calm program number = refl
 
 -- ---- each of them
 

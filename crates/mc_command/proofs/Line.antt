@@ -1,5 +1,6 @@
 -- What clap finds in the program's command line, and what it says of a fault.
-use Rattle.std.proofs.Common.{[], ◌∷◌, refl, sym, ap, inl, inr, codes, true, false, ◌==◌, Option, ℕ, List, ◌≡◌, ◌≢◌, ◌⊎◌, ◌∙◌, Some, None, option_map}
+use Rattle.std.proofs.Common.{[], ◌∷◌, ◌+◌, ◌*◌, length, refl, sym, ap, inl, inr, codes, true, false, ◌==◌}
+use Rattle.std.proofs.Common.{Option, ℕ, List, ◌≡◌, ◌≢◌, ◌⊎◌, ◌∙◌, Some, None, option_map}
 use Rattle.std.specs.Prelude.{option_and_then}
 use Rattle.clap.specs.Words.{App, HasKind, IsAmong, Row, Text, fault_of, first_of, first_value, found_of, is_simple_and_free, kind_of}
 use Rattle.clap.specs.Words.{rows_of, subcommand_name_of, subcommand_of, subcommand_rows_of, HasMatchesOf, is_simple}
@@ -12,9 +13,12 @@ use Rattle.clap.proofs.OnLiterals.{clap_on_literals}
 use Rattle.clap.proofs.WalkLemmas.{first_value-rows}
 use Rattle.mc_command.specs.declared.arguments.Asked.{Asked}
 use Rattle.mc_command.specs.declared.arguments.Asked.TheVariants as asked
+use Rattle.mc_command.specs.declared.campaign.Plan.{Plan}
 use Rattle.mc_command.specs.declared.serve.Service.{Service}
-use Rattle.mc_command.specs.Command.{AreRunWords, AsksFor, IsAskedBy, IsConnections, IsFaultOf, IsJob, IsLimit, IsPort, IsSeed, IsShown}
-use Rattle.mc_command.specs.CommandLine.{given_name, given_value, line_command, line_faults, line_limit, line_value, program_app}
+use Rattle.mc_command.specs.Command.{AreCampaignWords, AreRunWords, AsksFor, IsAskedBy, IsConnections, IsFaultOf, IsJob, IsLimit, IsPlan}
+use Rattle.mc_command.specs.Command.{IsPort, IsSeed, IsShown}
+use Rattle.mc_command.specs.CommandLine.{given_name, given_value, line_command, line_faults, line_value, program_app}
+use Rattle.mc_command.specs.Invocations.{AsksNothing}
 
 -- the faults of the command that the program makes
 pub line_faults-is : (app : App) (words : List (List ℕ)) → app ≡ program_app
@@ -65,15 +69,6 @@ module _ (app : App) (words : List (List ℕ)) (m : ArgMatches) (is : app ≡ pr
   value_is options rows name = sym (line_value-is app words m is found name)
       ∙ (value_of_rows (subcommand_rows_of m) _ name rows ∙ sym (first_value-rows (found_of options) name))
 
--- the same words of `run`, however they are found
-pub run_words_agree : {one other : Text → Option Text} → ((name : Text) → one name ≡ other name) → AreRunWords other → AreRunWords one
-run_words_agree same are = record {
-  meeting = rw (same (codes "meet")) are.meeting;
-  name = rw (same (codes "name")) are.name;
-  timeout = rw (same (codes "timeout")) are.timeout;
-  wait = rw (same (codes "wait")) are.wait;
-}
-
 -- a fault that clap finds
 found_by_clap : (words : List (List ℕ)) (found : ErrorKind) → IsAmong found (line_faults words) → IsFaultOf words found
 found_by_clap words found among = record {
@@ -85,23 +80,23 @@ pub fault_by_clap : (words : List (List ℕ)) (e : Error) → HasKind (line_faul
 fault_by_clap words e (inl memory) = inl memory
 fault_by_clap words e (inr among) = inr (found_by_clap words (kind_of e) among)
 
--- a fault that the program finds
-found_by_program : (words : List (List ℕ)) (found : ErrorKind) → line_faults words ≡ []
-    → ((wanted : Asked) → IsAskedBy (line_command words) (line_value words) wanted → ⊥) → (IsShown found → ⊥) → IsFaultOf words found
-found_by_program words found clear none told = record {
-  faulty = λ wanted asks. none wanted asks.1;
-  which = inr (clear, told);
+-- a fault that the program finds: the subcommand that the words name is refused with its options
+pub refused_is_fault : (words : List (List ℕ)) (found : ErrorKind) → line_faults words ≡ []
+    → AsksNothing (line_command words) (line_value words) found → IsFaultOf words found
+refused_is_fault words found clear refused = record {
+  faulty = λ wanted asks. refused.nothing wanted asks.1;
+  which = inr (clear, refused.told);
 }
 
 is_told : (found : ErrorKind) → found ≢ kind.DisplayHelp → found ≢ kind.DisplayVersion → IsShown found → ⊥
 is_told found help version (inl is) = help is
 is_told found help version (inr is) = version is
 
--- the names of subcommands differ, by their first bytes
-abbrev pub first_byte : Option Text → ℕ
-first_byte None = 0
-first_byte (Some []) = 0
-first_byte (Some (b ∷ bs)) = b
+-- the names of subcommands differ, by their first bytes or by their lengths
+abbrev pub mark : Option Text → ℕ
+mark None = 0
+mark (Some []) = 0
+mark (Some (b ∷ bs)) = b + 256 * length bs
 
 -- the name of the subcommand that asks for this
 abbrev pub name_of_asked : Asked → Text
@@ -112,6 +107,8 @@ name_of_asked (asked.Drive limit) = codes "drive"
 name_of_asked (asked.Run limit) = codes "run"
 name_of_asked (asked.Generate seed job) = codes "generate"
 name_of_asked (asked.Serve service) = codes "serve"
+name_of_asked (asked.Campaign plan) = codes "campaign"
+name_of_asked asked.Selftest = codes "selftest"
 
 pub is_named_by : (command : Option Text) (value : Text → Option Text) (wanted : Asked) → IsAskedBy command value wanted
     → command ≡ Some (name_of_asked wanted)
@@ -122,40 +119,46 @@ is_named_by command value (asked.Drive limit) asks = asks.0
 is_named_by command value (asked.Run limit) asks = asks.0
 is_named_by command value (asked.Generate seed job) asks = asks.0
 is_named_by command value (asked.Serve service) asks = asks.0
+is_named_by command value (asked.Campaign plan) asks = asks.0
+is_named_by command value asked.Selftest asks = asks
 
 -- a line with another subcommand doesn't ask for this
 asks_otherwise : {command : Option Text} {name : Text} (value : Text → Option Text) → command ≡ Some name → (wanted : Asked)
-    → (first_byte (Some name) == first_byte (Some (name_of_asked wanted))) ≡ false → IsAskedBy command value wanted → ⊥
+    → (mark (Some name) == mark (Some (name_of_asked wanted))) ≡ false → IsAskedBy command value wanted → ⊥
 asks_otherwise {command} {name} value named wanted other asks =
-    differ _ _ other (ap first_byte (sym named ∙ is_named_by command value wanted asks))
+    differ _ _ other (ap mark (sym named ∙ is_named_by command value wanted asks))
   where
     differ : (m : ℕ) (n : ℕ) → (m == n) ≡ false → m ≡ n → ⊥
     differ m n other same = absurd (cc (other, eq-eqb m n same))
 
 pub line_asks_otherwise : (words : List (List ℕ)) {name : Text} → line_command words ≡ Some name → (wanted : Asked)
-    → (first_byte (Some name) == first_byte (Some (name_of_asked wanted))) ≡ false → AsksFor words wanted → ⊥
+    → (mark (Some name) == mark (Some (name_of_asked wanted))) ≡ false → AsksFor words wanted → ⊥
 line_asks_otherwise words named wanted other asks = asks_otherwise (line_value words) named wanted other asks.1
 
 -- where a value that a subcommand needs is none, its line asks for nothing
 nothing_judged : (command : Option Text) (value : Text → Option Text) → command ≡ Some (codes "judge")
     → ((limit : ℕ) → IsLimit (value (codes "limit")) limit → ⊥) → (wanted : Asked) → IsAskedBy command value wanted → ⊥
-nothing_judged command value named none (asked.Judge limit) asks = none limit asks.1
+nothing_judged command value named none (asked.Judge how) asks = none how.limit asks.1.limit
 nothing_judged command value named none asked.Check asks = asks_otherwise value named asked.Check refl asks
 nothing_judged command value named none asked.Asm asks = asks_otherwise value named asked.Asm refl asks
 nothing_judged command value named none (asked.Drive limit) asks = asks_otherwise value named (asked.Drive limit) refl asks
 nothing_judged command value named none (asked.Run limit) asks = asks_otherwise value named (asked.Run limit) refl asks
 nothing_judged command value named none (asked.Generate seed job) asks = asks_otherwise value named (asked.Generate seed job) refl asks
 nothing_judged command value named none (asked.Serve service) asks = asks_otherwise value named (asked.Serve service) refl asks
+nothing_judged command value named none (asked.Campaign plan) asks = asks_otherwise value named (asked.Campaign plan) refl asks
+nothing_judged command value named none asked.Selftest asks = asks_otherwise value named asked.Selftest refl asks
 
 nothing_driven : (command : Option Text) (value : Text → Option Text) → command ≡ Some (codes "drive")
     → ((limit : ℕ) → IsLimit (value (codes "limit")) limit → ⊥) → (wanted : Asked) → IsAskedBy command value wanted → ⊥
 nothing_driven command value named none (asked.Judge limit) asks = asks_otherwise value named (asked.Judge limit) refl asks
 nothing_driven command value named none asked.Check asks = asks_otherwise value named asked.Check refl asks
 nothing_driven command value named none asked.Asm asks = asks_otherwise value named asked.Asm refl asks
-nothing_driven command value named none (asked.Drive limit) asks = none limit asks.1
+nothing_driven command value named none (asked.Drive how) asks = none how.limit asks.1.limit
 nothing_driven command value named none (asked.Run limit) asks = asks_otherwise value named (asked.Run limit) refl asks
 nothing_driven command value named none (asked.Generate seed job) asks = asks_otherwise value named (asked.Generate seed job) refl asks
 nothing_driven command value named none (asked.Serve service) asks = asks_otherwise value named (asked.Serve service) refl asks
+nothing_driven command value named none (asked.Campaign plan) asks = asks_otherwise value named (asked.Campaign plan) refl asks
+nothing_driven command value named none asked.Selftest asks = asks_otherwise value named asked.Selftest refl asks
 
 nothing_run : (command : Option Text) (value : Text → Option Text) → command ≡ Some (codes "run")
     → ((limit : ℕ) → IsLimit (value (codes "limit")) limit × AreRunWords value → ⊥) → (wanted : Asked) → IsAskedBy command value wanted → ⊥
@@ -163,9 +166,11 @@ nothing_run command value named none (asked.Judge limit) asks = asks_otherwise v
 nothing_run command value named none asked.Check asks = asks_otherwise value named asked.Check refl asks
 nothing_run command value named none asked.Asm asks = asks_otherwise value named asked.Asm refl asks
 nothing_run command value named none (asked.Drive limit) asks = asks_otherwise value named (asked.Drive limit) refl asks
-nothing_run command value named none (asked.Run limit) asks = none limit (asks.1, asks.2)
+nothing_run command value named none (asked.Run how) asks = none how.limit (asks.1.limit, asks.2)
 nothing_run command value named none (asked.Generate seed job) asks = asks_otherwise value named (asked.Generate seed job) refl asks
 nothing_run command value named none (asked.Serve service) asks = asks_otherwise value named (asked.Serve service) refl asks
+nothing_run command value named none (asked.Campaign plan) asks = asks_otherwise value named (asked.Campaign plan) refl asks
+nothing_run command value named none asked.Selftest asks = asks_otherwise value named asked.Selftest refl asks
 
 nothing_generated : (command : Option Text) (value : Text → Option Text) → command ≡ Some (codes "generate")
     → ((seed : ℕ) (job : ℕ) → IsSeed (value (codes "seed")) seed × IsJob (value (codes "job")) job → ⊥) → (wanted : Asked) → IsAskedBy command value wanted → ⊥
@@ -176,6 +181,8 @@ nothing_generated command value named none (asked.Drive limit) asks = asks_other
 nothing_generated command value named none (asked.Run limit) asks = asks_otherwise value named (asked.Run limit) refl asks
 nothing_generated command value named none (asked.Generate seed job) asks = none seed job (asks.1, asks.2)
 nothing_generated command value named none (asked.Serve service) asks = asks_otherwise value named (asked.Serve service) refl asks
+nothing_generated command value named none (asked.Campaign plan) asks = asks_otherwise value named (asked.Campaign plan) refl asks
+nothing_generated command value named none asked.Selftest asks = asks_otherwise value named asked.Selftest refl asks
 
 nothing_served : (command : Option Text) (value : Text → Option Text) → command ≡ Some (codes "serve")
     → ((service : Service) → IsPort (value (codes "port")) service.port × IsConnections (value (codes "connections")) service.connections → ⊥)
@@ -187,62 +194,56 @@ nothing_served command value named none (asked.Drive limit) asks = asks_otherwis
 nothing_served command value named none (asked.Run limit) asks = asks_otherwise value named (asked.Run limit) refl asks
 nothing_served command value named none (asked.Generate seed job) asks = asks_otherwise value named (asked.Generate seed job) refl asks
 nothing_served command value named none (asked.Serve service) asks = none service (asks.1, asks.2)
+nothing_served command value named none (asked.Campaign plan) asks = asks_otherwise value named (asked.Campaign plan) refl asks
+nothing_served command value named none asked.Selftest asks = asks_otherwise value named asked.Selftest refl asks
 
--- such a line has a fault, which the program finds
-module _ (words : List (List ℕ)) (found : ErrorKind) (is : found ≡ kind.ValueValidation) (clear : line_faults words ≡ []) where
-  no_value : ((wanted : Asked) → IsAskedBy (line_command words) (line_value words) wanted → ⊥) → IsFaultOf words found
-  no_value none = found_by_program words found clear none (is_told found (λ help. absurd (cc)) (λ version. absurd (cc)))
+nothing_reported : (command : Option Text) (value : Text → Option Text) → command ≡ Some (codes "campaign")
+    → ((plan : Plan) → IsPlan value plan × AreCampaignWords value → ⊥) → (wanted : Asked) → IsAskedBy command value wanted → ⊥
+nothing_reported command value named none (asked.Judge limit) asks = asks_otherwise value named (asked.Judge limit) refl asks
+nothing_reported command value named none asked.Check asks = asks_otherwise value named asked.Check refl asks
+nothing_reported command value named none asked.Asm asks = asks_otherwise value named asked.Asm refl asks
+nothing_reported command value named none (asked.Drive limit) asks = asks_otherwise value named (asked.Drive limit) refl asks
+nothing_reported command value named none (asked.Run limit) asks = asks_otherwise value named (asked.Run limit) refl asks
+nothing_reported command value named none (asked.Generate seed job) asks = asks_otherwise value named (asked.Generate seed job) refl asks
+nothing_reported command value named none (asked.Serve service) asks = asks_otherwise value named (asked.Serve service) refl asks
+nothing_reported command value named none (asked.Campaign plan) asks = none plan (asks.1, asks.2)
+nothing_reported command value named none asked.Selftest asks = asks_otherwise value named asked.Selftest refl asks
 
-  pub no_limit_of_judge : line_command words ≡ Some (codes "judge") → ((limit : ℕ) → IsLimit (line_limit words) limit → ⊥) → IsFaultOf words found
-  no_limit_of_judge named none = no_value (nothing_judged _ (line_value words) named none)
+-- so it is refused
+module _ (value : Text → Option Text) (found : ErrorKind) (is : found ≡ kind.ValueValidation) where
+  no_value : {command : Option Text} → ((wanted : Asked) → IsAskedBy command value wanted → ⊥) → AsksNothing command value found
+  no_value none = record { nothing = none; told = is_told found (λ help. absurd (cc)) (λ version. absurd (cc)) }
 
-  pub no_limit_of_drive : line_command words ≡ Some (codes "drive") → ((limit : ℕ) → IsLimit (line_limit words) limit → ⊥) → IsFaultOf words found
-  no_limit_of_drive named none = no_value (nothing_driven _ (line_value words) named none)
+  pub no_limit_of_judge : ((limit : ℕ) → IsLimit (value (codes "limit")) limit → ⊥) → AsksNothing (Some (codes "judge")) value found
+  no_limit_of_judge none = no_value (nothing_judged (Some (codes "judge")) value refl none)
 
-  pub no_limit_of_run : line_command words ≡ Some (codes "run") → ((limit : ℕ) → IsLimit (line_limit words) limit → ⊥) → IsFaultOf words found
-  no_limit_of_run named none = no_value (nothing_run _ (line_value words) named (λ limit both. none limit both.0))
+  pub no_limit_of_drive : ((limit : ℕ) → IsLimit (value (codes "limit")) limit → ⊥) → AsksNothing (Some (codes "drive")) value found
+  no_limit_of_drive none = no_value (nothing_driven (Some (codes "drive")) value refl none)
 
-  pub no_run_words : line_command words ≡ Some (codes "run") → (AreRunWords (line_value words) → ⊥) → IsFaultOf words found
-  no_run_words named none = no_value (nothing_run _ (line_value words) named (λ limit both. none both.1))
+  pub no_limit_of_run : ((limit : ℕ) → IsLimit (value (codes "limit")) limit → ⊥) → AsksNothing (Some (codes "run")) value found
+  no_limit_of_run none = no_value (nothing_run (Some (codes "run")) value refl (λ limit both. none limit both.0))
 
-  pub no_seed : line_command words ≡ Some (codes "generate") → ((seed : ℕ) → IsSeed (line_value words (codes "seed")) seed → ⊥) → IsFaultOf words found
-  no_seed named none = no_value (nothing_generated _ (line_value words) named (λ seed job both. none seed both.0))
+  pub no_run_words : (AreRunWords value → ⊥) → AsksNothing (Some (codes "run")) value found
+  no_run_words none = no_value (nothing_run (Some (codes "run")) value refl (λ limit both. none both.1))
 
-  pub no_job : line_command words ≡ Some (codes "generate") → ((job : ℕ) → IsJob (line_value words (codes "job")) job → ⊥) → IsFaultOf words found
-  no_job named none = no_value (nothing_generated _ (line_value words) named (λ seed job both. none job both.1))
+  pub no_seed : ((seed : ℕ) → IsSeed (value (codes "seed")) seed → ⊥) → AsksNothing (Some (codes "generate")) value found
+  no_seed none = no_value (nothing_generated (Some (codes "generate")) value refl (λ seed job both. none seed both.0))
 
-  pub no_port : line_command words ≡ Some (codes "serve") → ((port : ℕ) → IsPort (line_value words (codes "port")) port → ⊥) → IsFaultOf words found
-  no_port named none = no_value (nothing_served _ (line_value words) named (λ service both. none service.port both.0))
+  pub no_job : ((job : ℕ) → IsJob (value (codes "job")) job → ⊥) → AsksNothing (Some (codes "generate")) value found
+  no_job none = no_value (nothing_generated (Some (codes "generate")) value refl (λ seed job both. none job both.1))
 
-  pub no_connections : line_command words ≡ Some (codes "serve")
-      → ((connections : ℕ) → IsConnections (line_value words (codes "connections")) connections → ⊥) → IsFaultOf words found
-  no_connections named none = no_value (nothing_served _ (line_value words) named (λ service both. none service.connections both.1))
+  pub no_port : ((port : ℕ) → IsPort (value (codes "port")) port → ⊥) → AsksNothing (Some (codes "serve")) value found
+  no_port none = no_value (nothing_served (Some (codes "serve")) value refl (λ service both. none service.port both.0))
 
--- the subcommand is another one
-pub record IsNoSubcommand (command : Option Text) : Type 0 where
-  pub judge : command ≢ Some (codes "judge")
-  pub check : command ≢ Some (codes "check")
-  pub asm : command ≢ Some (codes "asm")
-  pub drive : command ≢ Some (codes "drive")
-  pub run : command ≢ Some (codes "run")
-  pub generate : command ≢ Some (codes "generate")
-  pub serve : command ≢ Some (codes "serve")
+  pub no_connections : ((connections : ℕ) → IsConnections (value (codes "connections")) connections → ⊥)
+      → AsksNothing (Some (codes "serve")) value found
+  no_connections none = no_value (nothing_served (Some (codes "serve")) value refl (λ service both. none service.connections both.1))
 
-nothing_asked : (command : Option Text) (value : Text → Option Text) → IsNoSubcommand command → (wanted : Asked)
-    → IsAskedBy command value wanted → ⊥
-nothing_asked command value other (asked.Judge limit) asks = other.judge asks.0
-nothing_asked command value other asked.Check asks = other.check asks
-nothing_asked command value other asked.Asm asks = other.asm asks
-nothing_asked command value other (asked.Drive limit) asks = other.drive asks.0
-nothing_asked command value other (asked.Run limit) asks = other.run asks.0
-nothing_asked command value other (asked.Generate seed job) asks = other.generate asks.0
-nothing_asked command value other (asked.Serve service) asks = other.serve asks.0
+  pub no_plan : ((plan : Plan) → IsPlan value plan → ⊥) → AsksNothing (Some (codes "campaign")) value found
+  no_plan none = no_value (nothing_reported (Some (codes "campaign")) value refl (λ plan both. none plan both.0))
 
-pub no_subcommand : (words : List (List ℕ)) (found : ErrorKind) → found ≡ kind.MissingSubcommand → line_faults words ≡ []
-    → IsNoSubcommand (line_command words) → IsFaultOf words found
-no_subcommand words found is clear other =
-    found_by_program words found clear (nothing_asked (line_command words) (line_value words) other)
-    (is_told found (λ help. absurd (cc)) (λ version. absurd (cc)))
+  pub no_campaign_words : (AreCampaignWords value → ⊥) → AsksNothing (Some (codes "campaign")) value found
+  no_campaign_words none = no_value (nothing_reported (Some (codes "campaign")) value refl (λ plan both. none both.1))
 
 -- a line that asks for something fails only where memory runs out
 pub asking_lacks_memory : (words : List (List ℕ)) (wanted : Asked) (found : ErrorKind) → AsksFor words wanted

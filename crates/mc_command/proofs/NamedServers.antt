@@ -7,7 +7,7 @@ use Rattle.mc_command.proofs.RunLines as run
 use Rattle.mc_command.specs.declared.arguments.Asked.TheVariants as asked
 use Rattle.mc_command.specs.Command.{AsksFor}
 use Rattle.mc_command.specs.CommandLine.{line_target}
-use Rattle.mc_command.specs.LineLaws.{NamesLimit, RunLinesNameServers}
+use Rattle.mc_command.specs.LineLaws.{NamesLimit, RunLinesNameServers, plain_search}
 
 -- the server first
 server_first : (program : List ℕ) (server : List ℕ) (others : List (List ℕ)) (limit : ℕ) → IsNoFlag server → NamesLimit others limit
@@ -19,7 +19,7 @@ server_first program server others limit plain (inr (number, spells, inr joined)
 
 -- the limit first
 limit_first : (program : List ℕ) (server : List ℕ) (others : List (List ℕ)) (limit : ℕ) → IsNoFlag server → NamesLimit others limit
-    → AsksFor (program ∷ codes "run" ∷ (others ++ server ∷ [])) (asked.Run limit)
+    → AsksFor (program ∷ codes "run" ∷ (others ++ server ∷ [])) (asked.Run (plain_search limit))
     × (line_target (program ∷ codes "run" ∷ (others ++ server ∷ [])) ≡ Some server)
 limit_first program server others limit plain (inl none) =
     rw none.0 (run_asks program server [] limit plain (inl (refl, none.1)), run.alone_names program server plain)
@@ -30,7 +30,10 @@ limit_first program server others limit plain (inr (number, spells, inl apart)) 
         first.apart_is_right program server plain number value,
         (
           first.apart_is_named program server plain number value,
-          rw (first.apart_has_limit program server plain number value) spells,
+          record {
+            limit = rw (first.apart_has_limit program server plain number value) spells;
+            why = rw (first.apart_is_calm program server plain number value) refl;
+          },
           no_words_are_right (first.apart_has_no_words program server plain number value),
         ),
       ),
@@ -42,7 +45,10 @@ limit_first program server others limit plain (inr (number, spells, inr joined))
         first.joined_is_right program server plain number,
         (
           first.joined_is_named program server plain number,
-          rw (first.joined_has_limit program server plain number) spells,
+          record {
+            limit = rw (first.joined_has_limit program server plain number) spells;
+            why = rw (first.joined_is_calm program server plain number) refl;
+          },
           no_words_are_right (first.joined_has_no_words program server plain number),
         ),
       ),

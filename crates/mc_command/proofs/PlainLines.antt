@@ -1,22 +1,31 @@
--- The lines that are mostly written: what clap finds in them.
-use Rattle.std.proofs.Common.{refl, sym, arith, ap, ap₂, inl, inr, codes, true, false, ℕ, List, [], ◌∷◌, ◌++◌, ◌≡◌, ◌∙◌, ◌==◌, Option, Some, None}
+-- The lines that are mostly written: what clap finds in them, and that they ask for what they say.
+use Rattle.std.proofs.Common.{Bool, ℕ, suc, ◌+◌, ◌^◌, ◌≤◌}
+use Rattle.std.proofs.Common.{refl, sym, arith, ap, inl, inr, codes, true, false, List, [], ◌∷◌, ◌++◌, ◌≡◌, ◌<◌, ◌∙◌, ◌==◌, Option, Some, None}
 use Rattle.clap.proofs.OnLiterals.{clap_on_literals}
 use Rattle.mc_protocol.specs.Decimals.{SpellsNumber, are_digits, is_digit}
-use Rattle.mc_command.proofs.Line.{first_byte, is_named_by, line_asks_otherwise, name_of_asked}
 use Rattle.clap.specs.Words.{Text}
+use Rattle.mc_command.proofs.CampaignLines as campaign
 use Rattle.mc_command.proofs.RunLines as run
+use Rattle.mc_command.proofs.RepeatWords.{once_is_right}
 use Rattle.mc_command.proofs.RunLines.{NoRunWords}
 use Rattle.mc_command.proofs.ServeLines as serve
+use Rattle.mc_command.proofs.LimitLines as limited
 use Rattle.mc_command.proofs.LimitLines.{TakesLimit, drive_takes_limit, judge_takes_limit}
 use Rattle.mc_command.proofs.OptionValue.{IsNoFlag, no_flag}
-use Rattle.mc_command.specs.declared.arguments.Asked.{Asked}
 use Rattle.mc_command.specs.declared.arguments.Asked.TheVariants as asked
-use Rattle.mc_command.specs.declared.meeting.Meeting.TheVariants as meeting
+use Rattle.mc_campaign.specs.declared.meeting.Meeting.TheVariants as meeting
+use Rattle.mc_command.specs.declared.campaign.Plan.{Plan}
+use Rattle.mc_command.specs.declared.asking.Search.{Search}
 use Rattle.mc_command.specs.declared.serve.Service.{Service}
-use Rattle.mc_command.specs.Command.{AreRunWords, AsksFor, IsConnections, IsLimit, IsNumber, MayBeTime, MayName, NamesMeeting, is_set}
-use Rattle.mc_command.specs.CommandLine.{GREATEST_LIMIT, line_command, line_faults, line_limit, line_value}
-use Rattle.mc_command.specs.LineLaws.{IsName, NamesJob, NamesLimit, NamesService, LinesAskOnce, PlainLinesAsk, SignedLimitsAreFaulty}
-use Rattle.std.proofs.lemmas.Bool.{ne_eqb}
+use Rattle.mc_command.specs.Command.{AreCampaignWords, AreRunWords, AsksFor, IsConnections, IsLimit, MayBeSpread, MayBeTime}
+use Rattle.mc_command.specs.Command.{MayName, NamesMeeting, WhyIsShown, is_set}
+use Rattle.mc_command.specs.CommandLine.{DEFAULT_FIRST, DEFAULT_JOBS, DEFAULT_LIMIT, DEFAULT_SEED, DEFAULT_TRIES, DEFAULT_WORKERS}
+use Rattle.mc_command.specs.CommandLine.{line_command, line_faults, line_limit, line_value}
+use Rattle.mc_command.specs.LineLaws.{IsName, NamesJob, NamesLimit, NamesPlan, NamesSearch, NamesService, plain_search}
+use Rattle.mc_command.specs.LineLaws.{PlainLinesAsk}
+use Rattle.mc_command.specs.Untils.{AreUntilWords, until_in}
+use Rattle.std.specs.Prelude.{is_some}
+use Rattle.std.proofs.lemmas.Bool.{false≢true, ne_eqb}
 use Rattle.std.proofs.lemmas.Grind.{common_steps}
 
 -- ---- `check`
@@ -78,13 +87,23 @@ module _ (program : List ℕ) (seed : List ℕ) (job : List ℕ) where
   unfolding line_value clap_on_literals numbered_line
   numbered_has_job = refl
 
+-- ---- `selftest`
+
+selftest_has_no_faults : (program : List ℕ) → line_faults (program ∷ codes "selftest" ∷ []) ≡ []
+unfolding line_faults clap_on_literals
+selftest_has_no_faults program = refl
+
+selftest_is_named : (program : List ℕ) → line_command (program ∷ codes "selftest" ∷ []) ≡ Some (codes "selftest")
+unfolding line_command clap_on_literals
+selftest_is_named program = refl
+
 -- ---- the laws
 
 -- a digit is no hyphen
 no_hyphen : (d : ℕ) → is_digit d ≡ true → (d == 45) ≡ false
 no_hyphen d digit = ne_eqb _ _ (λ e. absurd (cc (ap is_digit e)))
 
-first_digit : (d : ℕ) (ds : List ℕ) → are_digits (d ∷ ds) ≡ true → is_digit d ≡ true
+pub first_digit : (d : ℕ) (ds : List ℕ) → are_digits (d ∷ ds) ≡ true → is_digit d ≡ true
 first_digit d ds digits = grind (arith, common_steps)
 
 pub decimal_is_no_flag : {greatest : ℕ} (number : List ℕ) (limit : ℕ) → SpellsNumber greatest number limit → IsNoFlag number
@@ -123,22 +142,30 @@ no_word_is_no_name is = rw is tt
 pub no_word_is_no_time : {word : Option (List ℕ)} → word ≡ None → MayBeTime word
 no_word_is_no_time is = rw is tt
 
+pub no_word_is_no_spread : {word : Option (List ℕ)} → word ≡ None → MayBeSpread word
+no_word_is_no_spread is = rw is tt
+
 pub no_words_are_right : {value : Text → Option Text} → NoRunWords value → AreRunWords value
 no_words_are_right none = record {
   meeting = no_word_is_drawn none.meeting;
   name = no_word_is_no_name none.name;
   timeout = no_word_is_no_time none.timeout;
   wait = no_word_is_no_time none.wait;
+  repeat = once_is_right none.times none.time none.stops;
+  spread = no_word_is_no_spread none.spread;
 }
 
 pub run_asks : (program : List ℕ) (server : List ℕ) (others : List (List ℕ)) (limit : ℕ) → IsNoFlag server → NamesLimit others limit
-    → AsksFor (program ∷ codes "run" ∷ server ∷ others) (asked.Run limit)
+    → AsksFor (program ∷ codes "run" ∷ server ∷ others) (asked.Run (plain_search limit))
 run_asks program server others limit plain (inl none) =
     rw none.0 (
       run.alone_is_right program server plain,
       (
         run.alone_is_named program server plain,
-        rw (run.alone_has_no_limit program server plain) none.1,
+        record {
+          limit = rw (run.alone_has_no_limit program server plain) none.1;
+          why = rw (run.alone_is_calm program server plain) refl;
+        },
         no_words_are_right (run.alone_has_no_words program server plain),
       ),
     )
@@ -148,7 +175,10 @@ run_asks program server others limit plain (inr (number, spells, inl apart)) =
       run.apart_is_right program server plain number value,
       (
         run.apart_is_named program server plain number value,
-        rw (run.apart_has_limit program server plain number value) spells,
+        record {
+          limit = rw (run.apart_has_limit program server plain number value) spells;
+          why = rw (run.apart_is_calm program server plain number value) refl;
+        },
         no_words_are_right (run.apart_has_no_words program server plain number value),
       ),
     )
@@ -157,10 +187,92 @@ run_asks program server others limit plain (inr (number, spells, inr joined)) =
       run.joined_is_right program server plain number,
       (
         run.joined_is_named program server plain number,
-        rw (run.joined_has_limit program server plain number) spells,
+        record {
+          limit = rw (run.joined_has_limit program server plain number) spells;
+          why = rw (run.joined_is_calm program server plain number) refl;
+        },
         no_words_are_right (run.joined_has_no_words program server plain number),
       ),
     )
+
+-- the same where it may be asked why
+run_searches : (program : List ℕ) (server : List ℕ) (others : List (List ℕ)) (how : Search) → IsNoFlag server → NamesSearch others how
+    → AsksFor (program ∷ codes "run" ∷ server ∷ others) (asked.Run how)
+run_searches program server others how plain (inl (names, calm)) = rw calm (run_asks program server others how.limit plain names)
+run_searches program server others how plain (inr (alone, unlimited, asking)) =
+    rw alone (
+      run.why_is_right program server plain,
+      (
+        run.why_is_named program server plain,
+        record {
+          limit = rw (run.why_has_no_limit program server plain) unlimited;
+          why = rw (run.why_asks program server plain) asking;
+        },
+        no_words_are_right (run.why_has_no_words program server plain),
+      ),
+    )
+
+-- a line of `judge` that names a limit doesn't ask why
+judge_is_calm : (program : List ℕ) (others : List (List ℕ)) (limit : ℕ) → NamesLimit others limit
+    → line_value (program ∷ codes "judge" ∷ others) (codes "why") ≡ Some (codes "false")
+judge_is_calm program others limit (inl none) = rw none.0 (limited.judge_is_calm program)
+judge_is_calm program others limit (inr (number, spells, inl apart)) =
+    rw apart (limited.judge_with_limit_is_calm program number (decimal_is_no_flag number limit spells))
+judge_is_calm program others limit (inr (number, spells, inr joined)) = rw joined (limited.judge_joined_is_calm program number)
+
+judge_searches : (program : List ℕ) (others : List (List ℕ)) (how : Search) → NamesSearch others how
+    → AsksFor (program ∷ codes "judge" ∷ others) (asked.Judge how)
+judge_searches program others how (inl (names, calm)) =
+    let found = names_limit (codes "judge") judge_takes_limit program others how.limit names in
+    (found.0, (found.1, record { limit = found.2; why = rw (judge_is_calm program others how.limit names) calm }))
+judge_searches program others how (inr (alone, unlimited, asking)) =
+    rw alone (
+      limited.judge_why_is_right program,
+      (
+        limited.judge_why_is_named program,
+        record { limit = rw (limited.judge_why_has_no_limit program) unlimited; why = rw (limited.judge_why_asks program) asking },
+      ),
+    )
+
+-- a line of `drive` that names a limit doesn't ask why
+drive_is_calm : (program : List ℕ) (others : List (List ℕ)) (limit : ℕ) → NamesLimit others limit
+    → line_value (program ∷ codes "drive" ∷ others) (codes "why") ≡ Some (codes "false")
+drive_is_calm program others limit (inl none) = rw none.0 (limited.drive_is_calm program)
+drive_is_calm program others limit (inr (number, spells, inl apart)) =
+    rw apart (limited.drive_with_limit_is_calm program number (decimal_is_no_flag number limit spells))
+drive_is_calm program others limit (inr (number, spells, inr joined)) = rw joined (limited.drive_joined_is_calm program number)
+
+drive_searches : (program : List ℕ) (others : List (List ℕ)) (how : Search) → NamesSearch others how
+    → AsksFor (program ∷ codes "drive" ∷ others) (asked.Drive how)
+drive_searches program others how (inl (names, calm)) =
+    let found = names_limit (codes "drive") drive_takes_limit program others how.limit names in
+    (found.0, (found.1, record { limit = found.2; why = rw (drive_is_calm program others how.limit names) calm }))
+drive_searches program others how (inr (alone, unlimited, asking)) =
+    rw alone (
+      limited.drive_why_is_right program,
+      (
+        limited.drive_why_is_named program,
+        record { limit = rw (limited.drive_why_has_no_limit program) unlimited; why = rw (limited.drive_why_asks program) asking },
+      ),
+    )
+
+no_campaign_words_are_right : {value : Text → Option Text} → campaign.NoWords value → AreCampaignWords value
+no_campaign_words_are_right none = record {
+  meeting = no_word_is_drawn none.meeting;
+  timeout = no_word_is_no_time none.timeout;
+  wait = no_word_is_no_time none.wait;
+  spread = no_word_is_no_spread none.spread;
+}
+
+no_bounds_are_right : {value : Text → Option Text} → campaign.NoWords value → AreUntilWords value
+no_bounds_are_right none = record {
+  time = rw none.time tt;
+  unexplained = rw none.stop_after tt;
+  apart = λ given. absurd (false≢true (ap is_some (sym none.time) ∙ given));
+}
+
+no_bounds_are_none : {value : Text → Option Text} → campaign.NoWords value → None ≡ until_in value
+no_bounds_are_none none = rw (none.time, none.stop_after) refl
 
 generate_asks : (program : List ℕ) (others : List (List ℕ)) (seed : ℕ) (job : ℕ) → NamesJob others seed job
     → AsksFor (program ∷ codes "generate" ∷ others) (asked.Generate seed job)
@@ -207,136 +319,96 @@ serve_asks program port others service spells (named, inr (number, are, is), inr
     rw (racing.0 ∙ ap (λ n. n ++ codes "--racy" ∷ []) is)
     (serve_found service (serve.limited_racing program port plain number) spells are racing.1)
 
+-- a default that is no zero
+some : {n : ℕ} {m : ℕ} → n ≡ suc m → 0 < n
+some is = omega (arith, is)
+
+-- the last of at most 10,000 jobs from 0 on has a number of 64 bits
+last_is_small : (first : ℕ) (jobs : ℕ) → first ≡ 0 → jobs ≤ 10000 → first + jobs ≤ 2 ^ 64
+last_is_small first jobs zero few = omega (arith, zero, few)
+
+default_is_few : (jobs : ℕ) → jobs ≡ 100 → jobs ≤ 10000
+default_is_few jobs is = omega (arith, is)
+
+-- a flag that isn't there needs no other
+not_asked : {words : List (List ℕ)} {seed jobs workers : Option Text} {brief : Bool} → campaign.Found words seed jobs workers brief
+    → WhyIsShown (line_value words)
+not_asked found set = absurd (false≢true (sym found.unasked ∙ set))
+
+-- what clap finds in a line of `campaign` is what it asks for
+campaign_found : {words : List (List ℕ)} {brief : Bool} (plan : Plan) → campaign.Found words None None None brief
+    → plan.limit ≡ DEFAULT_LIMIT → plan.first ≡ DEFAULT_FIRST → plan.show ≡ false → plan.why ≡ false → plan.tries ≡ DEFAULT_TRIES
+    → plan.until ≡ None → plan.seed ≡ DEFAULT_SEED → plan.jobs ≡ DEFAULT_JOBS → plan.workers ≡ DEFAULT_WORKERS → plan.brief ≡ brief
+    → AsksFor words (asked.Campaign plan)
+campaign_found plan found limit first show why tries until seed jobs workers brief = (
+  found.right,
+  (
+    found.named,
+    record {
+      seed = rw found.seed_is seed;
+      first = rw found.from_zero first;
+      jobs = rw found.words_are.time (rw found.jobs_are jobs, some jobs);
+      workers = (rw found.workers_are workers, some workers);
+      limit = rw found.unlimited limit;
+      last = last_is_small plan.first plan.jobs first (default_is_few plan.jobs jobs);
+      name = rw found.words_are.name tt;
+      keys = rw found.words_are.name tt;
+      brief = brief ∙ sym found.brief_is;
+      show = show ∙ sym found.hidden;
+      why = why ∙ sym found.unasked;
+      shown = not_asked found;
+      tries = (rw found.tried_once tries, some tries);
+      bounds = no_bounds_are_right found.words_are;
+      until = until ∙ no_bounds_are_none found.words_are;
+    },
+    no_campaign_words_are_right found.words_are,
+  ),
+)
+
+campaign_asks : (program : List ℕ) (server : List ℕ) (others : List (List ℕ)) (plan : Plan) → IsNoFlag server → NamesPlan others plan
+    → AsksFor (program ∷ codes "campaign" ∷ server ∷ others) (asked.Campaign plan)
+campaign_asks program server others plan plain (limit, first, show, why, tries, until, inl (seed, jobs, workers, inl (none, whole))) =
+    rw none (campaign_found plan (campaign.alone program server plain) limit first show why tries until seed jobs workers whole)
+campaign_asks program server others plan plain (limit, first, show, why, tries, until, inl (seed, jobs, workers, inr (is, brief))) =
+    rw is (campaign_found plan (campaign.brief program server plain) limit first show why tries until seed jobs workers brief)
+campaign_asks program server others plan plain
+    (limit, first, show, why, tries, until, inr (seed, jobs, workers, is_seed, is_jobs, some_jobs, is_workers, some_workers, whole, is)) =
+    let found = campaign.numbered program server plain seed jobs workers in
+    rw is (
+      found.right,
+      (
+        found.named,
+        record {
+          seed = rw found.seed_is is_seed;
+          first = rw found.from_zero first;
+          jobs = rw found.words_are.time (rw found.jobs_are is_jobs, some_jobs);
+          workers = (rw found.workers_are is_workers, some_workers);
+          limit = rw found.unlimited limit;
+          last = last_is_small plan.first plan.jobs first is_jobs.small;
+          name = rw found.words_are.name tt;
+          keys = rw found.words_are.name tt;
+          brief = whole ∙ sym found.brief_is;
+          show = show ∙ sym found.hidden;
+          why = why ∙ sym found.unasked;
+          shown = not_asked found;
+          tries = (rw found.tried_once tries, some tries);
+          bounds = no_bounds_are_right found.words_are;
+          until = until ∙ no_bounds_are_none found.words_are;
+        },
+        no_campaign_words_are_right found.words_are,
+      ),
+    )
+
 pub plain_lines_ask : PlainLinesAsk
-plain_lines_ask words (asked.Judge limit) (program, others, is, names) =
-    let found = names_limit (codes "judge") judge_takes_limit program others limit names in
-    rw is (found.0, (found.1, found.2))
+plain_lines_ask words (asked.Judge how) (program, others, is, names) = rw is (judge_searches program others how names)
 plain_lines_ask words asked.Check (program, is) = rw is (check_has_no_faults program, check_is_named program)
 plain_lines_ask words asked.Asm (program, is) = rw is (asm_has_no_faults program, asm_is_named program)
-plain_lines_ask words (asked.Drive limit) (program, others, is, names) =
-    let found = names_limit (codes "drive") drive_takes_limit program others limit names in
-    rw is (found.0, (found.1, found.2))
-plain_lines_ask words (asked.Run limit) (program, server, others, is, names, limited) =
-    rw is (run_asks program server others limit (name_is_no_flag server names) limited)
+plain_lines_ask words (asked.Drive how) (program, others, is, names) = rw is (drive_searches program others how names)
+plain_lines_ask words (asked.Run how) (program, server, others, is, names, searches) =
+    rw is (run_searches program server others how (name_is_no_flag server names) searches)
 plain_lines_ask words (asked.Generate seed job) (program, others, is, names) = rw is (generate_asks program others seed job names)
 plain_lines_ask words (asked.Serve service) (program, port, others, is, spells, names) =
     rw is (serve_asks program port others service spells names)
-
--- a word that begins with no digit is no limit
-signed_is_none : (sign : ℕ) (number : List ℕ) (limit : ℕ) → is_digit sign ≡ false → SpellsNumber GREATEST_LIMIT (sign ∷ number) limit → ⊥
-signed_is_none sign number limit other spells = absurd (cc (first_digit sign number spells.digits, other))
-
-abbrev signed_line : List ℕ → List ℕ → ℕ → List ℕ → List (List ℕ)
-signed_line program name sign number = program ∷ name ∷ (codes "--limit=" ++ sign ∷ number) ∷ []
-
-pub signed_limits_are_faulty : SignedLimitsAreFaulty
-signed_limits_are_faulty program name sign number (inl judge) other wanted asks = signed_judge wanted (rw judge at asks)
-  where
-    named : line_command (signed_line program (codes "judge") sign number) ≡ Some (codes "judge")
-    named = judge_takes_limit.joined_is_named program (sign ∷ number)
-
-    signed_judge : (wanted : Asked) → AsksFor (signed_line program (codes "judge") sign number) wanted → ⊥
-    signed_judge (asked.Judge limit) asks =
-        signed_is_none sign number limit other (rw (judge_takes_limit.joined_has_limit program (sign ∷ number)) at asks.1.1)
-    signed_judge asked.Check asks = line_asks_otherwise (signed_line program (codes "judge") sign number) named asked.Check refl asks
-    signed_judge asked.Asm asks = line_asks_otherwise (signed_line program (codes "judge") sign number) named asked.Asm refl asks
-    signed_judge (asked.Drive limit) asks =
-        line_asks_otherwise (signed_line program (codes "judge") sign number) named (asked.Drive limit) refl asks
-    signed_judge (asked.Run limit) asks =
-        line_asks_otherwise (signed_line program (codes "judge") sign number) named (asked.Run limit) refl asks
-    signed_judge (asked.Generate seed job) asks =
-        line_asks_otherwise (signed_line program (codes "judge") sign number) named (asked.Generate seed job) refl asks
-    signed_judge (asked.Serve service) asks =
-        line_asks_otherwise (signed_line program (codes "judge") sign number) named (asked.Serve service) refl asks
-signed_limits_are_faulty program name sign number (inr drive) other wanted asks = signed_drive wanted (rw drive at asks)
-  where
-    named : line_command (signed_line program (codes "drive") sign number) ≡ Some (codes "drive")
-    named = drive_takes_limit.joined_is_named program (sign ∷ number)
-
-    signed_drive : (wanted : Asked) → AsksFor (signed_line program (codes "drive") sign number) wanted → ⊥
-    signed_drive (asked.Judge limit) asks =
-        line_asks_otherwise (signed_line program (codes "drive") sign number) named (asked.Judge limit) refl asks
-    signed_drive asked.Check asks = line_asks_otherwise (signed_line program (codes "drive") sign number) named asked.Check refl asks
-    signed_drive asked.Asm asks = line_asks_otherwise (signed_line program (codes "drive") sign number) named asked.Asm refl asks
-    signed_drive (asked.Drive limit) asks =
-        signed_is_none sign number limit other (rw (drive_takes_limit.joined_has_limit program (sign ∷ number)) at asks.1.1)
-    signed_drive (asked.Run limit) asks =
-        line_asks_otherwise (signed_line program (codes "drive") sign number) named (asked.Run limit) refl asks
-    signed_drive (asked.Generate seed job) asks =
-        line_asks_otherwise (signed_line program (codes "drive") sign number) named (asked.Generate seed job) refl asks
-    signed_drive (asked.Serve service) asks =
-        line_asks_otherwise (signed_line program (codes "drive") sign number) named (asked.Serve service) refl asks
-
--- a word names one number at most
-one_number : (default : ℕ) (greatest : ℕ) (word : _) (one : ℕ) (other : ℕ) → IsNumber default greatest word one
-    → IsNumber default greatest word other → one ≡ other
-one_number default greatest None one other is also = is ∙ sym also
-one_number default greatest (Some word) one other is also = sym is.value ∙ also.value
-
--- no line asks for two things of different names
-other_name : (words : List (List ℕ)) (one : Asked) (other : Asked)
-    → (first_byte (Some (name_of_asked one)) == first_byte (Some (name_of_asked other))) ≡ false
-    → AsksFor words one → AsksFor words other → one ≡ other
-other_name words one other differ is also =
-    absurd (line_asks_otherwise words (is_named_by (line_command words) (line_value words) one is.1) other differ also)
-
-same_service : (one : Service) (other : Service) → one.port ≡ other.port → one.connections ≡ other.connections → one.racy ≡ other.racy
-    → one ≡ other
-same_service one other port connections racy =
-    ap (λ p. record { port = p; connections = one.connections; racy = one.racy }) port
-    ∙ (ap (λ n. record { port = other.port; connections = n; racy = one.racy }) connections
-    ∙ ap (λ b. record { port = other.port; connections = other.connections; racy = b }) racy)
-
-pub lines_ask_once : LinesAskOnce
-lines_ask_once words (asked.Judge one) (asked.Judge other) is also = ap asked.Judge (one_number _ _ _ one other is.1.1 also.1.1)
-lines_ask_once words (asked.Judge one) asked.Check is also = other_name words (asked.Judge one) asked.Check refl is also
-lines_ask_once words (asked.Judge one) asked.Asm is also = other_name words (asked.Judge one) asked.Asm refl is also
-lines_ask_once words (asked.Judge one) (asked.Drive other) is also = other_name words (asked.Judge one) (asked.Drive other) refl is also
-lines_ask_once words (asked.Judge one) (asked.Run other) is also = other_name words (asked.Judge one) (asked.Run other) refl is also
-lines_ask_once words (asked.Judge one) (asked.Generate seed₂ job₂) is also = other_name words (asked.Judge one) (asked.Generate seed₂ job₂) refl is also
-lines_ask_once words (asked.Judge one) (asked.Serve other) is also = other_name words (asked.Judge one) (asked.Serve other) refl is also
-lines_ask_once words asked.Check (asked.Judge other) is also = other_name words asked.Check (asked.Judge other) refl is also
-lines_ask_once words asked.Check asked.Check is also = refl
-lines_ask_once words asked.Check asked.Asm is also = other_name words asked.Check asked.Asm refl is also
-lines_ask_once words asked.Check (asked.Drive other) is also = other_name words asked.Check (asked.Drive other) refl is also
-lines_ask_once words asked.Check (asked.Run other) is also = other_name words asked.Check (asked.Run other) refl is also
-lines_ask_once words asked.Check (asked.Generate seed₂ job₂) is also = other_name words asked.Check (asked.Generate seed₂ job₂) refl is also
-lines_ask_once words asked.Check (asked.Serve other) is also = other_name words asked.Check (asked.Serve other) refl is also
-lines_ask_once words asked.Asm (asked.Judge other) is also = other_name words asked.Asm (asked.Judge other) refl is also
-lines_ask_once words asked.Asm asked.Check is also = other_name words asked.Asm asked.Check refl is also
-lines_ask_once words asked.Asm asked.Asm is also = refl
-lines_ask_once words asked.Asm (asked.Drive other) is also = other_name words asked.Asm (asked.Drive other) refl is also
-lines_ask_once words asked.Asm (asked.Run other) is also = other_name words asked.Asm (asked.Run other) refl is also
-lines_ask_once words asked.Asm (asked.Generate seed₂ job₂) is also = other_name words asked.Asm (asked.Generate seed₂ job₂) refl is also
-lines_ask_once words asked.Asm (asked.Serve other) is also = other_name words asked.Asm (asked.Serve other) refl is also
-lines_ask_once words (asked.Drive one) (asked.Judge other) is also = other_name words (asked.Drive one) (asked.Judge other) refl is also
-lines_ask_once words (asked.Drive one) asked.Check is also = other_name words (asked.Drive one) asked.Check refl is also
-lines_ask_once words (asked.Drive one) asked.Asm is also = other_name words (asked.Drive one) asked.Asm refl is also
-lines_ask_once words (asked.Drive one) (asked.Drive other) is also = ap asked.Drive (one_number _ _ _ one other is.1.1 also.1.1)
-lines_ask_once words (asked.Drive one) (asked.Run other) is also = other_name words (asked.Drive one) (asked.Run other) refl is also
-lines_ask_once words (asked.Drive one) (asked.Generate seed₂ job₂) is also = other_name words (asked.Drive one) (asked.Generate seed₂ job₂) refl is also
-lines_ask_once words (asked.Drive one) (asked.Serve other) is also = other_name words (asked.Drive one) (asked.Serve other) refl is also
-lines_ask_once words (asked.Run one) (asked.Judge other) is also = other_name words (asked.Run one) (asked.Judge other) refl is also
-lines_ask_once words (asked.Run one) asked.Check is also = other_name words (asked.Run one) asked.Check refl is also
-lines_ask_once words (asked.Run one) asked.Asm is also = other_name words (asked.Run one) asked.Asm refl is also
-lines_ask_once words (asked.Run one) (asked.Drive other) is also = other_name words (asked.Run one) (asked.Drive other) refl is also
-lines_ask_once words (asked.Run one) (asked.Run other) is also = ap asked.Run (one_number _ _ _ one other is.1.1 also.1.1)
-lines_ask_once words (asked.Run one) (asked.Generate seed₂ job₂) is also = other_name words (asked.Run one) (asked.Generate seed₂ job₂) refl is also
-lines_ask_once words (asked.Run one) (asked.Serve other) is also = other_name words (asked.Run one) (asked.Serve other) refl is also
-lines_ask_once words (asked.Generate seed job) (asked.Judge other) is also = other_name words (asked.Generate seed job) (asked.Judge other) refl is also
-lines_ask_once words (asked.Generate seed job) asked.Check is also = other_name words (asked.Generate seed job) asked.Check refl is also
-lines_ask_once words (asked.Generate seed job) asked.Asm is also = other_name words (asked.Generate seed job) asked.Asm refl is also
-lines_ask_once words (asked.Generate seed job) (asked.Drive other) is also = other_name words (asked.Generate seed job) (asked.Drive other) refl is also
-lines_ask_once words (asked.Generate seed job) (asked.Run other) is also = other_name words (asked.Generate seed job) (asked.Run other) refl is also
-lines_ask_once words (asked.Generate seed job) (asked.Generate seed₂ job₂) is also =
-    ap₂ asked.Generate (one_number _ _ _ seed seed₂ is.1.1 also.1.1) (one_number _ _ _ job job₂ is.1.2 also.1.2)
-lines_ask_once words (asked.Generate seed job) (asked.Serve other) is also = other_name words (asked.Generate seed job) (asked.Serve other) refl is also
-lines_ask_once words (asked.Serve one) (asked.Judge other) is also = other_name words (asked.Serve one) (asked.Judge other) refl is also
-lines_ask_once words (asked.Serve one) asked.Check is also = other_name words (asked.Serve one) asked.Check refl is also
-lines_ask_once words (asked.Serve one) asked.Asm is also = other_name words (asked.Serve one) asked.Asm refl is also
-lines_ask_once words (asked.Serve one) (asked.Drive other) is also = other_name words (asked.Serve one) (asked.Drive other) refl is also
-lines_ask_once words (asked.Serve one) (asked.Run other) is also = other_name words (asked.Serve one) (asked.Run other) refl is also
-lines_ask_once words (asked.Serve one) (asked.Generate seed job) is also = other_name words (asked.Serve one) (asked.Generate seed job) refl is also
-lines_ask_once words (asked.Serve one) (asked.Serve other) is also = ap asked.Serve (same_service one other
-    (one_number _ _ _ one.port other.port is.1.1 also.1.1)
-    (one_number _ _ _ one.connections other.connections is.1.2 also.1.2) (is.1.3 ∙ sym also.1.3))
+plain_lines_ask words (asked.Campaign plan) (program, server, others, is, names, planned) =
+    rw is (campaign_asks program server others plan (name_is_no_flag server names) planned)
+plain_lines_ask words asked.Selftest (program, is) = rw is (selftest_has_no_faults program, selftest_is_named program)

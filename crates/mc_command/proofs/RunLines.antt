@@ -24,6 +24,10 @@ pub record NoRunWords (value : Text → Option Text) : Type 0 where
   pub name : value (codes "name") ≡ None
   pub timeout : value (codes "timeout") ≡ None
   pub wait : value (codes "wait") ≡ None
+  pub spread : value (codes "spread") ≡ None
+  pub times : value (codes "times") ≡ None
+  pub time : value (codes "for") ≡ None
+  pub stops : value (codes "keep-going") ≡ Some (codes "false")
 
 -- ---- a word that is no flag, where nothing waits for one
 
@@ -128,7 +132,15 @@ module _ (program : Text) (server : Text) (plain : IsNoFlag server) where
     name = ap (found_after (codes "name") []) (takes_server server plain);
     timeout = ap (found_after (codes "timeout") []) (takes_server server plain);
     wait = ap (found_after (codes "wait") []) (takes_server server plain);
+    spread = ap (found_after (codes "spread") []) (takes_server server plain);
+    times = ap (found_after (codes "times") []) (takes_server server plain);
+    time = ap (found_after (codes "for") []) (takes_server server plain);
+    stops = ap (found_after (codes "keep-going") []) (takes_server server plain);
   }
+
+  pub alone_is_calm : line_value (program ∷ codes "run" ∷ server ∷ []) (codes "why") ≡ Some (codes "false")
+  unfolding line_value clap_on_literals run_shape server_taken
+  alone_is_calm = ap (found_after (codes "why") []) (takes_server server plain)
 
   pub alone_names : line_target (program ∷ codes "run" ∷ server ∷ []) ≡ Some server
   unfolding line_value clap_on_literals run_shape server_taken
@@ -137,6 +149,36 @@ module _ (program : Text) (server : Text) (plain : IsNoFlag server) where
   pub alone_is_named : line_command (program ∷ codes "run" ∷ server ∷ []) ≡ Some (codes "run")
   unfolding line_command clap_on_literals
   alone_is_named = refl
+
+  -- `run SERVER --why`
+  pub why_is_right : line_faults (program ∷ codes "run" ∷ server ∷ codes "--why" ∷ []) ≡ []
+  unfolding line_faults clap_on_literals run_shape server_taken
+  why_is_right = ap₂ (faults_after (codes "--why" ∷ [])) (takes_it_without_faults server plain) (takes_server server plain)
+
+  pub why_has_no_limit : line_limit (program ∷ codes "run" ∷ server ∷ codes "--why" ∷ []) ≡ None
+  unfolding line_value clap_on_literals run_shape server_taken
+  why_has_no_limit = ap (found_after (codes "limit") (codes "--why" ∷ [])) (takes_server server plain)
+
+  pub why_has_no_words : NoRunWords (line_value (program ∷ codes "run" ∷ server ∷ codes "--why" ∷ []))
+  unfolding line_value clap_on_literals run_shape server_taken
+  why_has_no_words = record {
+    meeting = ap (found_after (codes "meet") (codes "--why" ∷ [])) (takes_server server plain);
+    name = ap (found_after (codes "name") (codes "--why" ∷ [])) (takes_server server plain);
+    timeout = ap (found_after (codes "timeout") (codes "--why" ∷ [])) (takes_server server plain);
+    wait = ap (found_after (codes "wait") (codes "--why" ∷ [])) (takes_server server plain);
+    spread = ap (found_after (codes "spread") (codes "--why" ∷ [])) (takes_server server plain);
+    times = ap (found_after (codes "times") (codes "--why" ∷ [])) (takes_server server plain);
+    time = ap (found_after (codes "for") (codes "--why" ∷ [])) (takes_server server plain);
+    stops = ap (found_after (codes "keep-going") (codes "--why" ∷ [])) (takes_server server plain);
+  }
+
+  pub why_asks : line_value (program ∷ codes "run" ∷ server ∷ codes "--why" ∷ []) (codes "why") ≡ Some (codes "true")
+  unfolding line_value clap_on_literals run_shape server_taken
+  why_asks = ap (found_after (codes "why") (codes "--why" ∷ [])) (takes_server server plain)
+
+  pub why_is_named : line_command (program ∷ codes "run" ∷ server ∷ codes "--why" ∷ []) ≡ Some (codes "run")
+  unfolding line_command clap_on_literals
+  why_is_named = refl
 
   -- `run SERVER --limit=N`
   module _ (number : Text) where
@@ -156,7 +198,15 @@ module _ (program : Text) (server : Text) (plain : IsNoFlag server) where
       name = ap (found_after (codes "name") ((codes "--limit=" ++ number) ∷ [])) (takes_server server plain);
       timeout = ap (found_after (codes "timeout") ((codes "--limit=" ++ number) ∷ [])) (takes_server server plain);
       wait = ap (found_after (codes "wait") ((codes "--limit=" ++ number) ∷ [])) (takes_server server plain);
+      spread = ap (found_after (codes "spread") ((codes "--limit=" ++ number) ∷ [])) (takes_server server plain);
+      times = ap (found_after (codes "times") ((codes "--limit=" ++ number) ∷ [])) (takes_server server plain);
+      time = ap (found_after (codes "for") ((codes "--limit=" ++ number) ∷ [])) (takes_server server plain);
+      stops = ap (found_after (codes "keep-going") ((codes "--limit=" ++ number) ∷ [])) (takes_server server plain);
     }
+
+    pub joined_is_calm : line_value (program ∷ codes "run" ∷ server ∷ (codes "--limit=" ++ number) ∷ []) (codes "why") ≡ Some (codes "false")
+    unfolding line_value clap_on_literals run_shape server_taken
+    joined_is_calm = ap (found_after (codes "why") ((codes "--limit=" ++ number) ∷ [])) (takes_server server plain)
 
     pub joined_names : line_target (program ∷ codes "run" ∷ server ∷ (codes "--limit=" ++ number) ∷ []) ≡ Some server
     unfolding line_value clap_on_literals run_shape server_taken
@@ -189,7 +239,20 @@ module _ (program : Text) (server : Text) (plain : IsNoFlag server) where
           ∙ ap (found_after (codes "timeout") []) (takes_value server number limit);
       wait = ap (found_after (codes "wait") (limit_words number)) (takes_server server plain)
           ∙ ap (found_after (codes "wait") []) (takes_value server number limit);
+      spread = ap (found_after (codes "spread") (limit_words number)) (takes_server server plain)
+          ∙ ap (found_after (codes "spread") []) (takes_value server number limit);
+      times = ap (found_after (codes "times") (limit_words number)) (takes_server server plain)
+          ∙ ap (found_after (codes "times") []) (takes_value server number limit);
+      time = ap (found_after (codes "for") (limit_words number)) (takes_server server plain)
+          ∙ ap (found_after (codes "for") []) (takes_value server number limit);
+      stops = ap (found_after (codes "keep-going") (limit_words number)) (takes_server server plain)
+          ∙ ap (found_after (codes "keep-going") []) (takes_value server number limit);
     }
+
+    pub apart_is_calm : line_value (program ∷ codes "run" ∷ server ∷ limit_words number) (codes "why") ≡ Some (codes "false")
+    unfolding line_value clap_on_literals run_shape server_taken value_taken
+    apart_is_calm = ap (found_after (codes "why") (limit_words number)) (takes_server server plain)
+        ∙ ap (found_after (codes "why") []) (takes_value server number limit)
 
     pub apart_names : line_target (program ∷ codes "run" ∷ server ∷ limit_words number) ≡ Some server
     unfolding line_value clap_on_literals run_shape server_taken value_taken

@@ -1,5 +1,5 @@
 -- What `drive` answers to a text: a script, and after it a step list.
-use Rattle.std.specs.Prelude.{◌≡◌, ◌≢◌, ℕ, ◌+◌, ◌≤◌, List, ◌++◌, codes, decimal, drop, min, take}
+use Rattle.std.specs.Prelude.{◌≡◌, ◌≢◌, ℕ, ◌+◌, ◌≤◌, Bool, List, ◌++◌, codes, decimal, drop, min, take}
 use Rattle.mc_protocol.specs.Lines.{LAST_NUMBER, line_count, lines_of_text}
 use Rattle.mc_protocol.specs.declared.lines.Separator.TheVariants.{Space}
 use Rattle.mc_code.specs.Code.{Code}
@@ -19,7 +19,9 @@ use Rattle.mc_command.specs.Endings.{endings_text, run_status}
 use Rattle.mc_command.specs.Loading.{IsFrontCode, IsFrontFault, load_refusal}
 use Rattle.mc_command.specs.Refusals.{refusal_text}
 use Rattle.mc_command.specs.Soundness.{unsound_text}
+use Rattle.mc_command.specs.StepLines.{IsStepLine}
 use Rattle.mc_command.specs.Verdicts.{verdict_text}
+use Rattle.mc_command.specs.WhyAnswers.{IsWhyBy}
 use Rattle.mc_command.specs.declared.drive.Driven.{Driven}
 use Rattle.mc_command.specs.declared.drive.Driven.TheVariants as driven
 use Rattle.mc_command.specs.declared.refusal.Place.TheVariants as place
@@ -31,8 +33,13 @@ pub record BeginsWith (text : List ℕ) (code : Code) (size : ℕ) : Type 0 wher
   pub code_of_front : IsFrontCode text code size
   pub sound : IsSound code
 
--- the code and the steps of the text, and what the steps came to in a trial
-pub record IsDriven (text : List ℕ) (held : Held) (skipped : ℕ) (found : Verdict) : Type 0 where
+-- how many lines stand before the step list, which begins after this many bytes
+abbrev pub lines_before : List ℕ → ℕ → ℕ
+lines_before text size = line_count (lines_of_text Space (take size text))
+
+-- the code and the steps of the text, and what the steps came to in a trial; why nothing explains their history is said where `why` asks
+-- for it, with the line of a step
+pub record IsDriven (why : Bool) (text : List ℕ) (held : Held) (skipped : ℕ) (found : Verdict) (reasons : List ℕ) : Type 0 where
   pub code : Code
   pub size : ℕ
   pub steps : List Noted
@@ -41,6 +48,8 @@ pub record IsDriven (text : List ℕ) (held : Held) (skipped : ℕ) (found : Ver
   pub trial : IsTrial code steps held.world skipped found
   pub held_by : IsHeldBy code held
   pub stated : IsStated (history_of code held.world) found
+  pub reasons_are :
+      IsWhyBy why (IsStepLine code steps (lines_before text size) (drop size text)) (history_of code held.world) found reasons
 
 -- the number of the first line after these
 abbrev pub line_after : List ℕ → ℕ
@@ -56,35 +65,36 @@ pub record LacksSteps (text : List ℕ) (fault : StepsFault) : Type 0 where
   pub after : line_after (take size text) ≤ fault.line
 
 -- the answer is right for the text
-abbrev pub IsRight : List ℕ → Driven → Type 0
-IsRight text (driven.Ended held skipped found) = IsDriven text held skipped found
-IsRight text (driven.NoCode fault) = IsFrontFault text fault
-IsRight text (driven.Unsound refusal) = (code : Code) × (size : ℕ) × IsFrontCode text code size × IsRightRefusal code refusal
-IsRight text (driven.NoSteps fault) = LacksSteps text fault
+abbrev pub IsRight : Bool → List ℕ → Driven → Type 0
+IsRight why text (driven.Ended held skipped found reasons) = IsDriven why text held skipped found reasons.items
+IsRight why text (driven.NoCode fault) = IsFrontFault text fault
+IsRight why text (driven.Unsound refusal) = (code : Code) × (size : ℕ) × IsFrontCode text code size × IsRightRefusal code refusal
+IsRight why text (driven.NoSteps fault) = LacksSteps text fault
 
 -- what is written for a text whose script no step list follows
 abbrev pub steps_refusal : StepsFault → List ℕ
 steps_refusal fault = refusal_text (codes "steps") (kind_number fault.kind) (kind_name fault.kind) (place.Line fault.line)
 
--- what is written for steps: how many were refused and skipped, how the sections ended, and the verdict
-abbrev pub ended_text : Held → ℕ → Verdict → List ℕ
-ended_text held skipped found =
-    codes "skipped " ++ (decimal skipped ++ (codes "\n" ++ (endings_text held.endings ++ verdict_text found)))
+-- what is written for steps: how many were refused and skipped, how the sections ended, the verdict, and why nothing explains the
+-- history, where that is asked
+abbrev pub ended_text : Held → ℕ → Verdict → List ℕ → List ℕ
+ended_text held skipped found reasons =
+    codes "skipped " ++ (decimal skipped ++ (codes "\n" ++ (endings_text held.endings ++ (verdict_text found ++ reasons))))
 
 -- what is written for an answer
 abbrev pub text_of : Driven → List ℕ
-text_of (driven.Ended held skipped found) = ended_text held skipped found
+text_of (driven.Ended held skipped found reasons) = ended_text held skipped found reasons.items
 text_of (driven.NoCode fault) = load_refusal fault
 text_of (driven.Unsound refusal) = unsound_text refusal
 text_of (driven.NoSteps fault) = steps_refusal fault
 
 -- the exit status of an answer
 abbrev pub status_of : Driven → Status
-status_of (driven.Ended held skipped found) = run_status held.endings found
+status_of (driven.Ended held skipped found reasons) = run_status held.endings found
 status_of (driven.NoCode fault) = status.Refused
 status_of (driven.Unsound refusal) = status.Refused
 status_of (driven.NoSteps fault) = status.Refused
 
 -- an answer that is right for the text is what is written, with its status
-abbrev pub Drives : List ℕ → List ℕ → Status → Type 0
-Drives text output ended = (given : Driven) × IsRight text given × (output ≡ text_of given) × (ended ≡ status_of given)
+abbrev pub Drives : Bool → List ℕ → List ℕ → Status → Type 0
+Drives why text output ended = (given : Driven) × IsRight why text given × (output ≡ text_of given) × (ended ≡ status_of given)

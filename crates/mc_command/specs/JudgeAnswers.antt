@@ -1,5 +1,5 @@
 -- What `judge` answers to a text.
-use Rattle.std.specs.Prelude.{◌≡◌, ◌≢◌, ℕ, Option, Some, None, List, codes}
+use Rattle.std.specs.Prelude.{◌≡◌, ◌≢◌, ℕ, Option, Some, None, List, ◌++◌, codes}
 use Rattle.mc_model.specs.Notes.{History}
 use Rattle.mc_model.specs.Kinds.{kind_name, kind_number}
 use Rattle.mc_model.specs.declared.rules.HistoryKind.TheVariants as kind
@@ -10,6 +10,8 @@ use Rattle.mc_claims.specs.Explains.{Explains}
 use Rattle.mc_explain.specs.Verdicts.{IsStated, IsTrueOf, IsWithin}
 use Rattle.mc_command.specs.Refusals.{refusal_text}
 use Rattle.mc_command.specs.Verdicts.{verdict_status, verdict_text}
+use Rattle.mc_command.specs.WhyAnswers.{IsWhy, line_in_text}
+use Rattle.mc_command.specs.declared.asking.Search.{Search}
 use Rattle.mc_command.specs.declared.refusal.Place.TheVariants as place
 use Rattle.mc_command.specs.declared.status.Status.{Status}
 use Rattle.mc_command.specs.declared.status.Status.TheVariants as status
@@ -20,14 +22,16 @@ use Rattle.mc_command.specs.declared.judge.Judgement.TheVariants as judgement
 abbrev pub SpellsNone : List ℕ → Type 0
 SpellsNone text = (h : History) (claim : Option Claim) → SpellsHistory text h claim → ⊥
 
--- the answer is right for the text, where a search may take at most limit turns
-abbrev pub IsRight : ℕ → List ℕ → Judgement → Type 0
-IsRight limit text judgement.Confirmed = (h : History) × (claim : Claim) × SpellsHistory text h (Some claim) × Explains h claim
-IsRight limit text judgement.NotConfirmed =
+-- the answer is right for the text, where a search takes at most `how.limit` turns, and why nothing explains the history is said where
+-- `how.why` asks for it
+abbrev pub IsRight : Search → List ℕ → Judgement → Type 0
+IsRight how text judgement.Confirmed = (h : History) × (claim : Claim) × SpellsHistory text h (Some claim) × Explains h claim
+IsRight how text judgement.NotConfirmed =
     (h : History) × (claim : Claim) × SpellsHistory text h (Some claim) × (Explains h claim → ⊥)
-IsRight limit text (judgement.Judged found turns) =
-    (h : History) × SpellsHistory text h None × IsTrueOf h found × IsStated h found × IsWithin limit found turns
-IsRight limit text (judgement.Refused fault) = (fault.kind ≢ kind.OutOfMemory) × SpellsNone text
+IsRight how text (judgement.Judged found turns why) =
+    (h : History) × SpellsHistory text h None × IsTrueOf h found × IsStated h found × IsWithin how.limit found turns
+    × IsWhy how.why (line_in_text text h) h found why.items
+IsRight how text (judgement.Refused fault) = (fault.kind ≢ kind.OutOfMemory) × SpellsNone text
 
 -- what is written for a history that is refused
 abbrev pub history_refusal : HistoryFault → List ℕ
@@ -37,20 +41,20 @@ history_refusal fault = refusal_text (codes "history") (kind_number fault.kind) 
 abbrev pub text_of : Judgement → List ℕ
 text_of judgement.Confirmed = codes "confirmed\n"
 text_of judgement.NotConfirmed = codes "not confirmed\n"
-text_of (judgement.Judged found turns) = verdict_text found
+text_of (judgement.Judged found turns why) = verdict_text found ++ why.items
 text_of (judgement.Refused fault) = history_refusal fault
 
 -- the exit status of an answer
 abbrev pub status_of : Judgement → Status
 status_of judgement.Confirmed = status.Success
 status_of judgement.NotConfirmed = status.Unexplained
-status_of (judgement.Judged found turns) = verdict_status found
+status_of (judgement.Judged found turns why) = verdict_status found
 status_of (judgement.Refused fault) = status.Refused
 
 -- an answer that is right for the text is what is written, with its status
-abbrev pub Judges : ℕ → List ℕ → List ℕ → Status → Type 0
-Judges limit text output ended =
-    (given : Judgement) × IsRight limit text given × (output ≡ text_of given) × (ended ≡ status_of given)
+abbrev pub Judges : Search → List ℕ → List ℕ → Status → Type 0
+Judges how text output ended =
+    (given : Judgement) × IsRight how text given × (output ≡ text_of given) × (ended ≡ status_of given)
 
 -- ---- parts that private clauses cite
 
@@ -58,12 +62,13 @@ Judges limit text output ended =
 abbrev pub ConfirmsRightly : History → Claim → Judgement → Type 0
 ConfirmsRightly h claim judgement.Confirmed = Explains h claim
 ConfirmsRightly h claim judgement.NotConfirmed = Explains h claim → ⊥
-ConfirmsRightly h claim (judgement.Judged found turns) = ⊥
+ConfirmsRightly h claim (judgement.Judged found turns why) = ⊥
 ConfirmsRightly h claim (judgement.Refused fault) = ⊥
 
--- the answer is right for a text that spells these and no claim
-abbrev pub JudgesRightly : ℕ → History → Judgement → Type 0
-JudgesRightly limit h judgement.Confirmed = ⊥
-JudgesRightly limit h judgement.NotConfirmed = ⊥
-JudgesRightly limit h (judgement.Judged found turns) = IsTrueOf h found × IsStated h found × IsWithin limit found turns
-JudgesRightly limit h (judgement.Refused fault) = ⊥
+-- the answer is right for a text that spells this history and no claim
+abbrev pub JudgesRightly : Search → List ℕ → History → Judgement → Type 0
+JudgesRightly how text h judgement.Confirmed = ⊥
+JudgesRightly how text h judgement.NotConfirmed = ⊥
+JudgesRightly how text h (judgement.Judged found turns why) =
+    IsTrueOf h found × IsStated h found × IsWithin how.limit found turns × IsWhy how.why (line_in_text text h) h found why.items
+JudgesRightly how text h (judgement.Refused fault) = ⊥

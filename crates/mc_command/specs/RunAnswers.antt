@@ -1,24 +1,23 @@
 -- What `run` answers to a script.
-use Rattle.std.specs.Prelude.{◌≡◌, ◌⊎◌, ℕ, Option, Some, None, List, [], ◌++◌, codes, Ok, Err}
+use Rattle.std.specs.Prelude.{◌≡◌, ◌⊎◌, ℕ, Bool, true, false, Option, Some, None, List, [], ◌++◌, codes, Ok, Err}
 use Rattle.mc_protocol.specs.Lines.{Word}
 use Rattle.mc_protocol.specs.Words.{actor_word}
 use Rattle.mc_model.specs.Notes.{History}
 use Rattle.mc_code.specs.Code.{Code}
 use Rattle.mc_verify.specs.Checked.{IsRightRefusal}
 use Rattle.mc_verify.specs.Faults.{IsSound}
-use Rattle.mc_core.specs.Held.{Held, IsHeldBy}
-use Rattle.mc_core.specs.Histories.{history_of}
+use Rattle.mc_core.specs.Held.{Held}
 use Rattle.mc_history.specs.PrintedHistory.{history_text}
-use Rattle.mc_explain.specs.Verdicts.{IsStated}
 use Rattle.mc_explain.specs.declared.verdict.Verdict.{Verdict}
-use Rattle.mc_run.specs.Agreement.{Agree, LaneRecords}
-use Rattle.mc_run.specs.Headline.{IsTrial}
+use Rattle.mc_run.specs.Agreement.{LaneRecords}
+use Rattle.mc_run.specs.Judged.{IsJudged}
 use Rattle.mc_campaign.specs.Namespaces.{IsPutFault, code_under}
 use Rattle.mc_campaign.specs.declared.naming.PutFault.TheVariants as put_fault
 use Rattle.mc_command.specs.Endings.{endings_text, run_status}
 use Rattle.mc_command.specs.Loading.{LoadsScript, load_refusal}
 use Rattle.mc_command.specs.Soundness.{unsound_text}
 use Rattle.mc_command.specs.Verdicts.{verdict_text}
+use Rattle.mc_command.specs.WhyAnswers.{IsWhy, printed_line}
 use Rattle.mc_command.specs.declared.run.Played.{Played}
 use Rattle.mc_command.specs.declared.run.Played.TheVariants as played
 use Rattle.mc_command.specs.declared.status.Status.{Status}
@@ -45,25 +44,19 @@ pub record SpellsUnder (name : Option Word) (text : List ℕ) (code : Code) : Ty
 abbrev pub IsUnder : Word → Code → Code → Type 0
 IsUnder name written code = (code ≡ code_under name written) × IsSound code
 
--- What came of a run of this code: there are records of three lanes with which what was noted agrees, and all that is true of a
--- trial is true of it, with none of its events refused. The history is that of the run, and the verdict is on it. That these are
--- the records of connections to the server isn't said: a run that was made up has such records too.
-pub record IsRun (code : Code) (held : Held) (h : History) (found : Verdict) : Type 0 where
-  pub lanes : LaneRecords
-  pub agree : Agree code held.world lanes
-  pub trial : IsTrial code held.world.notes held.world 0 found
-  pub held_by : IsHeldBy code held
-  pub history : h ≡ history_of code held.world
-  pub stated : IsStated (history_of code held.world) found
+-- What came of a run of this code: there are records of three lanes with which it was judged. That these are the records of
+-- connections to the server isn't said: a run that was made up has such records too.
+abbrev pub IsRun : Code → Held → History → Verdict → Type 0
+IsRun code held h found = (lanes : LaneRecords) × IsJudged code held lanes h found
 
--- the answer is right for sound code
-abbrev pub IsRightFor : Code → Played → Type 0
-IsRightFor code (played.Ended held h found) = IsRun code held h found
-IsRightFor code (played.NoConnection section) = Unit {0}
-IsRightFor code played.NotRun = Unit {0}
-IsRightFor code (played.NoCode fault) = ⊥
-IsRightFor code (played.Unsound refusal) = ⊥
-IsRightFor code (played.KeyTooLong index) = ⊥
+-- the answer is right for sound code; why nothing explains the history of its run is said where `why` asks for it
+abbrev pub IsRightFor : Bool → Code → Played → Type 0
+IsRightFor why code (played.Ended held h found reasons) = IsRun code held h found × IsWhy why printed_line h found reasons.items
+IsRightFor why code (played.NoConnection section) = Unit {0}
+IsRightFor why code played.NotRun = Unit {0}
+IsRightFor why code (played.NoCode fault) = ⊥
+IsRightFor why code (played.Unsound refusal) = ⊥
+IsRightFor why code (played.KeyTooLong index) = ⊥
 
 -- the code is that of the script which the text spells; or it is that under the name, and the one without it is sound
 abbrev pub IsVerified : Option Word → List ℕ → Code → Type 0
@@ -76,22 +69,31 @@ HasLongKey None text index = ⊥
 HasLongKey (Some name) text index = (written : Code) × Spells text written × IsPutFault name written.keys (put_fault.KeyTooLong index)
 
 -- the answer is right for the text, where the keys are put under the name, if there is one
-abbrev pub IsRight : Option Word → List ℕ → Played → Type 0
-IsRight name text (played.Ended held h found) =
-    (code : Code) × SpellsUnder name text code × IsRightFor code (played.Ended held h found)
-IsRight name text (played.NoConnection section) = (code : Code) × SpellsUnder name text code
-IsRight name text played.NotRun = (code : Code) × SpellsUnder name text code
-IsRight name text (played.NoCode fault) = LoadsScript text (Err fault)
-IsRight name text (played.Unsound refusal) = (code : Code) × IsVerified name text code × IsRightRefusal code refusal
-IsRight name text (played.KeyTooLong index) = HasLongKey name text index
+abbrev pub IsRight : Bool → Option Word → List ℕ → Played → Type 0
+IsRight why name text (played.Ended held h found reasons) =
+    (code : Code) × SpellsUnder name text code × IsRightFor why code (played.Ended held h found reasons)
+IsRight why name text (played.NoConnection section) = (code : Code) × SpellsUnder name text code
+IsRight why name text played.NotRun = (code : Code) × SpellsUnder name text code
+IsRight why name text (played.NoCode fault) = LoadsScript text (Err fault)
+IsRight why name text (played.Unsound refusal) = (code : Code) × IsVerified name text code × IsRightRefusal code refusal
+IsRight why name text (played.KeyTooLong index) = HasLongKey name text index
 
--- what is written of a run: how its sections ended, the verdict, and the history
-abbrev pub ended_text : Held → History → Verdict → List ℕ
-ended_text held h found = endings_text held.endings ++ (verdict_text found ++ history_text h)
+-- no code is played: the text is refused, or a key becomes too long under the name
+abbrev pub is_refusal : Played → Bool
+is_refusal (played.Ended held h found told) = false
+is_refusal (played.NoConnection section) = false
+is_refusal played.NotRun = false
+is_refusal (played.NoCode fault) = true
+is_refusal (played.Unsound refusal) = true
+is_refusal (played.KeyTooLong index) = true
+
+-- what is written of a run: how its sections ended, the verdict, why nothing explains the history, where that is asked, and the history
+abbrev pub ended_text : Held → History → Verdict → List ℕ → List ℕ
+ended_text held h found reasons = endings_text held.endings ++ (verdict_text found ++ (reasons ++ history_text h))
 
 -- what is written for an answer
 abbrev pub text_of : Played → List ℕ
-text_of (played.Ended held h found) = ended_text held h found
+text_of (played.Ended held h found reasons) = ended_text held h found reasons.items
 text_of (played.NoConnection section) = codes "no connection " ++ (actor_word section ++ codes "\n")
 text_of played.NotRun = codes "not run\n"
 text_of (played.NoCode fault) = load_refusal fault
@@ -100,7 +102,7 @@ text_of (played.KeyTooLong index) = []
 
 -- the exit status of an answer
 abbrev pub status_of : Played → Status
-status_of (played.Ended held h found) = run_status held.endings found
+status_of (played.Ended held h found reasons) = run_status held.endings found
 status_of (played.NoConnection section) = status.NoAnswer
 status_of played.NotRun = status.NoAnswer
 status_of (played.NoCode fault) = status.Refused
@@ -108,5 +110,5 @@ status_of (played.Unsound refusal) = status.Refused
 status_of (played.KeyTooLong index) = status.WrongLine
 
 -- an answer that is right for the text is what is written, with its status
-abbrev pub Plays : Option Word → List ℕ → List ℕ → Status → Type 0
-Plays name text output ended = (given : Played) × IsRight name text given × (output ≡ text_of given) × (ended ≡ status_of given)
+abbrev pub Plays : Bool → Option Word → List ℕ → List ℕ → Status → Type 0
+Plays why name text output ended = (given : Played) × IsRight why name text given × (output ≡ text_of given) × (ended ≡ status_of given)

@@ -1,5 +1,5 @@
 -- The exit statuses.
-use Rattle.std.specs.Prelude.{ℕ}
+use Rattle.std.specs.Prelude.{ℕ, Bool, true, false}
 use Rattle.mc_command.specs.declared.status.Status.{Status}
 use Rattle.mc_command.specs.declared.status.Status.TheVariants as status
 
@@ -9,6 +9,13 @@ status_number status.Unexplained = 1
 status_number status.WrongLine = 2
 status_number status.Refused = 3
 status_number status.NoAnswer = 4
+
+abbrev pub is_success : Status → Bool
+is_success status.Success = true
+is_success status.Unexplained = false
+is_success status.WrongLine = false
+is_success status.Refused = false
+is_success status.NoAnswer = false
 
 -- the status of two parts together: 1 goes before 4, and 4 before 0
 abbrev pub joined : Status → Status → Status

@@ -1,5 +1,5 @@
 //! What is answered to a text, whatever the line asks for.
-ghost use Rattle.std.specs.Prelude.{◌≡◌, IfOk, None};
+ghost use Rattle.std.specs.Prelude.{◌≡◌, Bool, IfOk, None};
 ghost use Rattle.mc_command.specs.Answers as answers;
 ghost use Rattle.mc_command.specs.AsmAnswers.{Assembles};
 ghost use Rattle.mc_command.specs.CheckAnswers.{Checks};
@@ -7,10 +7,14 @@ ghost use Rattle.mc_command.specs.DriveAnswers.{Drives};
 ghost use Rattle.mc_command.specs.GenerateAnswers.{Generates};
 ghost use Rattle.mc_command.specs.JudgeAnswers.{Judges};
 ghost use Rattle.mc_command.specs.RunAnswers.{Plays};
+ghost use Rattle.mc_command.specs.SelftestAnswers.{failed_text};
 ghost use Rattle.mc_command.specs.ServeAnswers.{no_listener_text};
 
 use crate::arguments::Asked;
+use crate::asking::Search;
+use crate::campaigning::not_run;
 use crate::loading::load_script;
+use crate::selftest::FAILED;
 use crate::serving::NO_LISTENER;
 use crate::status::Status;
 use crate::{asm, check, drive, generate, judge, run};
@@ -39,16 +43,19 @@ pub fn answer_to(alloc: Global, asked: Asked, text: &[u8]) -> Result<Answer, All
         return too_long(alloc);
     }
     match asked {
-        Asked::Judge(limit) => judge_answer(alloc, text, limit),
+        Asked::Judge(how) => judge_answer(alloc, text, how),
         Asked::Check => check_answer(alloc, text),
         Asked::Asm => asm_answer(alloc, text),
-        Asked::Drive(limit) => drive_answer(alloc, text, limit),
+        Asked::Drive(how) => drive_answer(alloc, text, how),
         // Whoever can reach a server answers by `run_command`.
         Asked::Run(_) => unplayed_answer(alloc, text),
         // The text, which isn't read for it, counts for nothing.
         Asked::Generate(seed, job) => generate_answer(alloc, seed, job),
         // Whoever can reach a network answers by `serve_connections`.
         Asked::Serve(_) => no_listener_answer(alloc),
+        // Whoever can reach a network answers by `run_campaign_at` and by `run_selftest`.
+        Asked::Campaign(_) => not_run(alloc),
+        Asked::Selftest => failed_answer(alloc),
     }
 }
 
@@ -63,10 +70,10 @@ pub fn too_long(alloc: Global) -> Result<Answer, AllocError>
     })
 }
 
-fn judge_answer(alloc: Global, text: &[u8], limit: u64) -> Result<Answer, AllocError>
-    ensures { IfOk result (λ answer. Judges limit text.now answer.output.items answer.status) }
+fn judge_answer(alloc: Global, text: &[u8], how: Search) -> Result<Answer, AllocError>
+    ensures { IfOk result (λ answer. Judges how text.now answer.output.items answer.status) }
 {
-    let judgement = judge::judge_text(alloc, text, limit)?;
+    let judgement = judge::judge_text(alloc, text, how)?;
     let output = judge::text_of(alloc, &judgement)?;
     let status = judge::status_of(&judgement);
     Ok(Answer { output, status })
@@ -90,10 +97,10 @@ fn asm_answer(alloc: Global, text: &[u8]) -> Result<Answer, AllocError>
     Ok(Answer { output, status })
 }
 
-fn drive_answer(alloc: Global, text: &[u8], limit: u64) -> Result<Answer, AllocError>
-    ensures { IfOk result (λ answer. Drives text.now answer.output.items answer.status) }
+fn drive_answer(alloc: Global, text: &[u8], how: Search) -> Result<Answer, AllocError>
+    ensures { IfOk result (λ answer. Drives how.why text.now answer.output.items answer.status) }
 {
-    let driven = drive::drive_text(alloc, text, limit)?;
+    let driven = drive::drive_text(alloc, text, how)?;
     let output = drive::text_of(alloc, &driven)?;
     let status = drive::status_of(&driven);
     Ok(Answer { output, status })
@@ -120,8 +127,18 @@ fn no_listener_answer(alloc: Global) -> Result<Answer, AllocError>
     })
 }
 
+fn failed_answer(alloc: Global) -> Result<Answer, AllocError>
+    ensures { IfOk result (λ answer. (answer.output.items ≡ failed_text) × (answer.status ≡ Status.Unexplained)) }
+{
+    let output = Vec::from_slice(alloc, FAILED)?;
+    Ok(Answer {
+        output,
+        status: Status::Unexplained,
+    })
+}
+
 fn unplayed_answer(alloc: Global, text: &[u8]) -> Result<Answer, AllocError>
-    ensures { IfOk result (λ answer. Plays None text.now answer.output.items answer.status) }
+    ensures { IfOk result (λ answer. (why : Bool) → Plays why None text.now answer.output.items answer.status) }
 {
     let played = run::check_text(alloc, text)?;
     let output = run::text_of(alloc, &played)?;

@@ -6,10 +6,9 @@ ghost use Rattle.mc_command.specs.CheckAnswers as answers;
 ghost use Rattle.mc_command.specs.CommandLine.{check_app};
 
 use crate::loading;
-use crate::loading::LoadFault;
+use crate::loading::{LoadFault, unsound_text, verify_code};
 use crate::refusal::refusal_text;
 use crate::status::Status;
-use crate::verifying::{unsound_text, verify_code};
 use clap::Command;
 use mc_code::Code;
 use mc_protocol::{Actor, Sections};

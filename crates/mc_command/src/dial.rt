@@ -4,22 +4,21 @@ ghost use Rattle.mc_lane.specs.Streams.{silent, no_counts};
 ghost use Rattle.mc_run.specs.Running.{AreNew, IsNew};
 
 use crate::arguments::Target;
+use crate::quitting::Closing;
 use crate::seconds::Seconds;
 use crate::socket::Socket;
+use mc_campaign::RECEIVED_LIMIT;
 use mc_lane::{Lane, Stream, Wire};
 use mc_protocol::{Actor, Sections};
 use mc_run::Lanes;
 use std::alloc::Global;
 use std::io;
-use std::io::ErrorKind;
+use std::io::{ErrorKind, Read};
 use std::net::{Net, SocketAddr, TcpStream, ToSocketAddrs};
 use std::rt::Clock;
 use std::sync::atomic::{AtomicBool, Ordering};
 use std::thread::sleep;
 use std::time::{Duration, Instant};
-
-// The most bytes that are received over a connection.
-const RECEIVED_LIMIT: u32 = 262_144;
 
 // The milliseconds between two tries to connect.
 const PAUSE: u64 = 50;
@@ -57,6 +56,24 @@ impl Connections {
         self.streams.get(section)
     }
 
+    /// Whether the server holds each of them open, and nothing has come on it that wasn't read.
+    pub fn are_idle(&self) -> bool {
+        let Sections { p, a, b } = &self.streams;
+        is_idle(p) && is_idle(a) && is_idle(b)
+    }
+
+    /// Has the server close them, and waits for that, but not for long.
+    pub fn quit<R: Clock>(self, rt: &R) {
+        let Connections { streams, .. } = self;
+        let Sections { p, a, b } = streams;
+        let closing = Closing::ask(Sections {
+            p: Some(p),
+            a: Some(a),
+            b: Some(b),
+        });
+        closing.wait(rt);
+    }
+
     /// Whether a read or a write of the section took longer than it may.
     pub fn is_late(&self, section: Actor) -> bool {
         self.late.get(section).load(Ordering::SeqCst)
@@ -75,7 +92,8 @@ pub fn connect_sections<R: Net<Stream = TcpStream> + Clock>(
     target: &Target<'_>,
 ) -> Result<Connections, (Actor, io::Error)> {
     let timeout = target.timeout;
-    let (p, address) = match connect_patiently(rt, target.server, timeout, target.wait) {
+    let server = Place::Named(target.server);
+    let (p, address) = match connect_patiently(rt, server, timeout, target.wait) {
         Ok(found) => found,
         Err(error) => return Err((Actor::P, error)),
     };
@@ -91,19 +109,26 @@ pub fn connect_sections<R: Net<Stream = TcpStream> + Clock>(
     })
 }
 
-// A connection to the server, and the address that took it. It is tried again until `wait` is over.
-fn connect_patiently<R: Net<Stream = TcpStream> + Clock>(
+/// Where a server is: at the addresses of its name, HOST:PORT, or at one address.
+#[derive(Clone, Copy, Debug, Drop)]
+pub enum Place<'a> {
+    Named(&'a str),
+    At(SocketAddr),
+}
+
+/// A connection to the server, and the address that took it. It is tried again until `wait` is over.
+pub fn connect_patiently<R: Net<Stream = TcpStream> + Clock>(
     rt: &R,
-    server: &str,
+    server: Place<'_>,
     timeout: Option<Seconds<'_>>,
     wait: Option<Seconds<'_>>,
 ) -> io::Result<(TcpStream, SocketAddr)> {
     let Some(wait) = wait else {
-        return connect_first(rt, server, timeout);
+        return connect_at(rt, server, timeout);
     };
     let begun = Instant::now(rt)?;
     for _ in 0..wait.milliseconds / PAUSE {
-        if let Ok(found) = connect_first(rt, server, timeout) {
+        if let Ok(found) = connect_at(rt, server, timeout) {
             return Ok(found);
         }
         sleep(rt, Duration::from_millis(PAUSE));
@@ -111,7 +136,34 @@ fn connect_patiently<R: Net<Stream = TcpStream> + Clock>(
             break;
         }
     }
-    connect_first(rt, server, timeout)
+    connect_at(rt, server, timeout)
+}
+
+fn connect_at<R: Net<Stream = TcpStream>>(
+    rt: &R,
+    server: Place<'_>,
+    timeout: Option<Seconds<'_>>,
+) -> io::Result<(TcpStream, SocketAddr)> {
+    match server {
+        Place::Named(name) => connect_first(rt, name, timeout),
+        Place::At(address) => Ok((connect(rt, address, timeout)?, address)),
+    }
+}
+
+// Whether nothing is there to be read, and more may come. The connection waits for what comes afterwards.
+fn is_idle(stream: &TcpStream) -> bool {
+    if stream.set_nonblocking(true).is_err() {
+        return false;
+    }
+    let mut reader = stream;
+    let found = reader.read(&mut [0; 1]);
+    if stream.set_nonblocking(false).is_err() {
+        return false;
+    }
+    match found {
+        Ok(_) => false,
+        Err(error) => error.kind() == ErrorKind::WouldBlock,
+    }
 }
 
 // A connection to the branch's own server, or else to the address that took P.
@@ -148,7 +200,8 @@ fn connect_first<R: Net<Stream = TcpStream>>(
     Err(last)
 }
 
-fn connect<R: Net<Stream = TcpStream>>(
+/// A connection to the address.
+pub fn connect<R: Net<Stream = TcpStream>>(
     rt: &R,
     address: SocketAddr,
     timeout: Option<Seconds<'_>>,
@@ -160,7 +213,10 @@ fn connect<R: Net<Stream = TcpStream>>(
     };
     // Else a request may wait until the server has acknowledged the one before it.
     stream.set_nodelay(true)?;
-    stream.set_read_timeout(limit)?;
-    stream.set_write_timeout(limit)?;
+    // A new connection has no limit, so none need be set.
+    if limit.is_some() {
+        stream.set_read_timeout(limit)?;
+        stream.set_write_timeout(limit)?;
+    }
     Ok(stream)
 }

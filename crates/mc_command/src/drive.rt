@@ -8,14 +8,13 @@ ghost use Rattle.mc_command.specs.CommandLine.{drive_app};
 ghost use Rattle.mc_command.specs.DriveAnswers as answers;
 ghost use Rattle.mc_command.specs.Refusals as refusals;
 
-use crate::endings::endings_text;
-use crate::loading::{LoadFault, load_front};
-use crate::outcome::status_of_run;
+use crate::asking::Search;
+use crate::driven_why::driven_why_text;
+use crate::loading::{LoadFault, load_front, unsound_text, verify_code};
+use crate::outcome::{endings_text, status_of_run, verdict_text};
 use crate::refusal::{Place, Refusal, refusal_text};
 use crate::status::Status;
-use crate::verdicts::verdict_text;
-use crate::verifying::{unsound_text, verify_code};
-use crate::{limit, loading};
+use crate::{asking, limit, loading};
 use clap::Command;
 use mc_core::World;
 use mc_explain::Verdict;
@@ -28,8 +27,9 @@ use std::alloc::{AllocError, Global};
 /// What is answered to a text.
 #[derive(Debug, Drop)]
 pub enum Driven {
-    /// The world after the steps, how many of them it refused, and the verdict on its history.
-    Ended(World, u64, Verdict),
+    /// The world after the steps, how many of them it refused, the verdict on its history, and the text that says why nothing explains
+    /// the history, which is empty where that isn't so or isn't asked for.
+    Ended(World, u64, Verdict, Vec<u8>),
     /// The text begins with no code.
     NoCode(LoadFault),
     /// The script's code isn't sound, and this is its least fault.
@@ -38,14 +38,13 @@ pub enum Driven {
     NoSteps(StepsFault),
 }
 
-/// Reads the script and the steps after it, leads the script's code through the steps, and judges what they came to in at
-/// most `limit` turns.
-pub fn drive_text(alloc: Global, text: &[u8], limit: u64) -> Result<Driven, AllocError>
-    ensures { IfOk result (answers.IsRight text.now) }
+/// Reads the script and the steps after it, leads the script's code through the steps, and judges what they came to.
+pub fn drive_text(alloc: Global, text: &[u8], how: Search) -> Result<Driven, AllocError>
+    ensures { IfOk result (answers.IsRight how.why text.now) }
 {
     match load_front(alloc, text)? {
         Ok((code, size)) => match verify_code(alloc, code)? {
-            Ok(checked) => drive_steps(alloc, &checked, text, size, limit),
+            Ok(checked) => drive_steps(alloc, &checked, text, size, how),
             Err(refusal) => Ok(Driven::Unsound(refusal)),
         },
         Err(fault) => Ok(Driven::NoCode(fault)),
@@ -59,16 +58,18 @@ fn drive_steps(
     checked: &Checked,
     text: &[u8],
     size: usize,
-    limit: u64,
+    how: Search,
 ) -> Result<Driven, AllocError>
     requires { answers.BeginsWith text.now checked.now.code size }
-    ensures { IfOk result (answers.IsRight text.now) }
+    ensures { IfOk result (answers.IsRight how.why text.now) }
 {
     let (front, list) = text.split_at(size);
-    match parse_steps(alloc, list, count_lines(front).saturating_add(1)) {
+    let before = count_lines(front);
+    match parse_steps(alloc, list, before.saturating_add(1)) {
         Ok(steps) => {
-            let (world, skipped, verdict) = trial(alloc, checked, steps, limit)?;
-            Ok(Driven::Ended(world, skipped, verdict))
+            let (world, skipped, verdict) = trial(alloc, checked, steps, how.limit)?;
+            let why = driven_why_text(alloc, how, checked, before, list, &world, &verdict)?;
+            Ok(Driven::Ended(world, skipped, verdict, why))
         }
         // Want of memory is no fault of the text.
         Err(fault) => match fault.kind {
@@ -92,7 +93,9 @@ pub fn text_of(alloc: Global, answer: &Driven) -> Result<Vec<u8>, AllocError>
     ensures { IfOk result (λ text. text.items ≡ answers.text_of answer.now) }
 {
     match answer {
-        Driven::Ended(world, skipped, verdict) => ended_text(alloc, world, *skipped, verdict),
+        Driven::Ended(world, skipped, verdict, why) => {
+            ended_text(alloc, world, *skipped, verdict, why.as_slice())
+        }
         Driven::NoCode(fault) => refusal_text(alloc, loading::refusal_of(*fault)),
         Driven::Unsound(refusal) => unsound_text(alloc, refusal),
         Driven::NoSteps(fault) => refusal_text(alloc, refusal_of(*fault)),
@@ -104,13 +107,15 @@ fn ended_text(
     world: &World,
     skipped: u64,
     verdict: &Verdict,
+    why: &[u8],
 ) -> Result<Vec<u8>, AllocError>
-    ensures { IfOk result (λ text. text.items ≡ answers.ended_text world.now skipped verdict.now) }
+    ensures { IfOk result (λ text. text.items ≡ answers.ended_text world.now skipped verdict.now why.now) }
 {
     let endings = endings_text(alloc, world)?;
     let verdict = verdict_text(alloc, verdict)?;
     let mut text = format!(in alloc; "skipped {skipped}\n{endings}")?.into_bytes();
     text.extend_from_slice(verdict.as_slice())?;
+    text.extend_from_slice(why)?;
     Ok(text)
 }
 
@@ -130,14 +135,14 @@ pub fn status_of(answer: &Driven) -> Status
     ensures { result ≡ answers.status_of answer.now }
 {
     match answer {
-        Driven::Ended(world, _, verdict) => status_of_run(world, verdict),
+        Driven::Ended(world, _, verdict, _) => status_of_run(world, verdict),
         Driven::NoCode(_) | Driven::Unsound(_) | Driven::NoSteps(_) => Status::Refused,
     }
 }
 
 const ABOUT: &str = "Leads the script on standard input through the steps after it";
 
-const USAGE: &str = "mcrace drive [--limit N] < FILE";
+const USAGE: &str = "mcrace drive [--limit N] [--why] < FILE";
 
 const LONG_ABOUT: &str =
     "Leads the script on standard input through the steps that follow it, without a
@@ -232,6 +237,20 @@ requests, one that was answered before the other began also acts before it.
   unexplained  the search came to its end, and found none
   undecided    the turns of the search were used up before either was known
 
+With `--why` more is said after `unexplained`: from which step on it is so, as
+if B were told 8 in the last step above. A line has the number of its step in
+the input. `mcrace judge --help` says how to read these lines.
+
+  unexplained
+  why
+  line 24 B reply NUMBER 8
+  explained before
+  P 0
+  P 1
+  next A incr a 1 answers NUMBER 6
+  next B incr a 1 answers NUMBER 6
+  end
+
 The script is checked before its first step is looked at, as by `mcrace check`.
 So no step is needed to find out that it may break its flags, its variables or
 its budgets, and whatever the steps are, it doesn't break them.
@@ -263,5 +282,6 @@ pub fn subcommand<'a>(alloc: Global) -> Result<Command<'a>, AllocError>
         .long_about(LONG_ABOUT)
         .override_usage(USAGE)
         .after_help(STATUSES)
-        .arg(limit::option(alloc))
+        .arg(limit::option(alloc))?
+        .arg(asking::flag(alloc))
 }

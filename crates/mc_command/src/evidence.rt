@@ -12,7 +12,7 @@ use std::io::Read;
 use std::net::TcpStream;
 
 // At most this many bytes of a request, and of what came, are shown.
-const MOST_TOLD: usize = 200;
+const MOST_SHOWN: usize = 200;
 
 // Bytes that nobody asked for are read at most this many times.
 const MOST_READS: usize = 64;
@@ -20,30 +20,44 @@ const MOST_READS: usize = 64;
 // At most this many of them are read at once.
 const PIECE: usize = 4096;
 
-/// A line for each section that failed by what it received, or by what it didn't receive within the time, with what it had asked and what
+/// A remark on each section that failed by what it received, or by what it didn't receive within the time, with what it had asked and what
 /// came; and for each that has all its replies and received more, or for which more is there at once. What isn't printable ASCII is
 /// escaped.
-pub fn evidence_text<S: Stream>(
+pub fn evidence_of<S: Stream>(
     alloc: Global,
     history: &History,
     lanes: &Lanes<S>,
     connections: &Connections,
     timeout: Option<Seconds<'_>>,
-) -> Result<String, AllocError> {
-    let mut text = String::new(alloc);
+) -> Result<Vec<String>, AllocError> {
+    let mut remarks = Vec::new(alloc);
     for section in [Actor::P, Actor::A, Actor::B] {
         let sent = history.sent(section);
         let lane = lanes.get(section);
-        let told = match timeout {
-            Some(time) if connections.is_late(section) => late_text(alloc, sent, lane, time)?,
-            _ => section_text(alloc, sent, lane, connections.stream(section))?,
+        let late = if connections.is_late(section) {
+            timeout
+        } else {
+            None
         };
-        if let Some(told) = told {
-            let line = format!(in alloc; "mcrace: {}: {told}\n", section.word())?;
-            text.push_str(line.as_str())?;
+        if let Some(said) = section_text(alloc, sent, lane, connections.stream(section), late)? {
+            remarks.push(format!(in alloc; "{}: {said}", section.word())?)?;
         }
     }
-    Ok(text)
+    Ok(remarks)
+}
+
+/// What the program says of a section that failed, if it says anything: where a read or a write took longer than `late`, what didn't come
+/// within that time, or wasn't sent; else what it received that is no reply to its last request, or a line that reports an error.
+pub fn failure_text<S: Stream>(
+    alloc: Global,
+    sent: &[Sent],
+    lane: &Lane<S>,
+    late: Option<Seconds<'_>>,
+) -> Result<Option<String>, AllocError> {
+    match late {
+        Some(time) => late_text(alloc, sent, lane, time),
+        None => wrong_text(alloc, sent, lane),
+    }
 }
 
 // What the program says of a section whose last read or write took too long.
@@ -58,8 +72,8 @@ fn late_text<S: Stream>(
     };
     let word = time.word;
     let asked = asked_text(alloc, request)?;
-    let came = first_told(&lane.got()[lane.taken()..]);
-    let told = match lane.fault() {
+    let came = shown_part(&lane.got()[lane.taken()..]);
+    let text = match lane.fault() {
         Some(Fault::WriteFailed) => format!(in alloc; "\"{asked}\" wasn't sent within {word} s")?,
         _ if came.is_empty() => format!(in alloc; "no reply to \"{asked}\" within {word} s")?,
         _ => {
@@ -67,18 +81,38 @@ fn late_text<S: Stream>(
             format!(in alloc; "no more than \"{came}\" to \"{asked}\" within {word} s")?
         }
     };
-    Ok(Some(told))
+    Ok(Some(text))
 }
 
-// What the program says of another section: what came in the place of a reply, or after its last one.
+// What the program says of a section: how it failed, or what came after its last reply.
 fn section_text<S: Stream>(
     alloc: Global,
     sent: &[Sent],
     lane: &Lane<S>,
     stream: &TcpStream,
+    late: Option<Seconds<'_>>,
+) -> Result<Option<String>, AllocError> {
+    match (late, lane.fault(), sent.last()) {
+        (None, None, Some(Sent { reply: Some(_), .. })) => {
+            let mut all = Vec::from_slice(alloc, &lane.got()[lane.taken()..])?;
+            take_waiting(stream, &mut all)?;
+            if all.is_empty() {
+                return Ok(None);
+            }
+            Ok(Some(surplus_text(alloc, &all)?))
+        }
+        _ => failure_text(alloc, sent, lane, late),
+    }
+}
+
+// What the program says of a section that received what is no reply to its last request, or a line that reports an error; or nothing.
+fn wrong_text<S: Stream>(
+    alloc: Global,
+    sent: &[Sent],
+    lane: &Lane<S>,
 ) -> Result<Option<String>, AllocError> {
     let more = &lane.got()[lane.taken()..];
-    let told = match (lane.fault(), sent.last()) {
+    match (lane.fault(), sent.last()) {
         (
             Some(Fault::BadReply | Fault::ErrorLine),
             Some(
@@ -87,18 +121,9 @@ fn section_text<S: Stream>(
                     reply: None,
                 },
             ),
-        ) => wrong_reply_text(alloc, request, more)?,
-        (None, Some(Sent { reply: Some(_), .. })) => {
-            let mut all = Vec::from_slice(alloc, more)?;
-            take_waiting(stream, &mut all)?;
-            if all.is_empty() {
-                return Ok(None);
-            }
-            surplus_text(alloc, &all)?
-        }
-        _ => return Ok(None),
-    };
-    Ok(Some(told))
+        ) => Ok(Some(wrong_reply_text(alloc, request, more)?)),
+        _ => Ok(None),
+    }
 }
 
 // Appends the bytes that have come over the connection, without waiting for any.
@@ -106,7 +131,14 @@ fn take_waiting(stream: &TcpStream, bytes: &mut Vec<u8>) -> Result<(), AllocErro
     if stream.set_nonblocking(true).is_err() {
         return Ok(());
     }
-    let mut stream = stream;
+    let taken = read_waiting(stream, bytes);
+    // Where this fails, no read of the connection waits any more.
+    let _ = stream.set_nonblocking(false);
+    taken
+}
+
+// Appends the bytes that are there, where a read doesn't wait.
+fn read_waiting(mut stream: &TcpStream, bytes: &mut Vec<u8>) -> Result<(), AllocError> {
     let mut piece = [0; PIECE];
     for _ in 0..MOST_READS {
         match stream.read(&mut piece) {
@@ -121,7 +153,7 @@ fn take_waiting(stream: &TcpStream, bytes: &mut Vec<u8>) -> Result<(), AllocErro
 fn asked_text(alloc: Global, request: &Request) -> Result<String, AllocError> {
     let mut asked = Vec::new(alloc);
     render_request(request, &mut asked)?;
-    let line = first_told(asked.as_slice().strip_suffix(b"\r\n").unwrap_or(&[]));
+    let line = shown_part(asked.as_slice().strip_suffix(b"\r\n").unwrap_or(&[]));
     let asked = line.escape_ascii();
     format!(in alloc; "{asked}")
 }
@@ -129,23 +161,23 @@ fn asked_text(alloc: Global, request: &Request) -> Result<String, AllocError> {
 // To a request came what is no reply to it.
 fn wrong_reply_text(alloc: Global, request: &Request, came: &[u8]) -> Result<String, AllocError> {
     let asked = asked_text(alloc, request)?;
-    let told = first_told(came).escape_ascii();
+    let shown = shown_part(came).escape_ascii();
     match reason(alloc, request, came) {
-        Some(reason) => format!(in alloc; "to \"{asked}\" came \"{told}\": {reason}"),
-        None => format!(in alloc; "to \"{asked}\" came \"{told}\""),
+        Some(reason) => format!(in alloc; "to \"{asked}\" came \"{shown}\": {reason}"),
+        None => format!(in alloc; "to \"{asked}\" came \"{shown}\""),
     }
 }
 
 // More came than the replies.
 fn surplus_text(alloc: Global, more: &[u8]) -> Result<String, AllocError> {
     let count = more.len();
-    let told = first_told(more).escape_ascii();
+    let shown = shown_part(more).escape_ascii();
     let bytes = if count == 1 { "byte" } else { "bytes" };
-    format!(in alloc; "after its last reply came {count} {bytes} more: \"{told}\"")
+    format!(in alloc; "after its last reply came {count} {bytes} more: \"{shown}\"")
 }
 
-fn first_told(bytes: &[u8]) -> &[u8] {
-    &bytes[..bytes.len().min(MOST_TOLD)]
+fn shown_part(bytes: &[u8]) -> &[u8] {
+    &bytes[..bytes.len().min(MOST_SHOWN)]
 }
 
 // Why what came begins with no reply to the request, if that isn't seen from it.

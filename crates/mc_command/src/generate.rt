@@ -111,7 +111,7 @@ const SEED_HELP: &str = "The seed, 0 to 18446744073709551615 [default: 1]";
 
 const JOB_HELP: &str = "The job, 0 to 18446744073709551615 [default: 0]";
 
-fn seed_option<'a>(alloc: Global) -> Arg<'a>
+pub fn seed_option<'a>(alloc: Global) -> Arg<'a>
     ensures rule { rule_of result ≡ seed_rule }
     ensures local { result.global ≡ false }
 {

@@ -1,14 +1,17 @@
 //! What `judge` answers to a text.
-ghost use Rattle.std.specs.Prelude.{◌≡◌, IfOk};
+ghost use Rattle.std.specs.Prelude.{◌≡◌, ◌++◌, IfOk};
 ghost use Rattle.clap.specs.Words.{app_of};
 ghost use Rattle.mc_command.specs.CommandLine.{judge_app};
 ghost use Rattle.mc_command.specs.JudgeAnswers as answers;
 ghost use Rattle.mc_command.specs.Refusals as refusals;
+ghost use Rattle.mc_command.specs.Verdicts as verdicts;
 
-use crate::limit;
+use crate::asking::Search;
+use crate::outcome::{verdict_status, verdict_text};
 use crate::refusal::{Place, Refusal, refusal_text};
 use crate::status::Status;
-use crate::verdicts::{verdict_status, verdict_text};
+use crate::why::{Counted, why_text};
+use crate::{asking, limit};
 use clap::Command;
 use mc_claims::confirms;
 use mc_explain::{Verdict, judge};
@@ -23,22 +26,23 @@ pub enum Judgement {
     Confirmed,
     /// The explanation in the text does not explain the history.
     NotConfirmed,
-    /// The text has no explanation. This is the verdict of the search for one, and how many turns it took.
-    Judged(Verdict, u64),
+    /// The text has no explanation. This is the verdict of the search for one, how many turns it took, and the text that says why
+    /// nothing explains the history, which is empty where that isn't so or isn't asked for.
+    Judged(Verdict, u64, Vec<u8>),
     /// The text is no history.
     Refused(HistoryFault),
 }
 
-/// Reads the text, and confirms its explanation, or searches for one in at most `limit` turns.
-pub fn judge_text(alloc: Global, text: &[u8], limit: u64) -> Result<Judgement, AllocError>
-    ensures { IfOk result (answers.IsRight limit text.now) }
+/// Reads the text, and confirms its explanation, or searches for one.
+pub fn judge_text(alloc: Global, text: &[u8], how: Search) -> Result<Judgement, AllocError>
+    ensures { IfOk result (answers.IsRight how text.now) }
 {
     match parse_history(alloc, text) {
         Ok(parsed) => {
             let (history, explanation) = parsed;
             match explanation {
                 Some(explanation) => check_explanation(alloc, &history, &explanation),
-                None => find_verdict(alloc, &history, limit),
+                None => find_verdict(alloc, text, &history, how),
             }
         }
         // Want of memory is no fault of the text.
@@ -63,11 +67,17 @@ fn check_explanation(
     }
 }
 
-fn find_verdict(alloc: Global, history: &History, limit: u64) -> Result<Judgement, AllocError>
-    ensures { IfOk result (answers.JudgesRightly limit history.now) }
+fn find_verdict(
+    alloc: Global,
+    text: &[u8],
+    history: &History,
+    how: Search,
+) -> Result<Judgement, AllocError>
+    ensures { IfOk result (answers.JudgesRightly how text.now history.now) }
 {
-    let (verdict, turns) = judge(alloc, history, limit)?;
-    Ok(Judgement::Judged(verdict, turns))
+    let (verdict, turns) = judge(alloc, history, how.limit)?;
+    let why = why_text(alloc, how, Counted::Text(text), history, &verdict)?;
+    Ok(Judgement::Judged(verdict, turns, why))
 }
 
 /// The text that is written for an answer.
@@ -77,9 +87,17 @@ pub fn text_of(alloc: Global, answer: &Judgement) -> Result<Vec<u8>, AllocError>
     match answer {
         Judgement::Confirmed => Vec::from_slice(alloc, b"confirmed\n"),
         Judgement::NotConfirmed => Vec::from_slice(alloc, b"not confirmed\n"),
-        Judgement::Judged(verdict, _) => verdict_text(alloc, verdict),
+        Judgement::Judged(verdict, _, why) => judged_text(alloc, verdict, why.as_slice()),
         Judgement::Refused(fault) => refusal_text(alloc, refusal_of(*fault)),
     }
+}
+
+fn judged_text(alloc: Global, verdict: &Verdict, why: &[u8]) -> Result<Vec<u8>, AllocError>
+    ensures { IfOk result (λ text. text.items ≡ verdicts.verdict_text verdict.now ++ why.now) }
+{
+    let mut text = verdict_text(alloc, verdict)?;
+    text.extend_from_slice(why)?;
+    Ok(text)
 }
 
 fn refusal_of(fault: HistoryFault) -> Refusal
@@ -100,14 +118,14 @@ pub fn status_of(answer: &Judgement) -> Status
     match answer {
         Judgement::Confirmed => Status::Success,
         Judgement::NotConfirmed => Status::Unexplained,
-        Judgement::Judged(verdict, _) => verdict_status(verdict),
+        Judgement::Judged(verdict, _, _) => verdict_status(verdict),
         Judgement::Refused(_) => Status::Refused,
     }
 }
 
 const ABOUT: &str = "Judges the history on standard input";
 
-const USAGE: &str = "mcrace judge [--limit N] < FILE";
+const USAGE: &str = "mcrace judge [--limit N] [--why] < FILE";
 
 const LONG_ABOUT: &str =
     "Judges the history on standard input: whether one cache can have given every
@@ -202,6 +220,29 @@ A turn tries one request at one place of the order. The search keeps in memory
 from where it found no way on, up to 256 MiB; past that it keeps no more, and
 may take more turns.
 
+With `--why` more is said after `unexplained`, as of a history in which A and B
+each delete what P stored:
+
+  unexplained
+  why
+  line 9 B reply DELETED
+  explained before
+  P 0
+  P 1
+  A 0
+  next B delete k answers NOT_FOUND
+  end
+
+What stands before line 9 of the input has an explanation, which follows, and
+nothing explains more of it. A line `next` stands for each client whose next
+request has begun, and says what a cache answers to it after these moves; a line
+`acted` stands for a request that acts in the explanation and has no reply
+before line 9, and says what it is answered there. In a `history 1` P's lines
+come first, then A's and then B's, whatever the order of the input: before a
+line of B stand all lines of P and of A. Each search for this takes at most as
+many turns as `--limit` says; where one of them is undecided, the line
+`undecided at line 9` and `end` are all that follows `why`.
+
 Where a line `explain` and the lines of an explanation stand before `end`, that
 one is judged, and none is searched for:
   confirmed      it explains the history
@@ -235,5 +276,6 @@ pub fn subcommand<'a>(alloc: Global) -> Result<Command<'a>, AllocError>
         .long_about(LONG_ABOUT)
         .override_usage(USAGE)
         .after_help(STATUSES)
-        .arg(limit::option(alloc))
+        .arg(limit::option(alloc))?
+        .arg(asking::flag(alloc))
 }

@@ -8,8 +8,8 @@ ghost use Rattle.mc_command.specs.LineLaws.{
   SignedLimitsAreFaulty,
 };
 
-/// `mcrace judge`, `mcrace judge --limit N` and `mcrace judge --limit=N`, the same of `mcrace drive`, `mcrace check`, `mcrace asm`,
-/// `mcrace generate` and `mcrace generate --seed=N --job=M` have no fault, and ask for what they say.
+/// `mcrace judge`, `mcrace judge --limit N`, `mcrace judge --limit=N` and `mcrace judge --why`, the same of `mcrace drive`,
+/// `mcrace check`, `mcrace asm`, `mcrace generate` and `mcrace generate --seed=N --job=M` have no fault, and ask for what they say.
 pub fn plain_lines_ask()
     ensures { PlainLinesAsk }
 {}

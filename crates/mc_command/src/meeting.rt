@@ -1,27 +1,25 @@
-//! The option `--meet`: how the branches of a run meet.
-ghost use Rattle.std.specs.Prelude.{◌≡◌, false, codes, IfOk, MatchResult};
+//! How the branches of a run, or of each job of a campaign, meet: the option `--meet`, and for a run what the lot says.
+ghost use Rattle.std.specs.Prelude.{◌≡◌, ◌<◌, ◌^◌, ℕ, false, codes, IfOk, MatchResult};
 ghost use Rattle.clap.specs.Words.{first_value, found_of, kind_of, rule_of};
 ghost use Rattle.mc_command.specs.Command.{IsMeeting};
 ghost use Rattle.mc_command.specs.CommandLine.{meet_rule};
+ghost use Rattle.mc_command.specs.Drawing.{meet_by};
 
 use clap::error::ErrorKind;
 use clap::{Arg, ArgMatches, Command, Error};
+use mc_campaign::Meeting;
+use mc_run::Meet;
+use rand_pcg::Pcg32;
 use std::alloc::{AllocError, Global};
-
-/// How the branches of a run are to meet: wait for each other before a request.
-#[derive(Clone, Copy, Debug, Drop, PartialEq, Eq)]
-pub enum Meeting {
-    /// By lot: before each request in three of four runs, and else before none.
-    Drawn,
-    /// Before each request.
-    Each,
-    /// Before the first request alone.
-    First,
-    /// Before none.
-    Never,
-}
+use std::rt::Clock;
 
 const HELP: &str = "Meeting: drawn, each, first or never [default: drawn]";
+
+// The seed where the clock gives none.
+const FIXED_SEED: u64 = 42;
+
+// Which of its sequences the generator goes along.
+const SEQUENCE: u64 = 54;
 
 /// The option.
 pub fn option<'a>(alloc: Global) -> Arg<'a>
@@ -59,4 +57,21 @@ pub fn fault(alloc: Global, mut command: Command<'_>, word: &str) -> Result<Erro
         "invalid value '{word}' for '--meet <WORD>': expected drawn, each, first or never"
     )?;
     command.error(ErrorKind::ValueValidation, message.as_str())
+}
+
+/// How a run meets that is asked to meet so, where a branch is late by `spread` microseconds at most. What is drawn of it, as
+/// [`draw_meet`](mc_campaign::draw_meet) does, is by a generator whose seed is the time.
+pub fn draw_meet<R: Clock>(rt: &R, meeting: Meeting, spread: u16) -> Meet
+    ensures { (seed : ℕ) × (seed < 2 ^ 64) × (result ≡ meet_by meeting spread seed) }
+{
+    let mut generator = Pcg32::new(seed_by(rt), SEQUENCE);
+    mc_campaign::draw_meet(&mut generator, meeting, spread)
+}
+
+// The nanoseconds since 1970, by one call of the clock.
+fn seed_by<R: Clock>(rt: &R) -> u64 {
+    match rt.since_1970() {
+        Ok(time) => u64::try_from(time.as_nanos()).unwrap_or(FIXED_SEED),
+        Err(_) => FIXED_SEED,
+    }
 }

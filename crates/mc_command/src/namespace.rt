@@ -1,4 +1,4 @@
-//! The option `--name`: the name that the keys of a run are put under.
+//! The option `--name`: the name that the keys of a run, or of a campaign's jobs, are put under.
 ghost use Rattle.std.specs.Prelude.{◌≡◌, false, codes, IfOk, MatchResult};
 ghost use Rattle.clap.specs.Words.{first_value, found_of, kind_of, rule_of};
 ghost use Rattle.mc_command.specs.Command.{MayName};
@@ -51,16 +51,28 @@ pub fn fault(alloc: Global, mut command: Command<'_>, word: &str) -> Result<Erro
 /// What standard error says where a key becomes too long under the name: the fault of the subcommand's line.
 pub fn long_key_text(
     alloc: Global,
-    mut command: Command<'_>,
+    command: Command<'_>,
     name: &Namespace<'_>,
     key: &Bytes,
 ) -> Result<String, AllocError> {
-    let length = name.as_slice().len() + 1 + key.as_slice().len();
+    let error = long_key_fault(alloc, command, name, key.as_slice())?;
+    error.to_string(alloc)
+}
+
+/// The fault of a subcommand's line under whose name this key becomes too long.
+pub fn long_key_fault(
+    alloc: Global,
+    mut command: Command<'_>,
+    name: &Namespace<'_>,
+    key: &[u8],
+) -> Result<Error, AllocError>
+    ensures { IfOk result (λ error. kind_of error ≡ ErrorKind.ValueValidation) }
+{
+    let length = (name.as_slice().len() + 1).saturating_add(key.len());
     let name = name.as_slice().escape_ascii();
-    let key = key.as_slice().escape_ascii();
+    let key = key.escape_ascii();
     let message = format!(in alloc;
         "invalid value '{name}' for '--name <NAME>': the key '{key}' has {length} bytes with it, and may have {KEY_BYTES_LIMIT}"
     )?;
-    let error = command.error(ErrorKind::ValueValidation, message.as_str())?;
-    error.to_string(alloc)
+    command.error(ErrorKind::ValueValidation, message.as_str())
 }

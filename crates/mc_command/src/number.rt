@@ -1,7 +1,7 @@
 //! Options whose value is a decimal.
-ghost use Rattle.std.specs.Prelude.{◌≡◌, ◌⊎◌, ℕ, IfErr, IfOk, MatchResult};
+ghost use Rattle.std.specs.Prelude.{◌≡◌, ◌<◌, ◌⊎◌, ℕ, IfErr, IfOk, MatchResult};
 ghost use Rattle.clap.specs.Words.{first_value, found_of, kind_of};
-ghost use Rattle.mc_command.specs.Command.{IsNumber};
+ghost use Rattle.mc_command.specs.Command.{IsCount, IsNumber};
 
 use clap::error::ErrorKind;
 use clap::{ArgMatches, Command, Error};
@@ -44,7 +44,52 @@ pub fn read_or_fault(
 {
     match read(options, name, default, greatest) {
         Ok(number) => Ok(number),
-        Err(word) => Err(fault(alloc, subcommand, name, greatest, word)?),
+        Err(word) => Err(fault(alloc, subcommand, name, 0, greatest, word)?),
+    }
+}
+
+/// The number from 1 to `greatest` that the words of a subcommand name as the option's value, or the default; or the word that is no
+/// such number.
+pub fn read_count<'a>(
+    options: &ArgMatches<'a>,
+    name: &str,
+    default: u64,
+    greatest: u64,
+) -> Result<u64, &'a str>
+    requires { 0 < default }
+    ensures { MatchResult result (IsCount default greatest (first_value (found_of options.now) name.now))
+        (λ _. (number : ℕ) → IsCount default greatest (first_value (found_of options.now) name.now) number → ⊥) }
+{
+    match options.get_str(name) {
+        Some(word) => {
+            let read = read_decimal(greatest, word.as_bytes());
+            match read {
+                Ok(number) if number > 0 => Ok(number),
+                _ => Err(word),
+            }
+        }
+        None => Ok(default),
+    }
+}
+
+/// The same number, or the fault of the subcommand's line.
+pub fn read_count_or_fault(
+    alloc: Global,
+    options: &ArgMatches,
+    subcommand: Command<'_>,
+    name: &str,
+    default: u64,
+    greatest: u64,
+) -> Result<u64, Error>
+    requires { 0 < default }
+    ensures number { IfOk result (IsCount default greatest (first_value (found_of options.now) name.now)) }
+    ensures fault { IfErr result (λ error. (kind_of error ≡ ErrorKind.OutOfMemory)
+        ⊎ ((kind_of error ≡ ErrorKind.ValueValidation)
+        × ((number : ℕ) → IsCount default greatest (first_value (found_of options.now) name.now) number → ⊥))) }
+{
+    match read_count(options, name, default, greatest) {
+        Ok(number) => Ok(number),
+        Err(word) => Err(fault(alloc, subcommand, name, 1, greatest, word)?),
     }
 }
 
@@ -53,13 +98,14 @@ fn fault(
     alloc: Global,
     mut subcommand: Command<'_>,
     name: &str,
+    least: u64,
     greatest: u64,
     word: &str,
 ) -> Result<Error, AllocError>
     ensures { IfOk result (λ error. kind_of error ≡ ErrorKind.ValueValidation) }
 {
     let message = format!(in alloc;
-        "invalid value '{word}' for '--{name} <N>': expected a number from 0 to {greatest}"
+        "invalid value '{word}' for '--{name} <N>': expected a number from {least} to {greatest}"
     )?;
     subcommand.error(ErrorKind::ValueValidation, message.as_str())
 }

@@ -8,20 +8,22 @@ ghost use Rattle.mc_command.specs.Streams.{TakesAtMost};
 
 use crate::answer::{Answer, INPUT_LIMIT, too_long};
 use crate::arguments::{Asked, Target};
+use crate::asking::Search;
 use crate::input::{InputFault, read_input};
-use crate::meeting::Meeting;
 use crate::program::{write_fault, write_text};
 use crate::run::{Remarks, play_text, status_of, text_of};
+use crate::statistics::Statistics;
 use crate::status::Status;
 use crate::streams::{Sink, Source};
+use mc_campaign::Meeting;
 use std::alloc::{AllocError, Global};
 use std::net::{Net, TcpStream};
 use std::rt::Clock;
 use std::sync::Wait;
 use std::thread::Threads;
 
-/// Runs the script on the input against the server that `target` names as HOST:PORT, and answers the exit status. The search for
-/// an explanation takes at most `limit` turns, and how the branches meet is drawn.
+/// Runs the script on the input against the server that `target` names as HOST:PORT, and answers the exit status. An
+/// explanation is searched for as `how` says, and how the branches meet is drawn.
 ///
 /// At most 1,048,577 bytes of the input are read, and they are read whole before anything is connected. It waits for the
 /// server.
@@ -29,7 +31,7 @@ pub fn run_command<R, I: Source, O: Sink>(
     rt: &R,
     alloc: Global,
     target: &str,
-    limit: u64,
+    how: Search,
     input: &mut I,
     output: &mut O,
 ) -> u8
@@ -38,7 +40,7 @@ where
     ensures answered { I.has_failed input.old ≡ false → I.has_failed input.new ≡ false
         → O.has_failed output.old ≡ false → O.has_failed output.new ≡ false
         → (ended : Status) × (result ≡ status_number ended)
-        × Answers (Asked.Run limit) (I.left input.old) (O.written output.old) (O.written output.new) ended }
+        × Answers (Asked.Run how) (I.left input.old) (O.written output.old) (O.written output.new) ended }
     ensures broken_input { I.has_failed input.old ≡ false → I.has_failed input.new ≡ true
         → (result ≡ 4) × (output.new ≡ output.old) }
     ensures broken_output { O.has_failed output.old ≡ false → O.has_failed output.new ≡ true → result ≡ 4 }
@@ -48,21 +50,29 @@ where
         server: target,
         a: None,
         b: None,
-        limit,
+        how,
         meeting: Meeting::Drawn,
         name: None,
         timeout: None,
         wait: None,
+        repeat: None,
+        reconnect: false,
+        quiet: false,
+        stats: false,
+        spread: 0,
     };
-    let (status, _) = run_script(rt, alloc, &target, input, output);
+    let mut statistics = Statistics::new();
+    let (status, _) = run_script(rt, alloc, &target, &mut statistics, input, output);
     status.number()
 }
 
-/// The same for a run whose branches may meet otherwise, with the status as it stands, and what standard error is to say.
+/// The same for a run whose branches may meet otherwise, with the status as it stands, and what standard error is to say. It is one run,
+/// whatever `target.repeat` says. It is counted in the statistics where the target asks for them.
 pub fn run_script<R, I: Source, O: Sink>(
     rt: &R,
     alloc: Global,
     target: &Target<'_>,
+    statistics: &mut Statistics,
     input: &mut I,
     output: &mut O,
 ) -> (Status, Remarks)
@@ -70,13 +80,13 @@ where
     R: Net<Stream = TcpStream> + Threads + Wait + Clock + Sync,
     ensures answered { I.has_failed input.old ≡ false → I.has_failed input.new ≡ false
         → O.has_failed output.old ≡ false → O.has_failed output.new ≡ false
-        → AnswersRun target.now.name (I.left input.old) (O.written output.old) (O.written output.new) result.0 }
+        → AnswersRun target.now.how.why target.now.name (I.left input.old) (O.written output.old) (O.written output.new) result.0 }
     ensures broken_input { I.has_failed input.old ≡ false → I.has_failed input.new ≡ true
         → (result.0 ≡ Status.NoAnswer) × (output.new ≡ output.old) }
     ensures broken_output { O.has_failed output.old ≡ false → O.has_failed output.new ≡ true → result.0 ≡ Status.NoAnswer }
     ensures taken { TakesAtMost 1048577 (I.left input.old) (I.left input.new) }
 {
-    match read_and_run(rt, alloc, target, input) {
+    match read_and_run(rt, alloc, target, statistics, input) {
         Ok((answer, remarks)) => {
             let status = write_text(answer.output.as_slice(), answer.status, output);
             (status, remarks)
@@ -90,17 +100,18 @@ fn read_and_run<R, I: Source>(
     rt: &R,
     alloc: Global,
     target: &Target<'_>,
+    statistics: &mut Statistics,
     input: &mut I,
 ) -> Result<(Answer, Remarks), InputFault>
 where
     R: Net<Stream = TcpStream> + Threads + Wait + Clock + Sync,
     ensures right { IfOk result (λ found. (text : List ℕ) × IsWhole (I.left input.old) text
-        × IsRunAnswer target.now.name text found.0.output.items found.0.status) }
+        × IsRunAnswer target.now.how.why target.now.name text found.0.output.items found.0.status) }
     ensures fails { input_rule.Fails (I.has_failed input.old) (I.has_failed input.new) result }
     ensures taken { TakesAtMost 1048577 (I.left input.old) (I.left input.new) }
 {
     let text = read_input(alloc, input, INPUT_LIMIT)?;
-    Ok(answer_to(rt, alloc, target, text.as_slice())?)
+    Ok(answer_to(rt, alloc, target, statistics, text.as_slice())?)
 }
 
 // The answer to a text, which has been read to its end or to one byte more than the limit.
@@ -108,16 +119,20 @@ fn answer_to<R>(
     rt: &R,
     alloc: Global,
     target: &Target<'_>,
+    statistics: &mut Statistics,
     text: &[u8],
 ) -> Result<(Answer, Remarks), AllocError>
 where
     R: Net<Stream = TcpStream> + Threads + Wait + Clock + Sync,
-    ensures { IfOk result (λ found. IsRunAnswer target.now.name text.now found.0.output.items found.0.status) }
+    ensures { IfOk result (λ found. IsRunAnswer target.now.how.why target.now.name text.now found.0.output.items found.0.status) }
 {
     if text.len() > INPUT_LIMIT {
         return Ok((too_long(alloc)?, Remarks::None));
     }
     let (played, remarks) = play_text(rt, alloc, target, text)?;
+    if target.stats {
+        statistics.add_played(&played);
+    }
     let output = text_of(alloc, &played)?;
     let status = status_of(&played);
     Ok((Answer { output, status }, remarks))

@@ -1,7 +1,9 @@
 //! The whole program, over any streams.
-ghost use Rattle.std.specs.Prelude.{◌≡◌, ◌≢◌, ◌⊎◌, ℕ, List, [], ◌+◌, ◌<◌, ◌≤◌, true, false, map, string_bytes, length, IfOk, IfErr};
+ghost use Rattle.std.specs.Prelude.{◌≡◌, ◌≢◌, ◌⊎◌, ℕ, List, Option, true, false, map, string_bytes, IfOk};
 ghost use Rattle.mc_command.specs.Answers.{IsAnswer, not_utf8_text, out_of_memory_text};
-ghost use Rattle.mc_command.specs.Command.{AsksFor, Answers, Hosts, IsFaulty, IsShown, IsWhole, MayShow, MayTell, Prints, reads_input};
+ghost use Rattle.mc_command.specs.Command.{AsksFor, Answers, Hosts, IsFaulty, IsShown, IsWhole, MayShow, MayTell, Prints};
+ghost use Rattle.mc_command.specs.Command.{WritesReport, WritesSelftest, reads_input};
+ghost use Rattle.mc_command.specs.CommandLine.{line_name};
 ghost use Rattle.mc_command.specs.Input as input_rule;
 ghost use Rattle.mc_command.specs.Statuses.{status_number};
 ghost use Rattle.mc_command.specs.Streams.{Grows, TakesAtMost};
@@ -10,9 +12,13 @@ ghost use Rattle.std.specs.IoError.{error_kind};
 ghost use Rattle.std.specs.declared.io.ErrorKind.TheVariants as io_kind;
 
 use crate::answer::{Answer, INPUT_LIMIT, OUT_OF_MEMORY, answer_to, generate_answer};
-use crate::arguments::{Asked, read_line};
+use crate::arguments::Asked;
+use crate::campaign::Plan;
+use crate::campaigning::write_not_run;
 use crate::file_hint::error_text;
 use crate::input::{InputFault, read_input};
+use crate::invocation::read_invocation;
+use crate::selftest::write_failed;
 use crate::serve::Service;
 use crate::serving::write_no_listener;
 use crate::status::Status;
@@ -27,9 +33,8 @@ const NOT_UTF8: &[u8] = b"error: the command line is not UTF-8\n";
 /// Does what the line asks for, and answers the exit status. The line's first word is the program's name.
 ///
 /// At most 1,048,577 bytes of the input are read, and they are read whole before a byte is written. For a generated script, for a server,
-/// which isn't served here, and of a line with a fault, nothing is read. The fault goes to the faults, and help, the version and want of
-/// memory go to the output.
-#[tactic(auto, using(crate::proofs::PlainLines::lines_ask_once))]
+/// a campaign and the selftest, which aren't run here, and of a line with a fault, nothing is read. The fault goes to the faults, and
+/// help, the version and want of memory go to the output.
 pub fn command<I: Source, O: Sink, F: Sink>(
     alloc: Global,
     line: &[String],
@@ -48,8 +53,17 @@ pub fn command<I: Source, O: Sink, F: Sink>(
     ensures served { (service : Service) → AsksFor (map string_bytes line.now) (Asked.Serve service)
         → O.has_failed output.old ≡ false → O.has_failed output.new ≡ false
         → (ended : Status) × (result ≡ status_number ended) × Hosts service (O.written output.old) (O.written output.new) ended }
+    ensures reported { (plan : Plan) → AsksFor (map string_bytes line.now) (Asked.Campaign plan)
+        → O.has_failed output.old ≡ false → O.has_failed output.new ≡ false
+        → (ended : Status) × (result ≡ status_number ended)
+        × WritesReport plan (line_name (map string_bytes line.now)) (O.written output.old) (O.written output.new) ended }
+    ensures tested { AsksFor (map string_bytes line.now) Asked.Selftest
+        → O.has_failed output.old ≡ false → O.has_failed output.new ≡ false
+        → (ended : Status) × (result ≡ status_number ended) × WritesSelftest (O.written output.old) (O.written output.new) ended }
     ensures no_input { (seed : ℕ) (job : ℕ) → AsksFor (map string_bytes line.now) (Asked.Generate seed job) → input.new ≡ input.old }
     ensures unread_by_serve { (service : Service) → AsksFor (map string_bytes line.now) (Asked.Serve service) → input.new ≡ input.old }
+    ensures unread_by_campaign { (plan : Plan) → AsksFor (map string_bytes line.now) (Asked.Campaign plan) → input.new ≡ input.old }
+    ensures unread_by_selftest { AsksFor (map string_bytes line.now) Asked.Selftest → input.new ≡ input.old }
     ensures no_fault { (asked : Asked) → AsksFor (map string_bytes line.now) asked → faults.new ≡ faults.old }
 
     ensures fault { IsFaulty (map string_bytes line.now)
@@ -68,12 +82,47 @@ pub fn command<I: Source, O: Sink, F: Sink>(
     ensures broken_faults { F.has_failed faults.old ≡ false → F.has_failed faults.new ≡ true → result ≡ 4 }
     ensures taken { TakesAtMost 1048577 (I.left input.old) (I.left input.new) }
 {
-    match read_line(alloc, line) {
-        Ok(Asked::Generate(seed, job)) => print_generated(alloc, seed, job, output).number(),
+    match read_invocation(alloc, line) {
+        Ok(invocation) => answer_offline(alloc, invocation.asked(), input, output).number(),
+        Err(error) => explain_fault(alloc, line, &error, output, faults).number(),
+    }
+}
+
+/// Does what is asked for where there is no network, by which a run, a server, a campaign and the selftest come to nothing.
+pub fn answer_offline<I: Source, O: Sink>(
+    alloc: Global,
+    asked: Asked,
+    input: &mut I,
+    output: &mut O,
+) -> Status
+    ensures answered { reads_input asked ≡ true → I.has_failed input.old ≡ false → I.has_failed input.new ≡ false
+        → O.has_failed output.old ≡ false → O.has_failed output.new ≡ false
+        → Answers asked (I.left input.old) (O.written output.old) (O.written output.new) result }
+    ensures generated { (seed : ℕ) (job : ℕ) → asked ≡ Asked.Generate seed job
+        → O.has_failed output.old ≡ false → O.has_failed output.new ≡ false
+        → Prints seed job (O.written output.old) (O.written output.new) result }
+    ensures served { (service : Service) → asked ≡ Asked.Serve service
+        → O.has_failed output.old ≡ false → O.has_failed output.new ≡ false
+        → Hosts service (O.written output.old) (O.written output.new) result }
+    ensures reported { (plan : Plan) → asked ≡ Asked.Campaign plan
+        → O.has_failed output.old ≡ false → O.has_failed output.new ≡ false
+        → (name : Option (List ℕ)) → WritesReport plan name (O.written output.old) (O.written output.new) result }
+    ensures tested { asked ≡ Asked.Selftest → O.has_failed output.old ≡ false → O.has_failed output.new ≡ false
+        → WritesSelftest (O.written output.old) (O.written output.new) result }
+    ensures unread { reads_input asked ≡ false → input.new ≡ input.old }
+    ensures broken_input { I.has_failed input.old ≡ false → I.has_failed input.new ≡ true
+        → (result ≡ Status.NoAnswer) × (output.new ≡ output.old) }
+    ensures broken_output { O.has_failed output.old ≡ false → O.has_failed output.new ≡ true → result ≡ Status.NoAnswer }
+    ensures taken { TakesAtMost 1048577 (I.left input.old) (I.left input.new) }
+{
+    match asked {
+        Asked::Generate(seed, job) => print_generated(alloc, seed, job, output),
         // Whoever can reach a network answers by `serve_connections`.
-        Ok(Asked::Serve(_)) => write_no_listener(output).number(),
-        Ok(asked) => answer(alloc, asked, input, output).number(),
-        Err(error) => explain(alloc, line, &error, output, faults).number(),
+        Asked::Serve(_) => write_no_listener(output),
+        // Whoever can reach a network answers by `run_campaign_at`, and by `run_selftest`.
+        Asked::Campaign(_) => write_not_run(output),
+        Asked::Selftest => write_failed(output),
+        asked => answer(alloc, asked, input, output),
     }
 }
 
@@ -149,8 +198,8 @@ fn read_answer<I: Source>(alloc: Global, asked: Asked, input: &mut I) -> Result<
     Ok(answer_to(alloc, asked, text.as_slice())?)
 }
 
-// Writes help and the version to the output, and a fault of the line to the faults.
-fn explain<O: Sink, F: Sink>(
+/// Writes help and the version to the output, and a fault of the line to the faults; or to the output that memory ran out.
+pub fn explain_fault<O: Sink, F: Sink>(
     alloc: Global,
     line: &[String],
     error: &Error,

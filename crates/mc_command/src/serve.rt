@@ -4,7 +4,7 @@ ghost use Rattle.clap.specs.Words.{app_of, first_value, found_of, kind_of, rule_
 ghost use Rattle.mc_command.specs.Command.{IsConnections, IsPort, is_set};
 ghost use Rattle.mc_command.specs.CommandLine.{connections_rule, port_rule, racy_rule, serve_app};
 
-use crate::number;
+use crate::{flag, number};
 use clap::error::ErrorKind;
 use clap::{Arg, ArgAction, ArgMatches, Command, Error};
 use mc_protocol::read_decimal;
@@ -47,7 +47,7 @@ pub fn read_or_fault(alloc: Global, options: &ArgMatches) -> Result<Service, Err
     Ok(Service {
         port,
         connections,
-        racy: is_racy(options),
+        racy: flag::is_set(options, "racy"),
     })
 }
 
@@ -87,16 +87,6 @@ fn port_fault(alloc: Global, word: &str) -> Result<Error, AllocError>
         "invalid value '{word}' for '<PORT>': expected a number from 0 to 65535"
     )?;
     subcommand.error(ErrorKind::ValueValidation, message.as_str())
-}
-
-// Whether the flag is there.
-fn is_racy(options: &ArgMatches) -> bool
-    ensures { result ≡ is_set (first_value (found_of options.now) (codes "racy")) }
-{
-    match options.get_str("racy") {
-        Some(word) => word == "true",
-        None => false,
-    }
 }
 
 const ABOUT: &str = "Serves memcached's text protocol on 127.0.0.1";

@@ -19,7 +19,7 @@ use std::thread::Threads;
 /// What is written where the port can't be opened.
 pub const NO_LISTENER: &[u8] = b"no listener\n";
 
-/// What is to be told beside the answer of `serve`.
+/// What standard error is to say beside the answer of `serve`.
 #[derive(Debug, Drop)]
 pub enum Told {
     /// Nothing.
@@ -30,8 +30,8 @@ pub enum Told {
     Connections(Listened),
 }
 
-/// Serves the connections that `service` asks for, and answers the exit status, and what is to be told beside the answer. It waits for
-/// the clients.
+/// Serves the connections that `service` asks for, and answers the exit status, and what standard error is to say beside the answer. It
+/// waits for the clients.
 pub fn serve_connections<R, O: Sink>(
     rt: &R,
     alloc: Global,

@@ -1,7 +1,9 @@
 //! Connections that tell whether a read or a write took longer than it may.
+use std::alloc::Global;
 use std::io;
 use std::io::{ErrorKind, Read, Write};
 use std::net::TcpStream;
+use std::sync::Arc;
 use std::sync::atomic::{AtomicBool, Ordering};
 
 /// A connection of a section, which notes where a read or a write of it took longer than it may.
@@ -16,13 +18,39 @@ impl<'a> Socket<'a> {
     pub fn new(stream: &'a TcpStream, is_late: &'a AtomicBool) -> Self {
         Socket { stream, is_late }
     }
+}
 
-    // Notes whether the error is the one of a call that took longer than it may. TimedOut is none: by it the system reports a connection
-    // that it has given up, however long that took.
+/// The same of a section of a campaign's job: it owns the connection, and what it notes outlives it.
+#[derive(Drop)]
+pub struct JobSocket {
+    stream: TcpStream,
+    is_late: Option<Arc<AtomicBool, Global>>,
+}
+
+impl JobSocket {
+    /// What reads and writes over the connection, and notes in `is_late`, if it is there, that a call took too long.
+    pub fn new(stream: TcpStream, is_late: Option<Arc<AtomicBool, Global>>) -> Self {
+        JobSocket { stream, is_late }
+    }
+
+    /// The connection.
+    pub fn into_stream(self) -> TcpStream {
+        let JobSocket { stream, .. } = self;
+        stream
+    }
+
     fn note(&self, error: &io::Error) {
-        if error.kind() == ErrorKind::WouldBlock {
-            self.is_late.store(true, Ordering::SeqCst);
+        if let Some(is_late) = &self.is_late {
+            note(error, is_late);
         }
+    }
+}
+
+// Notes whether the error is the one of a call that took longer than it may. TimedOut is none: by it the system reports a connection that
+// it has given up, however long that took.
+fn note(error: &io::Error, is_late: &AtomicBool) {
+    if error.kind() == ErrorKind::WouldBlock {
+        is_late.store(true, Ordering::SeqCst);
     }
 }
 
@@ -31,7 +59,7 @@ impl<'a> Read for Socket<'a> {
         let mut stream = self.stream;
         let result = stream.read(buffer);
         if let Err(error) = &result {
-            self.note(error);
+            note(error, self.is_late);
         }
         result
     }
@@ -42,7 +70,7 @@ impl<'a> Write for Socket<'a> {
         let mut stream = self.stream;
         let result = stream.write(bytes);
         if let Err(error) = &result {
-            self.note(error);
+            note(error, self.is_late);
         }
         result
     }
@@ -50,5 +78,29 @@ impl<'a> Write for Socket<'a> {
     fn flush(&mut self) -> io::Result<()> {
         let mut stream = self.stream;
         stream.flush()
+    }
+}
+
+impl Read for JobSocket {
+    fn read(&mut self, buffer: &mut [u8]) -> io::Result<usize> {
+        let result = self.stream.read(buffer);
+        if let Err(error) = &result {
+            self.note(error);
+        }
+        result
+    }
+}
+
+impl Write for JobSocket {
+    fn write(&mut self, bytes: &[u8]) -> io::Result<usize> {
+        let result = self.stream.write(bytes);
+        if let Err(error) = &result {
+            self.note(error);
+        }
+        result
+    }
+
+    fn flush(&mut self) -> io::Result<()> {
+        self.stream.flush()
     }
 }

@@ -31,6 +31,17 @@ impl Status {
             Status::NoAnswer => 4,
         }
     }
+
+    /// Whether it is that of what was done, and is so.
+    pub fn is_success(self) -> bool
+        ensures { result ≡ statuses.is_success self }
+    {
+        match self {
+            Status::Success => true,
+            Status::Unexplained | Status::WrongLine | Status::Refused | Status::NoAnswer => false,
+        }
+    }
+
     /// The status of two parts together: what is unexplained goes before what has no answer, and that before success.
     pub fn joined(self, other: Status) -> Status
         ensures { result ≡ statuses.joined self other }

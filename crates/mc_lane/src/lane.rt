@@ -1,6 +1,6 @@
 //! A lane: one connection, with at most one request outstanding.
 
-ghost use Rattle.std.specs.Prelude.{◌≡◌, ◌≤◌, None, Some, [], length};
+ghost use Rattle.std.specs.Prelude.{◌≡◌, ◌≤◌, None, Some, [], length, option_map};
 ghost use Rattle.mc_lane.specs.Lanes as spec;
 ghost use Rattle.mc_lane.specs.Streams.{CanFail};
 
@@ -141,10 +141,11 @@ impl<S: Stream> Lane<S> {
         self.stream.is_none() || self.fault.is_some()
     }
 
-    /// Drops the stream and keeps the record. This is no fault.
-    pub fn close(&mut self)
-        ensures { self.new ≡ record self.old { stream = None } }
+    /// Keeps the record, and hands out the stream, where the lane still has it. This is no fault.
+    pub fn close(&mut self) -> Option<S>
+        ensures record { self.new ≡ record self.old { stream = None } }
+        ensures stream { option_map S.state result ≡ self.old.stream }
     {
-        self.stream = None;
+        self.stream.take()
     }
 }

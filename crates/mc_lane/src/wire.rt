@@ -31,6 +31,14 @@ impl<T: Read + Write + Drop> Wire<T> {
             at_end: false,
         }
     }
+
+    /// What it reads and writes over.
+    pub fn into_inner(self) -> T
+        ensures { result ≡ wire_inner self }
+    {
+        let Wire { inner, .. } = self;
+        inner
+    }
 }
 
 impl<T: Read + Write + Drop> Stream for Wire<T> {

@@ -10,6 +10,7 @@ pub use Rattle.mc_lane.specs.Lanes
 pub mod Agreement
 pub mod Books
 pub mod Headline
+pub mod Judged
 pub mod Laws
 pub mod Recorded
 pub mod Running

@@ -20,6 +20,15 @@ pub enum Manner {
     Never,
 }
 
+/// A branch that waits once more when both have met before their first requests, and how long.
+#[derive(Clone, Copy, Debug, PartialEq, Eq)]
+pub struct Late {
+    /// The branch that waits.
+    pub branch: Branch,
+    /// How long it waits, about. No clock is read.
+    pub nanoseconds: u32,
+}
+
 /// How the branches of a run meet, and which of them runs on a thread of its own.
 #[derive(Clone, Copy, Debug, PartialEq, Eq)]
 pub struct Meet {
@@ -27,4 +36,6 @@ pub struct Meet {
     pub manner: Manner,
     /// The branch that runs on a new thread. The other one runs on the thread of the caller.
     pub apart: Branch,
+    /// The branch that is late, if one is. Where they don't meet, none is.
+    pub late: Option<Late>,
 }

@@ -1,12 +1,26 @@
 //! Where the branches of a run wait for each other.
 
-use crate::{Branch, Manner};
+use crate::{Branch, Manner, Meet};
 use std::sync::atomic::{AtomicU64, Ordering};
 use std::sync::{Condvar, Mutex, Wait};
+use std::thread::Parker;
+use std::time::Duration;
 
-/// How often a branch looks whether the other one is as far, before a request that isn't its first: some 50 microseconds, which is
-/// two exchanges with a server on the same machine.
+/// How often a branch looks whether the other one is as far: some 50 microseconds, which is two exchanges with a server on the same
+/// machine, or what it takes to wake a thread.
 const TURNS: u32 = 7_500;
+
+/// How far a branch is that has its first request ready.
+const READY: u64 = 1;
+
+/// How far it is once both have come, and it runs again if it slept. With each later request that is ready it is one further.
+const AWAKE: u64 = 2;
+
+/// How long a look takes, about.
+const NANOSECONDS_OF_TURN: u32 = 7;
+
+/// A branch that is late by more than this sleeps: a sleep of less would take that long.
+const SPUN_NANOSECONDS: u32 = 100_000;
 
 /// How many bytes of its stack a branch writes to before it waits: more than a call takes.
 const STACK_TOUCHED: usize = 32_768;
@@ -14,10 +28,10 @@ const STACK_TOUCHED: usize = 32_768;
 /// A meeting of both branches. No proof rests on it: without it a run would be as right, and would find fewer races.
 #[derive(Drop)]
 pub(crate) struct Meeting {
-    manner: Manner,
-    /// How many requests each branch made ready; the greatest number once it has no more.
-    a_ready: AtomicU64,
-    b_ready: AtomicU64,
+    meet: Meet,
+    /// How far each branch is; the greatest number once it has no more requests.
+    a_at: AtomicU64,
+    b_at: AtomicU64,
     /// Who waits for a first request looks at these numbers while it holds the lock, and who changes one takes the lock before it
     /// notifies, so that nobody waits for what has come.
     lock: Mutex<()>,
@@ -33,11 +47,11 @@ pub(crate) struct Seat<'m> {
 
 impl Meeting {
     /// A meeting to which nobody has come.
-    pub(crate) fn new(manner: Manner) -> Meeting {
+    pub(crate) fn new(meet: Meet) -> Meeting {
         Meeting {
-            manner,
-            a_ready: AtomicU64::new(0),
-            b_ready: AtomicU64::new(0),
+            meet,
+            a_at: AtomicU64::new(0),
+            b_at: AtomicU64::new(0),
             lock: Mutex::new(()),
             came: Condvar::new(),
         }
@@ -54,14 +68,18 @@ impl Meeting {
 
 impl Seat<'_> {
     /// Comes with the branch's request of this index, counted from 0, which is ready; and waits for the other branch as the manner
-    /// of the meeting says.
+    /// of the meeting says, and after that once more where this branch is late.
     pub(crate) fn come<R: Wait>(&self, rt: &R, index: u32) {
-        let ready = u64::from(index) + 1;
-        match (self.meeting.manner, index) {
+        match (self.meeting.meet.manner, index) {
             (Manner::Never, _) => {}
-            (Manner::First | Manner::Each, 0) => self.wait(rt, ready),
+            (Manner::First | Manner::Each, 0) => {
+                self.wait(rt);
+                // The kernel needs some time to wake the branch that came first, and the other one would go ahead meanwhile.
+                self.look(AWAKE);
+                self.wait_late(rt);
+            }
             (Manner::First, _) => {}
-            (Manner::Each, _) => self.look(ready),
+            (Manner::Each, _) => self.look(AWAKE + u64::from(index)),
         }
     }
 
@@ -73,29 +91,55 @@ impl Seat<'_> {
     }
 
     /// Waits until the other branch has come.
-    fn wait<R: Wait>(&self, rt: &R, ready: u64) {
+    fn wait<R: Wait>(&self, rt: &R) {
         self.touch_stack();
         let other = self.other();
-        self.mine().store(ready, Ordering::SeqCst);
+        self.mine().store(READY, Ordering::SeqCst);
         let locked = self.meeting.lock.lock(rt);
-        if other.load(Ordering::SeqCst) >= ready {
+        if other.load(Ordering::SeqCst) >= READY {
             drop(locked);
             self.meeting.came.notify_one();
         } else {
             let _ = self
                 .meeting
                 .came
-                .wait_while(rt, locked, |_| other.load(Ordering::SeqCst) < ready);
+                .wait_while(rt, locked, |_| other.load(Ordering::SeqCst) < READY);
         }
     }
 
-    /// Looks for a while whether the other branch has come as far.
-    fn look(&self, ready: u64) {
+    /// Waits, where this branch is the late one, as long as it is late. The other one goes on meanwhile, so that its request arrives
+    /// first, and a race that opens later in a request than the other one's comes is met too.
+    fn wait_late<R: Wait>(&self, rt: &R) {
+        let Some(late) = self.meeting.meet.late else {
+            return;
+        };
+        if late.branch != self.branch {
+            return;
+        }
+        if late.nanoseconds <= SPUN_NANOSECONDS {
+            self.spin(late.nanoseconds / NANOSECONDS_OF_TURN);
+        } else {
+            let time = Duration::from_nanos(u64::from(late.nanoseconds));
+            Parker::new().park_timeout(rt, time);
+        }
+    }
+
+    /// Takes as many turns as [`Seat::look`] would, and looks for nothing.
+    fn spin(&self, turns: u32) {
+        let taken = AtomicU64::new(0);
+        'turns: for _ in 0..turns {
+            self.other().load(Ordering::SeqCst);
+            taken.fetch_add(1, Ordering::SeqCst);
+        }
+    }
+
+    /// Is this far, and looks for a while whether the other branch is too.
+    fn look(&self, far: u64) {
         let other = self.other();
-        self.mine().store(ready, Ordering::SeqCst);
+        self.mine().store(far, Ordering::SeqCst);
         let turns = AtomicU64::new(0);
         'turns: for _ in 0..TURNS {
-            if other.load(Ordering::SeqCst) >= ready {
+            if other.load(Ordering::SeqCst) >= far {
                 break;
             }
             // what makes a turn take some 7 nanoseconds
@@ -108,7 +152,7 @@ impl Seat<'_> {
     fn touch_stack(&self) {
         let mut pages = [0u8; STACK_TOUCHED];
         // no compiler knows these places, so none leaves the writing out
-        let [written, read] = [self.mine(), self.other()].map(|ready| ready.load(
+        let [written, read] = [self.mine(), self.other()].map(|far| far.load(
             Ordering::SeqCst,
         ) as usize
             % STACK_TOUCHED);
@@ -117,19 +161,19 @@ impl Seat<'_> {
         found.store(u64::from(pages[read]), Ordering::SeqCst);
     }
 
-    /// How many requests the branch made ready.
+    /// How far the branch is.
     fn mine(&self) -> &AtomicU64 {
         match self.branch {
-            Branch::A => &self.meeting.a_ready,
-            Branch::B => &self.meeting.b_ready,
+            Branch::A => &self.meeting.a_at,
+            Branch::B => &self.meeting.b_at,
         }
     }
 
-    /// How many the other branch made ready.
+    /// How far the other branch is.
     fn other(&self) -> &AtomicU64 {
         match self.branch {
-            Branch::A => &self.meeting.b_ready,
-            Branch::B => &self.meeting.a_ready,
+            Branch::A => &self.meeting.b_at,
+            Branch::B => &self.meeting.a_at,
         }
     }
 }

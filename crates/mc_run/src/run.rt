@@ -1,11 +1,14 @@
-//! Runs: what came of a script that ran over three lanes.
+//! Runs: what came of a script that ran over three lanes, and the verdict on it.
 ghost use Rattle.std.specs.Prelude.{◌≡◌, IfOk};
 ghost use Rattle.mc_core.specs.Held.{IsHeldBy};
 ghost use Rattle.mc_core.specs.Histories.{history_of};
 ghost use Rattle.mc_explain.specs.Verdicts.{IsStated, IsWithin};
 ghost use Rattle.mc_run.specs.Headline.{IsTrial};
+ghost use Rattle.mc_run.specs.Judged.{IsJudged};
+ghost use Rattle.mc_run.specs.Running.{AllGrew, AreNew};
 
-use crate::Lanes;
+use crate::{Gate, Lanes, Meet, run_lanes_with};
+use core::thread::Stack;
 use mc_core::{World, folds_are_safe};
 use mc_explain::{Verdict, judge};
 use mc_lane::Stream;
@@ -13,6 +16,8 @@ use mc_model::History;
 use mc_protocol::OutOfMemory;
 use mc_verify::Checked;
 use std::alloc::{AllocError, Global};
+use std::sync::Wait;
+use std::thread::Threads;
 use thiserror::Error;
 
 /// What came of a run: the world of all that was noted, and the lanes with what they recorded.
@@ -80,4 +85,40 @@ impl<S: Stream> Run<S> {
         let (verdict, turns) = judge(alloc, &history, limit)?;
         Ok((history, verdict, turns))
     }
+}
+
+/// A run, its history, and the verdict on it.
+#[derive(Debug, Drop)]
+pub struct Judged<S: Stream> {
+    pub run: Run<S>,
+    pub history: History,
+    pub verdict: Verdict,
+}
+
+/// Runs sound code over three new lanes, as [`run_lanes_with`], and judges what came of it in at most `limit` turns.
+///
+/// # Errors
+///
+/// Why there is no run, or that memory ran out before there was a verdict: see [`RunError`].
+pub fn play<S: Stream + Send, G: Gate, R: Threads + Wait + Sync>(
+    rt: &R,
+    alloc: Global,
+    checked: &Checked,
+    lanes: Lanes<S>,
+    gate: &G,
+    stack: Stack,
+    meet: Meet,
+    limit: u64,
+) -> Result<Judged<S>, RunError>
+    requires new { AreNew lanes }
+    ensures judged { IfOk result (λ j. IsJudged checked.now.code j.run.world j.run.lanes j.history j.verdict) }
+    ensures grew { IfOk result (λ j. AllGrew lanes j.run.lanes) }
+{
+    let run = run_lanes_with(rt, alloc, checked, lanes, gate, stack, meet)?;
+    let (history, verdict, _) = run.judge(alloc, checked, limit)?;
+    Ok(Judged {
+        run,
+        history,
+        verdict,
+    })
 }

@@ -46,12 +46,13 @@ pub fn run_lanes<S: Stream + Send, G: Gate, R: Threads + Wait + Sync>(
     let meet = Meet {
         manner: Manner::Each,
         apart: Branch::A,
+        late: None,
     };
     run_lanes_with(rt, alloc, checked, lanes, gate, Stack::new(), meet)
 }
 
-/// The same, where the thread of a branch has this stack, and `meet` says which branch that is and how the branches wait for each
-/// other.
+/// The same, where the thread of a branch has this stack, and `meet` says which branch that is, how the branches wait for each other,
+/// and which of them is late.
 pub fn run_lanes_with<S: Stream + Send, G: Gate, R: Threads + Wait + Sync>(
     rt: &R,
     alloc: Global,
@@ -99,7 +100,7 @@ fn run_branches<S: Stream + Send, G: Gate, R: Threads + Wait + Sync>(
         let b = run_section(rt, alloc, book, gate, Part::new(Actor::B, b));
         return Some((a, b));
     }
-    let meeting = Meeting::new(meet.manner);
+    let meeting = Meeting::new(meet);
     let a = Part::new(Actor::A, a).with_seat(meeting.seat(Branch::A));
     let b = Part::new(Actor::B, b).with_seat(meeting.seat(Branch::B));
     match meet.apart {

@@ -6,3 +6,4 @@ pub mod Places
 pub mod Begun
 pub mod Answers
 pub mod Replayed
+pub mod Turns

@@ -26,6 +26,11 @@ abbrev pub AreAnswersAt : History → ℕ → Claim → Sections (Option Answer)
 AreAnswersAt h place claim answers =
     (section : Actor) → IsAnswerIn (cut place h).sections (cut (place + 1) h).sections claim section (section_of answers section)
 
+-- the place that is found
+abbrev pub place_of : Finding → ℕ
+place_of (finding.Cause cause) = cause.place
+place_of (finding.Undecided place) = place
+
 -- what is found is so: the cause, with its answers; an open search was one of a cut of the history
 abbrev pub IsFoundOf : History → Finding → Type 0
 IsFoundOf h (finding.Cause cause) =

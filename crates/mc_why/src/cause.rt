@@ -1,4 +1,7 @@
 //! What is found of a history that nothing explains.
+ghost use Rattle.std.specs.Prelude.{◌≡◌};
+ghost use Rattle.mc_why.specs.Causes.{place_of};
+
 use crate::Answer;
 use mc_explain::Explanation;
 use mc_protocol::Sections;
@@ -22,4 +25,17 @@ pub enum Finding {
     Cause(Cause),
     /// The search for an explanation of what stands before this place used up its turns.
     Undecided(usize),
+}
+
+impl Finding {
+    /// The place: from there on nothing explains the history, or the search for an explanation of what stands before it was left
+    /// open.
+    pub fn place(&self) -> usize
+        ensures { result ≡ place_of self.now }
+    {
+        match self {
+            Finding::Cause(cause) => cause.place,
+            Finding::Undecided(place) => *place,
+        }
+    }
 }

@@ -4,6 +4,7 @@
 //! Below it stand `mc_explain`, whose `judge` searches for explanations, and `mc_claims`, which says what one is. The crate above
 //! uses one contract: what stands before the place that `why_unexplained` answers is explained by the explanation that it answers,
 //! nothing explains any longer beginning, and each answer is that of the model (`specs/Causes.antt`, `specs/Answers.antt`).
+//! `print_why` prints what was found (`specs/WhyText.antt`).
 #![tactic(auto)]
 
 mod answer;
@@ -13,6 +14,7 @@ mod cut_laws;
 mod cutting;
 mod locating;
 mod moved;
+mod report;
 mod why;
 
 pub use answer::Answer;
@@ -23,4 +25,5 @@ pub use cut_laws::{
     replies_stand_at_places,
 };
 pub use cutting::cut;
+pub use report::{print_why, request_place};
 pub use why::why_unexplained;

@@ -2,14 +2,14 @@
 #![tactic(auto)]
 
 ghost use Rattle.std.specs.Prelude.{◌≡◌, false, true};
-ghost use Rattle.mc_command.specs.Command.{AnswersRun, Hosts};
+ghost use Rattle.mc_command.specs.Command.{AnswersTarget, Hosts, WritesReport, WritesSelftest};
 ghost use Rattle.mc_command.specs.Statuses.{status_number};
 ghost use Rattle.mc_command.specs.Streams.{TakesAtMost};
 
 use mc_command::{
-    InputFault, Reader, Remarks, Service, Sink, Source, Status, Target, Told, Unconnected, Writer,
-    command, input_name, read_run, read_serve, run_script, serve_connections, unread_line,
-    write_fault,
+    Asked, CampaignTarget, Invocation, Reader, Remarks, Service, Sink, Source, Statistics, Status,
+    Target, Told, Unconnected, Writer, answer_offline, explain_fault, input_name, read_invocation,
+    run_campaign_at, run_selftest, run_target, serve_connections, unread_line,
 };
 use std::alloc::Global;
 use std::io::{Eprint, ErrorKind, IsTerminal};
@@ -20,42 +20,108 @@ use std::sync::Wait;
 use std::thread::Threads;
 use std::{env, io};
 
+// The columns of a terminal of which nothing else is known.
+const COLUMNS: usize = 80;
+
+// What is known of the terminal that the program runs at.
+#[derive(Clone, Copy)]
+struct Terminal {
+    // Whether standard input is typed there.
+    is_input: bool,
+    // How many columns it has, if standard error is shown there and a line can be cleared.
+    columns: Option<usize>,
+}
+
 fn main(rt: HostRuntime) -> ExitCode {
     let stdin = rt.reader();
-    let is_terminal = stdin.is_terminal();
+    let stderr = rt.stderr();
+    let terminal = Terminal {
+        is_input: stdin.is_terminal(),
+        columns: if stderr.is_terminal() {
+            columns_of(&rt)
+        } else {
+            None
+        },
+    };
     let mut input = Reader::new(stdin);
     let mut output = Writer::new(rt.stdout());
-    let mut faults = Writer::new(rt.stderr());
-    let line = line_of(&rt);
-    if is_terminal && let Ok(line) = &line {
-        tell_terminal(&rt, line.as_slice());
-    }
-    let status = match &line {
-        Ok(line) => match read_run(rt.alloc(), line.as_slice()) {
-            Ok(Some(target)) => play(&rt, rt.alloc(), &target, &mut input, &mut output),
-            Ok(None) => match read_serve(rt.alloc(), line.as_slice()) {
-                Ok(Some(service)) => host(&rt, rt.alloc(), service, &mut output),
-                Ok(None) => command(
-                    rt.alloc(),
-                    line.as_slice(),
-                    &mut input,
-                    &mut output,
-                    &mut faults,
-                ),
-                Err(_) => write_fault(InputFault::OutOfMemory, &mut output).number(),
-            },
-            Err(_) => write_fault(InputFault::OutOfMemory, &mut output).number(),
-        },
-        Err(error) => unread_line(error, &mut output, &mut faults),
+    let mut faults = Writer::new(stderr);
+    let status = match line_of(&rt) {
+        Ok(line) => obey(
+            &rt,
+            rt.alloc(),
+            line.as_slice(),
+            terminal,
+            &mut input,
+            &mut output,
+            &mut faults,
+        ),
+        Err(error) => unread_line(&error, &mut output, &mut faults),
     };
     tell_failure(&rt, "standard input", input.error());
     tell_failure(&rt, "standard output", output.error());
     ExitCode::from(status)
 }
 
+// Does what the line asks for, and answers the exit status.
+fn obey<R, I: Source, O: Sink, F: Sink>(
+    rt: &R,
+    alloc: Global,
+    line: &[String],
+    terminal: Terminal,
+    input: &mut I,
+    output: &mut O,
+    faults: &mut F,
+) -> u8
+where
+    R: Net<Listener = TcpListener, Stream = TcpStream> + Threads + Wait + Clock + Sync + Eprint,
+{
+    match read_invocation(alloc, line) {
+        Ok(invocation) => {
+            if terminal.is_input {
+                tell_terminal(rt, invocation.asked());
+            }
+            perform(rt, alloc, &invocation, terminal.columns, input, output)
+        }
+        Err(error) => explain_fault(alloc, line, &error, output, faults).number(),
+    }
+}
+
+fn perform<R, I: Source, O: Sink>(
+    rt: &R,
+    alloc: Global,
+    invocation: &Invocation<'_>,
+    columns: Option<usize>,
+    input: &mut I,
+    output: &mut O,
+) -> u8
+where
+    R: Net<Listener = TcpListener, Stream = TcpStream> + Threads + Wait + Clock + Sync + Eprint,
+{
+    match invocation {
+        Invocation::Run(target) => play(rt, alloc, target, columns, input, output),
+        Invocation::Serve(service) => host(rt, alloc, *service, output),
+        Invocation::Campaign(target) => report(rt, alloc, target, columns, output),
+        Invocation::Selftest => test(rt, alloc, output),
+        Invocation::Offline(asked) => answer_offline(alloc, *asked, input, output).number(),
+    }
+}
+
+// How many columns the terminal has, by the environment, or 80; or nothing where it can't clear a line.
+fn columns_of<R: Env + AllocGlobal>(rt: &R) -> Option<usize> {
+    match env::var(rt, "TERM") {
+        Ok(kind) if kind.as_str() == "dumb" => return None,
+        _ => {}
+    }
+    match env::var(rt, "COLUMNS") {
+        Ok(columns) => Some(columns.as_str().parse::<usize>().unwrap_or(COLUMNS)),
+        Err(_) => Some(COLUMNS),
+    }
+}
+
 // Says on standard error what is read, where a person is to type it.
-fn tell_terminal<R: Eprint + AllocGlobal>(rt: &R, line: &[String]) {
-    if let Some(name) = input_name(rt.alloc(), line) {
+fn tell_terminal<R: Eprint>(rt: &R, asked: Asked) {
+    if let Some(name) = input_name(asked) {
         // There is nowhere else to say that this could not be said.
         let _ = eprintln!(rt; "mcrace: reading {name} from the terminal; Ctrl-D ends it");
     }
@@ -76,6 +142,7 @@ fn play<R, I: Source, O: Sink>(
     rt: &R,
     alloc: Global,
     target: &Target<'_>,
+    columns: Option<usize>,
     input: &mut I,
     output: &mut O,
 ) -> u8
@@ -84,22 +151,29 @@ where
     ensures answered { I.has_failed input.old ≡ false → I.has_failed input.new ≡ false
         → O.has_failed output.old ≡ false → O.has_failed output.new ≡ false
         → (ended : Status) × (result ≡ status_number ended)
-        × AnswersRun target.now.name (I.left input.old) (O.written output.old) (O.written output.new) ended }
+        × AnswersTarget target.now.repeat target.now.how.why target.now.name
+        (I.left input.old) (O.written output.old) (O.written output.new) ended }
     ensures broken_input { I.has_failed input.old ≡ false → I.has_failed input.new ≡ true
         → (result ≡ 4) × (output.new ≡ output.old) }
     ensures broken_output { O.has_failed output.old ≡ false → O.has_failed output.new ≡ true → result ≡ 4 }
     ensures taken { TakesAtMost 1048577 (I.left input.old) (I.left input.new) }
 {
-    let (status, remarks) = run_script(rt, alloc, target, input, output);
+    let mut statistics = Statistics::new();
+    let (status, remarks) = run_target(rt, alloc, target, columns, &mut statistics, input, output);
     match remarks {
         Remarks::None => {}
         Remarks::NoConnection(Unconnected { section, error }) => {
             tell_reason(rt, target.server_of(section), &error);
         }
-        Remarks::Evidence(lines) | Remarks::WrongLine(lines) => {
+        Remarks::WrongLine(lines) => {
             // There is nowhere else to say that this could not be said.
             let _ = eprint!(rt; "{lines}");
         }
+        Remarks::Evidence(remarks) => tell_remarks(rt, remarks.as_slice()),
+    }
+    if target.stats {
+        // There is nowhere else to say that this could not be said.
+        let _ = eprint!(rt; "{statistics}");
     }
     status.number()
 }
@@ -124,6 +198,44 @@ where
         Told::Connections(_) | Told::Nothing => Ok(()),
     };
     ended.number()
+}
+
+// Runs the jobs of a campaign.
+fn report<R, O: Sink>(
+    rt: &R,
+    alloc: Global,
+    target: &CampaignTarget<'_>,
+    columns: Option<usize>,
+    output: &mut O,
+) -> u8
+where
+    R: Net<Listener = TcpListener, Stream = TcpStream> + Threads + Wait + Clock + Sync + Eprint,
+    ensures answered { O.has_failed output.old ≡ false → O.has_failed output.new ≡ false
+        → (ended : Status) × (result ≡ status_number ended)
+        × WritesReport target.now.plan target.now.name (O.written output.old) (O.written output.new) ended }
+    ensures broken { O.has_failed output.old ≡ false → O.has_failed output.new ≡ true → result ≡ 4 }
+{
+    run_campaign_at(rt, alloc, target, columns, output).number()
+}
+
+// Runs the selftest.
+fn test<R, O: Sink>(rt: &R, alloc: Global, output: &mut O) -> u8
+where
+    R: Net<Listener = TcpListener, Stream = TcpStream> + Threads + Wait + Clock + Sync + Eprint,
+    ensures answered { O.has_failed output.old ≡ false → O.has_failed output.new ≡ false
+        → (ended : Status) × (result ≡ status_number ended)
+        × WritesSelftest (O.written output.old) (O.written output.new) ended }
+    ensures broken { O.has_failed output.old ≡ false → O.has_failed output.new ≡ true → result ≡ 4 }
+{
+    run_selftest(rt, alloc, output).number()
+}
+
+// Says on standard error what was remarked on the sections of a run.
+fn tell_remarks<R: Eprint>(rt: &R, remarks: &[String]) {
+    for remark in remarks {
+        // There is nowhere else to say that this could not be said.
+        let _ = eprintln!(rt; "mcrace: {remark}");
+    }
 }
 
 // Says on standard error why there is no connection to the server.

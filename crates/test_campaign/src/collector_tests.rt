@@ -1,6 +1,7 @@
 //! What a collector makes of messages that it wasn't to get, and of those that are missing.
 
 use crate::connectors::Stores;
+use crate::memory::has_memory;
 use crate::store_stream::StoreStream;
 use crate::watching::Seen;
 use mc_campaign::{Campaign, Collector, JobMessage, Meeting, print_report};
@@ -13,12 +14,14 @@ use std::test::Fail;
 use std::thread::Threads;
 
 /// The jobs 0 to 2 of seed 1.
-const CAMPAIGN: Campaign = Campaign {
+const CAMPAIGN: Campaign<'static> = Campaign {
     seed: 1,
     first: 0,
     jobs: 3,
     limit: 1_000_000,
     meeting: Meeting::Each,
+    spread: 0,
+    name: None,
 };
 
 /// The seed and the job of each message that comes to the collector; how many connections were made until there was a report; and the
@@ -40,6 +43,10 @@ static ROWS: &[Row] = &[
     (&[(2, 0), (2, 1), (1, 3), (1, u64::MAX)], 21, &[0, 1, 2]),
 ];
 
+/// The text of a report on three jobs that are explained.
+const ALL_EXPLAINED: &[u8] = b"0 explained\n1 explained\n2 explained\n\
+    jobs 3 explained 3 unexplained 0 other 0\n";
+
 /// What came of a collector.
 #[derive(Drop)]
 struct Collected {
@@ -51,7 +58,7 @@ struct Collected {
     told: Vec<u64>,
 }
 
-/// What comes of a collector after these messages.
+/// What comes of a collector after these messages. Where memory ran out in a job, that is an error.
 fn collect<R: Threads + Wait + Sync>(
     rt: &R,
     alloc: Global,
@@ -59,7 +66,7 @@ fn collect<R: Threads + Wait + Sync>(
 ) -> Result<Collected, Fail> {
     let store = Shared::new(alloc)?;
     let connector = Stores::honest(rt, alloc, &store);
-    let mut collector: Collector<Wire<StoreStream<'_, R>>> = Collector::new(alloc, CAMPAIGN)?;
+    let mut collector: Collector<'_, Wire<StoreStream<'_, R>>> = Collector::new(alloc, CAMPAIGN)?;
     let mut watcher = Seen::new(alloc);
     'messages: for (seed, job) in messages {
         let campaign = Campaign {
@@ -70,6 +77,7 @@ fn collect<R: Threads + Wait + Sync>(
         collector.keep(message, &mut watcher);
     }
     let report = collector.finish(rt, alloc, &connector, &FreeGate, &mut watcher)?;
+    has_memory(&report)?;
     let mut text = Vec::new(alloc);
     print_report(&report, &mut text)?;
     Ok(Collected {
@@ -83,14 +91,17 @@ fn collect<R: Threads + Wait + Sync>(
 fn each_job_stands_in_the_report_once(rt: HostRuntime) -> Result<(), Fail> {
     for (messages, connections, told) in ROWS {
         let collected = collect(&rt, rt.alloc(), messages)?;
-        assert_eq!(rt;
-            collected.text.as_slice(),
-            b"0 explained\n1 explained\n2 explained\n\
-            jobs 3 explained 3 unexplained 0 other 0\n"
-                .as_slice()
-        );
+        assert_eq!(rt; collected.text.as_slice(), ALL_EXPLAINED);
         assert_eq!(rt; collected.made, *connections);
         assert_eq!(rt; collected.told.as_slice(), *told);
     }
+    Ok(())
+}
+
+#[test]
+fn runs_the_jobs_whose_messages_are_lost(rt: HostRuntime) -> Result<(), Fail> {
+    let collected = collect(&rt, rt.alloc(), &[(1, 2)])?;
+    assert_eq!(rt; collected.text.as_slice(), ALL_EXPLAINED);
+    assert_eq!(rt; collected.made, 9);
     Ok(())
 }

@@ -22,6 +22,7 @@ pub(crate) struct Stores<'s, R: Wait> {
     /// This one gets a connection on which each request is answered with an error.
     pub(crate) refusing: Option<(u64, Actor)>,
     pub(crate) made: AtomicU64,
+    pub(crate) released: AtomicU64,
 }
 
 impl<'s, R: Wait> Stores<'s, R> {
@@ -34,12 +35,18 @@ impl<'s, R: Wait> Stores<'s, R> {
             closed: None,
             refusing: None,
             made: AtomicU64::new(0),
+            released: AtomicU64::new(0),
         }
     }
 
     /// How many connections were made.
     pub(crate) fn count(&self) -> u64 {
         self.made.load(Ordering::SeqCst)
+    }
+
+    /// How many of them were given back.
+    pub(crate) fn released(&self) -> u64 {
+        self.released.load(Ordering::SeqCst)
     }
 }
 
@@ -51,6 +58,12 @@ impl<'s, R: Wait + Sync> Connector<Wire<StoreStream<'s, R>>> for Stores<'s, R> {
         self.made.fetch_add(1, Ordering::SeqCst);
         let refuses = self.refusing == Some((job, actor));
         Some(Wire::new(StoreStream::new(self.rt, self.alloc, self.store, refuses)))
+    }
+
+    fn release(&self, streams: Sections<Option<Wire<StoreStream<'s, R>>>>) {
+        let Sections { p, a, b } = streams;
+        let count = u64::from(p.is_some()) + u64::from(a.is_some()) + u64::from(b.is_some());
+        self.released.fetch_add(count, Ordering::SeqCst);
     }
 }
 

@@ -11,6 +11,10 @@ mod connectors;
 #[cfg(test)]
 mod meeting_tests;
 #[cfg(test)]
+mod memory;
+#[cfg(test)]
+mod named_tests;
+#[cfg(test)]
 mod namespace_tests;
 #[cfg(test)]
 mod report_tests;

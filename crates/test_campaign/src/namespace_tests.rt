@@ -144,10 +144,7 @@ fn budgets_stay_just_enough(rt: HostRuntime) -> Result<(), Fail> {
             },
             "{name}"
         );
-        let checked = match verify(alloc, under) {
-            Ok(checked) => checked,
-            Err(_) => return Err(Fail::new("the code is refused")),
-        };
+        let checked = verify(alloc, under).map_err(|(refusal, _)| refusal)?;
         assert_eq!(rt; checked.maxima(Actor::P).bytes, 26 + 2 * added, "{name}");
     }
     Ok(())

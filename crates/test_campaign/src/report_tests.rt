@@ -3,15 +3,17 @@
 ghost use Rattle.std.specs.Prelude.{◌≡◌, ◌≤◌, ◌+◌, ◌^◌};
 
 use crate::connectors::Stores;
+use crate::memory::has_memory;
 use crate::store_stream::StoreStream;
 use mc_campaign::{
-    Campaign, Meeting, Report, Unwatched, print_report, report_status, run_campaign, run_jobs,
+    Campaign, Meeting, Report, Unwatched, print_brief_report, print_report, report_status,
+    run_campaign, run_jobs,
 };
 use mc_lane::Wire;
 use mc_protocol::Actor;
 use mc_run::FreeGate;
 use mc_server::Shared;
-use std::alloc::Global;
+use std::alloc::{AllocError, Global};
 use std::sync::Wait;
 use std::test::Fail;
 use std::thread::Threads;
@@ -19,14 +21,20 @@ use std::thread::Threads;
 /// More turns than the history of a job takes.
 const LIMIT: u64 = 1_000_000;
 
-/// The text of a report, and its status.
+/// What stands before the text of a report.
+const FRONT: &[u8] = b"report\n";
+
+/// The text of a report after that, and its status. Where memory ran out in a job, that is an error.
 fn text_and_status<R: Wait>(
     alloc: Global,
     report: &Report<Wire<StoreStream<'_, R>>>,
 ) -> Result<(Vec<u8>, u8), Fail> {
-    let mut text = Vec::new(alloc);
-    print_report(report, &mut text)?;
-    Ok((text, report_status(report)))
+    has_memory(report)?;
+    let mut text = Vec::from_slice(alloc, FRONT)?;
+    match print_report(report, &mut text) {
+        Err(fault) if text.as_slice() == FRONT => Err(Fail::from(fault)),
+        _ => Ok((text, report_status(report))),
+    }
 }
 
 #[test]
@@ -41,7 +49,7 @@ fn tells_what_each_job_came_to(rt: HostRuntime) -> Result<(), Fail> {
     let (text, status) = text_and_status(rt.alloc(), &report)?;
     assert_eq!(rt;
         text.as_slice(),
-        b"0 explained\n1 no connection A\n2 explained P ErrorLine\n\
+        b"report\n0 explained\n1 no connection A\n2 explained P ErrorLine\n\
         jobs 3 explained 2 unexplained 0 other 1\n"
             .as_slice()
     );
@@ -49,8 +57,42 @@ fn tells_what_each_job_came_to(rt: HostRuntime) -> Result<(), Fail> {
     Ok(())
 }
 
+// Where memory runs out for what a worker sends, its job is run once more, and more of its connections are released.
+#[test]
+fn releases_the_connections_that_no_fault_ended(rt: HostRuntime) -> Result<(), Fail> {
+    let store = Shared::new(rt.alloc())?;
+    let connector = Stores {
+        closed: Some((1, Actor::A)),
+        refusing: Some((2, Actor::P)),
+        ..Stores::honest(&rt, rt.alloc(), &store)
+    };
+    let report = run_campaign(&rt, rt.alloc(), 1, 3, 2, LIMIT, &connector, &FreeGate)?;
+    has_memory(&report)?;
+    // All three of job 0, none of job 1, and of job 2 those that no fault ended.
+    assert_eq!(rt; connector.released(), 5);
+    Ok(())
+}
+
+#[test]
+fn brief_report_leaves_out_what_is_right(rt: HostRuntime) -> Result<(), Fail> {
+    let store = Shared::new(rt.alloc())?;
+    let connector = Stores {
+        closed: Some((1, Actor::A)),
+        ..Stores::honest(&rt, rt.alloc(), &store)
+    };
+    let report = run_campaign(&rt, rt.alloc(), 1, 3, 0, LIMIT, &connector, &FreeGate)?;
+    has_memory(&report)?;
+    let mut text = Vec::new(rt.alloc());
+    print_brief_report(&report, &mut text)?;
+    assert_eq!(rt;
+        text.as_slice(),
+        b"1 no connection A\njobs 3 explained 2 unexplained 0 other 1\n".as_slice()
+    );
+    Ok(())
+}
+
 /// A campaign of seed 1.
-fn campaign(first: u64, jobs: u64) -> Campaign
+fn campaign(first: u64, jobs: u64) -> Campaign<'static>
     ensures first { result.first ≡ first }
     ensures jobs { result.jobs ≡ jobs }
 {
@@ -60,15 +102,17 @@ fn campaign(first: u64, jobs: u64) -> Campaign
         jobs,
         limit: LIMIT,
         meeting: Meeting::Drawn,
+        spread: 0,
+        name: None,
     }
 }
 
 /// Whether this is the text of the campaign's report against a store that answers rightly, its status is 0, and each job connected
-/// three times.
+/// three times. Where one did more often, that is an error.
 fn comes_to<R: Threads + Wait + Sync>(
     rt: &R,
     alloc: Global,
-    campaign: Campaign,
+    campaign: Campaign<'_>,
     workers: u32,
     expected: &[u8],
 ) -> Result<bool, Fail>
@@ -88,13 +132,18 @@ fn comes_to<R: Threads + Wait + Sync>(
         &mut Unwatched,
     )?;
     let (text, status) = text_and_status(alloc, &report)?;
-    let connected = connector.count() == 3 * campaign.jobs;
+    let all = 3 * campaign.jobs;
+    // Where memory runs out for what a worker sends, its job is run once more.
+    if connector.count() > all {
+        return Err(Fail::from(AllocError));
+    }
+    let connected = connector.count() == all && connector.released() == all;
     Ok(text.as_slice() == expected && status == 0 && connected)
 }
 
 #[test]
 fn jobs_are_run_by_any_number_of_workers(rt: HostRuntime) -> Result<(), Fail> {
-    let expected = b"8 explained\n9 explained\n10 explained\n\
+    let expected = b"report\n8 explained\n9 explained\n10 explained\n\
         jobs 3 explained 3 unexplained 0 other 0\n"
         .as_slice();
     assert!(rt; comes_to(&rt, rt.alloc(), campaign(8, 3), 0, expected)?);
@@ -105,7 +154,7 @@ fn jobs_are_run_by_any_number_of_workers(rt: HostRuntime) -> Result<(), Fail> {
 
 #[test]
 fn no_jobs_give_an_empty_report(rt: HostRuntime) -> Result<(), Fail> {
-    let expected = b"jobs 0 explained 0 unexplained 0 other 0\n".as_slice();
+    let expected = b"report\njobs 0 explained 0 unexplained 0 other 0\n".as_slice();
     assert!(rt; comes_to(&rt, rt.alloc(), campaign(0, 0), 0, expected)?);
     assert!(rt; comes_to(&rt, rt.alloc(), campaign(0, 0), 1, expected)?);
     assert!(rt; comes_to(&rt, rt.alloc(), campaign(0, 0), 16, expected)?);

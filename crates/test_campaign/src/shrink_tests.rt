@@ -255,6 +255,10 @@ fn holds(alloc: Global, row: &Row) -> Result<bool, Fail> {
         asked: 0,
     };
     let left = shrunk(alloc, row.text, &mut tester, row.rounds)?;
+    if left.is_none() && tester.asked <= row.answers.len() {
+        // the tester found memory each time
+        return Err(AllocError)?;
+    }
     let is_left = match (&left, row.left) {
         (Some(text), Some(wanted)) => text.as_slice() == wanted.as_bytes(),
         (None, None) => true,
@@ -278,7 +282,7 @@ fn asks_of_the_smaller_code(rt: HostRuntime) -> Result<(), Fail> {
     };
     match shrunk(rt.alloc(), LONG, &mut tester, ROUNDS)? {
         Some(text) => assert!(rt; text.as_slice() == LONG_SHRUNK.as_bytes()),
-        None => assert!(rt; false, "memory ran out"),
+        None => return Err(AllocError)?,
     }
     Ok(())
 }

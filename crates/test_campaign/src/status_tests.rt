@@ -2,7 +2,7 @@
 
 use crate::status_tests::Given::*;
 use Word::*;
-use mc_campaign::{GenFault, JobOutcome, JobResult, Report, report_status};
+use mc_campaign::{JobFault, JobOutcome, JobResult, Report, report_status};
 use mc_code::assemble;
 use mc_core::{Event, drive};
 use mc_explain::{Explanation, Verdict};
@@ -21,7 +21,7 @@ const COUNTER: &[u8] = b"script 1\nkeys a\nbudget P 2 26\nbudget A 1 10\nbudget 
 /// What a job came to.
 #[derive(Clone, Copy)]
 enum Given {
-    NotMade(GenFault),
+    NotMade(JobFault),
     NoLane(Actor),
     NotRun(RunError),
     /// It ran, with this verdict, and all sections are done.
@@ -43,8 +43,9 @@ static ROWS: &[(&[Given], u8)] = &[
     (&[Done(Explained), Done(Explained)], 0),
     (&[Done(Unexplained)], 1),
     (&[Done(Undecided)], 4),
-    (&[NotMade(GenFault::Refused)], 4),
-    (&[NotMade(GenFault::OutOfMemory)], 4),
+    (&[NotMade(JobFault::Refused)], 4),
+    (&[NotMade(JobFault::OutOfMemory)], 4),
+    (&[NotMade(JobFault::KeyTooLong)], 4),
     (&[NoLane(Actor::P)], 4),
     (&[NotRun(RunError::BookMismatch)], 4),
     (&[NotRun(RunError::NoThread)], 4),

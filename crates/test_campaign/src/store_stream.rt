@@ -1,7 +1,7 @@
 //! Connections to a store in memory.
 
 use mc_lane::MemoryStream;
-use mc_server::{Shared, serve};
+use mc_server::{Served, Shared, Why, serve};
 use std::alloc::{AllocError, Global};
 use std::io::{self, ErrorKind, Read, Write};
 use std::sync::Wait;
@@ -38,7 +38,10 @@ impl<'s, R: Wait> StoreStream<'s, R> {
             return self.answers.extend_from_slice(b"ERROR\r\n");
         }
         let mut client = MemoryStream::new(self.alloc, &[request], ANSWER_LIMIT)?;
-        serve(self.rt, self.alloc, &mut client, self.store);
+        let Served { why, .. } = serve(self.rt, self.alloc, &mut client, self.store);
+        if why == Why::Memory {
+            return Err(AllocError);
+        }
         self.answers.extend_from_slice(client.written_bytes())
     }
 }

@@ -23,7 +23,7 @@ impl Tester for Answers<'_> {
     }
 }
 
-/// Says that code is unexplained whose sections P, A and B have at least so many instructions.
+/// Says that code is unexplained whose sections P, A and B have at least these numbers of instructions.
 #[derive(Drop)]
 pub(crate) struct Needs {
     pub(crate) instructions: [usize; 3],

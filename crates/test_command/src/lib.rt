@@ -1,14 +1,23 @@
-//! Tests of `mc_command` by its public calls: that `drive` keeps its limit, that `run` needs a server and `serve` its port, and the
-//! status after a run. What the program shows to its user stands in `cases/`.
+//! Tests of `mc_command` by its public calls: what lines ask for, that `drive` keeps its limit, that `run` and `campaign` need a server
+//! and `serve` its port, that the selftest passes, the status after a run, and the statistics of runs. What the program shows to its user
+//! stands in `cases/`.
 #![tactic(auto)]
 
 #[cfg(test)]
+mod campaign_tests;
+#[cfg(test)]
 mod driven;
+#[cfg(test)]
+mod invocation_tests;
 #[cfg(test)]
 mod limit_tests;
 #[cfg(test)]
 mod run_tests;
 #[cfg(test)]
+mod selftest_tests;
+#[cfg(test)]
 mod serve_tests;
+#[cfg(test)]
+mod statistics_tests;
 #[cfg(test)]
 mod status_tests;

@@ -1,8 +1,12 @@
 //! `run` where there is no server.
 
 use crate::driven::SCRIPT;
-use mc_command::{Reader, Writer, run_command};
+use mc_campaign::Meeting;
+use mc_command::{
+    Reader, Repeat, Search, Statistics, Status, Target, Writer, run_command, run_target,
+};
 use std::alloc::{AllocError, Global};
+use std::io::Eprint;
 use std::net::{Net, TcpStream};
 use std::rt::Clock;
 use std::sync::Wait;
@@ -25,9 +29,73 @@ where
         rt,
         alloc,
         "127.0.0.1:0",
-        1_000,
+        Search {
+            limit: 1_000,
+            why: false,
+        },
         &mut Reader::new(SCRIPT.as_bytes()),
         &mut Writer::new(&mut output),
     );
     Ok(status == 4 && output.as_slice() == b"no connection P\n".as_slice())
+}
+
+#[test]
+fn each_run_of_several_needs_a_server(rt: HostRuntime) {
+    let all = Repeat {
+        times: Some(3),
+        time: None,
+        keep_going: true,
+    };
+    assert_eq!(rt;
+        repeated(&rt, rt.alloc(), all).as_slice(),
+        b"run 1 of 3\nruns 3 explained 0 unexplained 0 other 3 overlapped 0\nno connection P\n".as_slice()
+    );
+    let until_the_first = Repeat {
+        times: None,
+        time: Some(60),
+        keep_going: false,
+    };
+    assert_eq!(rt;
+        repeated(&rt, rt.alloc(), until_the_first).as_slice(),
+        b"run 1\nruns 1 explained 0 unexplained 0 other 1 overlapped 0\nno connection P\n".as_slice()
+    );
+}
+
+// What is written of runs at port 0; or nothing where the status isn't 4.
+fn repeated<R>(rt: &R, alloc: Global, repeat: Repeat) -> Vec<u8>
+where
+    R: Net<Stream = TcpStream> + Threads + Wait + Clock + Sync + Eprint,
+{
+    let target = Target {
+        server: "127.0.0.1:0",
+        a: None,
+        b: None,
+        how: Search {
+            limit: 1_000,
+            why: false,
+        },
+        meeting: Meeting::Drawn,
+        name: None,
+        timeout: None,
+        wait: None,
+        spread: 0,
+        repeat: Some(repeat),
+        reconnect: false,
+        quiet: true,
+        stats: true,
+    };
+    let mut output = Vec::new(alloc);
+    let (status, _) = run_target(
+        rt,
+        alloc,
+        &target,
+        None,
+        &mut Statistics::new(),
+        &mut Reader::new(SCRIPT.as_bytes()),
+        &mut Writer::new(&mut output),
+    );
+    match status {
+        Status::NoAnswer => output,
+        _ => Vec::new(alloc),
+    }
 }

@@ -1,6 +1,6 @@
 //! `serve` where no connection is to come, and where its port is taken; and what a line of it asks for.
 
-use mc_command::{Service, Status, Told, Writer, read_serve, serve_connections};
+use mc_command::{Invocation, Service, Status, Told, Writer, read_invocation, serve_connections};
 use std::alloc::{AllocError, Global};
 use std::io;
 use std::net::{Net, TcpListener, TcpStream};
@@ -95,5 +95,8 @@ fn asked(alloc: Global, words: &[&str]) -> Result<Option<Service>, AllocError> {
     for word in words {
         line.push(String::from_str(alloc, word)?)?;
     }
-    read_serve(alloc, line.as_slice())
+    match read_invocation(alloc, line.as_slice()) {
+        Ok(Invocation::Serve(service)) => Ok(Some(service)),
+        _ => Ok(None),
+    }
 }

@@ -72,10 +72,13 @@ fn is_claim_printed_as(
     Ok(printed.as_slice() == wanted.as_bytes())
 }
 
+// What is there once the history is printed after a front. Without memory that is the front.
 fn history_after(alloc: Global, front: &[u8], history: &History) -> Result<Vec<u8>, OutOfMemory> {
     let mut text = Vec::from_slice(alloc, front)?;
-    print_history(history, &mut text)?;
-    Ok(text)
+    match print_history(history, &mut text) {
+        Err(fault) if text.as_slice() == front => Err(fault),
+        _ => Ok(text),
+    }
 }
 
 fn claim_after(
@@ -84,8 +87,10 @@ fn claim_after(
     explanation: &Explanation,
 ) -> Result<Vec<u8>, OutOfMemory> {
     let mut text = Vec::from_slice(alloc, front)?;
-    print_explanation(explanation, &mut text)?;
-    Ok(text)
+    match print_explanation(explanation, &mut text) {
+        Err(fault) if text.as_slice() == front => Err(fault),
+        _ => Ok(text),
+    }
 }
 
 #[test]

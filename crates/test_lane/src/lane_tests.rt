@@ -16,9 +16,24 @@ fn call(
 ) -> Result<Result<Class, Fault>, OutOfMemory> {
     match lane.call(request, Shape { verb, key: b"a" }) {
         Ok(reply) => Ok(Ok(reply.class())),
-        Err(Fault::Memory) => Err(AllocError),
+        Err(Fault::Memory) => close_without_memory(lane),
         Err(fault) => Ok(Err(fault)),
     }
+}
+
+// Want of memory, after which the lane is closed. Where it sends something all the same that is no error, and no row wants the fault.
+fn close_without_memory(
+    lane: &mut Lane<MemoryStream>,
+) -> Result<Result<Class, Fault>, OutOfMemory> {
+    let sent = lane.sent().len();
+    let shape = Shape {
+        verb: Verb::Delete,
+        key: b"a",
+    };
+    if lane.call(DELETE, shape) == Err(Fault::Closed) && lane.sent().len() == sent {
+        return Err(AllocError);
+    }
+    Ok(Err(Fault::Memory))
 }
 
 fn delete(lane: &mut Lane<MemoryStream>) -> Result<Result<Class, Fault>, OutOfMemory> {

@@ -9,8 +9,16 @@ use std::alloc::{AllocError, Global};
 pub(crate) fn feed(reader: &mut RequestReader, piece: &[u8]) -> Result<Option<Asked>, OutOfMemory> {
     match reader.feed(piece) {
         Ok(asked) => Ok(Some(asked)),
-        Err(AskFault::OutOfMemory) => Err(AllocError),
+        Err(AskFault::OutOfMemory) => fail_without_memory(reader),
         Err(AskFault::Failed) => Ok(None),
+    }
+}
+
+/// Want of memory, after which the reader has failed. Where it goes on that is no error, and no row wants the answer.
+fn fail_without_memory(reader: &mut RequestReader) -> Result<Option<Asked>, OutOfMemory> {
+    match reader.feed(b"get a\r\n") {
+        Err(AskFault::Failed) => Err(AllocError),
+        _ => Ok(None),
     }
 }
 

@@ -15,7 +15,17 @@ pub(crate) fn feed(
     piece: &[u8],
 ) -> Result<Result<Fed, ReadFault>, OutOfMemory> {
     match reader.feed(piece) {
-        Err(ReadFault::OutOfMemory) => Err(AllocError),
+        Err(ReadFault::OutOfMemory) => fail_without_memory(reader),
+        answer => Ok(answer),
+    }
+}
+
+/// Want of memory, after which the reader has failed. Where it goes on its answer is given, which no row wants.
+fn fail_without_memory(
+    reader: &mut ReplyReader<'_>,
+) -> Result<Result<Fed, ReadFault>, OutOfMemory> {
+    match reader.feed(b"END\r\n") {
+        Err(ReadFault::Failed) => Err(AllocError),
         answer => Ok(answer),
     }
 }

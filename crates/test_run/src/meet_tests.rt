@@ -7,7 +7,7 @@ use core::thread::Stack;
 use mc_core::{Ending, Event};
 use mc_lane::MemoryStream;
 use mc_protocol::{Actor, Fault};
-use mc_run::{Branch, FreeGate, Lanes, Manner, Meet, Run, RunError, run_lanes_with};
+use mc_run::{Branch, FreeGate, Lanes, Late, Manner, Meet, Run, RunError, run_lanes_with};
 use mc_verify::Checked;
 use std::alloc::{AllocError, Global};
 use std::sync::Wait;
@@ -15,32 +15,73 @@ use std::test::Fail;
 use std::thread::Threads;
 
 /// Each way to meet.
-static MEETS: [Meet; 6] = [
+static MEETS: [Meet; 10] = [
     Meet {
         manner: Manner::Each,
         apart: Branch::A,
+        late: None,
     },
     Meet {
         manner: Manner::Each,
         apart: Branch::B,
+        late: None,
     },
     Meet {
         manner: Manner::First,
         apart: Branch::A,
+        late: None,
     },
     Meet {
         manner: Manner::First,
         apart: Branch::B,
+        late: None,
     },
     Meet {
         manner: Manner::Never,
         apart: Branch::A,
+        late: None,
     },
     Meet {
         manner: Manner::Never,
         apart: Branch::B,
+        late: None,
+    },
+    Meet {
+        manner: Manner::Each,
+        apart: Branch::A,
+        late: SOON_A,
+    },
+    Meet {
+        manner: Manner::First,
+        apart: Branch::A,
+        late: ASLEEP_B,
+    },
+    Meet {
+        manner: Manner::Each,
+        apart: Branch::B,
+        late: ASLEEP_B,
+    },
+    Meet {
+        manner: Manner::Never,
+        apart: Branch::B,
+        late: SOON_A,
     },
 ];
+
+/// A is late by so little that it doesn't sleep.
+const SOON_A: Option<Late> = Some(Late {
+    branch: Branch::A,
+    nanoseconds: 3_000,
+});
+
+/// B is late by so much that it sleeps.
+const ASLEEP_B: Option<Late> = Some(Late {
+    branch: Branch::B,
+    nanoseconds: 150_000,
+});
+
+/// By how much a branch is late that surely begins after the other one.
+const LATE_NANOSECONDS: u32 = 200_000_000;
 
 const INCREMENT: &[u8] = b"incr a 1\r\n";
 
@@ -123,6 +164,50 @@ fn have_incremented(lanes: &Lanes<MemoryStream>) -> bool {
     let Lanes { a, b, .. } = lanes;
     let is_sent = a.sent() == INCREMENT && b.sent() == INCREMENT;
     is_sent && a.got() == b"6\r\n".as_slice() && b.got() == b"7\r\n".as_slice()
+}
+
+#[test]
+fn late_branch_begins_after_the_other_one_is_answered(rt: HostRuntime) -> Result<(), Fail> {
+    let counter = counter(rt.alloc())?;
+    for late in [Branch::A, Branch::B] {
+        for apart in [Branch::A, Branch::B] {
+            let first = first_answered(&rt, rt.alloc(), &counter, late, apart)?;
+            let other = match late {
+                Branch::A => Actor::B,
+                Branch::B => Actor::A,
+            };
+            assert_eq!(rt; first, Some(other), "{late:?} {apart:?}");
+        }
+    }
+    Ok(())
+}
+
+/// The branch that begins and is answered before the other one begins, if one is, where one of them is late by much.
+fn first_answered<R: Threads + Wait + Sync>(
+    rt: &R,
+    alloc: Global,
+    counter: &Checked,
+    late: Branch,
+    apart: Branch,
+) -> Result<Option<Actor>, Fail> {
+    let meet = Meet {
+        manner: Manner::First,
+        apart,
+        late: Some(Late {
+            branch: late,
+            nanoseconds: LATE_NANOSECONDS,
+        }),
+    };
+    let given = lanes(alloc, [TO_PREFIX, SIX, SEVEN])?;
+    let run = run_meeting(rt, alloc, counter, given, &FreeGate, meet)?;
+    let mut noted = run.world.notes().iter().skip(4);
+    let Some((first, Event::Begin)) = noted.next() else {
+        return Ok(None);
+    };
+    match noted.next() {
+        Some((second, Event::Reply(_))) if second == first => Ok(Some(*first)),
+        _ => Ok(None),
+    }
 }
 
 #[test]

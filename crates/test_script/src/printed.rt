@@ -15,9 +15,11 @@ pub(crate) fn is_printed_as(alloc: Global, text: &str, wanted: &str) -> Result<b
     Ok(printed(alloc, text, b"")?.as_slice() == wanted.as_bytes())
 }
 
-/// The script's text, after these bytes.
+/// The script's text, after these bytes. Without memory there are these bytes alone.
 pub(crate) fn text_of(alloc: Global, script: &Script, before: &[u8]) -> Result<Vec<u8>, Fail> {
     let mut out = Vec::from_slice(alloc, before)?;
-    print(alloc, script, &mut out)?;
-    Ok(out)
+    match print(alloc, script, &mut out) {
+        Err(fault) if out.as_slice() == before => Err(Fail::from(fault)),
+        _ => Ok(out),
+    }
 }

@@ -1,5 +1,6 @@
 //! Connections that are served over TCP.
 use mc_server::{Listened, Shared, listen};
+use std::alloc::AllocError;
 use std::io::{self, Read, Write};
 use std::net::{Net, OpenStream, Shutdown, SocketAddr, TcpListener, TcpStream};
 use std::rt::Clock;
@@ -33,6 +34,12 @@ fn is_answered<N: Net>(
     let mut stream = TcpStream::connect(net, address)?;
     stream.write_all(sent)?;
     stream.shutdown(Shutdown::Write)?;
+    let (read, len) = read_to_end(&mut stream)?;
+    Ok(read.get(..len) == Some(answer))
+}
+
+/// What comes until the connection is closed, and how many bytes; no more than there is room for.
+fn read_to_end<S: Read>(stream: &mut S) -> io::Result<([u8; 256], usize)> {
     let mut read = [0; 256];
     let mut len = 0usize;
     for _ in 0..256 {
@@ -45,7 +52,7 @@ fn is_answered<N: Net>(
         }
         len = len.saturating_add(count);
     }
-    Ok(read.get(..len) == Some(answer))
+    Ok((read, len))
 }
 
 /// Whether each client is answered as it should be, one after another.
@@ -58,7 +65,7 @@ fn are_answered<N: Net>(net: &N, address: SocketAddr) -> io::Result<bool> {
     Ok(true)
 }
 
-/// What comes of a listener that serves so many connections while the clients connect, if each client is answered as it should be.
+/// What comes of a listener that serves this number of connections while the clients connect, if each client is answered as it should be.
 fn listened<
     R: Net<Listener = TcpListener, Stream = TcpStream>
         + Threads
@@ -99,5 +106,48 @@ fn accepts_nothing_where_no_connection_is_to_come(rt: HostRuntime) -> Result<(),
             refused: 0
         })
     );
+    Ok(())
+}
+
+/// What comes of a listener that serves one connection, over which a client has sent all before it listens; and whether the client is
+/// answered so. Where memory ran out, for the connection's thread too, that is an error.
+fn listened_after<
+    R: Net<Listener = TcpListener, Stream = TcpStream>
+        + Threads
+        + Wait
+        + Clock
+        + Sync
+        + AllocGlobal,
+>(rt: &R, sent: &[u8], answer: &[u8]) -> Result<(Listened, bool), Fail> {
+    let listener = TcpListener::bind(rt, FREE_PORT)?;
+    let mut stream = TcpStream::connect(rt, listener.local_addr()?)?;
+    stream.write_all(sent)?;
+    let shared = Shared::new(rt.alloc())?;
+    let listened = listen(rt, rt.alloc(), &listener, &shared, 1);
+    // what the client sent isn't read where the connection got no thread
+    if listened.accepted == 0 {
+        return Err(AllocError)?;
+    }
+    Ok((listened, is_all(&mut stream, answer)?))
+}
+
+/// Whether this is what comes until the connection is closed. That the server has no memory is an error.
+fn is_all<S: Read>(stream: &mut S, answer: &[u8]) -> Result<bool, Fail> {
+    let (read, len) = read_to_end(stream)?;
+    let read = read.get(..len).unwrap_or(&[]);
+    if read.ends_with(b"SERVER_ERROR out of memory\r\n") {
+        return Err(AllocError)?;
+    }
+    Ok(read == answer)
+}
+
+#[test]
+fn serves_a_client_that_sent_all_before(rt: HostRuntime) -> Result<(), Fail> {
+    let [(sent, answer), _, _] = CLIENTS;
+    let served = Listened {
+        accepted: 1,
+        refused: 0,
+    };
+    assert_eq!(rt; listened_after(&rt, sent, answer)?, (served, true));
     Ok(())
 }

@@ -158,7 +158,11 @@ static REFUSED: &[Row] = &[
     (b"set a 0 0 65537\r\n1", b"", 0, Why::Ended),
 ];
 
-/// Whether a client that sends these pieces is answered so.
+/// The line with which a server that has no memory ends.
+const NO_MEMORY: &[u8] = b"SERVER_ERROR out of memory\r\n";
+
+/// Whether a client that sends these pieces is answered so. Where memory ran out, and the front of the answers was written and then
+/// the line that says so, that is an error.
 fn is_served<R: Wait + AllocGlobal>(
     rt: &R,
     pieces: &[&[u8]],
@@ -168,7 +172,18 @@ fn is_served<R: Wait + AllocGlobal>(
 ) -> Result<bool, AllocError> {
     let shared = Shared::new(rt.alloc())?;
     let (written, came) = conversation(rt, rt.alloc(), &shared, pieces, failing)?;
+    if came.why == Why::Memory && is_front_without_memory(written.as_slice(), answers) {
+        return Err(AllocError);
+    }
     Ok(written.as_slice() == answers && came == served)
+}
+
+/// Whether what was written is a front of the answers and the line after it.
+fn is_front_without_memory(written: &[u8], answers: &[u8]) -> bool {
+    match written.strip_suffix(NO_MEMORY) {
+        Some(front) => answers.starts_with(front),
+        None => false,
+    }
 }
 
 fn first_other<R: Wait + AllocGlobal>(

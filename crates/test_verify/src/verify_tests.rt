@@ -5,7 +5,7 @@ use crate::short_tables::COUNTER;
 use mc_code::{Code, encode};
 use mc_protocol::{Actor, Class};
 use mc_verify::{Checked, RefusalKind};
-use std::alloc::Global;
+use std::alloc::{AllocError, Global};
 use std::test::Fail;
 
 /// What the sections of the counter cost, P, A and B, each with its requests and its bytes.
@@ -18,7 +18,8 @@ fn hands_out_the_counter(rt: HostRuntime) -> Result<(), Fail> {
     Ok(())
 }
 
-/// What the sections of the counter's code cost, and whether the sound code has the same image, where it is sound.
+/// What the sections of the counter's code cost, and whether the sound code has the same image, where it is sound. Want of memory is an
+/// error.
 fn checked_counter(alloc: Global) -> Result<Option<([(u32, u32); 3], bool)>, Fail> {
     let answer = answer_to(alloc, COUNTER)?;
     checked_in(alloc, &answer, COUNTER)
@@ -31,6 +32,7 @@ fn checked_in(
 ) -> Result<Option<([(u32, u32); 3], bool)>, Fail> {
     match answer {
         Ok(checked) => Ok(Some((costs_of(checked), has_image(alloc, checked.code(), image)?))),
+        Err((refusal, _)) if refusal.kind == RefusalKind::OutOfMemory => Err(AllocError)?,
         Err(_) => Ok(None),
     }
 }

@@ -4,4 +4,6 @@
 #[cfg(test)]
 mod cut_tests;
 #[cfg(test)]
+mod report_tests;
+#[cfg(test)]
 mod why_tests;

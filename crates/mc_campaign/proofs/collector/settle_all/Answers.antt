@@ -1,5 +1,6 @@
 use Rattle.std.proofs.Common.{◌≡◌, ◌+◌, ◌∙◌, ap, arith}
 use Rattle.std.specs.List.{range_with_len}
+use Rattle.std.specs.Option.{option_copied}
 use Rattle.mc_campaign.proofs.MoreJobs.{one_more_number, one_more_outcome}
 use Rattle.mc_campaign.proofs.collector.settle_all.Goals as goal
 
@@ -9,8 +10,8 @@ jobs-preserved g c = record {
       one_more_number (λ r. r.job) c.jobs.results.items c.push.new.self.items c.settle.result c.args.campaign.first c.jobs.place
       c.in_ok-push.ensures.items c.settle.ensures.job c.jobs.invariant.jobs;
   outcomes =
-      one_more_outcome c.args.campaign.seed (c.args.campaign.first + c.jobs.place) c.jobs.results.items c.push.new.self.items c.settle.result
-      c.in_ok-push.ensures.items c.settle.ensures.job c.settle.ensures.outcome c.jobs.invariant.outcomes;
+      one_more_outcome c.args.campaign.seed (option_copied c.args.campaign.name) (c.args.campaign.first + c.jobs.place) c.jobs.results.items
+      c.push.new.self.items c.settle.result c.in_ok-push.ensures.items c.settle.ensures.job c.settle.ensures.outcome c.jobs.invariant.outcomes;
 }
 
 pub returns-clause-jobs : goal.returns-clause-jobs

@@ -11,7 +11,7 @@ split_at-requires c = begins_inside c.args.text.now c.args.checked.now.code c.ar
 pub returns-in_default : goal.returns-in_default
 returns-in_default c =
     let first : c.saturating_add.result ≡ line_after (take c.args.size c.args.text.now) =
-    c.saturating_add.ensures ∙ (ap (λ n. min (n + 1) LAST_NUMBER) c.count_lines.ensures
+    c.saturating_add.ensures ∙ (ap (λ n. min (n + 1) LAST_NUMBER) c.count_lines-before.ensures
     ∙ ap (λ front. line_after front) c.split_at.ensures.front) in
     record {
       code = c.args.checked.now.code;

@@ -1,7 +1,7 @@
-use Rattle.std.proofs.Common.{◌≡◌, All, IfOk, subst}
+use Rattle.std.proofs.Common.{◌≡◌, IfOk, subst}
 use Rattle.std.specs.List.{range_with_len}
 use Rattle.mc_campaign.specs.declared.campaign.Campaign.{Campaign}
-use Rattle.mc_campaign.proofs.MoreJobs.{IsRight, numbers}
+use Rattle.mc_campaign.proofs.MoreJobs.{AreRight, numbers}
 use Rattle.mc_campaign.proofs.collector.Collector.finish.Goals as goal
 
 pub returns-clause-seed : goal.returns-clause-seed
@@ -15,4 +15,4 @@ returns-clause-jobs g c =
 
 pub returns-clause-outcomes : goal.returns-clause-outcomes
 returns-clause-outcomes g c =
-    subst (λ (k : Campaign). IfOk c.settle_all.result (λ report. All (IsRight k.seed) report.results)) c.self.view_is c.settle_all.ensures.outcomes
+    subst (λ (k : Campaign). IfOk c.settle_all.result (λ report. AreRight k report.results)) c.self.view_is c.settle_all.ensures.outcomes

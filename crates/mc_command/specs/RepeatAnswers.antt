@@ -1,0 +1,58 @@
+-- What `run` answers where a script is run repeatedly.
+use Rattle.std.specs.Prelude.{◌≡◌, ◌⊎◌, ℕ, ◌+◌, ◌<◌, ◌≤◌, Bool, true, false, All, Option, Some, None, List, [], ◌∷◌, ◌++◌}
+use Rattle.std.specs.Prelude.{length, codes, decimal}
+use Rattle.mc_protocol.specs.Lines.{Word}
+use Rattle.mc_code.specs.Code.{Code}
+use Rattle.mc_command.specs.RunAnswers.{IsRight, IsRightFor, SpellsUnder, is_refusal, status_of, text_of}
+use Rattle.mc_command.specs.Statuses.{is_success}
+use Rattle.mc_command.specs.Totals.{totals_line, totals_of}
+use Rattle.mc_command.specs.declared.repeat.Repeat.{Repeat}
+use Rattle.mc_command.specs.declared.run.Played.{Played}
+use Rattle.mc_command.specs.declared.status.Status.{Status}
+use Rattle.mc_command.specs.declared.totals.Totals.{Totals}
+
+-- the run's status is 0
+abbrev pub succeeds : Played → Bool
+succeeds given = is_success (status_of given)
+
+-- of these runs the one with this number, counted from 1, is handed out: the first whose status isn't 0, or else the last
+pub record HandsOut (runs : List Played) (number : ℕ) (given : Played) : Type 0 where
+  pub front : List Played
+  pub back : List Played
+  pub place : runs ≡ front ++ given ∷ back
+  pub counted : number ≡ length front + 1
+  pub earlier : All (λ run. succeeds run ≡ true) front
+  pub last : succeeds given ≡ true → back ≡ []
+
+-- Code that is run repeatedly comes to these totals, and this run is handed out. There are at most as many runs as are wanted. Unless
+-- runs go on after one whose status isn't 0, that is the last one. Where there is no time, there are as many as are wanted, or such a
+-- run ended them.
+pub record Comes (repeat : Repeat) (why : Bool) (code : Code) (number : ℕ) (given : Played) (totals : Totals) : Type 0 where
+  pub runs : List Played
+  pub right : All (IsRightFor why code) runs
+  pub hands_out : HandsOut runs number given
+  pub sums : totals ≡ totals_of runs
+  pub few : (most : ℕ) → repeat.times ≡ Some most → 0 < most → length runs ≤ most
+  pub ends : repeat.keep_going ≡ false → number ≡ length runs
+  pub goes_on : repeat.time ≡ None → (most : ℕ) → repeat.times ≡ Some most → 0 < most
+      → (length runs ≡ most) ⊎ ((repeat.keep_going ≡ false) × (succeeds given ≡ false))
+
+-- the line that says which run follows, of how many where that is known
+abbrev pub run_line : Option ℕ → ℕ → List ℕ
+run_line None number = codes "run " ++ (decimal number ++ codes "\n")
+run_line (Some times) number = codes "run " ++ (decimal number ++ (codes " of " ++ (decimal times ++ codes "\n")))
+
+-- what is written: which run is handed out, the totals of all runs, and what is written of this one
+abbrev pub repeated_text : Option ℕ → ℕ → Totals → Played → List ℕ
+repeated_text times number totals given = run_line times number ++ (totals_line totals ++ text_of given)
+
+-- for sound code, runs that it comes to are what is written, with the status of the one that is handed out
+abbrev pub RepeatsFor : Repeat → Bool → Code → List ℕ → Status → Type 0
+RepeatsFor repeat why code output ended = (number : ℕ) × (given : Played) × (totals : Totals) × Comes repeat why code number given totals
+    × (output ≡ repeated_text repeat.times number totals given) × (ended ≡ status_of given)
+
+-- a script that is refused is refused as ever, and one that is accepted is run repeatedly
+abbrev pub Repeats : Repeat → Bool → Option Word → List ℕ → List ℕ → Status → Type 0
+Repeats repeat why name text output ended =
+    ((given : Played) × IsRight why name text given × (is_refusal given ≡ true) × (output ≡ text_of given) × (ended ≡ status_of given))
+    ⊎ ((code : Code) × SpellsUnder name text code × RepeatsFor repeat why code output ended)

@@ -1,0 +1,38 @@
+//! How a line wants explanations to be searched for: the option `--limit`, of `limit`, and the flag `--why`.
+ghost use Rattle.std.specs.Prelude.{◌≡◌, codes, false};
+ghost use Rattle.clap.specs.Words.{first_value, found_of, rule_of};
+ghost use Rattle.mc_command.specs.Command.{is_set};
+ghost use Rattle.mc_command.specs.CommandLine.{why_rule};
+
+use crate::flag;
+use clap::{Arg, ArgAction, ArgMatches};
+use std::alloc::Global;
+
+/// How an explanation is searched for.
+#[derive(Clone, Copy, Debug, Drop, PartialEq, Eq)]
+pub struct Search {
+    /// The most turns of a search.
+    pub limit: u64,
+    /// Whether the answer says why nothing explains a history, where that is so. Each search for it takes at most `limit` turns.
+    pub why: bool,
+}
+
+const HELP: &str = "Say after unexplained from which line on it is so";
+
+/// The flag.
+pub fn flag<'a>(alloc: Global) -> Arg<'a>
+    ensures rule { rule_of result ≡ why_rule }
+    ensures local { result.global ≡ false }
+{
+    Arg::new(alloc, "why")
+        .long("why")
+        .action(ArgAction::SetTrue)
+        .help(HELP)
+}
+
+/// Whether the flag is there.
+pub fn asks_why(options: &ArgMatches) -> bool
+    ensures { result ≡ is_set (first_value (found_of options.now) (codes "why")) }
+{
+    flag::is_set(options, "why")
+}

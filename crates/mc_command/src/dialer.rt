@@ -1,0 +1,144 @@
+//! What connects the jobs of a campaign to its server.
+use crate::dial::{Place, connect, connect_patiently};
+use crate::failures::Failures;
+use crate::late_calls::LateCalls;
+use crate::quitting::Closing;
+use crate::seconds::Seconds;
+use crate::socket::JobSocket;
+use mc_campaign::Connector;
+use mc_lane::Wire;
+use mc_protocol::{Actor, Sections};
+use std::io;
+use std::io::Eprint;
+use std::net::{Net, SocketAddr, TcpListener, TcpStream};
+use std::rt::Clock;
+use std::sync::{Mutex, Wait};
+
+/// Connects the sections of all jobs to one server, from any thread. The server's name is looked up until one of its addresses takes
+/// a connection; from then on all connections go to that one. The server is asked to close those of a job that has ended, and does so
+/// while another one runs.
+#[derive(Drop)]
+pub struct Dialer<'a, R> {
+    rt: &'a R,
+    server: &'a str,
+    timeout: Option<Seconds<'a>>,
+    wait: Option<Seconds<'a>>,
+    address: Mutex<Option<SocketAddr>>,
+    /// The connections of the job that has ended last.
+    closing: Mutex<Option<Closing>>,
+    failures: &'a Failures<'a, R>,
+    late_calls: &'a LateCalls<'a, R>,
+}
+
+impl<'a, R> Dialer<'a, R>
+where
+    R: Net<Listener = TcpListener, Stream = TcpStream> + Clock + Wait + Eprint,
+{
+    /// What connects to `server`, which is HOST:PORT, and notes in `failures` the connections that are not made. `timeout` is the
+    /// longest that one connect to one address, one read or one write may take, and `wait` how long P of a job may try again to connect.
+    /// Where one took longer, `late_calls` has it.
+    pub fn new(
+        rt: &'a R,
+        server: &'a str,
+        timeout: Option<Seconds<'a>>,
+        wait: Option<Seconds<'a>>,
+        failures: &'a Failures<'a, R>,
+        late_calls: &'a LateCalls<'a, R>,
+    ) -> Self {
+        Dialer {
+            rt,
+            server,
+            timeout,
+            wait,
+            address: Mutex::new(None),
+            closing: Mutex::new(None),
+            failures,
+            late_calls,
+        }
+    }
+
+    /// Waits until the server has closed the connections of the last job, but not for long.
+    pub fn wait_for_the_last(self) {
+        let Dialer { rt, closing, .. } = self;
+        if let Some(last) = closing.into_inner() {
+            last.wait(rt);
+        }
+    }
+
+    fn dial(&self, section: Actor) -> io::Result<TcpStream> {
+        let wait = match section {
+            Actor::P => self.wait,
+            Actor::A | Actor::B => None,
+        };
+        let place = match self.address() {
+            Some(address) => Place::At(address),
+            None => Place::Named(self.server),
+        };
+        let (stream, address) = connect_patiently(self.rt, place, self.timeout, wait)?;
+        let first = self.first_address(address);
+        if first == address {
+            Ok(stream)
+        } else {
+            connect(self.rt, first, self.timeout)
+        }
+    }
+
+    // The connection of a job's section. Where its calls have no limit, or there is no memory, it isn't noted that one took too long.
+    fn watched(&self, job: u64, section: Actor, stream: TcpStream) -> JobSocket {
+        let is_late = match self.timeout {
+            Some(_) => self.late_calls.add(job, section).ok(),
+            None => None,
+        };
+        JobSocket::new(stream, is_late)
+    }
+
+    // The address that took the first connection, if one has.
+    fn address(&self) -> Option<SocketAddr> {
+        *self.address.lock(self.rt)
+    }
+
+    // The address that took the first connection: this one, if no other has.
+    fn first_address(&self, address: SocketAddr) -> SocketAddr {
+        let mut first = self.address.lock(self.rt);
+        match *first {
+            Some(first) => first,
+            None => {
+                *first = Some(address);
+                address
+            }
+        }
+    }
+}
+
+impl<'a, R> Connector<Wire<JobSocket>> for Dialer<'a, R>
+where
+    R: Net<Listener = TcpListener, Stream = TcpStream> + Clock + Wait + Eprint + Sync,
+{
+    fn connect(&self, job: u64, section: Actor) -> Option<Wire<JobSocket>> {
+        match self.dial(section) {
+            Ok(stream) => Some(Wire::new(self.watched(job, section, stream))),
+            Err(error) => {
+                self.failures.add(job, error);
+                None
+            }
+        }
+    }
+
+    fn release(&self, streams: Sections<Option<Wire<JobSocket>>>) {
+        let Sections { p, a, b } = streams;
+        let closing = Closing::ask(Sections {
+            p: stream_of(p),
+            a: stream_of(a),
+            b: stream_of(b),
+        });
+        let earlier = self.closing.lock(self.rt).replace(closing);
+        if let Some(earlier) = earlier {
+            earlier.wait(self.rt);
+        }
+    }
+}
+
+// The connection, if there is one.
+fn stream_of(wire: Option<Wire<JobSocket>>) -> Option<TcpStream> {
+    Some(wire?.into_inner().into_stream())
+}

@@ -1,0 +1,129 @@
+//! Connections of a campaign that were not made, and what standard error says of them.
+use std::alloc::Global;
+use std::fmt::{Display, Error, Formatter, Write};
+use std::io::{Eprint, ErrorKind};
+use std::sync::{Mutex, Wait};
+use std::{io, mem};
+
+/// The connections of the jobs of a report that were not made. The first is written to standard error at once.
+#[derive(Drop)]
+pub struct Failures<'a, R> {
+    rt: &'a R,
+    alloc: Global,
+    server: &'a str,
+    lead: &'static str,
+    list: Mutex<Vec<Failure>>,
+}
+
+/// Jobs in a row, of which each had no connection, and why the first of them had none.
+#[derive(Clone, Copy, Drop)]
+struct Failure {
+    first: u64,
+    last: u64,
+    error: io::Error,
+}
+
+impl<'a, R: Wait + Eprint> Failures<'a, R> {
+    /// None so far, at this server. Each line written while the campaign runs begins with `lead`.
+    pub fn new(rt: &'a R, alloc: Global, server: &'a str, lead: &'static str) -> Self {
+        Failures {
+            rt,
+            alloc,
+            server,
+            lead,
+            list: Mutex::new(Vec::new(alloc)),
+        }
+    }
+
+    /// A job had no connection. Where there is no memory to note it, the ranges that are written at the end leave it out.
+    pub fn add(&self, job: u64, error: io::Error) {
+        if self.note(job, error) {
+            let unreached = Unreached {
+                server: self.server,
+                error,
+            };
+            // There is nowhere else to say that this could not be said.
+            let _ = eprintln!(self.rt; "{}mcrace: {unreached}", self.lead);
+        }
+    }
+
+    // Notes the failure, and answers whether it is the first.
+    fn note(&self, job: u64, error: io::Error) -> bool {
+        let mut list = self.list.lock(self.rt);
+        let is_first = list.is_empty();
+        let _ = list.push(Failure {
+            first: job,
+            last: job,
+            error,
+        });
+        is_first
+    }
+
+    /// Writes to standard error, for each range of jobs in a row that had no connection, which they are, and why; and forgets them.
+    pub fn tell_ranges(&self) {
+        let Failures { rt, server, .. } = self;
+        let mut list = self.take();
+        if list.sort_by_key(|failure| failure.first).is_err() {
+            return;
+        }
+        let mut range: Option<Failure> = None;
+        'failures: for failure in list.as_slice() {
+            range = match range {
+                Some(before) if before.goes_on_with(failure) => Some(Failure {
+                    last: failure.last,
+                    ..before
+                }),
+                Some(before) => {
+                    tell_range(*rt, server, &before);
+                    Some(*failure)
+                }
+                None => Some(*failure),
+            };
+        }
+        if let Some(last) = range {
+            tell_range(*rt, server, &last);
+        }
+    }
+
+    // Those that were noted, which are forgotten with it.
+    fn take(&self) -> Vec<Failure> {
+        let mut list = self.list.lock(self.rt);
+        mem::replace(&mut *list, Vec::new(self.alloc))
+    }
+}
+
+impl Failure {
+    // The other one is of the next job, or of the same, and for the same reason.
+    fn goes_on_with(&self, other: &Failure) -> bool {
+        let is_next = other.first <= self.last.saturating_add(1);
+        is_next && self.error.kind() == other.error.kind()
+    }
+}
+
+// Says on standard error which jobs in a row had no connection, and why.
+fn tell_range<R: Eprint>(rt: &R, server: &str, range: &Failure) {
+    let Failure { first, last, error } = *range;
+    let unreached = Unreached { server, error };
+    // There is nowhere else to say that this could not be said.
+    let _ = if first == last {
+        eprintln!(rt; "mcrace: {unreached} (job {first})")
+    } else {
+        eprintln!(rt; "mcrace: {unreached} (jobs {first} to {last})")
+    };
+}
+
+// A server to which there is no connection, and why.
+#[derive(Clone, Copy, Drop)]
+struct Unreached<'a> {
+    server: &'a str,
+    error: io::Error,
+}
+
+impl<'a> Display for Unreached<'a> {
+    fn fmt<W: Write>(&self, f: &mut Formatter<W>) -> Result<(), Error> {
+        match self.error.kind() {
+            ErrorKind::InvalidInput => write!(f, "{}: write HOST:PORT", self.server),
+            _ => write!(f, "{}: {}", self.server, self.error),
+        }
+    }
+}

@@ -1,0 +1,69 @@
+//! Runs of one script whose connections serve the next run too.
+ghost use Rattle.std.specs.Prelude.{◌≡◌, IfOk};
+ghost use Rattle.mc_command.specs.RunAnswers as answers;
+
+use crate::arguments::Target;
+use crate::dial::{Connections, connect_sections};
+use crate::run::{Played, Remarks, no_connection, play_connections, status_of};
+use mc_verify::Checked;
+use std::alloc::{AllocError, Global};
+use std::net::{Net, TcpStream};
+use std::rt::Clock;
+use std::sync::Wait;
+use std::thread::Threads;
+
+/// The connections of the last run, where the next one may use them.
+#[derive(Debug, Drop)]
+pub struct Kept {
+    connections: Option<Connections>,
+}
+
+impl Kept {
+    /// No connections.
+    pub fn new() -> Kept {
+        Kept { connections: None }
+    }
+
+    /// Has the server close the connections, if there are any.
+    pub fn quit<R: Clock>(self, rt: &R) {
+        if let Some(connections) = self.connections {
+            connections.quit(rt);
+        }
+    }
+}
+
+/// Runs the code over the connections that are kept, or else over new ones, and judges what came of it. They are kept where the run is
+/// done and explained, nothing more has come, and the server has closed none of them; with `target.reconnect` none are.
+pub fn play_kept<R: Net<Stream = TcpStream> + Threads + Wait + Clock + Sync>(
+    rt: &R,
+    alloc: Global,
+    target: &Target<'_>,
+    checked: &Checked,
+    kept: &mut Kept,
+) -> Result<(Played, Remarks), AllocError>
+    ensures { IfOk result (λ played. answers.IsRightFor target.now.how.why checked.now.code played.0) }
+{
+    let connections = match kept.connections.take() {
+        Some(connections) => connections,
+        None => match connect_sections(rt, target) {
+            Ok(connections) => connections,
+            Err((section, error)) => return Ok(no_connection(section, error)),
+        },
+    };
+    let (played, remarks) = play_connections(rt, alloc, target, checked, &connections)?;
+    if !target.reconnect && is_clean(&played, &remarks) && connections.are_idle() {
+        kept.connections = Some(connections);
+    } else {
+        // Another run may follow, and this side is not to run out of ports.
+        connections.quit(rt);
+    }
+    Ok((played, remarks))
+}
+
+// The run is done and explained, and there is nothing to say of what it received.
+fn is_clean(played: &Played, remarks: &Remarks) -> bool {
+    match remarks {
+        Remarks::Evidence(all) => all.is_empty() && status_of(played).is_success(),
+        Remarks::None | Remarks::NoConnection(_) | Remarks::WrongLine(_) => false,
+    }
+}

@@ -1,0 +1,186 @@
+//! Runs of one script, one after another.
+ghost use Rattle.std.specs.Prelude.{◌≡◌, ◌<◌, ◌-◌, ◌^◌, Bool, false, true, not, List, ◌∷◌, [], ◌++◌, length, IfOk, None};
+ghost use Rattle.mc_code.specs.Code.{Code};
+ghost use Rattle.mc_command.specs.RepeatAnswers as answers;
+ghost use Rattle.mc_command.specs.RunAnswers.{IsRightFor};
+ghost use Rattle.mc_command.specs.SoFar.{IsSoFar};
+ghost use Rattle.mc_command.specs.declared.run.Played.{Played};
+
+use crate::arguments::Target;
+use crate::keeping::{Kept, play_kept};
+use crate::repeat::Repeat;
+use crate::run::{Played, Remarks, status_of};
+use crate::run_teller::RunTeller;
+use crate::statistics::Statistics;
+use crate::totals::Totals;
+use mc_verify::Checked;
+use std::alloc::{AllocError, Global};
+use std::io;
+use std::io::Eprint;
+use std::net::{Net, TcpStream};
+use std::rt::Clock;
+use std::sync::Wait;
+use std::thread::Threads;
+use std::time::{Duration, Instant};
+
+/// The runs so far: what they came to, and the one that is handed out.
+#[derive(Debug, Drop)]
+pub struct Runs {
+    /// The first whose status isn't 0, or else the last.
+    pub played: Played,
+    /// What standard error says of it.
+    pub remarks: Remarks,
+    /// Its number, counted from 1.
+    pub number: u64,
+    pub totals: Totals,
+}
+
+impl Runs {
+    /// One run.
+    fn new(played: Played, remarks: Remarks) -> Runs
+        ensures so_far { (why : Bool) (code : Code) → IsRightFor why code played → IsSoFar why code (played ∷ []) result }
+        ensures last { result.number ≡ 1 }
+    {
+        let totals = Totals::new().with(&played);
+        Runs {
+            played,
+            remarks,
+            number: 1,
+            totals,
+        }
+    }
+
+    /// One run more.
+    fn with(self, played: Played, remarks: Remarks) -> Runs
+        ensures so_far { (why : Bool) (code : Code) (all : List Played) → IsSoFar why code all self → length all < 2 ^ 64 - 1
+            → IsRightFor why code played → IsSoFar why code (all ++ played ∷ []) result }
+        ensures last { answers.succeeds self.played ≡ true → result.number ≡ result.totals.runs }
+    {
+        let totals = self.totals.with(&played);
+        if self.has_failed() {
+            return Runs { totals, ..self };
+        }
+        Runs {
+            played,
+            remarks,
+            number: totals.runs,
+            totals,
+        }
+    }
+
+    /// Says what was remarked on the one of two runs that isn't handed out: the next one, with these remarks, where one has failed, and
+    /// else the one that was last.
+    fn tell_lost<R: Eprint + Clock>(&self, next: &Remarks, teller: &mut RunTeller<'_, R>) {
+        let (number, remarks) = if self.has_failed() {
+            (self.totals.runs.saturating_add(1), next)
+        } else {
+            (self.number, &self.remarks)
+        };
+        teller.tell_lost(number, remarks);
+    }
+
+    /// There was a run whose status isn't 0.
+    fn has_failed(&self) -> bool
+        ensures { result ≡ not (answers.succeeds self.now.played) }
+    {
+        !status_of(&self.played).is_success()
+    }
+
+    /// There was one, and none follows it.
+    fn is_over(&self, keep_going: bool) -> bool
+        ensures over { result ≡ true → (keep_going ≡ false) × (answers.succeeds self.now.played ≡ false) }
+        ensures on { result ≡ false → keep_going ≡ false → answers.succeeds self.now.played ≡ true }
+    {
+        self.has_failed() && !keep_going
+    }
+}
+
+/// Runs the code until there are as many runs as are wanted, or the time is over, or a run's status isn't 0 and `repeat` doesn't go on
+/// after such a one. A run that has begun is not cut off. `teller` says how many there were, and they are counted in the statistics where
+/// the target asks for them. Connections serve more than one run, unless the target says otherwise.
+pub fn repeat_code<R>(
+    rt: &R,
+    alloc: Global,
+    target: &Target<'_>,
+    repeat: Repeat,
+    checked: &Checked,
+    teller: &mut RunTeller<'_, R>,
+    statistics: &mut Statistics,
+) -> Result<Runs, AllocError>
+where
+    R: Net<Stream = TcpStream> + Threads + Wait + Clock + Sync + Eprint,
+    ensures { IfOk result (λ runs.
+        answers.Comes repeat target.now.how.why checked.now.code runs.number runs.played runs.totals) }
+{
+    let mut kept = Kept::new();
+    let runs = repeat_over(
+        rt, alloc, target, repeat, checked, teller, statistics, &mut kept,
+    )?;
+    kept.quit(rt);
+    Ok(runs)
+}
+
+// The same over the connections that are kept.
+fn repeat_over<R>(
+    rt: &R,
+    alloc: Global,
+    target: &Target<'_>,
+    repeat: Repeat,
+    checked: &Checked,
+    teller: &mut RunTeller<'_, R>,
+    statistics: &mut Statistics,
+    kept: &mut Kept,
+) -> Result<Runs, AllocError>
+where
+    R: Net<Stream = TcpStream> + Threads + Wait + Clock + Sync + Eprint,
+    ensures { IfOk result (λ runs.
+        answers.Comes repeat target.now.how.why checked.now.code runs.number runs.played runs.totals) }
+{
+    let begun = Instant::now(rt);
+    let most = repeat.times.unwrap_or(u64::MAX);
+    let (played, remarks) = play_kept(rt, alloc, target, checked, kept)?;
+    count(target, &played, teller, statistics);
+    let mut runs = Runs::new(played, remarks);
+    'runs: for done in 1..most {
+        if runs.is_over(repeat.keep_going) {
+            return Ok(runs);
+        }
+        if is_late(rt, &begun, repeat.time) {
+            return Ok(runs);
+        }
+        let (played, remarks) = play_kept(rt, alloc, target, checked, kept)?;
+        count(target, &played, teller, statistics);
+        runs.tell_lost(&remarks, teller);
+        runs = runs.with(played, remarks);
+    }
+    Ok(runs)
+}
+
+// One run more has ended.
+fn count<R: Eprint + Clock>(
+    target: &Target<'_>,
+    played: &Played,
+    teller: &mut RunTeller<'_, R>,
+    statistics: &mut Statistics,
+) {
+    teller.ended(played);
+    if target.stats {
+        statistics.add_played(played);
+    }
+}
+
+/// The time has passed, if there is one, or the clock can't say that it hasn't.
+pub fn is_late<R: Clock>(rt: &R, begun: &io::Result<Instant>, time: Option<u64>) -> bool
+    ensures { time ≡ None → result ≡ false }
+{
+    let Some(time) = time else {
+        return false;
+    };
+    match begun {
+        Ok(begun) => match begun.elapsed(rt) {
+            Ok(passed) => passed >= Duration::from_secs(time),
+            Err(_) => true,
+        },
+        Err(_) => true,
+    }
+}

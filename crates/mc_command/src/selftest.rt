@@ -1,0 +1,274 @@
+//! The command `selftest`: a campaign against a server that is right, and a run against one with a race, both in this process.
+ghost use Rattle.std.specs.Prelude.{◌≡◌, false, true, IfOk};
+ghost use Rattle.clap.specs.Words.{app_of};
+ghost use Rattle.mc_command.specs.Command.{WritesSelftest};
+ghost use Rattle.mc_command.specs.CommandLine.{selftest_app};
+ghost use Rattle.mc_command.specs.SelftestAnswers as answers;
+
+use crate::arguments::Target;
+use crate::asking::Search;
+use crate::both_read::BothRead;
+use crate::dialer::Dialer;
+use crate::failures::Failures;
+use crate::late_calls::LateCalls;
+use crate::program::write_text;
+use crate::run::{Played, play_text};
+use crate::seconds::Seconds;
+use crate::status::Status;
+use crate::streams::Sink;
+use clap::Command;
+use mc_campaign::{Campaign, Meeting, Unwatched, report_status, run_jobs};
+use mc_explain::Verdict;
+use mc_run::FreeGate;
+use mc_server::{Caller, Racy, Shared, listen};
+use std::alloc::Global;
+use std::io::Eprint;
+use std::net::{Ipv4Addr, Net, SocketAddr, TcpListener, TcpStream};
+use std::rt::Clock;
+use std::sync::Wait;
+use std::thread::Threads;
+use std::time::Duration;
+use std::{io, thread};
+
+// What is written where both parts came out as they must.
+const PASSED: &[u8] = b"honest jobs 20 explained 20 unexplained 0 other 0\nracy unexplained\nok\n";
+
+/// What is written where one didn't.
+pub const FAILED: &[u8] = b"failed\n";
+
+// The campaign against the server that is right, and its workers.
+const CAMPAIGN: Campaign<'static> = Campaign {
+    seed: 1,
+    first: 0,
+    jobs: 20,
+    limit: 1_000_000,
+    meeting: Meeting::Drawn,
+    spread: 0,
+    name: None,
+};
+
+const WORKERS: u32 = 4;
+
+// The script that runs against the server with a race: each branch adds 1 to the number 5.
+const TWO_INCREMENTS: &[u8] = b"script 1
+keys a
+budget P 2 26
+budget A 1 10
+budget B 1 10
+P
+set a 0 =5
+A
+incr a 1
+B
+incr a 1
+end
+";
+
+// The longest that a connect, a read or a write may take.
+const TIMEOUT: Seconds<'static> = Seconds {
+    word: "10",
+    milliseconds: 10_000,
+};
+
+// The two parts of the selftest.
+#[derive(Clone, Copy)]
+enum Part {
+    Honest,
+    Racy,
+}
+
+impl Part {
+    // How many connections it makes: three for each job, and for the run.
+    fn connections(self) -> u64 {
+        match self {
+            Part::Honest => 60,
+            Part::Racy => 3,
+        }
+    }
+}
+
+/// Runs both parts, and answers the exit status.
+pub fn run_selftest<R, O: Sink>(rt: &R, alloc: Global, output: &mut O) -> Status
+where
+    R: Net<Listener = TcpListener, Stream = TcpStream> + Threads + Wait + Clock + Sync + Eprint,
+    ensures answered { O.has_failed output.old ≡ false → O.has_failed output.new ≡ false
+        → WritesSelftest (O.written output.old) (O.written output.new) result }
+    ensures broken { O.has_failed output.old ≡ false → O.has_failed output.new ≡ true → result ≡ Status.NoAnswer }
+{
+    match both_pass(rt, alloc) {
+        Ok(true) => write_text(PASSED, Status::Success, output),
+        Ok(false) | Err(_) => write_failed(output),
+    }
+}
+
+/// Says that the selftest failed.
+pub fn write_failed<O: Sink>(output: &mut O) -> Status
+    ensures answered { O.has_failed output.old ≡ false → O.has_failed output.new ≡ false
+        → WritesSelftest (O.written output.old) (O.written output.new) result }
+    ensures broken { O.has_failed output.old ≡ false → O.has_failed output.new ≡ true → result ≡ Status.NoAnswer }
+{
+    write_text(FAILED, Status::Unexplained, output)
+}
+
+fn both_pass<R>(rt: &R, alloc: Global) -> io::Result<bool>
+where
+    R: Net<Listener = TcpListener, Stream = TcpStream> + Threads + Wait + Clock + Sync + Eprint,
+    ensures { IfOk result (λ passed. passed ≡ true → answers.IsHonestSeen × answers.IsRaceSeen) }
+{
+    let honest = Shared::new(alloc)?;
+    if !passes(rt, alloc, &honest, Part::Honest)? {
+        return Ok(false);
+    }
+    let racy = Racy::new(alloc, BothRead::new())?;
+    passes(rt, alloc, &racy, Part::Racy)
+}
+
+// Whether the part comes out as it must against a server that answers by `caller`.
+fn passes<R, C: Caller>(rt: &R, alloc: Global, caller: &C, part: Part) -> io::Result<bool>
+where
+    R: Net<Listener = TcpListener, Stream = TcpStream> + Threads + Wait + Clock + Sync + Eprint,
+    ensures { IfOk result (λ passed. passed ≡ true → answers.IsSeen part) }
+{
+    let listener = TcpListener::bind(rt, SocketAddr::from((Ipv4Addr::LOCALHOST, 0)))?;
+    let address = listener.local_addr()?;
+    let listener = &listener;
+    Ok(thread::scope(
+        thread::scope_env(),
+        rt,
+        move |scope| -> bool
+            ensures { result ≡ true → answers.IsSeen part }
+        {
+            let serving = move || listen(rt, alloc, listener, caller, part.connections());
+            if scope.spawn(serving).is_err() {
+                return false;
+            }
+            let passed = part_passes(rt, alloc, address, part);
+            if !passed {
+                let_end(rt, address, part.connections());
+            }
+            passed
+        },
+    ))
+}
+
+// Whether the part comes out as it must against the server at this address.
+fn part_passes<R>(rt: &R, alloc: Global, address: SocketAddr, part: Part) -> bool
+where
+    R: Net<Listener = TcpListener, Stream = TcpStream> + Threads + Wait + Clock + Sync + Eprint,
+    ensures { result ≡ true → answers.IsSeen part }
+{
+    let Ok(server) = format!(in alloc; "{address}") else {
+        return false;
+    };
+    match part {
+        Part::Honest => honest_passes(rt, alloc, server.as_str()),
+        Part::Racy => racy_passes(rt, alloc, server.as_str()),
+    }
+}
+
+// The server ends once it has served as many connections as it waits for. Where some of them weren't made, others stand for them.
+fn let_end<R: Net<Stream = TcpStream>>(rt: &R, address: SocketAddr, connections: u64) {
+    'connections: for _ in 0..connections {
+        let _ = TcpStream::connect_timeout(rt, &address, TIMEOUT.duration());
+    }
+}
+
+// Whether all jobs of the campaign are explained, and all their sections done.
+fn honest_passes<R>(rt: &R, alloc: Global, server: &str) -> bool
+where
+    R: Net<Listener = TcpListener, Stream = TcpStream> + Threads + Wait + Clock + Sync + Eprint,
+    ensures { result ≡ true → answers.IsHonestSeen }
+{
+    let failures = Failures::new(rt, alloc, server, "");
+    let late_calls = LateCalls::new(rt, alloc);
+    let dialer = Dialer::new(rt, server, Some(TIMEOUT), None, &failures, &late_calls);
+    match run_jobs(
+        rt,
+        alloc,
+        CAMPAIGN,
+        WORKERS,
+        &dialer,
+        &FreeGate,
+        &mut Unwatched,
+    ) {
+        Ok(report) => report_status(&report) == 0,
+        Err(_) => false,
+    }
+}
+
+// Whether the run of the two increments is unexplained.
+fn racy_passes<R>(rt: &R, alloc: Global, server: &str) -> bool
+where
+    R: Net<Stream = TcpStream> + Threads + Wait + Clock + Sync,
+    ensures { result ≡ true → answers.IsRaceSeen }
+{
+    let target = Target {
+        server,
+        a: None,
+        b: None,
+        how: Search {
+            limit: CAMPAIGN.limit,
+            why: false,
+        },
+        meeting: Meeting::Each,
+        name: None,
+        timeout: Some(TIMEOUT),
+        wait: None,
+        repeat: None,
+        reconnect: false,
+        stats: false,
+        quiet: true,
+        spread: 0,
+    };
+    match play_text(rt, alloc, &target, TWO_INCREMENTS) {
+        Ok((played, _)) => is_unexplained(&played),
+        Err(_) => false,
+    }
+}
+
+fn is_unexplained(played: &Played) -> bool
+    ensures { result ≡ true → answers.IsUnexplained played.now }
+{
+    match played {
+        Played::Ended(_, _, Verdict::Unexplained, _) => true,
+        _ => false,
+    }
+}
+
+const ABOUT: &str = "Tests mcrace itself, with servers of its own";
+
+const USAGE: &str = "mcrace selftest";
+
+const LONG_ABOUT: &str =
+    "Tests mcrace itself: whether it works on this machine. No server is needed, and
+no port but free ones of 127.0.0.1.
+
+First a server that is right is started in this process, and 20 jobs of seed 1
+run against it, as by `mcrace campaign`. All must be explained. Then a script
+of two increments runs against a server with a race, which holds an increment
+until the other one has read. It must be unexplained. If both are so, this is
+written:
+
+  honest jobs 20 explained 20 unexplained 0 other 0
+  racy unexplained
+  ok
+
+Else it is `failed`, also where this machine lacks what the two need: memory,
+threads or ports. It takes less than a second.";
+
+const STATUSES: &str = "Exit status:
+  0  ok
+  1  failed
+  2  the command line is wrong
+  4  out of memory before it began; or output failed";
+
+/// The subcommand.
+pub fn subcommand<'a>(alloc: Global) -> Command<'a>
+    ensures { app_of result ≡ selftest_app }
+{
+    Command::new(alloc, "selftest")
+        .about(ABOUT)
+        .long_about(LONG_ABOUT)
+        .override_usage(USAGE)
+        .after_help(STATUSES)
+}

@@ -1,0 +1,172 @@
+//! What the program says of jobs while a campaign runs.
+use crate::campaign::Plan;
+use crate::campaign_line::CampaignTarget;
+use crate::evidence::failure_text;
+use crate::failures::Failures;
+use crate::late_calls::LateCalls;
+use crate::progress::{Progress, lead};
+use crate::seconds::Seconds;
+use crate::statistics::Statistics;
+use crate::until::Until;
+use mc_campaign::{JobOutcome, Standing, Watcher};
+use mc_lane::Stream;
+use mc_protocol::{Actor, Sections};
+use std::alloc::Global;
+use std::io::Eprint;
+use std::rt::Clock;
+use std::sync::Wait;
+
+// At most this many unexplained jobs are written to standard error, and this many times what came in the place of a reply,
+// or that none came in time.
+const MOST_SHOWN: u32 = 10;
+
+/// Says on standard error which jobs are unexplained, as soon as they are, and how to print their scripts; what came in the place of
+/// replies, or didn't come in time; and on a terminal how far the campaign is. It counts, too, how the jobs' requests were answered.
+#[derive(Drop)]
+pub struct Teller<'a, R> {
+    rt: &'a R,
+    alloc: Global,
+    seed: u64,
+    shown_jobs: u32,
+    shown_failures: u32,
+    lead: &'static str,
+    progress: Option<Progress<'a, R>>,
+    statistics: Statistics,
+    timeout: Option<Seconds<'a>>,
+    late_calls: &'a LateCalls<'a, R>,
+    failures: &'a Failures<'a, R>,
+}
+
+impl<'a, R: Eprint + Clock + Wait> Teller<'a, R> {
+    /// What says which jobs of a campaign are unexplained; how far the campaign is, in a line of `columns` columns, if there are any; and
+    /// with each report which of its jobs had no connection, as `failures` has them. Where a call of a job's connection took longer than
+    /// `target.timeout`, `late_calls` has it.
+    pub fn new(
+        rt: &'a R,
+        alloc: Global,
+        target: &CampaignTarget<'a>,
+        columns: Option<usize>,
+        late_calls: &'a LateCalls<'a, R>,
+        failures: &'a Failures<'a, R>,
+    ) -> Self {
+        let plan = target.plan;
+        Teller {
+            rt,
+            alloc,
+            seed: plan.seed,
+            shown_jobs: 0,
+            shown_failures: 0,
+            lead: lead(columns),
+            progress: columns.map(|columns| Progress::new(
+                rt,
+                alloc,
+                columns,
+                "jobs",
+                known_jobs(plan),
+            )),
+            statistics: Statistics::new(),
+            timeout: target.timeout,
+            late_calls,
+            failures,
+        }
+    }
+
+    /// Says on standard error how the requests of the jobs that ran were answered.
+    pub fn tell_statistics(&self) {
+        // There is nowhere else to say that this could not be said.
+        let _ = eprint!(self.rt; "{}", self.statistics);
+    }
+
+    /// Clears the line that says how far the campaign is, as a report is written next, and says which of its jobs had no connection.
+    pub fn end_report(&self) {
+        if let Some(progress) = &self.progress {
+            progress.clear();
+        }
+        self.failures.tell_ranges();
+    }
+
+    // Says that a job is unexplained.
+    fn tell(&self, job: u64) {
+        let Teller { lead, seed, .. } = self;
+        // There is nowhere else to say that this could not be said.
+        let _ = eprintln!(self.rt;
+            "{lead}mcrace: job {job} is unexplained; mcrace generate --seed {seed} --job {job}"
+        );
+    }
+}
+
+impl<'a, R: Eprint + Clock + Wait> Teller<'a, R> {
+    // Says what came in the place of a reply in a section of the job, or what didn't come in time where one of its calls was late. Where
+    // there is no memory for it, it isn't said.
+    fn tell_failure<S: Stream>(
+        &mut self,
+        job: u64,
+        outcome: &JobOutcome<S>,
+        section: Actor,
+        is_late: bool,
+    ) {
+        let JobOutcome::Ran { run, history, .. } = outcome else {
+            return;
+        };
+        if self.shown_failures >= MOST_SHOWN {
+            return;
+        }
+        let sent = history.sent(section);
+        let lane = run.lanes.get(section);
+        let late = if is_late { self.timeout } else { None };
+        if let Ok(Some(text)) = failure_text(self.alloc, sent, lane, late) {
+            self.shown_failures += 1;
+            let lead = self.lead;
+            let section = section.word();
+            // There is nowhere else to say that this could not be said.
+            let _ = eprintln!(self.rt; "{lead}mcrace: job {job}: {section}: {text}");
+        }
+    }
+}
+
+impl<'a, S: Stream, R: Eprint + Clock + Wait> Watcher<S> for Teller<'a, R> {
+    fn ended(&mut self, job: u64, outcome: &JobOutcome<S>) {
+        let is_unexplained = Standing::of(outcome) == Standing::Unexplained;
+        if is_unexplained && self.shown_jobs < MOST_SHOWN {
+            self.shown_jobs += 1;
+            self.tell(job);
+        }
+        let Sections { p, a, b } = self.late_calls.take(job);
+        self.tell_failure(job, outcome, Actor::P, p);
+        self.tell_failure(job, outcome, Actor::A, a);
+        self.tell_failure(job, outcome, Actor::B, b);
+        if let Some(progress) = &mut self.progress {
+            progress.add(is_unexplained);
+        }
+        if let JobOutcome::Ran { run, history, .. } = outcome {
+            self.statistics.add(run.world.notes(), history);
+        }
+    }
+}
+
+// How many jobs there are, if no time ends the campaign.
+fn known_jobs(plan: Plan) -> Option<u64> {
+    match plan.until {
+        Some(Until { time: Some(_), .. }) => None,
+        Some(Until { time: None, .. }) | None => Some(plan.jobs),
+    }
+}
+
+/// Says on standard error which jobs there are, and how many workers.
+pub fn tell_start<R: Eprint>(rt: &R, plan: Plan) {
+    let Plan {
+        seed,
+        first,
+        workers,
+        ..
+    } = plan;
+    let noun = if workers == 1 { "worker" } else { "workers" };
+    // There is nowhere else to say that this could not be said.
+    let _ = match known_jobs(plan) {
+        Some(jobs) => {
+            let last = first.saturating_add(jobs.saturating_sub(1));
+            eprintln!(rt; "mcrace: seed {seed}, jobs {first} to {last}, {workers} {noun}")
+        }
+        None => eprintln!(rt; "mcrace: seed {seed}, jobs from {first} on, {workers} {noun}"),
+    };
+}

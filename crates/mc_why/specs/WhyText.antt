@@ -1,0 +1,81 @@
+-- What is printed of why nothing explains a history.
+use Rattle.std.specs.Prelude.{ℕ, ◌-◌, nat_lt, if◌then◌else◌, Option, Some, None, List, [], ◌∷◌, ◌++◌, length, codes, decimal, slice_get}
+use Rattle.std.specs.Option.{option_map_or}
+use Rattle.mc_protocol.specs.Lines.{Words}
+use Rattle.mc_protocol.specs.Words.{actor_word}
+use Rattle.mc_protocol.specs.declared.actor.Actor.{Actor}
+use Rattle.mc_protocol.specs.declared.actor.Actor.TheVariants as actor
+use Rattle.mc_protocol.specs.declared.reply.Reply.{Reply}
+use Rattle.mc_protocol.specs.declared.request.Request.{Request}
+use Rattle.mc_protocol.specs.declared.sections.Sections.{Sections}
+use Rattle.mc_model.specs.declared.sent.Sent.{Sent}
+use Rattle.mc_model.specs.Notes.{History, Noted}
+use Rattle.mc_model.specs.Sections.{section_of}
+use Rattle.mc_model.specs.Sections as sent
+use Rattle.mc_model.specs.Words.{join_words, reply_words, request_words}
+use Rattle.mc_history.specs.Claim.{Claim}
+use Rattle.mc_history.specs.PrintedHistory.{claim_text, line_text, note_words, turn_words}
+use Rattle.mc_why.specs.declared.answer.Answer.{Answer}
+use Rattle.mc_why.specs.declared.answer.Answer.TheVariants as answer
+use Rattle.mc_why.specs.declared.cause.Finding.{Finding}
+use Rattle.mc_why.specs.declared.cause.Finding.TheVariants as finding
+
+-- where no notes are kept, the section of the request at a place, and its place there: P's come first, then A's, then B's
+abbrev pub request_place : sent.Sections → ℕ → Actor × ℕ
+request_place s place =
+    let of_branches = place - length s.p in
+    let of_b = of_branches - length s.a in
+    if nat_lt place (length s.p) then (actor.P, place)
+    else (if nat_lt of_branches (length s.a) then (actor.A, of_branches) else (actor.B, of_b))
+
+-- the words of a request with its reply, if there is one at this place of a section
+abbrev pub turn_at : sent.Sections → Actor × ℕ → Words
+turn_at s (section, place) = option_map_or (λ sent. turn_words (section, sent)) (slice_get (section_of s section) place) []
+
+abbrev pub words_of : sent.Sections → Option (List Noted) → ℕ → Words
+words_of s None place = turn_at s (request_place s place)
+words_of s (Some notes) place = option_map_or note_words (slice_get notes place) []
+
+-- the words of what stands at a place of a history: of what was noted, or, where no notes are kept, of the request with its reply
+abbrev pub words_at : History → ℕ → Words
+words_at h place = words_of h.sections h.notes place
+
+-- the number of the line, and what stands there
+abbrev pub place_text : ℕ → Words → List ℕ
+place_text line words = codes "line " ++ (decimal line ++ (codes " " ++ line_text words))
+
+-- the request, and what a cache answers
+abbrev pub answered_text : List ℕ → Actor → Request → Reply → List ℕ
+answered_text word section request reply =
+    word ++ (actor_word section ++ (codes " " ++ (join_words (request_words request)
+    ++ (codes " answers " ++ line_text (reply_words reply)))))
+
+abbrev pub reply_text : List ℕ → Actor → Option Sent → Reply → List ℕ
+reply_text word section None reply = []
+reply_text word section (Some sent) reply = answered_text word section sent.request reply
+
+-- what is answered to a section: after `next` to the request that comes next, after `acted` to one that was not answered
+abbrev pub answer_text : sent.Sections → Actor → Option Answer → List ℕ
+answer_text s section None = []
+answer_text s section (Some (answer.Next place reply)) = reply_text (codes "next ") section (slice_get (section_of s section) place) reply
+answer_text s section (Some (answer.Acted place reply)) = reply_text (codes "acted ") section (slice_get (section_of s section) place) reply
+
+-- that of P, then of A, then of B
+abbrev pub answers_text : sent.Sections → Sections (Option Answer) → List ℕ
+answers_text s answers = answer_text s actor.P answers.p ++ (answer_text s actor.A answers.a ++ answer_text s actor.B answers.b)
+
+-- what explains what stands before the place
+abbrev pub explained_text : Claim → List ℕ
+explained_text claim = codes "explained before\n" ++ claim_text claim
+
+-- what is found where a search was left open
+abbrev pub undecided_text : ℕ → List ℕ
+undecided_text line = codes "why\nundecided at line " ++ (decimal line ++ codes "\nend\n")
+
+-- what is found of a history, whose place is the one at this line: what stands there, what explains what stands before it, and
+-- what a cache answers there
+abbrev pub why_text : ℕ → History → Finding → List ℕ
+why_text line h (finding.Cause cause) =
+    codes "why\n" ++ (place_text line (words_at h cause.place) ++ (explained_text cause.explanation
+    ++ (answers_text h.sections cause.answers ++ codes "end\n")))
+why_text line h (finding.Undecided place) = undecided_text line

@@ -1,0 +1,201 @@
+//! What lines ask for, all that a line of `run` says, and what is answered where there is no network.
+
+use crate::driven::SCRIPT;
+use mc_campaign::Meeting;
+use mc_command::{
+    Asked, Invocation, Reader, Repeat, Search, Seconds, Service, Status, Target, Writer,
+    answer_offline, explain_fault, input_name, read_invocation,
+};
+use std::alloc::{AllocError, Global};
+use std::test::Fail;
+
+const SEARCH: Search = Search {
+    limit: 7,
+    why: true,
+};
+
+const SERVICE: Service = Service {
+    port: 0,
+    connections: 1_000_000,
+    racy: false,
+};
+
+/// Lines, what they ask for, and what is read for it on standard input.
+static LINES: &[(&[&str], Option<Asked>, Option<&str>)] = &[
+    (
+        &["mcrace", "judge", "--limit", "7", "--why"],
+        Some(Asked::Judge(SEARCH)),
+        Some("a history"),
+    ),
+    (
+        &["mcrace", "check"],
+        Some(Asked::Check),
+        Some("a script or an image"),
+    ),
+    (&["mcrace", "asm"], Some(Asked::Asm), Some("a script")),
+    (
+        &["mcrace", "drive", "--why", "--limit", "7"],
+        Some(Asked::Drive(SEARCH)),
+        Some("a script"),
+    ),
+    (
+        &["mcrace", "run", "host:1", "--limit=7", "--why"],
+        Some(Asked::Run(SEARCH)),
+        Some("a script"),
+    ),
+    (
+        &["mcrace", "generate", "--seed", "2", "--job", "3"],
+        Some(Asked::Generate(2, 3)),
+        None,
+    ),
+    (&["mcrace", "serve", "0"], Some(Asked::Serve(SERVICE)), None),
+    (&["mcrace", "selftest"], Some(Asked::Selftest), None),
+    (&["mcrace", "run"], None, None),
+    (&["mcrace", "run", "host:1", "--meet", "x"], None, None),
+    (&["mcrace"], None, None),
+    (&["mcrace", "--version"], None, None),
+];
+
+#[test]
+fn lines_ask_for_what_they_say(rt: HostRuntime) -> Result<(), Fail> {
+    for (words, wanted, input) in LINES {
+        let line = line_of(rt.alloc(), words)?;
+        let asked = asked_by(rt.alloc(), line.as_slice());
+        assert!(rt; asked == *wanted);
+        let name = match asked {
+            Some(asked) => input_name(asked),
+            None => None,
+        };
+        assert_eq!(rt; name, *input);
+    }
+    Ok(())
+}
+
+// What the line asks for, if it asks for something.
+fn asked_by(alloc: Global, line: &[String]) -> Option<Asked> {
+    let invocation: Invocation<'_> = match read_invocation(alloc, line) {
+        Ok(invocation) => invocation,
+        Err(_) => return None,
+    };
+    Some(invocation.asked())
+}
+
+#[test]
+fn lines_of_run_say_how_scripts_run(rt: HostRuntime) -> Result<(), Fail> {
+    let words = [
+        "mcrace",
+        "run",
+        "host:1",
+        "--a",
+        "host:2",
+        "--meet",
+        "never",
+        "--name",
+        "ci7",
+        "--timeout",
+        "2",
+        "--times",
+        "9",
+        "--reconnect",
+    ];
+    let line = line_of(rt.alloc(), &words)?;
+    assert!(rt; is_that_run(rt.alloc(), line.as_slice()));
+    Ok(())
+}
+
+// Whether the line asks for the run whose options stand above.
+fn is_that_run(alloc: Global, line: &[String]) -> bool {
+    let target: Target<'_> = match read_invocation(alloc, line) {
+        Ok(Invocation::Run(target)) => target,
+        _ => return false,
+    };
+    let name = match &target.name {
+        Some(name) => Some(name.as_slice()),
+        None => None,
+    };
+    let repeat = Repeat {
+        times: Some(9),
+        time: None,
+        keep_going: false,
+    };
+    let timeout = Seconds {
+        word: "2",
+        milliseconds: 2_000,
+    };
+    target.server == "host:1"
+        && target.a == Some("host:2")
+        && target.b.is_none()
+        && target.meeting == Meeting::Never
+        && name == Some(b"ci7".as_slice())
+        && target.timeout == Some(timeout)
+        && target.wait.is_none()
+        && target.repeat == Some(repeat)
+        && target.reconnect
+        && !target.quiet
+        && target.spread == 64
+}
+
+/// What is asked for where there is no network, what is written then, and the status.
+static OFFLINE: &[(Asked, &str, Status)] = &[
+    (
+        Asked::Check,
+        "accepted\nP 2 26\nA 1 10\nB 1 10\n",
+        Status::Success,
+    ),
+    (Asked::Serve(SERVICE), "no listener\n", Status::NoAnswer),
+    (Asked::Selftest, "failed\n", Status::Unexplained),
+];
+
+#[test]
+fn answers_without_a_network(rt: HostRuntime) -> Result<(), Fail> {
+    for (asked, wanted, status) in OFFLINE {
+        let mut output = Vec::new(rt.alloc());
+        let ended = answer_offline(
+            rt.alloc(),
+            *asked,
+            &mut Reader::new(SCRIPT.as_bytes()),
+            &mut Writer::new(&mut output),
+        );
+        assert!(rt; ended == *status);
+        assert_eq!(rt; output.as_slice(), wanted.as_bytes());
+    }
+    Ok(())
+}
+
+// A fault goes to the faults, and a call for the version to the output.
+#[test]
+fn faults_are_explained(rt: HostRuntime) -> Result<(), Fail> {
+    for (words, status, is_fault) in [
+        (["mcrace", "check", "x"].as_slice(), Status::WrongLine, true),
+        (["mcrace", "--version"].as_slice(), Status::Success, false),
+    ] {
+        let line = line_of(rt.alloc(), words)?;
+        assert!(rt; is_explained(rt.alloc(), line.as_slice(), status, is_fault));
+    }
+    Ok(())
+}
+
+// Whether the line's error has this status, and is written to the faults alone, or else to the output alone.
+fn is_explained(alloc: Global, line: &[String], status: Status, is_fault: bool) -> bool {
+    let mut output = Vec::new(alloc);
+    let mut faults = Vec::new(alloc);
+    let ended = match read_invocation(alloc, line) {
+        Ok(_) => return false,
+        Err(error) => explain_fault(
+            alloc,
+            line,
+            &error,
+            &mut Writer::new(&mut output),
+            &mut Writer::new(&mut faults),
+        ),
+    };
+    ended == status && output.is_empty() == is_fault && faults.is_empty() != is_fault
+}
+
+fn line_of(alloc: Global, words: &[&str]) -> Result<Vec<String>, AllocError> {
+    let mut line = Vec::new(alloc);
+    for word in words {
+        line.push(String::from_str(alloc, word)?)?;
+    }
+    Ok(line)
+}
