@@ -5,8 +5,8 @@ use Rattle.std.specs.Result.{IfErr}
 use Rattle.std.proofs.lemmas.Bool.{eqb-true, leb-true, le-leb}
 use Rattle.mc_protocol.specs.declared.limits.TheConstants.{REPLY_BODY_LIMIT}
 use Rattle.mc_protocol.specs.Lines.{Word}
-use Rattle.mc_model.specs.declared.words.WordsFault.{WordsFault}
-use Rattle.mc_model.specs.declared.words.WordsFault.TheVariants as fault
+use Rattle.mc_model.specs.declared.words_fault.WordsKind.{WordsKind}
+use Rattle.mc_model.specs.declared.words_fault.WordsKind.TheVariants as kind
 use Rattle.mc_model.specs.Words.{SpellsByte, SpellsBytes, SpellsBody, is_plain, hex_value}
 use Rattle.mc_model.specs.Reading.{◌>>=◌, first_byte_in, bytes_in, body_in, in_front, plain_before, hex_before, if_plain, if_hex, within_limit}
 use Rattle.mc_model.proofs.Outcomes.{then-ok, steps-ok, ok-same}
@@ -16,7 +16,7 @@ use Rattle.mc_model.proofs.Escaped.{read_on, bytes_in-first}
 
 -- what a first byte is read as
 abbrev FirstByte : Type 0
-FirstByte = Result (Option (ℕ × List ℕ)) WordsFault
+FirstByte = Result (Option (ℕ × List ℕ)) WordsKind
 
 some-same : (a b : ℕ) (xs ys : List ℕ) → ◌≡◌ {A = FirstByte} (Ok (Some (a, xs))) (Ok (Some (b, ys))) → (a ≡ b) × (xs ≡ ys)
 some-same a b xs ys e =
@@ -25,7 +25,7 @@ some-same a b xs ys e =
 
 plain-spelled : (a : ℕ) (xs : List ℕ) (byte : ℕ) (rest : List ℕ) → if_plain a xs ≡ Ok (Some (byte, rest)) → SpellsByte (a ∷ xs) byte rest
 plain-spelled a xs byte rest h =
-    let p = then-ok (is_plain a) (Ok (Some (a, xs))) fault.Form (Some (byte, rest)) h in
+    let p = then-ok (is_plain a) (Ok (Some (a, xs))) kind.Form (Some (byte, rest)) h in
     let s = some-same a byte xs rest p.1 in
     inl (rw (s.0, s.1) refl, rw (← s.0) p.0)
 
@@ -72,11 +72,11 @@ first-read text byte rest (inr (high, low, h, l, e, p, q, v)) = rw (e, p, q, v) 
 
 -- ---- all bytes
 
-in_front-ok : (x y : ℕ) (ys : List ℕ) (read : Result (List ℕ) WordsFault) → in_front x read ≡ Ok (y ∷ ys) → (x ≡ y) × (read ≡ Ok ys)
+in_front-ok : (x y : ℕ) (ys : List ℕ) (read : Result (List ℕ) WordsKind) → in_front x read ≡ Ok (y ∷ ys) → (x ≡ y) × (read ≡ Ok ys)
 in_front-ok x y ys (Ok bytes) h = (cc, cc)
 in_front-ok x y ys (Err e) h = absurd (cc)
 
-in_front-some : (x : ℕ) (read : Result (List ℕ) WordsFault) → in_front x read ≡ Ok [] → ⊥
+in_front-some : (x : ℕ) (read : Result (List ℕ) WordsKind) → in_front x read ≡ Ok [] → ⊥
 in_front-some x (Ok bytes) h = cc
 in_front-some x (Err e) h = cc
 
@@ -89,15 +89,15 @@ read_on-ok (Ok (Some p)) byte bytes h =
     let k = in_front-ok p.0 byte bytes (bytes_in p.1) h in
     (p.1, ap (λ x. Ok (Some (x, p.1))) k.0, k.1)
 
-plain-some : (a : ℕ) (read : Result (List ℕ) WordsFault) → plain_before a read ≡ Ok [] → ⊥
-plain-some a read h = in_front-some a read (then-ok (is_plain a) (in_front a read) fault.Form [] h).1
+plain-some : (a : ℕ) (read : Result (List ℕ) WordsKind) → plain_before a read ≡ Ok [] → ⊥
+plain-some a read h = in_front-some a read (then-ok (is_plain a) (in_front a read) kind.Form [] h).1
 
-hex-some : (high low : Option ℕ) (read : Result (List ℕ) WordsFault) → hex_before high low read ≡ Ok [] → ⊥
+hex-some : (high low : Option ℕ) (read : Result (List ℕ) WordsKind) → hex_before high low read ≡ Ok [] → ⊥
 hex-some (Some h) (Some l) read e = in_front-some (h * 16 + l) read e
 hex-some (Some h) None read e = cc
 hex-some None low read e = cc
 
-either-some : (percent : Bool) (high low : Option ℕ) (read other : Result (List ℕ) WordsFault) (a : ℕ)
+either-some : (percent : Bool) (high low : Option ℕ) (read other : Result (List ℕ) WordsKind) (a : ℕ)
     → cond percent (hex_before high low read) (plain_before a other) ≡ Ok [] → ⊥
 either-some true high low read other a h = hex-some high low read h
 either-some false high low read other a h = plain-some a other h
@@ -126,9 +126,9 @@ pub body-spelled : (word : Word) (body : List ℕ) → body_in word ≡ Ok body 
 unfolding body_in
 body-spelled [] body h = absurd (cc)
 body-spelled (first ∷ text) body h =
-    let p = then-ok (first == 61) (bytes_in text >>= within_limit) fault.Form body h in
+    let p = then-ok (first == 61) (bytes_in text >>= within_limit) kind.Form body h in
     let q = steps-ok (bytes_in text) within_limit body p.1 in
-    let s = then-ok (nat_le (length q.0) REPLY_BODY_LIMIT) (Ok q.0) fault.Form body q.2 in
+    let s = then-ok (nat_le (length q.0) REPLY_BODY_LIMIT) (Ok q.0) kind.Form body q.2 in
     let same = ok-same q.0 body s.1 in
     (text, ap (λ x. x ∷ text) (eqb-true first 61 p.0), bytes-spelled text body (q.1 ∙ s.1), leb-true (length body) REPLY_BODY_LIMIT (rw same at s.0))
 
@@ -142,29 +142,29 @@ one_body word a b s t = ok-same a b (sym (body-read word a s) ∙ body-read word
 
 -- ---- the fault is never that of a number
 
-abbrev IsNoNumber : Result (List ℕ) WordsFault → Type 0
-IsNoNumber read = IfErr read (λ e. e ≢ fault.Number)
+abbrev IsNoNumber : Result (List ℕ) WordsKind → Type 0
+IsNoNumber read = IfErr read (λ e. e ≢ kind.Number)
 
-form-apart : fault.Form ≢ fault.Number
+form-apart : kind.Form ≢ kind.Number
 form-apart e = cc
 
-form-front : (byte : ℕ) (read : Result (List ℕ) WordsFault) → IsNoNumber read → IsNoNumber (in_front byte read)
+form-front : (byte : ℕ) (read : Result (List ℕ) WordsKind) → IsNoNumber read → IsNoNumber (in_front byte read)
 form-front byte (Ok bytes) h = tt
 form-front byte (Err e) h = h
 
-form-then : (b : Bool) (read : Result (List ℕ) WordsFault) → IsNoNumber read → IsNoNumber (cond b read (Err fault.Form))
+form-then : (b : Bool) (read : Result (List ℕ) WordsKind) → IsNoNumber read → IsNoNumber (cond b read (Err kind.Form))
 form-then true read h = h
 form-then false read h = form-apart
 
-form-plain : (a : ℕ) (read : Result (List ℕ) WordsFault) → IsNoNumber read → IsNoNumber (plain_before a read)
+form-plain : (a : ℕ) (read : Result (List ℕ) WordsKind) → IsNoNumber read → IsNoNumber (plain_before a read)
 form-plain a read h = form-then (is_plain a) (in_front a read) (form-front a read h)
 
-form-hex : (high low : Option ℕ) (read : Result (List ℕ) WordsFault) → IsNoNumber read → IsNoNumber (hex_before high low read)
+form-hex : (high low : Option ℕ) (read : Result (List ℕ) WordsKind) → IsNoNumber read → IsNoNumber (hex_before high low read)
 form-hex (Some h) (Some l) read k = form-front (h * 16 + l) read k
 form-hex (Some h) None read k = form-apart
 form-hex None low read k = form-apart
 
-form-either : (percent : Bool) (high low : Option ℕ) (read other : Result (List ℕ) WordsFault) (a : ℕ) → IsNoNumber read → IsNoNumber other
+form-either : (percent : Bool) (high low : Option ℕ) (read other : Result (List ℕ) WordsKind) (a : ℕ) → IsNoNumber read → IsNoNumber other
     → IsNoNumber (cond percent (hex_before high low read) (plain_before a other))
 form-either true high low read other a h k = form-hex high low read h
 form-either false high low read other a h k = form-plain a other k
@@ -176,7 +176,7 @@ form-bytes (a ∷ b ∷ []) = form-plain a (bytes_in (b ∷ [])) (form-bytes (b 
 form-bytes (a ∷ b ∷ c ∷ xs) = form-either (a == 37) (hex_value b) (hex_value c) (bytes_in xs) (bytes_in (b ∷ c ∷ xs)) a (form-bytes xs)
     (form-bytes (b ∷ c ∷ xs))
 
-form-limit : (read : Result (List ℕ) WordsFault) → IsNoNumber read → IsNoNumber (read >>= within_limit)
+form-limit : (read : Result (List ℕ) WordsKind) → IsNoNumber read → IsNoNumber (read >>= within_limit)
 form-limit (Ok bytes) h = form-then (nat_le (length bytes) REPLY_BODY_LIMIT) (Ok bytes) tt
 form-limit (Err e) h = h
 

@@ -4,24 +4,24 @@ use Rattle.std.proofs.Common.{Option, Some, None, Result, Ok, Err, refl, sym, ap
 use Rattle.std.specs.Result.{IfOk}
 use Rattle.std.specs.Option.{IfSome}
 use Rattle.std.proofs.lemmas.List.{append_assoc}
-use Rattle.mc_model.specs.declared.words.WordsFault.{WordsFault}
-use Rattle.mc_model.specs.declared.words.WordsFault.TheVariants as fault
+use Rattle.mc_model.specs.declared.words_fault.WordsKind.{WordsKind}
+use Rattle.mc_model.specs.declared.words_fault.WordsKind.TheVariants as kind
 use Rattle.mc_model.specs.Words.{is_plain, hex_value}
 use Rattle.mc_model.specs.Reading.{Fails, first_byte_in, bytes_in, in_front, plain_before, hex_before, if_plain, if_hex}
 
 -- bytes before those that are read, if they are
-abbrev pub onto : List ℕ → Result (List ℕ) WordsFault → Result (List ℕ) WordsFault
+abbrev pub onto : List ℕ → Result (List ℕ) WordsKind → Result (List ℕ) WordsKind
 onto front (Ok bytes) = Ok (front ++ bytes)
 onto front (Err e) = Err e
 
 -- the bytes of a text, from what its first byte was read as
-abbrev pub read_on : Result (Option (ℕ × List ℕ)) WordsFault → Result (List ℕ) WordsFault
+abbrev pub read_on : Result (Option (ℕ × List ℕ)) WordsKind → Result (List ℕ) WordsKind
 read_on (Err e) = Err e
 read_on (Ok None) = Ok []
 read_on (Ok (Some p)) = in_front p.0 (bytes_in p.1)
 
 read_on-plain : (plain : Bool) (a : ℕ) (xs : List ℕ)
-    → cond plain (in_front a (bytes_in xs)) (Err fault.Form) ≡ read_on (cond plain (Ok (Some (a, xs))) (Err fault.Form))
+    → cond plain (in_front a (bytes_in xs)) (Err kind.Form) ≡ read_on (cond plain (Ok (Some (a, xs))) (Err kind.Form))
 read_on-plain true a xs = refl
 read_on-plain false a xs = refl
 
@@ -42,20 +42,20 @@ bytes_in-first (a ∷ []) = read_on-plain (is_plain a) a []
 bytes_in-first (a ∷ b ∷ []) = read_on-plain (is_plain a) a (b ∷ [])
 bytes_in-first (a ∷ b ∷ c ∷ xs) = read_on-either (a == 37) (hex_value b) (hex_value c) xs a (b ∷ c ∷ xs)
 
-onto-in_front : (front : List ℕ) (byte : ℕ) (read : Result (List ℕ) WordsFault) → onto (front ++ (byte ∷ [])) read ≡ onto front (in_front byte read)
+onto-in_front : (front : List ℕ) (byte : ℕ) (read : Result (List ℕ) WordsKind) → onto (front ++ (byte ∷ [])) read ≡ onto front (in_front byte read)
 onto-in_front front byte (Ok bytes) = ap Ok (append_assoc front (byte ∷ []) bytes)
 onto-in_front front byte (Err e) = refl
 
 -- a step of the reader
-pub onto-byte : (front rest after : List ℕ) (byte : ℕ) (all : Result (List ℕ) WordsFault) → onto front (bytes_in rest) ≡ all
+pub onto-byte : (front rest after : List ℕ) (byte : ℕ) (all : Result (List ℕ) WordsKind) → onto front (bytes_in rest) ≡ all
     → first_byte_in rest ≡ Ok (Some (byte, after)) → onto (front ++ (byte ∷ [])) (bytes_in after) ≡ all
 onto-byte front rest after byte all h e = onto-in_front front byte (bytes_in after) ∙ ap (onto front) (sym (bytes_in-first rest ∙ ap read_on e)) ∙ h
 
 -- what follows is shorter than a bound
-abbrev IsShorter : ℕ → Result (Option (ℕ × List ℕ)) WordsFault → Type 0
+abbrev IsShorter : ℕ → Result (Option (ℕ × List ℕ)) WordsKind → Type 0
 IsShorter n r = IfOk r (λ o. IfSome o (λ p. length p.1 < n))
 
-shorter-plain : (n : ℕ) (plain : Bool) (a : ℕ) (xs : List ℕ) → length xs < n → IsShorter n (cond plain (Ok (Some (a, xs))) (Err fault.Form))
+shorter-plain : (n : ℕ) (plain : Bool) (a : ℕ) (xs : List ℕ) → length xs < n → IsShorter n (cond plain (Ok (Some (a, xs))) (Err kind.Form))
 shorter-plain n true a xs h = h
 shorter-plain n false a xs h = tt
 
@@ -79,13 +79,13 @@ first_byte_in-shorter (a ∷ b ∷ c ∷ xs) = shorter-either _ (a == 37) (hex_v
 pub shorter-byte : (rest after : List ℕ) (byte : ℕ) → first_byte_in rest ≡ Ok (Some (byte, after)) → length after < length rest
 shorter-byte rest after byte e = subst (IsShorter (length rest)) e (first_byte_in-shorter rest)
 
-onto-fault : (front rest : List ℕ) (all : Result (List ℕ) WordsFault) (f : WordsFault) → onto front (bytes_in rest) ≡ all
+onto-fault : (front rest : List ℕ) (all : Result (List ℕ) WordsKind) (f : WordsKind) → onto front (bytes_in rest) ≡ all
     → first_byte_in rest ≡ Err f → all ≡ Err f
 onto-fault front rest all f h e = sym h ∙ ap (onto front) (bytes_in-first rest ∙ ap read_on e)
 
 -- a byte's fault is that of the text
-pub onto-fails : (front rest : List ℕ) (all : Result (List ℕ) WordsFault) (f : WordsFault) → onto front (bytes_in rest) ≡ all
+pub onto-fails : (front rest : List ℕ) (all : Result (List ℕ) WordsKind) (f : WordsKind) → onto front (bytes_in rest) ≡ all
     → Fails f (first_byte_in rest) → Fails f all
-onto-fails front rest all fault.OutOfMemory h e = tt
-onto-fails front rest all fault.Form h e = onto-fault front rest all fault.Form h e
-onto-fails front rest all fault.Number h e = onto-fault front rest all fault.Number h e
+onto-fails front rest all kind.OutOfMemory h e = tt
+onto-fails front rest all kind.Form h e = onto-fault front rest all kind.Form h e
+onto-fails front rest all kind.Number h e = onto-fault front rest all kind.Number h e

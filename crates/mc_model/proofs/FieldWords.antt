@@ -2,7 +2,7 @@
 use Rattle.std.proofs.Common.{◌≡◌, ℕ, Ok, Err, List, [], ◌∷◌, refl, ap, subst}
 use Rattle.mc_protocol.specs.Lines.{Word}
 use Rattle.mc_protocol.specs.Decimals.{SpellsNumber, MAX_32, MAX_64}
-use Rattle.mc_model.specs.declared.words.WordsFault.TheVariants as fault
+use Rattle.mc_model.specs.declared.words_fault.WordsKind.TheVariants as kind
 use Rattle.mc_model.specs.Words.{SpellsBody}
 use Rattle.mc_model.specs.Reading.{◌>>=◌, at_end, number_in, flags_in, body_in, last_number_in, flags_and_body_in}
 use Rattle.mc_model.proofs.Outcomes.{steps-ok, ok-same}
@@ -31,7 +31,7 @@ pub record FlagsAndBody (words : List Word) (read : ℕ × List ℕ × List Word
 
 pub flags_and_body-spelled : (words : List Word) (read : ℕ × List ℕ × List Word) → flags_and_body_in words ≡ Ok read → FlagsAndBody words read
 flags_and_body-spelled [] read h = absurd (cc)
-flags_and_body-spelled (flags ∷ []) read h = absurd (let p = steps-ok (flags_in flags) (λ f. Err fault.Form) read h in cc)
+flags_and_body-spelled (flags ∷ []) read h = absurd (let p = steps-ok (flags_in flags) (λ f. Err kind.Form) read h in cc)
 flags_and_body-spelled (flags ∷ body ∷ others) read h =
     let p = steps-ok (flags_in flags) (λ f. body_in body >>= λ b. Ok (f, b, others)) read h in
     let q = steps-ok (body_in body) (λ b. Ok (p.0, b, others)) read p.2 in

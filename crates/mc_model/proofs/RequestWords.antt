@@ -11,7 +11,7 @@ use Rattle.mc_protocol.specs.Lines.{Word}
 use Rattle.mc_protocol.specs.Names.{is_key}
 use Rattle.mc_protocol.specs.Decimals.{are_digits, MAX_32, MAX_64}
 use Rattle.mc_protocol.proofs.OfWords.{verb_of-word, word-of_verb}
-use Rattle.mc_model.specs.declared.words.WordsFault.TheVariants as fault
+use Rattle.mc_model.specs.declared.words_fault.WordsKind.TheVariants as kind
 use Rattle.mc_model.specs.Words.{SpellsBody, SpellsFields, SpellsRequest}
 use Rattle.mc_model.specs.Reading.{◌>>=◌, at_end, last_number_in, flags_and_body_in, fields_in, key_alone_in}
 use Rattle.mc_model.specs.Reading.{item_in, after_verb, request_in, swap_in, amount_in}
@@ -88,7 +88,7 @@ after-spelled : (word : Word) (verb : Option Verb) (words : List Word) (r : Requ
 after-spelled word None words r e h = absurd (cc)
 after-spelled word (Some verb) [] r e h = absurd (cc)
 after-spelled word (Some verb) (key ∷ others) r e h =
-    let p = then-ok (is_key key) (fields_in (fields_of verb) verb key others) fault.Form r h in
+    let p = then-ok (is_key key) (fields_in (fields_of verb) verb key others) kind.Form r h in
     let q = fields-spelled (fields_of verb) verb key others r p.1 in
     let w = word-of_verb word verb e in
     (others, rw (q.0, q.1, w) refl, subst (λ k. is_key k ≡ true) (sym q.1) p.0, subst (λ v. SpellsFields (fields_of v) others r) (sym q.0) q.2)

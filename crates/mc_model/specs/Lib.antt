@@ -13,6 +13,7 @@ pub mod Decide
 pub mod NumeralLaws
 pub mod NumeralReading
 pub mod Words
+pub mod Misreadings
 pub mod Sections
 pub mod History
 pub mod HistoryLaws

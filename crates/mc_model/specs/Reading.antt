@@ -1,5 +1,5 @@
--- What the readers of words answer, fault by fault. Of the public contracts only those of `read_number` and `read_body`
--- cite it, to say which fault comes. `Words.antt` says what words spell, and the proofs join the two.
+-- What the readers of words answer, kind by kind of their faults. Of the public contracts only those of `read_number` and
+-- `read_body` cite it, to say which kind comes. `Words.antt` says what words spell, and the proofs join the two.
 use Rattle.std.specs.Prelude.{◌≡◌, ℕ, ◌+◌, ◌*◌, ◌==◌, nat_le, Option, Some, None, Result, Ok, Err, List, [], ◌∷◌, length, if◌then◌else◌}
 use Rattle.std.specs.List.{find}
 use Rattle.std.specs.Str.{bytes_eq}
@@ -19,139 +19,145 @@ use Rattle.mc_protocol.specs.declared.decimal.DecimalFault.TheVariants as decima
 use Rattle.mc_protocol.specs.Decimals.{decimal_in, MAX_32, MAX_64}
 use Rattle.mc_protocol.specs.Lines.{Word}
 use Rattle.mc_protocol.specs.Names.{is_key}
-use Rattle.mc_model.specs.declared.words.WordsFault.{WordsFault}
-use Rattle.mc_model.specs.declared.words.WordsFault.TheVariants as fault
+use Rattle.mc_model.specs.declared.words_fault.WordsFault.{WordsFault}
+use Rattle.mc_model.specs.declared.words_fault.WordsKind.{WordsKind}
+use Rattle.mc_model.specs.declared.words_fault.WordsKind.TheVariants as kind
 use Rattle.mc_model.specs.Words.{is_plain, hex_value, class_word}
 
 infixl 10 ◌>>=◌
-abbrev pub ◌>>=◌ : {A B : Type 0} → Result A WordsFault → (A → Result B WordsFault) → Result B WordsFault
+abbrev pub ◌>>=◌ : {A B : Type 0} → Result A WordsKind → (A → Result B WordsKind) → Result B WordsKind
 (Ok x) >>= f = f x
 (Err e) >>= f = Err e
 
 -- what was returned, seen by view, is what reading gives, unless memory ran out
-abbrev pub Fails : {Y : Type 0} → WordsFault → Result Y WordsFault → Type 0
-Fails fault.OutOfMemory read = Unit {0}
-Fails fault.Form read = read ≡ Err fault.Form
-Fails fault.Number read = read ≡ Err fault.Number
+abbrev pub Fails : {Y : Type 0} → WordsKind → Result Y WordsKind → Type 0
+Fails kind.OutOfMemory read = Unit {0}
+Fails kind.Form read = read ≡ Err kind.Form
+Fails kind.Number read = read ≡ Err kind.Number
 
-abbrev pub Gives : {X Y : Type 0} → (X → Y) → Result X WordsFault → Result Y WordsFault → Type 0
+abbrev pub Gives : {X Y : Type 0} → (X → Y) → Result X WordsFault → Result Y WordsKind → Type 0
 Gives view (Ok x) read = read ≡ Ok (view x)
-Gives view (Err e) read = Fails e read
+Gives view (Err e) read = Fails e.kind read
+
+-- what was returned, with the kind of a fault alone
+abbrev pub by_kind : {X : Type 0} → Result X WordsFault → Result X WordsKind
+by_kind (Ok x) = Ok x
+by_kind (Err e) = Err e.kind
 
 -- a number, or why a word is none
-abbrev pub number_or_fault : Result ℕ DecimalFault → Result ℕ WordsFault
+abbrev pub number_or_fault : Result ℕ DecimalFault → Result ℕ WordsKind
 number_or_fault (Ok n) = Ok n
-number_or_fault (Err decimal.NotDigits) = Err fault.Form
-number_or_fault (Err decimal.TooLarge) = Err fault.Number
+number_or_fault (Err decimal.NotDigits) = Err kind.Form
+number_or_fault (Err decimal.TooLarge) = Err kind.Number
 
-abbrev pub number_in : ℕ → Word → Result ℕ WordsFault
+abbrev pub number_in : ℕ → Word → Result ℕ WordsKind
 number_in greatest word = number_or_fault (decimal_in greatest word)
 
-abbrev pub flags_in : Word → Result ℕ WordsFault
+abbrev pub flags_in : Word → Result ℕ WordsKind
 flags_in word = number_in MAX_32 word
 
-abbrev pub if_plain : ℕ → List ℕ → Result (Option (ℕ × List ℕ)) WordsFault
-if_plain byte rest = if is_plain byte then Ok (Some (byte, rest)) else Err fault.Form
+abbrev pub if_plain : ℕ → List ℕ → Result (Option (ℕ × List ℕ)) WordsKind
+if_plain byte rest = if is_plain byte then Ok (Some (byte, rest)) else Err kind.Form
 
-abbrev pub if_hex : Option ℕ → Option ℕ → List ℕ → Result (Option (ℕ × List ℕ)) WordsFault
+abbrev pub if_hex : Option ℕ → Option ℕ → List ℕ → Result (Option (ℕ × List ℕ)) WordsKind
 if_hex (Some high) (Some low) rest = Ok (Some (high * 16 + low, rest))
-if_hex _ _ rest = Err fault.Form
+if_hex _ _ rest = Err kind.Form
 
 -- the first byte that a text stands for, and what follows
-abbrev pub first_byte_in : List ℕ → Result (Option (ℕ × List ℕ)) WordsFault
+abbrev pub first_byte_in : List ℕ → Result (Option (ℕ × List ℕ)) WordsKind
 first_byte_in [] = Ok None
 first_byte_in (a ∷ []) = if_plain a []
 first_byte_in (a ∷ b ∷ []) = if_plain a (b ∷ [])
 first_byte_in (a ∷ b ∷ c ∷ rest) = if a == 37 then if_hex (hex_value b) (hex_value c) rest else if_plain a (b ∷ c ∷ rest)
 
 -- a byte before the bytes that follow
-abbrev pub in_front : ℕ → Result (List ℕ) WordsFault → Result (List ℕ) WordsFault
+abbrev pub in_front : ℕ → Result (List ℕ) WordsKind → Result (List ℕ) WordsKind
 in_front byte (Ok bytes) = Ok (byte ∷ bytes)
 in_front byte (Err e) = Err e
 
-abbrev pub plain_before : ℕ → Result (List ℕ) WordsFault → Result (List ℕ) WordsFault
-plain_before byte read = if is_plain byte then in_front byte read else Err fault.Form
+abbrev pub plain_before : ℕ → Result (List ℕ) WordsKind → Result (List ℕ) WordsKind
+plain_before byte read = if is_plain byte then in_front byte read else Err kind.Form
 
-abbrev pub hex_before : Option ℕ → Option ℕ → Result (List ℕ) WordsFault → Result (List ℕ) WordsFault
+abbrev pub hex_before : Option ℕ → Option ℕ → Result (List ℕ) WordsKind → Result (List ℕ) WordsKind
 hex_before (Some high) (Some low) read = in_front (high * 16 + low) read
-hex_before _ _ read = Err fault.Form
+hex_before _ _ read = Err kind.Form
 
 -- the bytes that a text stands for
-abbrev pub bytes_in : List ℕ → Result (List ℕ) WordsFault
+abbrev pub bytes_in : List ℕ → Result (List ℕ) WordsKind
 bytes_in [] = Ok []
 bytes_in (a ∷ []) = plain_before a (Ok [])
 bytes_in (a ∷ b ∷ []) = plain_before a (bytes_in (b ∷ []))
 bytes_in (a ∷ b ∷ c ∷ rest) = if a == 37 then hex_before (hex_value b) (hex_value c) (bytes_in rest) else plain_before a
     (bytes_in (b ∷ c ∷ rest))
 
-abbrev pub within_limit : List ℕ → Result (List ℕ) WordsFault
-within_limit bytes = if nat_le (length bytes) REPLY_BODY_LIMIT then Ok bytes else Err fault.Form
+abbrev pub within_limit : List ℕ → Result (List ℕ) WordsKind
+within_limit bytes = if nat_le (length bytes) REPLY_BODY_LIMIT then Ok bytes else Err kind.Form
 
-unfoldable pub body_in : Word → Result (List ℕ) WordsFault
-body_in [] = Err fault.Form
-body_in (first ∷ text) = if first == 61 then (bytes_in text >>= within_limit) else Err fault.Form
+unfoldable pub body_in : Word → Result (List ℕ) WordsKind
+body_in [] = Err kind.Form
+body_in (first ∷ text) = if first == 61 then (bytes_in text >>= within_limit) else Err kind.Form
 
 -- what was read, where no word follows
-abbrev pub at_end : {A : Type 0} → A → List Word → Result A WordsFault
+abbrev pub at_end : {A : Type 0} → A → List Word → Result A WordsKind
 at_end x [] = Ok x
-at_end x (_ ∷ _) = Err fault.Form
+at_end x (_ ∷ _) = Err kind.Form
 
 -- a number that is the last word
-abbrev pub last_number_in : List Word → Result ℕ WordsFault
-last_number_in [] = Err fault.Form
+abbrev pub last_number_in : List Word → Result ℕ WordsKind
+last_number_in [] = Err kind.Form
 last_number_in (number ∷ others) = number_in MAX_64 number >>= λ n. at_end n others
 
 -- flags and a body, and the words that follow
-abbrev pub flags_and_body_in : List Word → Result (ℕ × List ℕ × List Word) WordsFault
-flags_and_body_in [] = Err fault.Form
-flags_and_body_in (flags ∷ []) = flags_in flags >>= λ f. Err fault.Form
+abbrev pub flags_and_body_in : List Word → Result (ℕ × List ℕ × List Word) WordsKind
+flags_and_body_in [] = Err kind.Form
+flags_and_body_in (flags ∷ []) = flags_in flags >>= λ f. Err kind.Form
 flags_and_body_in (flags ∷ body ∷ others) = flags_in flags >>= λ f. body_in body >>= λ b. Ok (f, b, others)
 
-abbrev pub key_alone_in : Verb → List ℕ → List Word → Result Request WordsFault
+abbrev pub key_alone_in : Verb → List ℕ → List Word → Result Request WordsKind
 key_alone_in verb key words = at_end (record { verb = verb; key = key; flags = 0; body = []; number = 0 }) words
 
-abbrev pub item_in : Verb → List ℕ → List Word → Result Request WordsFault
+abbrev pub item_in : Verb → List ℕ → List Word → Result Request WordsKind
 item_in verb key words =
     flags_and_body_in words >>= λ x. at_end (record { verb = verb; key = key; flags = x.0; body = x.1; number = 0 }) x.2
 
-abbrev pub swap_in : Verb → List ℕ → List Word → Result Request WordsFault
+abbrev pub swap_in : Verb → List ℕ → List Word → Result Request WordsKind
 swap_in verb key words =
     flags_and_body_in words >>= λ x. last_number_in x.2 >>= λ n. Ok (record { verb = verb; key = key; flags = x.0; body = x.1; number = n })
 
-abbrev pub amount_in : Verb → List ℕ → List Word → Result Request WordsFault
+abbrev pub amount_in : Verb → List ℕ → List Word → Result Request WordsKind
 amount_in verb key words = last_number_in words >>= λ n. Ok (record { verb = verb; key = key; flags = 0; body = []; number = n })
 
-abbrev pub fields_in : Fields → Verb → List ℕ → List Word → Result Request WordsFault
+abbrev pub fields_in : Fields → Verb → List ℕ → List Word → Result Request WordsKind
 fields_in fields.KeyAlone verb key words = key_alone_in verb key words
 fields_in fields.Expiry verb key words = key_alone_in verb key words
 fields_in fields.Item verb key words = item_in verb key words
 fields_in fields.Swap verb key words = swap_in verb key words
 fields_in fields.Amount verb key words = amount_in verb key words
 
-abbrev pub after_verb : Option Verb → List Word → Result Request WordsFault
-after_verb None words = Err fault.Form
-after_verb (Some verb) [] = Err fault.Form
-after_verb (Some verb) (key ∷ others) = if is_key key then fields_in (fields_of verb) verb key others else Err fault.Form
+abbrev pub after_verb : Option Verb → List Word → Result Request WordsKind
+after_verb None words = Err kind.Form
+after_verb (Some verb) [] = Err kind.Form
+after_verb (Some verb) (key ∷ others) = if is_key key then fields_in (fields_of verb) verb key others else Err kind.Form
 
-unfoldable pub request_in : List Word → Result Request WordsFault
-request_in [] = Err fault.Form
+unfoldable pub request_in : List Word → Result Request WordsKind
+request_in [] = Err kind.Form
 request_in (word ∷ words) = after_verb (verb_of word) words
 
 unfoldable pub class_of_word : Word → Option Class
 class_of_word word = find (λ c. bytes_eq (class_word c) word) all_classes
 
-abbrev pub shown_number_in : List Word → Result (Option ℕ) WordsFault
+abbrev pub shown_number_in : List Word → Result (Option ℕ) WordsKind
 shown_number_in [] = Ok None
 shown_number_in (number ∷ others) = last_number_in (number ∷ others) >>= λ n. Ok (Some n)
 
-abbrev pub hit_in : List Word → Result Reply WordsFault
+abbrev pub hit_in : List Word → Result Reply WordsKind
 hit_in words = flags_and_body_in words >>= λ x. shown_number_in x.2 >>= λ n. Ok (reply.Hit x.0 x.1 n)
 
-abbrev pub count_in : List Word → Result Reply WordsFault
+abbrev pub count_in : List Word → Result Reply WordsKind
 count_in words = last_number_in words >>= λ n. Ok (reply.Number n)
 
-abbrev pub after_class : Option Class → List Word → Result Reply WordsFault
-after_class None words = Err fault.Form
+abbrev pub after_class : Option Class → List Word → Result Reply WordsKind
+after_class None words = Err kind.Form
 after_class (Some class.Stored) words = at_end reply.Stored words
 after_class (Some class.NotStored) words = at_end reply.NotStored words
 after_class (Some class.Exists) words = at_end reply.Exists words
@@ -163,6 +169,6 @@ after_class (Some class.Touched) words = at_end reply.Touched words
 after_class (Some class.Number) words = count_in words
 after_class (Some class.NotNumber) words = at_end reply.NotNumber words
 
-unfoldable pub reply_in : List Word → Result Reply WordsFault
-reply_in [] = Err fault.Form
+unfoldable pub reply_in : List Word → Result Reply WordsKind
+reply_in [] = Err kind.Form
 reply_in (word ∷ words) = after_class (class_of_word word) words

@@ -1,24 +1,26 @@
 //! The words of bodies, in which a byte that isn't visible, and `%`, is escaped.
-ghost use Rattle.std.specs.Prelude.{◌≡◌, ◌≢◌, ◌++◌, ◌<◌, ℕ, List, false, IfOk, IfErr, OnOk};
+ghost use Rattle.std.specs.Prelude.{◌≡◌, ◌≢◌, ◌++◌, ◌<◌, ℕ, List, false, Some, IfOk, IfErr, OnOk};
 ghost use Rattle.std.specs.Fmt.{digit_glyph};
 ghost use Rattle.std.specs.Option.{option_map};
 ghost use Rattle.mc_model.specs.Words as spec;
 ghost use Rattle.mc_model.specs.WordLaws.{AreBytes};
 ghost use Rattle.mc_model.specs.Reading as reading;
+ghost use Rattle.mc_model.specs.Misreadings.{IsWithin};
 
-use crate::WordsFault;
+use crate::{ExpectedWord, WordsFault, WordsKind};
 use mc_protocol::{Bytes, OutOfMemory, REPLY_BODY_LIMIT};
 use std::alloc::Global;
 
 /// Reads a body: `=`, and after it the bytes. A byte from 33 to 126 other than `%` stands for itself, and `%hh` stands
 /// for the byte with these two hexadecimal digits. A word that is no body, or one of more than [`REPLY_BODY_LIMIT`] bytes, is
-/// [`WordsFault::Form`].
+/// [`WordsKind::Form`].
 pub fn read_body(alloc: Global, word: &[u8]) -> Result<Bytes, WordsFault>
     ensures exact { reading.Gives (λ b. b) result (reading.body_in word.now) }
     ensures found { IfOk result (spec.SpellsBody word.now) }
-    ensures none { IfErr result (λ fault. fault ≢ WordsFault.OutOfMemory
+    ensures none { IfErr result (λ fault. fault.kind ≢ WordsKind.OutOfMemory
         → (body : List ℕ) → spec.SpellsBody word.now body → ⊥) }
-    ensures form { IfErr result (λ fault. fault ≢ WordsFault.Number) }
+    ensures form { IfErr result (λ fault. fault.kind ≢ WordsKind.Number) }
+    ensures word { IfErr result (IsWithin 0) }
 {
     body_in(alloc, word)
 }
@@ -27,23 +29,33 @@ pub fn read_body(alloc: Global, word: &[u8]) -> Result<Bytes, WordsFault>
 #[tactic(auto, unfolding(crate::specs::Reading::body_in))]
 fn body_in(alloc: Global, word: &[u8]) -> Result<Bytes, WordsFault>
     ensures exact { reading.Gives (λ b. b) result (reading.body_in word.now) }
+    ensures word { IfErr result (IsWithin 0) }
 {
     let [first, text @ ..] = word else {
-        return Err(WordsFault::Form);
+        return Err(misread(ExpectedWord::Body));
     };
     if *first != b'=' {
-        return Err(WordsFault::Form);
+        return Err(misread(ExpectedWord::Body));
     }
     let bytes = unescape(alloc, text)?;
     if bytes.len() > REPLY_BODY_LIMIT {
-        return Err(WordsFault::Form);
+        return Err(misread(ExpectedWord::ShortBody));
     }
     Ok(Bytes::new(bytes))
+}
+
+/// The fault of the word, the only one that is read here.
+fn misread(expected: ExpectedWord) -> WordsFault
+    ensures kind { result.kind ≡ WordsKind.Form }
+    ensures misread { result.misread ≡ Some (record { word = 0; expected = expected }) }
+{
+    WordsFault::form(0, expected)
 }
 
 /// The bytes that an escaped text stands for.
 fn unescape(alloc: Global, text: &[u8]) -> Result<Vec<u8>, WordsFault>
     ensures exact { reading.Gives (λ v. v.items) result (reading.bytes_in text.now) }
+    ensures word { IfErr result (IsWithin 0) }
 {
     let mut bytes = Vec::new(alloc);
     let mut rest = text;
@@ -57,22 +69,31 @@ fn unescape(alloc: Global, text: &[u8]) -> Result<Vec<u8>, WordsFault>
 /// The first byte that the text stands for, and what follows it. An empty text has none.
 fn first_byte(text: &[u8]) -> Result<Option<(u8, &[u8])>, WordsFault>
     ensures exact { reading.Gives (λ o. option_map (λ x. (x.0, x.1.now)) o) result (reading.first_byte_in text.now) }
-    ensures memory { IfErr result (λ fault. fault ≢ WordsFault.OutOfMemory) }
+    ensures memory { IfErr result (λ fault. fault.kind ≢ WordsKind.OutOfMemory) }
+    ensures word { IfErr result (IsWithin 0) }
 {
     match text {
         [] => Ok(None),
         [b'%', high, low, after @ ..] => {
             let (Some(high), Some(low)) = (hex_value(*high), hex_value(*low)) else {
-                return Err(WordsFault::Form);
+                return Err(misread(ExpectedWord::HexDigits));
             };
             Ok(Some((high * 16 + low, after)))
         }
         [byte, after @ ..] => {
             if !is_plain(*byte) {
-                return Err(WordsFault::Form);
+                return Err(misread(expected_for(*byte)));
             }
             Ok(Some((*byte, after)))
         }
+    }
+}
+
+/// What is expected where a byte doesn't stand for itself: of a `%` that comes here, the digits are cut off.
+fn expected_for(byte: u8) -> ExpectedWord {
+    match byte {
+        b'%' => ExpectedWord::HexDigits,
+        _ => ExpectedWord::VisibleByte,
     }
 }
 

@@ -14,6 +14,7 @@ mod history;
 mod history_laws;
 mod laws;
 mod making;
+mod misread;
 mod note;
 mod noted_builder;
 mod number;
@@ -26,6 +27,7 @@ mod rules;
 mod sent;
 mod word_laws;
 mod words;
+mod words_fault;
 
 pub use act::{Choice, reply_with};
 pub use body::read_body;
@@ -43,6 +45,7 @@ pub use laws::{
 };
 pub use making::make_version;
 pub use mc_protocol::is_key;
+pub use misread::{ExpectedWord, MisreadWord};
 pub use note::{Note, copy_reply};
 pub use noted_builder::NotedBuilder;
 pub use number::read_number;
@@ -59,4 +62,5 @@ pub use word_laws::{
     words_of_a_reply_are_whole, words_of_a_request_are_whole, words_spell_one_reply,
     words_spell_one_request,
 };
-pub use words::{WordsFault, read_reply_words, read_request_words};
+pub use words::{read_reply_words, read_request_words};
+pub use words_fault::{WordsFault, WordsKind};

@@ -1,53 +1,20 @@
 //! How the words of requests and replies are read.
-ghost use Rattle.std.specs.Prelude.{◌≡◌, ◌≢◌, map, IfOk, IfErr};
+ghost use Rattle.std.specs.Prelude.{◌≡◌, ◌≢◌, ◌+◌, ◌≤◌, map, length, IfOk, IfErr};
 ghost use Rattle.mc_model.specs.Words as spec;
 ghost use Rattle.mc_model.specs.Reading as reading;
+ghost use Rattle.mc_model.specs.Misreadings.{IsWithin};
 
-use crate::{read_body, read_number};
+use crate::{ExpectedWord, WordsFault, WordsKind, read_body, read_number};
 use mc_protocol::{Bytes, Class, Fields, Reply, Request, Verb, is_key};
-use std::alloc::{AllocError, AllocFailed, Global};
-use thiserror::Error;
-
-/// Why words are no request, or no reply.
-#[derive(Clone, Copy, Debug, Drop, PartialEq, Eq, Error)]
-pub enum WordsFault {
-    /// A word is missing, is one too many, or isn't what is expected in its place.
-    #[error("a word is missing, or isn't what is expected there")]
-    Form,
-    /// A number has more than 20 digits, or is too large.
-    #[error("a number is too large")]
-    Number,
-    /// No fault of the words: memory ran out.
-    #[error("out of memory")]
-    OutOfMemory,
-}
-
-impl From<AllocError> for WordsFault {
-    ghost use Rattle.mc_model.specs.declared.words.WordsFault.TheVariants.{OutOfMemory};
-
-    ghost from_gives = { λ _ e. e ≡ OutOfMemory };
-
-    fn from(_e: AllocError) -> WordsFault {
-        WordsFault::OutOfMemory
-    }
-}
-
-impl<T: Drop> From<AllocFailed<T>> for WordsFault {
-    ghost use Rattle.mc_model.specs.declared.words.WordsFault.TheVariants.{OutOfMemory};
-
-    ghost from_gives = { λ _ e. e ≡ OutOfMemory };
-
-    fn from(_e: AllocFailed<T>) -> WordsFault {
-        WordsFault::OutOfMemory
-    }
-}
+use std::alloc::Global;
 
 /// Reads the words of a request: its verb, its key, and what the verb has after the key. The fault is that of the
 /// leftmost faulty word, where a missing word comes after the last.
 pub fn read_request_words(alloc: Global, words: &[&[u8]]) -> Result<Request, WordsFault>
     ensures found { IfOk result (spec.SpellsRequest (map (λ w. w.now) words.now)) }
-    ensures none { IfErr result (λ fault. fault ≢ WordsFault.OutOfMemory
+    ensures none { IfErr result (λ fault. fault.kind ≢ WordsKind.OutOfMemory
         → (r : Request) → spec.SpellsRequest (map (λ w. w.now) words.now) r → ⊥) }
+    ensures word { IfErr result (IsWithin (length words.now)) }
 {
     request_in(alloc, words)
 }
@@ -56,18 +23,19 @@ pub fn read_request_words(alloc: Global, words: &[&[u8]]) -> Result<Request, Wor
 #[tactic(auto, unfolding(crate::specs::Reading::request_in))]
 fn request_in(alloc: Global, words: &[&[u8]]) -> Result<Request, WordsFault>
     ensures exact { reading.Gives (λ r. r) result (reading.request_in (map (λ w. w.now) words.now)) }
+    ensures word { IfErr result (IsWithin (length words.now)) }
 {
     let [verb, rest @ ..] = words else {
-        return Err(WordsFault::Form);
+        return Err(WordsFault::form(0, ExpectedWord::Verb));
     };
     let Some(verb) = Verb::from_word(verb) else {
-        return Err(WordsFault::Form);
+        return Err(WordsFault::form(0, ExpectedWord::Verb));
     };
     let [key, fields @ ..] = rest else {
-        return Err(WordsFault::Form);
+        return Err(WordsFault::form(1, ExpectedWord::Key));
     };
     if !is_key(key) {
-        return Err(WordsFault::Form);
+        return Err(WordsFault::form(1, ExpectedWord::Key));
     }
     let key = Bytes::new(Vec::from_slice(alloc, key)?);
     match verb.fields() {
@@ -81,8 +49,9 @@ fn request_in(alloc: Global, words: &[&[u8]]) -> Result<Request, WordsFault>
 /// A request with nothing after its key.
 fn key_alone(alloc: Global, verb: Verb, key: Bytes, fields: &[&[u8]]) -> Result<Request, WordsFault>
     ensures exact { reading.Gives (λ r. r) result (reading.key_alone_in verb key (map (λ w. w.now) fields.now)) }
+    ensures word { IfErr result (IsWithin (2 + length fields.now)) }
 {
-    end_of(fields)?;
+    end_of(fields, 2, ExpectedWord::EndAfterKey)?;
     Ok(Request {
         verb,
         key,
@@ -95,9 +64,10 @@ fn key_alone(alloc: Global, verb: Verb, key: Bytes, fields: &[&[u8]]) -> Result<
 /// A request with flags and a body after its key.
 fn item(alloc: Global, verb: Verb, key: Bytes, fields: &[&[u8]]) -> Result<Request, WordsFault>
     ensures exact { reading.Gives (λ r. r) result (reading.item_in verb key (map (λ w. w.now) fields.now)) }
+    ensures word { IfErr result (IsWithin (2 + length fields.now)) }
 {
-    let (flags, body, others) = read_flags_and_body(alloc, fields)?;
-    end_of(others)?;
+    let (flags, body, others) = read_flags_and_body(alloc, fields, 2)?;
+    end_of(others, 4, ExpectedWord::EndAfterBody)?;
     Ok(Request {
         verb,
         key,
@@ -110,9 +80,10 @@ fn item(alloc: Global, verb: Verb, key: Bytes, fields: &[&[u8]]) -> Result<Reque
 /// A request with flags, a body and a cas unique after its key.
 fn swap(alloc: Global, verb: Verb, key: Bytes, fields: &[&[u8]]) -> Result<Request, WordsFault>
     ensures exact { reading.Gives (λ r. r) result (reading.swap_in verb key (map (λ w. w.now) fields.now)) }
+    ensures word { IfErr result (IsWithin (2 + length fields.now)) }
 {
-    let (flags, body, others) = read_flags_and_body(alloc, fields)?;
-    let cas = read_last_number(others)?;
+    let (flags, body, others) = read_flags_and_body(alloc, fields, 2)?;
+    let cas = read_last_number(others, 4, ExpectedWord::Unique)?;
     Ok(Request {
         verb,
         key,
@@ -125,8 +96,9 @@ fn swap(alloc: Global, verb: Verb, key: Bytes, fields: &[&[u8]]) -> Result<Reque
 /// A request with an amount after its key.
 fn amount(alloc: Global, verb: Verb, key: Bytes, fields: &[&[u8]]) -> Result<Request, WordsFault>
     ensures exact { reading.Gives (λ r. r) result (reading.amount_in verb key (map (λ w. w.now) fields.now)) }
+    ensures word { IfErr result (IsWithin (2 + length fields.now)) }
 {
-    let number = read_last_number(fields)?;
+    let number = read_last_number(fields, 2, ExpectedWord::Amount)?;
     Ok(Request {
         verb,
         key,
@@ -136,54 +108,79 @@ fn amount(alloc: Global, verb: Verb, key: Bytes, fields: &[&[u8]]) -> Result<Req
     })
 }
 
-/// Sees that no word is left.
-fn end_of(words: &[&[u8]]) -> Result<(), WordsFault>
-    ensures exact { result ≡ reading.at_end tt (map (λ w. w.now) words.now) }
+/// Sees that no word is left. `first` is the index of the first of these words.
+fn end_of(words: &[&[u8]], first: usize, expected: ExpectedWord) -> Result<(), WordsFault>
+    ensures exact { reading.by_kind result ≡ reading.at_end tt (map (λ w. w.now) words.now) }
+    ensures word { IfErr result (IsWithin (first + length words.now)) }
 {
     if words.is_empty() {
         Ok(())
     } else {
-        Err(WordsFault::Form)
+        Err(WordsFault::form(first, expected))
     }
 }
 
-/// Reads a number of 64 bits, which is the last word.
-fn read_last_number(words: &[&[u8]]) -> Result<u64, WordsFault>
-    ensures exact { result ≡ reading.last_number_in (map (λ w. w.now) words.now) }
+/// Reads a number of 64 bits, which is the last word. `first` is the index of the first of these words.
+fn read_last_number(
+    words: &[&[u8]],
+    first: usize,
+    expected: ExpectedWord,
+) -> Result<u64, WordsFault>
+    requires { first ≤ 4 }
+    ensures exact { reading.by_kind result ≡ reading.last_number_in (map (λ w. w.now) words.now) }
+    ensures word { IfErr result (IsWithin (first + length words.now)) }
 {
     let [number, others @ ..] = words else {
-        return Err(WordsFault::Form);
+        return Err(WordsFault::form(first, expected));
     };
-    let number = read_number(u64::MAX, number)?;
-    end_of(others)?;
+    let number = match read_number(u64::MAX, number) {
+        Ok(number) => number,
+        Err(WordsKind::Number) => {
+            return Err(WordsFault::at(WordsKind::Number, first, ExpectedWord::NumberOf64Bits));
+        }
+        Err(kind) => return Err(WordsFault::at(kind, first, expected)),
+    };
+    end_of(others, first + 1, ExpectedWord::EndAfterNumber)?;
     Ok(number)
 }
 
-/// Reads flags and a body, and gives the words after them.
+/// Reads flags and a body, and gives the words after them. `first` is the index of the first of these words.
 fn read_flags_and_body<'w, 'a>(
     alloc: Global,
     words: &'w [&'a [u8]],
+    first: usize,
 ) -> Result<(u32, Bytes, &'w [&'a [u8]]), WordsFault>
+    requires { first ≤ 2 }
     ensures exact { reading.Gives (λ x. (x.0, x.1, map (λ w. w.now) x.2.now)) result
         (reading.flags_and_body_in (map (λ w. w.now) words.entry.now)) }
+    ensures others { IfOk result (λ x. length x.2.now + 2 ≡ length words.entry.now) }
+    ensures word { IfErr result (IsWithin (first + length words.entry.now)) }
 {
     let [flags, others @ ..] = words else {
-        return Err(WordsFault::Form);
+        return Err(WordsFault::form(first, ExpectedWord::Flags));
     };
-    let flags = read_flags(flags)?;
+    let flags = read_flags(flags, first)?;
     let [body, others @ ..] = others else {
-        return Err(WordsFault::Form);
+        return Err(WordsFault::form(first + 1, ExpectedWord::Body));
     };
-    let body = read_body(alloc, body)?;
-    Ok((flags, body, others))
+    match read_body(alloc, body) {
+        Ok(body) => Ok((flags, body, others)),
+        Err(fault) => Err(fault.after(first + 1)),
+    }
 }
 
-/// Reads the flags, a number of 32 bits.
-fn read_flags(word: &[u8]) -> Result<u32, WordsFault>
-    ensures exact { result ≡ reading.flags_in word.now }
+/// Reads the flags, a number of 32 bits. `index` is that of the word.
+fn read_flags(word: &[u8], index: usize) -> Result<u32, WordsFault>
+    ensures exact { reading.by_kind result ≡ reading.flags_in word.now }
+    ensures word { IfErr result (IsWithin index) }
 {
-    let flags = read_number(u64::from(u32::MAX), word)?;
-    Ok(flags as u32)
+    match read_number(u64::from(u32::MAX), word) {
+        Ok(flags) => Ok(flags as u32),
+        Err(WordsKind::Number) => {
+            Err(WordsFault::at(WordsKind::Number, index, ExpectedWord::FlagsOf32Bits))
+        }
+        Err(kind) => Err(WordsFault::at(kind, index, ExpectedWord::Flags)),
+    }
 }
 
 /// The word that a reply of the class begins with.
@@ -219,8 +216,9 @@ fn class_of_word(word: &[u8]) -> Option<Class>
 /// faulty word, where a missing word comes after the last.
 pub fn read_reply_words(alloc: Global, words: &[&[u8]]) -> Result<Reply, WordsFault>
     ensures found { IfOk result (spec.SpellsReply (map (λ w. w.now) words.now)) }
-    ensures none { IfErr result (λ fault. fault ≢ WordsFault.OutOfMemory
+    ensures none { IfErr result (λ fault. fault.kind ≢ WordsKind.OutOfMemory
         → (r : Reply) → spec.SpellsReply (map (λ w. w.now) words.now) r → ⊥) }
+    ensures word { IfErr result (IsWithin (length words.now)) }
 {
     reply_in(alloc, words)
 }
@@ -229,12 +227,13 @@ pub fn read_reply_words(alloc: Global, words: &[&[u8]]) -> Result<Reply, WordsFa
 #[tactic(auto, unfolding(crate::specs::Reading::reply_in))]
 fn reply_in(alloc: Global, words: &[&[u8]]) -> Result<Reply, WordsFault>
     ensures exact { reading.Gives (λ r. r) result (reading.reply_in (map (λ w. w.now) words.now)) }
+    ensures word { IfErr result (IsWithin (length words.now)) }
 {
     let [class, fields @ ..] = words else {
-        return Err(WordsFault::Form);
+        return Err(WordsFault::form(0, ExpectedWord::ReplyWord));
     };
     let Some(class) = class_of_word(class) else {
-        return Err(WordsFault::Form);
+        return Err(WordsFault::form(0, ExpectedWord::ReplyWord));
     };
     match class {
         Class::Stored => bare(Reply::Stored, fields),
@@ -252,34 +251,41 @@ fn reply_in(alloc: Global, words: &[&[u8]]) -> Result<Reply, WordsFault>
 
 /// A reply with nothing after its word.
 fn bare(reply: Reply, fields: &[&[u8]]) -> Result<Reply, WordsFault>
-    ensures exact { result ≡ reading.at_end reply (map (λ w. w.now) fields.now) }
+    ensures exact { reading.by_kind result ≡ reading.at_end reply (map (λ w. w.now) fields.now) }
+    ensures word { IfErr result (IsWithin (1 + length fields.now)) }
 {
-    end_of(fields)?;
+    end_of(fields, 1, ExpectedWord::EndAfterReply)?;
     Ok(reply)
 }
 
 /// The new value of `incr` or `decr`.
 fn count(fields: &[&[u8]]) -> Result<Reply, WordsFault>
-    ensures exact { result ≡ reading.count_in (map (λ w. w.now) fields.now) }
+    ensures exact { reading.by_kind result ≡ reading.count_in (map (λ w. w.now) fields.now) }
+    ensures word { IfErr result (IsWithin (1 + length fields.now)) }
 {
-    Ok(Reply::Number(read_last_number(fields)?))
+    let number = read_last_number(fields, 1, ExpectedWord::NewValue)?;
+    Ok(Reply::Number(number))
 }
 
 /// A hit: flags, a body, and the cas number if one is shown.
 fn hit(alloc: Global, fields: &[&[u8]]) -> Result<Reply, WordsFault>
     ensures exact { reading.Gives (λ r. r) result (reading.hit_in (map (λ w. w.now) fields.now)) }
+    ensures word { IfErr result (IsWithin (1 + length fields.now)) }
 {
-    let (flags, body, others) = read_flags_and_body(alloc, fields)?;
-    let cas = read_shown_number(others)?;
+    let (flags, body, others) = read_flags_and_body(alloc, fields, 1)?;
+    let cas = read_shown_number(others, 3)?;
     Ok(Reply::Hit { flags, body, cas })
 }
 
-/// The cas number that the last word shows, if there is one.
-fn read_shown_number(words: &[&[u8]]) -> Result<Option<u64>, WordsFault>
-    ensures exact { result ≡ reading.shown_number_in (map (λ w. w.now) words.now) }
+/// The cas number that the last word shows, if there is one. `first` is the index of the first of these words.
+fn read_shown_number(words: &[&[u8]], first: usize) -> Result<Option<u64>, WordsFault>
+    requires { first ≤ 4 }
+    ensures exact { reading.by_kind result ≡ reading.shown_number_in (map (λ w. w.now) words.now) }
+    ensures word { IfErr result (IsWithin (first + length words.now)) }
 {
     if words.is_empty() {
         return Ok(None);
     }
-    Ok(Some(read_last_number(words)?))
+    let number = read_last_number(words, first, ExpectedWord::ShownUnique)?;
+    Ok(Some(number))
 }

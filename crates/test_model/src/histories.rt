@@ -44,7 +44,7 @@ fn history(
 fn broken_by(alloc: Global, sections: [&[(&str, &str)]; 3]) -> Result<Option<Broken>, WordsFault> {
     match history(alloc, sections)? {
         Ok(_) => Ok(None),
-        Err((HistoryKind::OutOfMemory, _, _)) => Err(WordsFault::OutOfMemory),
+        Err((HistoryKind::OutOfMemory, _, _)) => Err(WordsFault::out_of_memory()),
         Err(broken) => Ok(Some(broken)),
     }
 }

@@ -31,7 +31,7 @@ fn history(alloc: Global, lines: &[Line]) -> Result<Result<History, Broken>, Wor
 fn broken_by(alloc: Global, lines: &[Line]) -> Result<Option<Broken>, WordsFault> {
     match history(alloc, lines)? {
         Ok(_) => Ok(None),
-        Err((HistoryKind::OutOfMemory, _, _)) => Err(WordsFault::OutOfMemory),
+        Err((HistoryKind::OutOfMemory, _, _)) => Err(WordsFault::out_of_memory()),
         Err(broken) => Ok(Some(broken)),
     }
 }
@@ -262,7 +262,7 @@ fn fault_at(
     let note = note(alloc, begins, words)?;
     match builder.push(actor, note) {
         Ok(()) => Ok(None),
-        Err(HistoryKind::OutOfMemory) => Err(WordsFault::OutOfMemory),
+        Err(HistoryKind::OutOfMemory) => Err(WordsFault::out_of_memory()),
         Err(kind) => Ok(Some(kind)),
     }
 }

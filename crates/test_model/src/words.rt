@@ -1,7 +1,7 @@
 //! The words of requests and replies, as they are read and as they are printed.
 use crate::lines::{reply_in, request_in};
 use mc_model::{
-    WordsFault, is_key, print_reply_words, print_request_words, read_body, read_number,
+    WordsFault, WordsKind, is_key, print_reply_words, print_request_words, read_body, read_number,
 };
 use mc_protocol::{Class, OutOfMemory, Reply, Request, Verb};
 use std::alloc::Global;
@@ -190,12 +190,12 @@ fn reads_and_prints_bodies(rt: HostRuntime) -> Result<(), Fail> {
 }
 
 /// A word, and the number below 2^64 that it says.
-static NUMBERS: &[(&str, Result<u64, WordsFault>)] = &[
+static NUMBERS: &[(&str, Result<u64, WordsKind>)] = &[
     ("18446744073709551615", Ok(u64::MAX)),
     ("00000000000000000001", Ok(1)),
-    ("18446744073709551616", Err(WordsFault::Number)),
-    ("000000000000000000001", Err(WordsFault::Number)),
-    ("+1", Err(WordsFault::Form)),
+    ("18446744073709551616", Err(WordsKind::Number)),
+    ("000000000000000000001", Err(WordsKind::Number)),
+    ("+1", Err(WordsKind::Form)),
 ];
 
 #[test]

@@ -18,5 +18,7 @@ returns-in_err-byte c =
     let p = err_from_is_err_and c.from_residual.result c.from_residual.ensures.1 in
     rw (p.1, p.2) (record {
       exact =
-          onto-fails c.bytes.bytes.items c.bytes.rest.now (bytes_in c.args.text.now) c.in_err-byte.field-0.0 c.bytes.invariant c.in_err-byte.ensures.exact;
+          onto-fails c.bytes.bytes.items c.bytes.rest.now (bytes_in c.args.text.now) c.in_err-byte.field-0.0.kind c.bytes.invariant
+          c.in_err-byte.ensures.exact;
+      word = c.in_err-byte.ensures.word;
     })
