@@ -11,11 +11,13 @@ mod event;
 mod explanation;
 mod fault;
 mod lines;
+mod misread;
 mod moves;
 mod notes;
 mod print;
 mod print_laws;
 mod requests;
+mod rules;
 mod starts;
 mod step_laws;
 mod step_lines;
@@ -27,6 +29,7 @@ mod text_laws;
 pub use event::Event;
 pub use explanation::{Explanation, Move};
 pub use fault::HistoryFault;
+pub use misread::{Expected, Misread};
 pub use print::{print_explanation, print_history};
 pub use print_laws::{
     printed_claims_are_spelled, printed_histories_are_spelled, spelled_claims_may_be_printed,

@@ -7,7 +7,7 @@ ghost use Rattle.mc_history.specs.StepReading.{Refuses, SpellsOnward};
 ghost use Rattle.mc_history.specs.declared.event.Event.{Event};
 
 use crate::step_lines::read_step;
-use crate::{Event, StepsFault, StepsKind};
+use crate::{Event, Expected, StepsFault, StepsKind};
 use mc_protocol::{Actor, Separator, WordLine, WordLines};
 use std::alloc::Global;
 
@@ -53,13 +53,18 @@ fn take_header(alloc: Global, lines: &mut WordLines) -> Result<(), StepsFault>
         → (others : List Words) → lines.old.words ≡ steps_line ∷ others → ⊥) }
 {
     let Some(line) = lines.next(alloc)? else {
-        return Err(StepsFault::at(StepsKind::Header, 1));
+        return Err(StepsFault::at(StepsKind::Header, 1, 0, Expected::StepsHeader));
     };
     if line.is_only(b"steps") {
-        Ok(())
-    } else {
-        Err(StepsFault::at(StepsKind::Header, line.number()))
+        return Ok(());
     }
+    let word = if line.begins_with(b"steps") { 1 } else { 0 };
+    Err(StepsFault::at(
+        StepsKind::Header,
+        line.number(),
+        word,
+        Expected::StepsHeader,
+    ))
 }
 
 // Reads the lines of the steps, and takes the line `end` after them.
@@ -76,7 +81,7 @@ fn read_steps(alloc: Global, lines: &mut WordLines) -> Result<Vec<(Actor, Event)
         }
         let step = read_step(alloc, &line)?;
         if steps.len() >= STEP_LIST_LIMIT {
-            return Err(StepsFault::at(StepsKind::TooMany, line.number()));
+            return Err(StepsFault::at(StepsKind::TooMany, line.number(), 0, Expected::RoomForStep));
         }
         steps.push(step)?;
     }
@@ -89,7 +94,12 @@ fn next_due<'a>(alloc: Global, lines: &mut WordLines<'a>) -> Result<WordLine<'a>
 {
     match lines.next(alloc)? {
         Some(line) => Ok(line),
-        None => Err(StepsFault::at(StepsKind::Unended, lines.number().saturating_add(1))),
+        None => Err(StepsFault::at(
+            StepsKind::Unended,
+            lines.number().saturating_add(1),
+            0,
+            Expected::EndLine,
+        )),
     }
 }
 
@@ -99,7 +109,7 @@ fn finish(alloc: Global, lines: &mut WordLines) -> Result<(), StepsFault>
     ensures none { IfErr result (λ fault. fault.kind ≢ StepsKind.OutOfMemory → lines.old.words ≢ []) }
 {
     match lines.next(alloc)? {
-        Some(line) => Err(StepsFault::at(StepsKind::Line, line.number())),
+        Some(line) => Err(StepsFault::in_line(&line, 0, Expected::EndOfText)),
         None => Ok(()),
     }
 }

@@ -3,7 +3,7 @@
 use mc_history::{
     Explanation, HistoryFault, Move, parse_history, print_explanation, print_history,
 };
-use mc_model::{Choice, History, HistoryKind};
+use mc_model::{Choice, History};
 use mc_protocol::{Actor, OutOfMemory, Verb};
 use std::alloc::Global;
 use std::test::Fail;
@@ -192,21 +192,6 @@ fn has_claim(explanation: &Option<Explanation>) -> bool {
         Some(explanation) => has_starts(explanation) && has_moves(explanation),
         None => false,
     }
-}
-
-#[test]
-fn tells_the_fault_of_a_text(rt: HostRuntime) -> Result<(), Fail> {
-    let fault = HistoryFault {
-        kind: HistoryKind::WrongReply,
-        line: 3,
-    };
-    let text = b"history 1\n\nP delete a -> STORED\nend\n";
-    assert_eq!(rt; fault_of(rt.alloc(), text), Some(fault));
-    Ok(())
-}
-
-fn fault_of(alloc: Global, text: &[u8]) -> Option<HistoryFault> {
-    parse_history(alloc, text).err()
 }
 
 // A text of a mebibyte, each line of which has a key of its own, is read in a moment.
