@@ -239,19 +239,18 @@ static EXPLANATIONS: &[Row] = &[
     ("end\nend\n", Line, 4, 0, Expected::EndOfText),
 ];
 
-fn fault_of(row: &Row) -> HistoryFault {
+fn is_fault_of(fault: HistoryFault, row: &Row) -> bool {
     let (_, kind, line, word, expected) = *row;
-    HistoryFault {
-        kind,
-        line,
-        misread: Some(Misread { word, expected }),
-    }
+    fault.kind == kind && fault.line == line && fault.misread == Some(Misread { word, expected })
 }
 
 // Whether this text has the fault of the row.
 fn has_fault(alloc: Global, front: &str, row: &Row) -> Result<bool, Fail> {
     let text = format!(in alloc; "{front}{}", row.0)?;
-    Ok(parse_history(alloc, text.as_bytes()).err() == Some(fault_of(row)))
+    Ok(match parse_history(alloc, text.as_bytes()) {
+        Ok(_) => false,
+        Err(fault) => is_fault_of(fault, row),
+    })
 }
 
 // The first of these lines that have another fault, or none, after this front.

@@ -230,16 +230,18 @@ static FAULTS: &[(&str, u32, StepsKind, u32, usize, Expected)] = &[
     ),
 ];
 
-fn fault_at(kind: StepsKind, line: u32, word: usize, expected: Expected) -> StepsFault {
-    StepsFault {
-        kind,
-        line,
-        misread: Some(Misread { word, expected }),
-    }
+// A fault: its kind, its line, and what is misread there.
+type Parts = (StepsKind, u32, Option<Misread>);
+
+fn parts_of(kind: StepsKind, line: u32, word: usize, expected: Expected) -> Parts {
+    (kind, line, Some(Misread { word, expected }))
 }
 
-fn fault_of(alloc: Global, text: &str, first_line: u32) -> Option<StepsFault> {
-    parse_steps(alloc, text.as_bytes(), first_line).err()
+fn fault_of(alloc: Global, text: &str, first_line: u32) -> Option<Parts> {
+    match parse_steps(alloc, text.as_bytes(), first_line) {
+        Ok(_) => None,
+        Err(fault) => Some((fault.kind, fault.line, fault.misread)),
+    }
 }
 
 fn print_reply(reply: &Reply, out: &mut Vec<u8>) -> Result<(), OutOfMemory> {
@@ -311,8 +313,11 @@ fn reads_parts(rt: HostRuntime) -> Result<(), Fail> {
 fn tells_the_fault_of_a_text(rt: HostRuntime) {
     for (text, first_line, kind, line, word, expected) in FAULTS {
         let found = fault_of(rt.alloc(), text, *first_line);
-        let fault = fault_at(*kind, *line, *word, *expected);
-        assert_eq!(rt; found, Some(fault), "{text}");
+        assert_eq!(rt;
+            found,
+            Some(parts_of(*kind, *line, *word, *expected)),
+            "{text}"
+        );
     }
 }
 
@@ -370,7 +375,7 @@ static BEYOND: &[(&str, StepsKind, u32, usize, Expected)] = &[
 ];
 
 // The fault of a thousand steps and these lines, where the first line is 13.
-fn fault_with(alloc: Global, others: &str) -> Result<Option<StepsFault>, Fail> {
+fn fault_with(alloc: Global, others: &str) -> Result<Option<Parts>, Fail> {
     let text = text_with(alloc, 1000, others)?;
     Ok(fault_of(alloc, &text, 13))
 }
@@ -380,7 +385,7 @@ fn refuses_more_steps(rt: HostRuntime) -> Result<(), Fail> {
     for (others, kind, line, word, expected) in BEYOND {
         assert_eq!(rt;
             fault_with(rt.alloc(), others)?,
-            Some(fault_at(*kind, *line, *word, *expected)),
+            Some(parts_of(*kind, *line, *word, *expected)),
             "{others}"
         );
     }
@@ -389,7 +394,14 @@ fn refuses_more_steps(rt: HostRuntime) -> Result<(), Fail> {
 
 #[test]
 fn says_what_is_wrong(rt: HostRuntime) -> Result<(), Fail> {
-    let fault = fault_at(TooMany, 1002, 0, Expected::RoomForStep);
+    let fault = StepsFault {
+        kind: TooMany,
+        line: 1002,
+        misread: Some(Misread {
+            word: 0,
+            expected: Expected::RoomForStep,
+        }),
+    };
     let text = format!(in rt.alloc(); "{fault}")?;
     assert_eq!(rt; text.as_str(), "line 1002: expected at most 1000 steps");
     assert!(rt; TooMany.number() == 3 && TooMany.name() == "TooMany");
