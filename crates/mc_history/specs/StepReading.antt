@@ -1,6 +1,6 @@
 -- What the lines that are left of a step list spell, and when a reader of them gives up. No public contract cites these:
 -- they say of a part what `StepText.antt` says of the whole.
-use Rattle.std.specs.Prelude.{◌≡◌, ◌≢◌, ◌≤◌, List, [], ◌∷◌, ◌++◌, length}
+use Rattle.std.specs.Prelude.{◌≡◌, ◌≢◌, ℕ, ◌≤◌, List, [], ◌∷◌, ◌++◌, length, IfSome}
 use Rattle.mc_protocol.specs.declared.actor.Actor.{Actor}
 use Rattle.mc_protocol.specs.declared.fault.Fault.{Fault}
 use Rattle.mc_protocol.specs.Decimals.{SpellsNumber, MAX_64}
@@ -16,6 +16,10 @@ use Rattle.mc_history.specs.StepText.{SpellsStep, end_line}
 -- nothing is spelled so, unless memory ran out
 abbrev pub Refuses : {V : Type 0} → (V → Type 0) → StepsFault → Type 0
 Refuses {V} Spelled fault = fault.kind ≢ kind.OutOfMemory → (value : V) → Spelled value → ⊥
+
+-- unless memory ran out, the fault is about one of this many words of its line, or about what is missing after them
+abbrev pub IsAmong : ℕ → StepsFault → Type 0
+IsAmong count fault = fault.kind ≢ kind.OutOfMemory → IfSome fault.misread (λ m. m.word ≤ count)
 
 -- the words after `fail`: the number of the fault alone
 abbrev pub SpellsFault : Words → Fault → Type 0
