@@ -1,6 +1,6 @@
 -- A line is a label exactly where what it says is one.
-use Rattle.std.proofs.Common.{◌≡◌, ℕ, ◌+◌, ◌≤◌, nat_lt, Bool, true, false, cond, Option, Some, None, Result}
-use Rattle.std.proofs.Common.{Ok, Err, List, [], ◌∷◌, ◌++◌, drop, refl, sym, ap, subst, ◌∙◌}
+use Rattle.std.proofs.Common.{◌≡◌, ℕ, nat_lt, Bool, true, false, cond, Option, Some, None, Result}
+use Rattle.std.proofs.Common.{Ok, Err, List, [], ◌∷◌, drop, refl, sym, ap, subst, ◌∙◌}
 use Rattle.std.specs.List.{list_any}
 use Rattle.std.specs.Result.{IfOk}
 use Rattle.mc_protocol.specs.Fields.{fields_of}
@@ -10,7 +10,7 @@ use Rattle.mc_protocol.specs.Names.{index_of, is_new}
 use Rattle.mc_script.specs.declared.entry.Entry.{Entry}
 use Rattle.mc_script.specs.declared.entry.Entry.TheVariants as entry
 use Rattle.mc_script.specs.declared.entry.Mark.{Mark}
-use Rattle.mc_script.specs.declared.fault.ScriptKind.{ScriptKind}
+use Rattle.mc_script.specs.declared.word_fault.WordFault.{WordFault}
 use Rattle.mc_script.specs.declared.fields.Parts.{Parts}
 use Rattle.mc_script.specs.declared.read_entry.Keyword.{Keyword}
 use Rattle.mc_script.specs.declared.read_entry.Keyword.TheVariants as keyword
@@ -93,7 +93,7 @@ pub step_following : (limit count : ℕ) (labels : List Word) (names : Names) (l
 step_following limit count labels names line none = steps-follow limit count labels (entry_in names line) (λ e h. entry-no-label names line e none h)
 
 -- and it adds no label
-pub step_adds : (limit count : ℕ) (labels : List Word) (names : Names) (line : Words) (result : Result Entry ScriptKind) → label_of line ≡ None
+pub step_adds : (limit count : ℕ) (labels : List Word) (names : Names) (line : Words) (result : Result Entry WordFault) → label_of line ≡ None
     → Gives result (cond (nat_lt count limit) (entry_in names line) None) → IfOk result (λ e. labels ≡ with_label labels e)
 step_adds limit count labels names line (Err fault) none h = tt
 step_adds limit count labels names line (Ok e) none h =

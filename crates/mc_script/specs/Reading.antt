@@ -21,7 +21,6 @@ use Rattle.mc_script.specs.declared.entry.Mark.{Mark}
 use Rattle.mc_script.specs.declared.entry.Mark.TheVariants as mark
 use Rattle.mc_script.specs.declared.entry.Sign.{Sign}
 use Rattle.mc_script.specs.declared.entry.Sign.TheVariants as sign
-use Rattle.mc_script.specs.declared.fault.ScriptKind.{ScriptKind}
 use Rattle.mc_script.specs.declared.fault.ScriptKind.TheVariants as kind
 use Rattle.mc_script.specs.declared.fault.ScriptFault.{ScriptFault}
 use Rattle.mc_script.specs.declared.fields.Parts.{Parts}
@@ -34,20 +33,21 @@ use Rattle.mc_script.specs.declared.step.Argument.TheVariants as argument
 use Rattle.mc_script.specs.declared.step.Template.{Template}
 use Rattle.mc_script.specs.declared.version.Version.{Version}
 use Rattle.mc_script.specs.declared.version.Version.TheVariants as version
+use Rattle.mc_script.specs.declared.word_fault.WordFault.{WordFault}
 use Rattle.mc_script.specs.Script.{Names, may_be_declared}
 use Rattle.mc_script.specs.ScriptWords.{is_body, is_label_name}
 use Rattle.mc_script.specs.Marks.{may_stand, are_twins, is_number_jump}
 use Rattle.mc_script.specs.Chains.{◌>>=◌}
 
 -- what was returned is what reading gives, unless memory ran out
-abbrev pub Gives : {V : Type 0} → Result V ScriptKind → Option V → Type 0
+abbrev pub Gives : {V : Type 0} → Result V WordFault → Option V → Type 0
 Gives (Ok v) read = read ≡ Some v
-Gives (Err k) read = k ≢ kind.OutOfMemory → read ≡ None
+Gives (Err fault) read = fault.kind ≢ kind.OutOfMemory → read ≡ None
 
 -- the same of what is seen of it
-abbrev pub Shows : {X Y : Type 0} → (X → Y) → Result X ScriptKind → Option Y → Type 0
+abbrev pub Shows : {X Y : Type 0} → (X → Y) → Result X WordFault → Option Y → Type 0
 Shows view (Ok x) read = read ≡ Some (view x)
-Shows view (Err k) read = k ≢ kind.OutOfMemory → read ≡ None
+Shows view (Err fault) read = fault.kind ≢ kind.OutOfMemory → read ≡ None
 
 -- the same, where the fault has the number of its line
 abbrev pub Says : {X Y : Type 0} → (X → Y) → Result X ScriptFault → Option Y → Type 0

@@ -4,6 +4,7 @@ ghost use Rattle.std.specs.Prelude.{◌≡◌};
 ghost use Rattle.mc_script.specs.Kinds as kinds;
 ghost use Rattle.mc_script.specs.declared.fault.ScriptKind.TheVariants.{OutOfMemory};
 
+use crate::Misread;
 use std::alloc::{AllocError, AllocFailed};
 use thiserror::Error;
 
@@ -90,32 +91,14 @@ impl ScriptKind {
     }
 }
 
-impl From<AllocError> for ScriptKind {
-    ghost use Rattle.mc_script.specs.declared.fault.ScriptKind.TheVariants.{OutOfMemory};
-
-    ghost from_gives = { λ _ e. e ≡ OutOfMemory };
-
-    fn from(_e: AllocError) -> ScriptKind {
-        ScriptKind::OutOfMemory
-    }
-}
-
-impl<T: Drop> From<AllocFailed<T>> for ScriptKind {
-    ghost use Rattle.mc_script.specs.declared.fault.ScriptKind.TheVariants.{OutOfMemory};
-
-    ghost from_gives = { λ _ e. e ≡ OutOfMemory };
-
-    fn from(_e: AllocFailed<T>) -> ScriptKind {
-        ScriptKind::OutOfMemory
-    }
-}
-
-/// Why a text is no script, and the number of its first faulty line; 0 where memory ran out.
+/// Why a text is no script, the number of its first faulty line, and the word of it; 0 and none where memory ran out.
 #[derive(Clone, Copy, Debug, Drop, PartialEq, Eq, Error)]
 #[error("line {line}: {kind}")]
 pub struct ScriptFault {
     pub kind: ScriptKind,
     pub line: u32,
+    /// The word that is at fault, and what was expected there. Where the text ends too early it is the first of the next line.
+    pub misread: Option<Misread>,
     ghost memory: { kind ≡ OutOfMemory → line ≡ 0 },
 }
 
@@ -126,16 +109,7 @@ impl ScriptFault {
         ScriptFault {
             kind: ScriptKind::OutOfMemory,
             line: 0,
-        }
-    }
-
-    /// A fault of a line; want of memory is no line's.
-    pub(crate) fn at(kind: ScriptKind, line: u32) -> Self
-        ensures { result.kind ≡ kind }
-    {
-        match kind {
-            ScriptKind::OutOfMemory => ScriptFault::out_of_memory(),
-            _ => ScriptFault { kind, line },
+            misread: None,
         }
     }
 }

@@ -6,10 +6,20 @@ ghost use Rattle.mc_protocol.specs.Decimals as decimals;
 ghost use Rattle.mc_script.specs.Reading as reading;
 
 use crate::names::Names;
-use crate::words::{read_body, read_number};
-use crate::{Argument, ScriptKind};
+use crate::word_fault::WordFault;
+use crate::words::{is_body, read_number};
+use crate::{Argument, Expected, ScriptKind, Sort};
 use mc_protocol::{Bytes, Fields};
 use std::alloc::Global;
+
+// Where these words stand in their line, after the verb and the key.
+const FLAGS_WORD: usize = 2;
+
+const BODY_WORD: usize = 3;
+
+const UNIQUE_WORD: usize = 4;
+
+const AMOUNT_WORD: usize = 2;
 
 /// What the words between the key and the marks of a request say.
 #[derive(Debug, Drop)]
@@ -31,6 +41,11 @@ pub(crate) fn field_count(fields: Fields) -> usize
     }
 }
 
+/// The index in its line of the mark with this index among those of a request with these fields.
+pub(crate) fn mark_word(fields: Fields, mark: usize) -> usize {
+    mark.saturating_add(field_count(fields)).saturating_add(2)
+}
+
 /// Reads the words after the key. The fault is that of the leftmost faulty word; a missing word stands after the last.
 #[tactic(auto, unfolding(crate::specs::Reading::fields_in))]
 pub(crate) fn read_fields(
@@ -38,7 +53,7 @@ pub(crate) fn read_fields(
     names: &Names,
     fields: Fields,
     words: &[&[u8]],
-) -> Result<Parts, ScriptKind>
+) -> Result<Parts, WordFault>
     ensures { reading.Gives result (reading.fields_in names.now fields (map (λ w. w.now) words.now)) }
 {
     match fields {
@@ -54,17 +69,17 @@ pub(crate) fn read_fields(
 }
 
 /// Reads flags and a body.
-fn read_item(alloc: Global, words: &[&[u8]]) -> Result<Parts, ScriptKind>
+fn read_item(alloc: Global, words: &[&[u8]]) -> Result<Parts, WordFault>
     ensures { reading.Gives result (reading.item_in (map (λ w. w.now) words.now)) }
 {
     let [flags, rest @ ..] = words else {
-        return Err(ScriptKind::Line);
+        return Err(WordFault::line(FLAGS_WORD, Expected::Flags));
     };
     let flags = read_flags(flags)?;
-    let [body, ..] = rest else {
-        return Err(ScriptKind::Line);
+    let [body, others @ ..] = rest else {
+        return Err(WordFault::line(BODY_WORD, Expected::Body));
     };
-    let body = read_body(alloc, body)?;
+    let body = read_body(alloc, body, others)?;
     Ok(Parts {
         flags,
         argument: Argument::Nothing,
@@ -73,19 +88,19 @@ fn read_item(alloc: Global, words: &[&[u8]]) -> Result<Parts, ScriptKind>
 }
 
 /// Reads flags, a body and the variable that has the cas unique.
-fn read_swap(alloc: Global, names: &Names, words: &[&[u8]]) -> Result<Parts, ScriptKind>
+fn read_swap(alloc: Global, names: &Names, words: &[&[u8]]) -> Result<Parts, WordFault>
     ensures { reading.Gives result (reading.swap_in names.now (map (λ w. w.now) words.now)) }
 {
     let [flags, rest @ ..] = words else {
-        return Err(ScriptKind::Line);
+        return Err(WordFault::line(FLAGS_WORD, Expected::Flags));
     };
     let flags = read_flags(flags)?;
-    let [body, rest @ ..] = rest else {
-        return Err(ScriptKind::Line);
+    let [body, others @ ..] = rest else {
+        return Err(WordFault::line(BODY_WORD, Expected::Body));
     };
-    let body = read_body(alloc, body)?;
-    let [unique, ..] = rest else {
-        return Err(ScriptKind::Line);
+    let body = read_body(alloc, body, others)?;
+    let [unique, ..] = others else {
+        return Err(WordFault::line(UNIQUE_WORD, Expected::Unique));
     };
     let argument = read_unique(names, unique)?;
     Ok(Parts {
@@ -96,11 +111,11 @@ fn read_swap(alloc: Global, names: &Names, words: &[&[u8]]) -> Result<Parts, Scr
 }
 
 /// Reads the amount of an increment.
-fn read_increment(alloc: Global, names: &Names, words: &[&[u8]]) -> Result<Parts, ScriptKind>
+fn read_increment(alloc: Global, names: &Names, words: &[&[u8]]) -> Result<Parts, WordFault>
     ensures { reading.Gives result (reading.increment_in names.now (map (λ w. w.now) words.now)) }
 {
     let [amount, ..] = words else {
-        return Err(ScriptKind::Line);
+        return Err(WordFault::line(AMOUNT_WORD, Expected::Amount));
     };
     let argument = read_amount(names, amount)?;
     Ok(Parts {
@@ -110,44 +125,86 @@ fn read_increment(alloc: Global, names: &Names, words: &[&[u8]]) -> Result<Parts
     })
 }
 
-fn read_flags(word: &[u8]) -> Result<u32, ScriptKind>
+fn read_flags(word: &[u8]) -> Result<u32, WordFault>
     ensures { result_ok result ≡ reading.number_in decimals.MAX_32 word.now }
 {
-    let flags = read_number(u64::from(u32::MAX), word)?;
-    Ok(flags as u32)
+    match read_number(u64::from(u32::MAX), word) {
+        Some(flags) => Ok(flags as u32),
+        None => {
+            let expected = Expected::Flags;
+            Err(WordFault::new(ScriptKind::Number, FLAGS_WORD, expected))
+        }
+    }
+}
+
+/// Reads `=` and a body, which these words follow.
+fn read_body(alloc: Global, word: &[u8], others: &[&[u8]]) -> Result<Bytes, WordFault>
+    ensures { reading.Gives result (reading.body_in word.now) }
+{
+    let [b'=', body @ ..] = word else {
+        return Err(WordFault::line(BODY_WORD, instead_of_body(word, others)));
+    };
+    if !is_body(body) {
+        let expected = Expected::LettersAndDigits;
+        return Err(WordFault::new(ScriptKind::Data, BODY_WORD, expected));
+    }
+    Ok(Bytes::new(Vec::from_slice(alloc, body)?))
+}
+
+/// What was expected where this word is no body. The protocol's own line has two numbers there.
+fn instead_of_body(word: &[u8], others: &[&[u8]]) -> Expected {
+    match others {
+        [other, ..] if is_number(word) && is_number(other) => Expected::NoExpiry,
+        _ => Expected::Body,
+    }
+}
+
+/// Whether the word is a decimal.
+pub(crate) fn is_number(word: &[u8]) -> bool {
+    read_number(u64::MAX, word).is_some()
 }
 
 /// Reads `$` and a variable.
-fn read_unique(names: &Names, word: &[u8]) -> Result<Argument, ScriptKind>
+fn read_unique(names: &Names, word: &[u8]) -> Result<Argument, WordFault>
     ensures { result_ok result ≡ reading.unique_in names.now word.now }
 {
     let [first, name @ ..] = word else {
-        return Err(ScriptKind::Line);
+        return Err(WordFault::line(UNIQUE_WORD, Expected::Unique));
     };
     if *first != b'$' {
-        return Err(ScriptKind::Line);
+        return Err(WordFault::line(UNIQUE_WORD, Expected::Unique));
     }
-    read_variable(names, name)
+    read_variable(names, UNIQUE_WORD, name)
 }
 
 /// Reads a number, or `$` and a variable.
-fn read_amount(names: &Names, word: &[u8]) -> Result<Argument, ScriptKind>
+fn read_amount(names: &Names, word: &[u8]) -> Result<Argument, WordFault>
     ensures { result_ok result ≡ reading.amount_in names.now word.now }
 {
     let [first, name @ ..] = word else {
-        return Err(ScriptKind::Line);
+        return Err(WordFault::line(AMOUNT_WORD, Expected::Amount));
     };
     if *first == b'$' {
-        return read_variable(names, name);
+        return read_variable(names, AMOUNT_WORD, name);
     }
-    Ok(Argument::Number(read_number(u64::MAX, word)?))
+    match read_number(u64::MAX, word) {
+        Some(amount) => Ok(Argument::Number(amount)),
+        None => {
+            let expected = Expected::Amount;
+            Err(WordFault::new(ScriptKind::Number, AMOUNT_WORD, expected))
+        }
+    }
 }
 
-fn read_variable(names: &Names, name: &[u8]) -> Result<Argument, ScriptKind>
+/// The variable that the word with this index names.
+fn read_variable(names: &Names, word: usize, name: &[u8]) -> Result<Argument, WordFault>
     ensures { result_ok result ≡ reading.variable_named names.now name.now }
 {
     match names.variable(name) {
         Some(variable) => Ok(Argument::Variable(variable)),
-        None => Err(ScriptKind::UnknownVar),
+        None => {
+            let expected = Expected::KnownName(Sort::Variable);
+            Err(WordFault::new(ScriptKind::UnknownVar, word, expected))
+        }
     }
 }

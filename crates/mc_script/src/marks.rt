@@ -5,10 +5,12 @@ ghost use Rattle.std.specs.List.{list_any, position};
 ghost use Rattle.mc_script.specs.Marks as spec;
 ghost use Rattle.mc_script.specs.Reading as reading;
 
-use crate::ScriptKind;
 use crate::entry::{Mark, Marks, Sign};
+use crate::fields::{is_number, mark_word};
 use crate::names::Names;
-use mc_protocol::{Bytes, Class, Verb, legal};
+use crate::word_fault::WordFault;
+use crate::{Expected, ScriptKind, Sort};
+use mc_protocol::{Bytes, Class, Fields, Verb, is_word, legal};
 use std::alloc::Global;
 
 /// The byte before a flag.
@@ -43,79 +45,114 @@ fn read_mark(
     bound: bool,
     marks: &[Mark],
     word: &[u8],
-) -> Result<Mark, ScriptKind>
+) -> Result<Mark, WordFault>
     ensures { reading.Gives result (reading.joining verb bound marks.now (reading.mark_in names.now word.now)) }
 {
+    let index = mark_word(verb.fields(), marks.len());
     match word {
-        [b'>', name @ ..] => read_bind_mark(names, verb, marks, name),
+        [b'>', name @ ..] => read_bind_mark(names, verb, index, marks, name),
         [first, name @ ..] => {
-            let mark = read_flag_or_jump(alloc, names, sign_of(*first), name, word)?;
-            check_mark(verb, bound, marks, &mark)?;
+            let mark = read_flag_or_jump(alloc, names, verb, index, sign_of(*first), name, word)?;
+            check_mark(verb, bound, index, marks, &mark)?;
             Ok(mark)
         }
-        [] => Err(ScriptKind::Line),
+        [] => Err(WordFault::line(index, Expected::Mark)),
     }
 }
 
-/// Reads the name in `>VAR`. Where the verb shows no number, or the line binds a variable already, that is the fault
-/// also of a name that isn't declared.
+/// Reads the name in `>VAR`, the word with this index in its line. Where the verb shows no number, or the line binds a
+/// variable already, that is the fault also of a name that isn't declared.
 fn read_bind_mark(
     names: &Names,
     verb: Verb,
+    index: usize,
     marks: &[Mark],
     name: &[u8],
-) -> Result<Mark, ScriptKind>
+) -> Result<Mark, WordFault>
     ensures { (bound : Bool) → reading.Gives result (reading.joining verb bound marks.now (reading.bind_mark_in names.now name.now)) }
 {
     if !shows_numbers(verb) {
-        return Err(ScriptKind::Line);
+        return Err(WordFault::line(index, Expected::ReplyWithNumber));
     }
     if has_bind_mark(marks) {
-        return Err(ScriptKind::Duplicate);
+        return Err(twin(index, Expected::OneBind));
     }
     match names.variable(name) {
         Some(variable) => Ok(Mark::Bind(variable)),
-        None => Err(ScriptKind::UnknownVar),
+        None => {
+            let expected = Expected::KnownName(Sort::Variable);
+            Err(WordFault::new(ScriptKind::UnknownVar, index, expected))
+        }
     }
+}
+
+/// The fault of a mark with this index in its line, of which another one says the same thing.
+fn twin(index: usize, expected: Expected) -> WordFault
+    ensures { result.kind ≡ ScriptKind.Duplicate }
+{
+    WordFault::new(ScriptKind::Duplicate, index, expected)
 }
 
 fn read_flag_or_jump(
     alloc: Global,
     names: &Names,
+    verb: Verb,
+    index: usize,
     sign: Option<Sign>,
     name: &[u8],
     word: &[u8],
-) -> Result<Mark, ScriptKind>
+) -> Result<Mark, WordFault>
     ensures { reading.Gives result (reading.flag_or_jump names.now sign name.now word.now) }
 {
     match sign {
-        Some(sign) => read_flag(names, sign, name),
-        None => read_jump(alloc, word),
+        Some(sign) => read_flag(names, index, sign, name),
+        None => read_jump(alloc, names, verb, index, word),
     }
 }
 
-fn read_flag(names: &Names, sign: Sign, name: &[u8]) -> Result<Mark, ScriptKind>
+fn read_flag(names: &Names, index: usize, sign: Sign, name: &[u8]) -> Result<Mark, WordFault>
     ensures { reading.Gives result (reading.flag_in names.now sign name.now) }
 {
     match names.flag(name) {
         Some(flag) => Ok(Mark::Flag(sign, flag)),
-        None => Err(ScriptKind::UnknownFlag),
+        None => {
+            let expected = Expected::KnownName(Sort::Flag);
+            Err(WordFault::new(ScriptKind::UnknownFlag, index, expected))
+        }
     }
 }
 
-fn read_jump(alloc: Global, word: &[u8]) -> Result<Mark, ScriptKind>
+fn read_jump(
+    alloc: Global,
+    names: &Names,
+    verb: Verb,
+    index: usize,
+    word: &[u8],
+) -> Result<Mark, WordFault>
     ensures { reading.Gives result (reading.jump_in word.now) }
 {
     let Some(colon) = colon_of(word) else {
-        return Err(ScriptKind::Line);
+        return Err(WordFault::line(index, instead_of_mark(names, verb, word)));
     };
     let Some(class) = Class::from_word(&word[..colon]) else {
-        return Err(ScriptKind::Line);
+        return Err(WordFault::line(index, Expected::ReplyClass.unless_comment(word)));
     };
     Ok(Mark::Jump(
         class,
         Bytes::new(Vec::from_slice(alloc, &word[colon + 1..])?),
     ))
+}
+
+/// What was expected where this word is no mark of a request: the protocol's own line may have it there.
+fn instead_of_mark(names: &Names, verb: Verb, word: &[u8]) -> Expected {
+    if is_word(word, b"noreply") {
+        return Expected::WithReply;
+    }
+    match verb.fields() {
+        Fields::Expiry if is_number(word) => Expected::NoExpiry,
+        Fields::Expiry | Fields::KeyAlone if names.key(word).is_some() => Expected::OneKey,
+        _ => Expected::Mark.unless_comment(word),
+    }
 }
 
 /// Where the first `:` stands.
@@ -131,7 +168,7 @@ pub(crate) fn read_marks(
     names: &Names,
     verb: Verb,
     words: &[&[u8]],
-) -> Result<Marks, ScriptKind>
+) -> Result<Marks, WordFault>
     ensures { reading.Gives result
         (reading.marks_in names.now verb (list_any reading.binds (map (λ w. w.now) words.now)) [] (map (λ w. w.now) words.now)) }
 {
@@ -181,18 +218,37 @@ fn is_bind(mark: &Mark) -> bool
     }
 }
 
-/// Checks that the mark may be written after `marks`, on a line that binds a variable or not.
-fn check_mark(verb: Verb, bound: bool, marks: &[Mark], mark: &Mark) -> Result<(), ScriptKind>
+/// Checks that the mark, the word with this index in its line, may be written after `marks`, on a line that binds a variable
+/// or not.
+fn check_mark(
+    verb: Verb,
+    bound: bool,
+    index: usize,
+    marks: &[Mark],
+    mark: &Mark,
+) -> Result<(), WordFault>
     ensures ok { OnOk result (reading.may_join verb bound marks.now mark.now ≡ true) }
     ensures err { OnErr result (reading.may_join verb bound marks.now mark.now ≡ false) }
 {
-    if !may_stand(verb, mark) || bound && is_number_jump(mark) {
-        return Err(ScriptKind::Line);
+    if !may_stand(verb, mark) {
+        return Err(WordFault::line(index, Expected::ReplyTo(verb)));
+    }
+    if bound && is_number_jump(mark) {
+        return Err(WordFault::line(index, Expected::NoJumpBesideBind));
     }
     if has_twin(marks, mark) {
-        return Err(ScriptKind::Duplicate);
+        return Err(twin(index, no_twin(mark)));
     }
     Ok(())
+}
+
+/// What was expected where another mark says the same thing as this one.
+fn no_twin(mark: &Mark) -> Expected {
+    match mark {
+        Mark::Flag(_, _) => Expected::OneMarkOfFlag,
+        Mark::Jump(_, _) => Expected::OneJumpOnClass,
+        Mark::Bind(_) => Expected::OneBind,
+    }
 }
 
 fn may_stand(verb: Verb, mark: &Mark) -> bool

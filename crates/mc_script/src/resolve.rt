@@ -10,10 +10,12 @@ ghost use Rattle.mc_script.specs.Reading as reading;
 ghost use Rattle.mc_script.specs.TextReading as whole;
 
 use crate::entry::{Entry, Mark, Marks, Sign};
+use crate::fields::mark_word;
 use crate::section::Section;
 use crate::section_text::Numbered;
-use crate::{Budget, Jumps, Label, Mask, ScriptFault, ScriptKind, Step, Template};
-use mc_protocol::{Class, OutOfMemory};
+use crate::word_fault::WordFault;
+use crate::{Budget, Expected, Jumps, Label, Mask, ScriptFault, ScriptKind, Sort, Step, Template};
+use mc_protocol::{Class, OutOfMemory, Verb};
 use std::alloc::Global;
 
 /// Makes a section of its lines.
@@ -60,7 +62,7 @@ fn steps_of(alloc: Global, labels: &[Label], entries: &[Numbered]) -> Result<Vec
         if !is_label(&numbered.entry) {
             match step_of(alloc, labels, steps.len(), &numbered.entry) {
                 Ok(step) => steps.push(step)?,
-                Err(kind) => return Err(ScriptFault::at(kind, numbered.line)),
+                Err(fault) => return Err(fault.on(numbered.line)),
             }
         }
     }
@@ -77,11 +79,11 @@ fn is_label(entry: &Entry) -> bool
 }
 
 /// The step at `place`, of a line that is no label.
-fn step_of(alloc: Global, labels: &[Label], place: usize, entry: &Entry) -> Result<Step, ScriptKind>
+fn step_of(alloc: Global, labels: &[Label], place: usize, entry: &Entry) -> Result<Step, WordFault>
     ensures { reading.Gives result (whole.step_in labels.now place entry.now) }
 {
     match entry {
-        Entry::Label(_) => Err(ScriptKind::Line),
+        Entry::Label(_) => Err(WordFault::line(0, Expected::Step)),
         Entry::Send(template, marks) => send_of(alloc, labels, place, template, marks),
         Entry::Bind(variable) => Ok(Step::Bind(*variable)),
         Entry::Goto(name) => goto_of(labels, place, name.as_slice()),
@@ -89,10 +91,10 @@ fn step_of(alloc: Global, labels: &[Label], place: usize, entry: &Entry) -> Resu
     }
 }
 
-fn goto_of(labels: &[Label], place: usize, name: &[u8]) -> Result<Step, ScriptKind>
+fn goto_of(labels: &[Label], place: usize, name: &[u8]) -> Result<Step, WordFault>
     ensures { reading.Gives result (spec.goes (spec.label_after labels.now place name.now)) }
 {
-    Ok(Step::Goto(find_label(labels, place, name)?))
+    Ok(Step::Goto(find_label(labels, place, 1, name)?))
 }
 
 /// The request with its marks.
@@ -102,11 +104,11 @@ fn send_of(
     place: usize,
     template: &Template,
     marks: &Marks,
-) -> Result<Step, ScriptKind>
+) -> Result<Step, WordFault>
     ensures { reading.Gives result
         (spec.sends template.now marks.now (spec.jumps_on labels.now place marks.now all_classes)) }
 {
-    let jumps = jumps_of(alloc, labels, place, marks)?;
+    let jumps = jumps_of(alloc, labels, place, template.verb, marks)?;
     let marks = marks.as_slice();
     let template = with_marks(alloc, template, marks)?;
     let bind = bound_by(marks);
@@ -177,35 +179,39 @@ fn bound_by(marks: &[Mark]) -> Option<u8>
     None
 }
 
-/// The jumps of the marks, in the order of their classes. The fault is that of the leftmost faulty one.
+/// The jumps of the marks of a request, in the order of their classes. The fault is that of the leftmost faulty one.
 fn jumps_of(
     alloc: Global,
     labels: &[Label],
     place: usize,
+    verb: Verb,
     marks: &Marks,
-) -> Result<Jumps, ScriptKind>
+) -> Result<Jumps, WordFault>
     ensures { reading.Gives result (spec.jumps_on labels.now place marks.now all_classes) }
 {
-    let targets = targets_of(alloc, labels, place, marks.as_slice())?;
+    let targets = targets_of(alloc, labels, place, verb, marks.as_slice())?;
     let jumps = jumps_to(alloc, &targets, &Class::ALL)?;
     Ok(Jumps::new(jumps))
 }
 
-/// The jumps of the marks, in the order of the marks.
+/// The jumps of the marks of a request, in the order of the marks.
 fn targets_of(
     alloc: Global,
     labels: &[Label],
     place: usize,
+    verb: Verb,
     marks: &[Mark],
-) -> Result<Vec<(Class, usize)>, ScriptKind>
+) -> Result<Vec<(Class, usize)>, WordFault>
     ensures { reading.Shows (λ targets. targets.items) result (whole.targets_in labels.now place marks.now) }
 {
     let mut targets = Vec::new(alloc);
+    let mut word = mark_word(verb.fields(), 0);
     'marks: for mark in marks {
         if let Mark::Jump(class, name) = mark {
-            let label = find_label(labels, place, name.as_slice())?;
+            let label = find_label(labels, place, word, name.as_slice())?;
             targets.push((*class, label))?;
         }
+        word = word.saturating_add(1);
     }
     Ok(targets)
 }
@@ -239,14 +245,21 @@ fn label_for(class: Class, jumps: &[(Class, usize)]) -> Option<usize>
     None
 }
 
-/// The index of the label with this name, which stands after the step at `place`.
-fn find_label(labels: &[Label], place: usize, name: &[u8]) -> Result<usize, ScriptKind>
+/// The index of the label with this name, which stands after the step at `place`. `word` is the index of the word that
+/// names it.
+fn find_label(labels: &[Label], place: usize, word: usize, name: &[u8]) -> Result<usize, WordFault>
     ensures { result_ok result ≡ spec.label_after labels.now place name.now }
 {
     match label_after(labels, place, name) {
         Some(label) => Ok(label),
-        None if has_label(labels, name) => Err(ScriptKind::BackwardLabel),
-        None => Err(ScriptKind::UnknownLabel),
+        None if has_label(labels, name) => {
+            let expected = Expected::LabelBelow;
+            Err(WordFault::new(ScriptKind::BackwardLabel, word, expected))
+        }
+        None => {
+            let expected = Expected::KnownName(Sort::Label);
+            Err(WordFault::new(ScriptKind::UnknownLabel, word, expected))
+        }
     }
 }
 

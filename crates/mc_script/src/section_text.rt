@@ -8,8 +8,9 @@ ghost use Rattle.mc_script.specs.Versions.{steps_limit};
 use crate::entry::Entry;
 use crate::lines::next_due;
 use crate::names::Names;
-use crate::read_entry::{before_colon, read_label, read_step};
-use crate::{ScriptFault, ScriptKind, Version};
+use crate::read_entry::{before_colon, due, read_label, read_step};
+use crate::word_fault::WordFault;
+use crate::{Expected, ScriptFault, ScriptKind, Sort, Version};
 use mc_protocol::{NameSet, WordLine, WordLines};
 use std::alloc::Global;
 use std::marker::Model;
@@ -44,11 +45,11 @@ pub(crate) fn read_section<'a>(
     let mut count = 0;
     let mut labels = NameSet::new(alloc);
     'lines: loop {
-        let line = next_due(alloc, lines, ScriptKind::Unended)?;
+        let line = next_due(alloc, lines, ScriptKind::Unended, due(stop))?;
         if line.is_only(stop) {
             return Ok(entries);
         }
-        match read_line(alloc, version, names, count, &mut labels, &line) {
+        match read_line(alloc, version, names, count, &mut labels, stop, &line) {
             Ok(entry) => {
                 count += step_count(&entry);
                 entries.push(Numbered {
@@ -56,30 +57,33 @@ pub(crate) fn read_section<'a>(
                     entry,
                 })?;
             }
-            Err(kind) => return Err(ScriptFault::at(kind, line.number())),
+            Err(fault) => return Err(fault.on(line.number())),
         }
     }
 }
 
-/// Reads a line after `count` steps and these labels. The name of a label is added to them.
+/// Reads a line after `count` steps and these labels, in a section that the word `stop` ends. The name of a label is added
+/// to them.
 fn read_line<'a>(
     alloc: Global,
     version: Version,
     names: &Names,
     count: usize,
     labels: &mut NameSet<'a>,
+    stop: &[u8],
     line: &WordLine<'a>,
-) -> Result<Entry, ScriptKind>
+) -> Result<Entry, WordFault>
     ensures entry { reading.Gives result
         (whole.following (steps_limit version) count labels.old (reading.entry_in names.now line.now.words)) }
     ensures labels { IfOk result (λ entry. labels.new ≡ whole.with_label labels.old entry) }
 {
     let Some(name) = label_in(line) else {
-        return read_step(alloc, names, has_room(version, count), line.words());
+        return read_step(alloc, names, has_room(version, count), stop, line.words());
     };
     let label = read_label(alloc, name)?;
     if labels.has(name) {
-        return Err(ScriptKind::Duplicate);
+        let expected = Expected::NewName(Sort::Label);
+        return Err(WordFault::new(ScriptKind::Duplicate, 0, expected));
     }
     labels.push(name)?;
     Ok(label)

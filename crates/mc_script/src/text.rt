@@ -10,17 +10,18 @@ ghost use Rattle.mc_script.specs.TextReading as whole;
 ghost use Rattle.mc_script.specs.WellFormed.{IsScript};
 
 use crate::declarations::{read_budget, read_optional, take_header, take_keys};
-use crate::lines::{finish, next_due};
+use crate::lines::{finish, next_due, unexpected};
 use crate::names::Names;
 use crate::resolve::resolve;
 use crate::section_text::{Numbered, read_section};
-use crate::{Budget, Script, ScriptFault, ScriptKind, VARIABLES_LIMIT, Version};
+use crate::word_fault::WordFault;
+use crate::{Budget, Expected, Script, ScriptFault, ScriptKind, Sort, VARIABLES_LIMIT, Version};
 use mc_protocol::{Actor, Sections, Separator, WordLine, WordLines};
 use std::alloc::Global;
 
 /// Reads a script of either version. The fault is that of the first faulty line, on it of the leftmost faulty word, and of
 /// that the kind that comes first; that a label is unknown or stands before its use is reported only where nothing else is
-/// wrong. Want of memory is the fault of line 0.
+/// wrong. The fault says which word it is about, and what was expected there. Want of memory is the fault of line 0.
 #[tactic(auto, using(crate::proofs::Readings::is_spelled, crate::proofs::Readings::is_formed, crate::proofs::Readings::is_unspelled))]
 pub fn parse(alloc: Global, text: &[u8]) -> Result<Script, ScriptFault>
     ensures found { IfOk result (SpellsScript text.now) }
@@ -52,9 +53,10 @@ fn take_names<'a>(
     ensures { reading.Says (λ r. (r.0, r.1.words, lines.new.words)) result (whole.all_names_in version lines.old.words) }
 {
     let keys = take_keys(alloc, lines)?;
-    let line = next_due(alloc, lines, ScriptKind::Header)?;
-    let (flags, line) = read_optional(alloc, lines, b"flags", version.flags_limit(), line)?;
-    let (vars, line) = read_optional(alloc, lines, b"vars", VARIABLES_LIMIT, line)?;
+    let line = next_due(alloc, lines, ScriptKind::Header, Expected::Budget(Actor::P))?;
+    let limit = version.flags_limit();
+    let (flags, line) = read_optional(alloc, lines, Sort::Flag, b"flags", limit, line)?;
+    let (vars, line) = read_optional(alloc, lines, Sort::Variable, b"vars", VARIABLES_LIMIT, line)?;
     let names = Names::new(keys, flags, vars);
     Ok((names, line))
 }
@@ -76,7 +78,7 @@ fn take_budgets(
 fn take_budget(alloc: Global, actor: Actor, lines: &mut WordLines) -> Result<Budget, ScriptFault>
     ensures { reading.Says (λ budget. (budget, lines.new.words)) result (whole.next_budget_in actor lines.old.words) }
 {
-    let line = next_due(alloc, lines, ScriptKind::Header)?;
+    let line = next_due(alloc, lines, ScriptKind::Header, Expected::Budget(actor))?;
     read_budget(actor, &line)
 }
 
@@ -102,11 +104,26 @@ fn take_bodies(
 fn take_section_line(alloc: Global, lines: &mut WordLines) -> Result<(), ScriptFault>
     ensures { reading.Says (λ _. lines.new.words) result (whole.section_line_in lines.old.words) }
 {
-    let line = next_due(alloc, lines, ScriptKind::Unended)?;
-    if line.is_only(Actor::P.word().as_bytes()) {
+    let line = next_due(
+        alloc,
+        lines,
+        ScriptKind::Unended,
+        Expected::Section(Actor::P),
+    )?;
+    if line.is_only(b"P") {
         Ok(())
     } else {
-        Err(ScriptFault::at(ScriptKind::Line, line.number()))
+        Err(no_section_line(&line))
+    }
+}
+
+/// The fault of a line that is not the word `P` alone.
+fn no_section_line(line: &WordLine) -> ScriptFault
+    ensures { result.kind ≡ ScriptKind.Line }
+{
+    match line.others() {
+        [other, ..] if line.begins_with(b"P") => WordFault::too_many(1, other).on(line.number()),
+        _ => unexpected(ScriptKind::Line, Expected::Section(Actor::P), line),
     }
 }
 

@@ -1,15 +1,12 @@
-//! The words of a script that stand for numbers, bodies and declared names.
+//! The words of a script that stand for numbers and declared names, and the bytes of a body.
 
-ghost use Rattle.std.specs.Prelude.{IfOk, ◌≡◌, ◌<◌, ◌≤◌, length};
+ghost use Rattle.std.specs.Prelude.{◌≡◌, ◌<◌, ◌≤◌, length};
 ghost use Rattle.std.specs.Option.{MatchOption};
-ghost use Rattle.std.specs.Result.{result_ok};
 ghost use Rattle.mc_protocol.specs.Names as names;
 ghost use Rattle.mc_script.specs.ScriptWords as spec;
 ghost use Rattle.mc_script.specs.Reading as reading;
 
-use crate::ScriptKind;
 use mc_protocol::{Bytes, SCRIPT_BODY_LIMIT, read_decimal};
-use std::alloc::Global;
 
 /// Whether the bytes may be the body of an item: at most [`SCRIPT_BODY_LIMIT`], each a letter or a digit.
 pub fn is_body(bytes: &[u8]) -> bool
@@ -31,27 +28,14 @@ fn is_body_byte(byte: u8) -> bool
 }
 
 /// Reads a decimal, for a number of at most `greatest`.
-pub(crate) fn read_number(greatest: u64, word: &[u8]) -> Result<u64, ScriptKind>
-    ensures exact { result_ok result ≡ reading.number_in greatest word.now }
-    ensures small { IfOk result (λ n. n ≤ greatest) }
+pub(crate) fn read_number(greatest: u64, word: &[u8]) -> Option<u64>
+    ensures exact { result ≡ reading.number_in greatest word.now }
+    ensures small { MatchOption result (greatest ≡ greatest) (λ n. n ≤ greatest) }
 {
     match read_decimal(greatest, word) {
-        Ok(number) => Ok(number),
-        Err(_) => Err(ScriptKind::Number),
+        Ok(number) => Some(number),
+        Err(_) => None,
     }
-}
-
-/// Reads `=` and a body.
-pub(crate) fn read_body(alloc: Global, word: &[u8]) -> Result<Bytes, ScriptKind>
-    ensures { reading.Gives result (reading.body_in word.now) }
-{
-    let [b'=', body @ ..] = word else {
-        return Err(ScriptKind::Line);
-    };
-    if !is_body(body) {
-        return Err(ScriptKind::Data);
-    }
-    Ok(Bytes::new(Vec::from_slice(alloc, body)?))
 }
 
 /// The index of the name among these, which are at most 255.

@@ -1,8 +1,10 @@
 //! A script that something may follow: how far it goes, and which fault another text has.
 
 use crate::printed::text_of;
-use mc_script::ScriptKind::{Header, Line, Unended, UnknownLabel};
-use mc_script::{Script, ScriptKind, parse_front};
+use crate::told::{Told, told};
+use mc_protocol::Actor::{A, P};
+use mc_script::Expected::{Budget, End, Header, Keys, KnownName, LineEnd, Section, Step};
+use mc_script::{Expected, Script, ScriptKind as Kind, Sort, parse_front};
 use std::alloc::Global;
 use std::test::Fail;
 
@@ -31,31 +33,40 @@ static ENDS: &[(&str, &str)] = &[
     ("end\r\n", "\r\n\x00\x7f"),
 ];
 
+// A text or the rest of one, and its fault: the kind and the line, and the word and what was expected there.
+type Row = (&'static str, Kind, u32, usize, Expected);
+
 // Texts of which no front is a script.
-static FAULTS: &[(&str, ScriptKind, u32)] = &[
-    ("", Header, 1),
-    ("end\n", Header, 1),
-    ("\n\nend\nscript 1\n", Header, 3),
-    ("script 1\nend\n", Header, 2),
-    ("script 1\nkeys a\n", Header, 3),
+static FAULTS: &[Row] = &[
+    ("", Kind::Header, 1, 0, Header),
+    ("end\n", Kind::Header, 1, 0, Header),
+    ("\n\nend\nscript 1\n", Kind::Header, 3, 0, Header),
+    ("script 1\nend\n", Kind::Header, 2, 0, Keys),
+    ("script 1\nkeys a\n", Kind::Header, 3, 0, Budget(P)),
 ];
 
 // The same of texts that begin with the lines of `HEAD`.
-static FAULTS_AFTER_HEAD: &[(&str, ScriptKind, u32)] = &[
-    ("", Unended, 6),
-    ("end\n", Line, 6),
-    ("P\nend\nA\nB\nend\n", Line, 7),
-    ("P\nA\nB\nend steps\n", Line, 9),
-    ("P\nA\nB\nend\r", Line, 9),
-    ("P\nA\nB\nsteps\nP begin\n", Line, 9),
-    ("P\nA\nB\nhalt\n# steps\n", Unended, 11),
-    ("P\nA\ngoto l\nB\nend\nl:\nend\n", UnknownLabel, 8),
+static FAULTS_AFTER_HEAD: &[Row] = &[
+    ("", Kind::Unended, 6, 0, Section(P)),
+    ("end\n", Kind::Line, 6, 0, Section(P)),
+    ("P\nend\nA\nB\nend\n", Kind::Line, 7, 0, Section(A)),
+    ("P\nA\nB\nend steps\n", Kind::Line, 9, 1, LineEnd),
+    ("P\nA\nB\nend\r", Kind::Line, 9, 0, Step),
+    ("P\nA\nB\nsteps\nP begin\n", Kind::Line, 9, 0, Step),
+    ("P\nA\nB\nhalt\n# steps\n", Kind::Unended, 11, 0, End),
+    (
+        "P\nA\ngoto l\nB\nend\nl:\nend\n",
+        Kind::UnknownLabel,
+        8,
+        1,
+        KnownName(Sort::Label),
+    ),
 ];
 
-fn fault_of(alloc: Global, text: &str) -> Option<(ScriptKind, u32)> {
+fn told_of(alloc: Global, text: &str) -> Option<Told> {
     match parse_front(alloc, text.as_bytes()) {
         Ok(_) => None,
-        Err(fault) => Some((fault.kind, fault.line)),
+        Err(fault) => told(fault),
     }
 }
 
@@ -96,22 +107,26 @@ fn reads_up_to_the_end(rt: HostRuntime) -> Result<(), Fail> {
 
 #[test]
 fn tells_the_fault_of_a_front(rt: HostRuntime) {
-    for (text, kind, line) in FAULTS {
-        assert_eq!(rt; fault_of(rt.alloc(), text), Some((*kind, *line)), "{text}");
+    for (text, kind, line, word, expected) in FAULTS {
+        assert_eq!(rt;
+            told_of(rt.alloc(), text),
+            Some((*kind, *line, *word, *expected)),
+            "{text}"
+        );
     }
 }
 
-fn fault_after_head(alloc: Global, others: &str) -> Result<Option<(ScriptKind, u32)>, Fail> {
+fn told_after_head(alloc: Global, others: &str) -> Result<Option<Told>, Fail> {
     let text = format!(in alloc; "{HEAD}{others}")?;
-    Ok(fault_of(alloc, &text))
+    Ok(told_of(alloc, &text))
 }
 
 #[test]
 fn tells_the_fault_after_a_head(rt: HostRuntime) -> Result<(), Fail> {
-    for (others, kind, line) in FAULTS_AFTER_HEAD {
+    for (others, kind, line, word, expected) in FAULTS_AFTER_HEAD {
         assert_eq!(rt;
-            fault_after_head(rt.alloc(), others)?,
-            Some((*kind, *line)),
+            told_after_head(rt.alloc(), others)?,
+            Some((*kind, *line, *word, *expected)),
             "{others}"
         );
     }

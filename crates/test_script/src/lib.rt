@@ -5,11 +5,15 @@
 #[cfg(test)]
 mod front_tests;
 #[cfg(test)]
+mod misread_tests;
+#[cfg(test)]
 mod part_tests;
 #[cfg(test)]
 mod print_tests;
 #[cfg(test)]
 mod printed;
+#[cfg(test)]
+mod told;
 #[cfg(test)]
 mod version_tests;
 #[cfg(test)]

@@ -12,7 +12,7 @@ returns-in_err-targets c =
     let place = c.args.place in
     let marks = c.args.marks.now in
     let same = ap (targets_in labels place) c.as_slice.ensures.marks in
-    let none : c.in_err-targets.field-0.0 ≢ kind.OutOfMemory → jumps_on labels place marks all_classes ≡ None =
+    let none : c.in_err-targets.field-0.0.kind ≢ kind.OutOfMemory → jumps_on labels place marks all_classes ≡ None =
     λ real. jumps-missing labels place marks (sym same ∙ c.in_err-targets.ensures real) c.as_slice.ensures.apart in
     search rules
 

@@ -21,7 +21,7 @@ returns-in_err-label-clause-entry c =
     let names = c.args.names.now in
     let line = c.args.line.now.words in
     let limit = steps_limit c.args.version in
-    let none : c.in_err-label.field-0.0 ≢ kind.OutOfMemory → following limit c.args.count c.args.labels.now (entry_in names line) ≡ None =
+    let none : c.in_err-label.field-0.0.kind ≢ kind.OutOfMemory → following limit c.args.count c.args.labels.now (entry_in names line) ≡ None =
     λ real. label_unread limit c.args.count c.args.labels.now names line c.in-Some.name.now c.in-Some.ensures (c.in_err-label.ensures real) in
     search rules
 

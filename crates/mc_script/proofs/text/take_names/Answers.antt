@@ -10,7 +10,7 @@ new-names-requires c =
     let flags = c.in_ok-flags.flags.items in
     let keys = keys-declared c.args.lines.now.words c.in_ok-keys.keys.items c.take_keys.new.lines.words c.in_ok-keys.ensures in
     let read = optional-declared (codes "flags") limit c.in_ok-line.line.words c.next_due.new.lines.words flags c.in_ok-flags.line.words
-    c.read_optional.new.lines.words (none-declared c.args.version) (rw c.flags_limit.ensures.exact at c.in_ok-flags.ensures) in
+    c.read_optional.new.lines.words (none-declared c.args.version) (rw c.flags_limit-limit.ensures.exact at c.in_ok-flags.ensures) in
     let few = declared-few limit NAME_BYTES_LIMIT flags read in
     let within = flags-within c.args.version in
     record {
