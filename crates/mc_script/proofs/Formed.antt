@@ -35,14 +35,14 @@ use Rattle.mc_script.specs.Steps.{in_front, sends, goes, with_marks, jumps_on, l
 use Rattle.mc_script.specs.declared.version.Version.{Version}
 use Rattle.mc_script.specs.ScriptText.{SpellsBudget, SpellsScript}
 use Rattle.mc_script.specs.Templates.{IsTemplate, has_fields, is_variable, is_amount}
+use Rattle.mc_script.specs.TextReading.{step_total}
 use Rattle.mc_script.specs.WellFormed.{IsStep, AreSteps, AreLabels, IsSection, IsScript, MayBind}
 use Rattle.mc_script.proofs.Declared.{steps-within}
 use Rattle.mc_script.proofs.Outcomes.{some-same}
 use Rattle.mc_script.proofs.Masks.{mask-below, masks-apart}
 use Rattle.mc_script.proofs.JumpLists.{label-after, jumps-formed, no-number-jump}
 use Rattle.mc_script.proofs.MarkLists.{three}
-use Rattle.mc_script.proofs.SectionLines.{step_total}
-use Rattle.mc_script.proofs.Sections.{steps-count}
+use Rattle.mc_script.proofs.Sections.{steps_count}
 
 index-below : (names : List Word) (name : Word) (index : ℕ) → index_of names name ≡ Some index → index < length names
 index-below names name index h = (position-Some (λ n. bytes_eq n name) names index [] h).0
@@ -208,7 +208,7 @@ labels-formed names (l ∷ lines) (entry.Halt ∷ entries) steps place e h =
 section-formed : (v : Version) (names : Names) (section : Actor) (budget : Words) (lines : List Words) (s : Section) → SpellsBudget section budget s.budget
     → SpellsSection v names lines s → IsSection names s
 section-formed v names section budget lines s (r, y, e, n, m) p =
-    let total = steps-count s.labels 0 p.entries s.steps p.steps in
+    let total = steps_count s.labels 0 p.entries s.steps p.steps in
     let few = p.few in
     let within = steps-within v in
     let P : List Label → Type 0 = AreLabels (length s.steps) 0 in

@@ -14,7 +14,7 @@ use Rattle.mc_script.specs.Script.{Names}
 use Rattle.mc_script.specs.SectionText.{SpellsEntry}
 use Rattle.mc_script.specs.Chains.{◌>>=◌}
 use Rattle.mc_script.specs.Reading.{entry_in}
-use Rattle.mc_script.specs.TextReading.{entries_in, may_follow, following, step_count, with_label}
+use Rattle.mc_script.specs.TextReading.{entries_in, may_follow, following, step_count, with_label, step_total}
 use Rattle.mc_script.proofs.Outcomes.{then-some, cond-cases, some-same, only-then}
 use Rattle.mc_script.proofs.EntryWords.{entry-spelled, entry-read}
 
@@ -124,10 +124,6 @@ entries-read limit names stop done count labels (line ∷ body) (e ∷ entries) 
     ∙ ap (λ es. Some (es, rest)) (push_assoc done e entries))
 
 -- ---- the rules one by one
-
-unfoldable pub step_total : List Entry → ℕ
-step_total [] = 0
-step_total (e ∷ entries) = step_count e + step_total entries
 
 unfoldable pub entry_names : List Entry → List Word
 entry_names [] = []

@@ -16,9 +16,9 @@ use Rattle.mc_script.specs.Script.{Names, Section}
 use Rattle.mc_script.specs.SectionText.{SpellsEntry, SpellsSection, label_names}
 use Rattle.mc_script.specs.Steps.{labels_from, steps_from, in_front, jumps_on, sends, goes, label_after}
 use Rattle.mc_script.specs.Reading.{entry_in}
-use Rattle.mc_script.specs.TextReading.{entries_in, section_in}
+use Rattle.mc_script.specs.TextReading.{entries_in, section_in, step_total}
 use Rattle.mc_script.proofs.Outcomes.{then-some, some-same}
-use Rattle.mc_script.proofs.SectionLines.{entries-spelled, entries-read, rules-from, follow-from, entry_names, step_total, all-new}
+use Rattle.mc_script.proofs.SectionLines.{entries-spelled, entries-read, rules-from, follow-from, entry_names, all-new}
 
 names-are : (place : ℕ) (entries : List Entry) → label_names (labels_from place entries) ≡ entry_names entries
 unfolding entry_names
@@ -37,30 +37,30 @@ front-length (Some x) (Some xs) ys h =
 front-length (Some x) None ys h = absurd (cc)
 front-length None xs ys h = absurd (cc)
 
-pub steps-count : (labels : List Label) (place : ℕ) (entries : List Entry) (steps : List Step) → steps_from labels place entries ≡ Some steps
+pub steps_count : (labels : List Label) (place : ℕ) (entries : List Entry) (steps : List Step) → steps_from labels place entries ≡ Some steps
     → length steps ≡ step_total entries
 unfolding step_total
-steps-count labels place [] steps h = ap length (sym (some-same [] steps h))
-steps-count labels place (entry.Label name ∷ entries) steps h =
-    let e = steps-count labels place entries steps h in omega (arith, e)
-steps-count labels place (entry.Send t marks ∷ entries) steps h =
+steps_count labels place [] steps h = ap length (sym (some-same [] steps h))
+steps_count labels place (entry.Label name ∷ entries) steps h =
+    let e = steps_count labels place entries steps h in omega (arith, e)
+steps_count labels place (entry.Send t marks ∷ entries) steps h =
     let p = front-length (sends t marks (jumps_on labels place marks all_classes)) (steps_from labels (place + 1) entries) steps h in
-    let e = steps-count labels (place + 1) entries p.0 p.1 in
+    let e = steps_count labels (place + 1) entries p.0 p.1 in
     let f = p.2 in
     omega (arith, e, f)
-steps-count labels place (entry.Bind v ∷ entries) steps h =
+steps_count labels place (entry.Bind v ∷ entries) steps h =
     let p = front-length (Some (step.Bind v)) (steps_from labels (place + 1) entries) steps h in
-    let e = steps-count labels (place + 1) entries p.0 p.1 in
+    let e = steps_count labels (place + 1) entries p.0 p.1 in
     let f = p.2 in
     omega (arith, e, f)
-steps-count labels place (entry.Goto name ∷ entries) steps h =
+steps_count labels place (entry.Goto name ∷ entries) steps h =
     let p = front-length (goes (label_after labels place name)) (steps_from labels (place + 1) entries) steps h in
-    let e = steps-count labels (place + 1) entries p.0 p.1 in
+    let e = steps_count labels (place + 1) entries p.0 p.1 in
     let f = p.2 in
     omega (arith, e, f)
-steps-count labels place (entry.Halt ∷ entries) steps h =
+steps_count labels place (entry.Halt ∷ entries) steps h =
     let p = front-length (Some step.Halt) (steps_from labels (place + 1) entries) steps h in
-    let e = steps-count labels (place + 1) entries p.0 p.1 in
+    let e = steps_count labels (place + 1) entries p.0 p.1 in
     let f = p.2 in
     omega (arith, e, f)
 
@@ -80,7 +80,7 @@ section-spelled v names stop budget lines entries rest s h made =
     let r = rules-from (steps_limit v) 0 [] e.entries (omega arith) e.follow in
     let q = then-some (steps_from labels 0 entries) (λ steps. Some (record { budget = budget; steps = steps; labels = labels })) s made in
     let whole = some-same (record { budget = budget; steps = q.0; labels = labels }) s q.2 in
-    let total = steps-count labels 0 entries q.0 q.1 in
+    let total = steps_count labels 0 entries q.0 q.1 in
     let same : entries ≡ e.entries = e.all_are in
     let P : List Entry → Type 0 = λ es. SpellEach (SpellsEntry names) e.body es in
     let Q : List Entry → Type 0 = λ es. are_distinct (entry_names es) ≡ true in
@@ -109,7 +109,7 @@ pub section-read : (v : Version) (names : Names) (stop : Word) (body rest : List
     × (section_in s.budget spelled.entries ≡ Some s)
 section-read v names stop body rest s none p =
     let entries = p.entries in
-    let total = steps-count s.labels 0 entries s.steps p.steps in
+    let total = steps_count s.labels 0 entries s.steps p.steps in
     let few = p.few in
     let named : label_names s.labels ≡ entry_names entries = ap label_names p.labels ∙ names-are 0 entries in
     let follow = follow-from (steps_limit v) 0 [] entries record {

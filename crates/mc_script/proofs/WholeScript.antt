@@ -314,8 +314,8 @@ script-joined v text l names line behind budgets onward s h (n, declared, few) (
           (sym bodies.names_are) (bodies.spelled k);
     }
 
-pub script-spelled : (text : List ℕ) (s : Script) → script_in (words_of_text SpaceOrTab text) ≡ Some s → SpellsScript text s
-script-spelled text s h =
+pub script_spelled : (text : List ℕ) (s : Script) → script_in (words_of_text SpaceOrTab text) ≡ Some s → SpellsScript text s
+script_spelled text s h =
     let lines = words_of_text SpaceOrTab text in
     let l = then-some (header_in lines)
     (λ h. all_names_in h.0 h.1 >>= λ n. budgets_in n.1 n.2 >>= λ d. bodies_in h.0 n.0 d.1 >>= λ e. resolved_in n.0 d.0 e.0 e.1 e.2) s h in

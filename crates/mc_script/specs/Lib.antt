@@ -13,6 +13,7 @@ pub mod Marks
 pub mod Steps
 pub mod SectionText
 pub mod ScriptText
+pub mod StepLines
 pub mod FrontText
 pub mod Templates
 pub mod WellFormed

@@ -1,6 +1,6 @@
 -- What the readers of sections and of whole texts answer. No public contract cites these.
-use Rattle.std.specs.Prelude.{ℕ, ◌+◌, ◌==◌, nat_lt, Bool, true, false, Option, Some, None}
-use Rattle.std.specs.Prelude.{List, [], ◌∷◌, ◌++◌, flat_map, codes, if◌then◌else◌}
+use Rattle.std.specs.Prelude.{◌≡◌, ℕ, ◌+◌, ◌==◌, nat_lt, Bool, true, false, Option, Some, None}
+use Rattle.std.specs.Prelude.{List, [], ◌∷◌, ◌++◌, length, flat_map, codes, if◌then◌else◌}
 use Rattle.mc_protocol.specs.declared.actor.Actor.{Actor}
 use Rattle.mc_protocol.specs.declared.actor.Actor.TheVariants as actor
 use Rattle.mc_protocol.specs.declared.sections.Sections.{Sections}
@@ -38,6 +38,11 @@ following limit count labels read = read >>= λ e. if may_follow limit count lab
 abbrev pub step_count : Entry → ℕ
 step_count (entry.Label name) = 0
 step_count _ = 1
+
+-- how many of the lines are steps
+unfoldable pub step_total : List Entry → ℕ
+step_total [] = 0
+step_total (e ∷ entries) = step_count e + step_total entries
 
 abbrev pub with_label : List Word → Entry → List Word
 with_label labels (entry.Label name) = labels ++ name ∷ []
@@ -160,3 +165,9 @@ abbrev pub script_in : List Words → Option Script
 script_in lines =
     header_in lines >>= λ h. all_names_in h.0 h.1 >>= λ n. budgets_in n.1 n.2 >>= λ d. bodies_in h.0 n.0 d.1
     >>= λ e. resolved_in n.0 d.0 e.0 e.1 e.2
+
+-- a section has a step for each of its lines that is no label
+pub record HasSteps (s : Script) (p a b : List Entry) : Type 0 where
+  pub of_p : length s.sections.p.steps ≡ step_total p
+  pub of_a : length s.sections.a.steps ≡ step_total a
+  pub of_b : length s.sections.b.steps ≡ step_total b

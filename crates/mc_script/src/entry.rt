@@ -2,6 +2,7 @@
 
 ghost use Rattle.std.specs.Prelude.{◌≡◌, ◌<◌};
 ghost use Rattle.mc_script.specs.declared.limits.TheConstants.{FLAGS_LIMIT};
+ghost use Rattle.mc_script.specs.TextReading as whole;
 
 use crate::Template;
 use mc_protocol::{Bytes, Class};
@@ -17,6 +18,16 @@ pub(crate) enum Entry {
     Bind(u8),
     Goto(Bytes),
     Halt,
+}
+
+/// Whether the line is a label, and no step.
+pub(crate) fn is_label(entry: &Entry) -> bool
+    ensures { result ≡ whole.is_label entry.now }
+{
+    match entry {
+        Entry::Label(_) => true,
+        _ => false,
+    }
 }
 
 /// A word after the fields of a request.

@@ -1,6 +1,6 @@
 //! Why a text is no script.
 
-ghost use Rattle.std.specs.Prelude.{◌≡◌};
+ghost use Rattle.std.specs.Prelude.{◌≡◌, None};
 ghost use Rattle.mc_script.specs.Kinds as kinds;
 ghost use Rattle.mc_script.specs.declared.fault.ScriptKind.TheVariants.{OutOfMemory};
 
@@ -100,6 +100,7 @@ pub struct ScriptFault {
     /// The word that is at fault, and what was expected there. Where the text ends too early it is the first of the next line.
     pub misread: Option<Misread>,
     ghost memory: { kind ≡ OutOfMemory → line ≡ 0 },
+    ghost told: { misread ≡ None → kind ≡ OutOfMemory },
 }
 
 impl ScriptFault {

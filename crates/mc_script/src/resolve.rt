@@ -1,6 +1,6 @@
 //! Makes a section of the lines that were read: each label gets its place, and each use of a label its index.
 
-ghost use Rattle.std.specs.Prelude.{◌≡◌, ◌<◌, Some, None, IfOk, MatchOption};
+ghost use Rattle.std.specs.Prelude.{◌≡◌, ◌<◌, Some, None, length, IfOk, MatchOption};
 ghost use Rattle.std.specs.Result.{result_ok};
 ghost use Rattle.mc_script.specs.declared.limits.TheConstants.{FLAGS_LIMIT};
 ghost use Rattle.mc_protocol.specs.Words.{all_classes};
@@ -9,7 +9,7 @@ ghost use Rattle.mc_script.specs.Steps as spec;
 ghost use Rattle.mc_script.specs.Reading as reading;
 ghost use Rattle.mc_script.specs.TextReading as whole;
 
-use crate::entry::{Entry, Mark, Marks, Sign};
+use crate::entry::{Entry, Mark, Marks, Sign, is_label};
 use crate::fields::mark_word;
 use crate::section::Section;
 use crate::section_text::Numbered;
@@ -19,12 +19,14 @@ use mc_protocol::{Class, OutOfMemory, Verb};
 use std::alloc::Global;
 
 /// Makes a section of its lines.
+#[tactic(auto, using(crate::proofs::Sections::steps_count))]
 pub(crate) fn resolve(
     alloc: Global,
     budget: Budget,
     entries: &[Numbered],
 ) -> Result<Section, ScriptFault>
-    ensures { reading.Says (λ section. section) result (whole.section_in budget entries.now) }
+    ensures read { reading.Says (λ section. section) result (whole.section_in budget entries.now) }
+    ensures steps { IfOk result (λ section. length section.steps ≡ whole.step_total entries.now) }
 {
     let labels = labels_of(alloc, entries)?;
     let steps = steps_of(alloc, &labels, entries)?;
@@ -67,15 +69,6 @@ fn steps_of(alloc: Global, labels: &[Label], entries: &[Numbered]) -> Result<Vec
         }
     }
     Ok(steps)
-}
-
-fn is_label(entry: &Entry) -> bool
-    ensures { result ≡ whole.is_label entry.now }
-{
-    match entry {
-        Entry::Label(_) => true,
-        _ => false,
-    }
 }
 
 /// The step at `place`, of a line that is no label.

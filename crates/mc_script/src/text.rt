@@ -6,6 +6,7 @@ ghost use Rattle.mc_protocol.specs.Lines.{words_of_text};
 ghost use Rattle.mc_script.specs.Script as spec;
 ghost use Rattle.mc_script.specs.ScriptText.{SpellsScript};
 ghost use Rattle.mc_script.specs.Reading as reading;
+ghost use Rattle.mc_script.specs.StepLines.{HasLines};
 ghost use Rattle.mc_script.specs.TextReading as whole;
 ghost use Rattle.mc_script.specs.WellFormed.{IsScript};
 
@@ -14,6 +15,7 @@ use crate::lines::{finish, next_due, unexpected};
 use crate::names::Names;
 use crate::resolve::resolve;
 use crate::section_text::{Numbered, read_section};
+use crate::step_lines::StepLines;
 use crate::word_fault::WordFault;
 use crate::{Budget, Expected, Script, ScriptFault, ScriptKind, Sort, VARIABLES_LIMIT, Version};
 use mc_protocol::{Actor, Sections, Separator, WordLine, WordLines};
@@ -33,15 +35,42 @@ pub fn parse(alloc: Global, text: &[u8]) -> Result<Script, ScriptFault>
     read_script(alloc, text)
 }
 
+/// Reads a script as [`parse`] does, and answers it with the lines of its steps.
+#[tactic(auto, using(crate::proofs::WholeScript::script_spelled, crate::proofs::Readings::script_formed))]
+pub fn parse_lines(alloc: Global, text: &[u8]) -> Result<(Script, StepLines), ScriptFault>
+    ensures found { IfOk result (λ r. SpellsScript text.now r.0) }
+    ensures kept { IfOk result (λ r. IsScript r.0) }
+    ensures lines { IfOk result (λ r. HasLines r.0 r.1) }
+    ensures none { IfErr result (λ fault. fault.kind ≢ ScriptKind.OutOfMemory
+        → (script : spec.Script) → SpellsScript text.now script → ⊥) }
+    ensures memory { IfErr result (λ fault. fault.kind ≡ ScriptKind.OutOfMemory → fault.line ≡ 0) }
+{
+    let (script, bodies) = read_all(alloc, text)?;
+    let lines = StepLines::new(alloc, &bodies)?;
+    Ok((script, lines))
+}
+
 fn read_script(alloc: Global, text: &[u8]) -> Result<Script, ScriptFault>
     ensures { reading.Says (λ script. script) result (whole.script_in (words_of_text SpaceOrTab text.now)) }
+{
+    match read_all(alloc, text) {
+        Ok((script, _)) => Ok(script),
+        Err(fault) => Err(fault),
+    }
+}
+
+/// Reads a script, and the lines of its sections.
+fn read_all(alloc: Global, text: &[u8]) -> Result<(Script, Sections<Vec<Numbered>>), ScriptFault>
+    ensures read { reading.Says (λ r. r.0) result (whole.script_in (words_of_text SpaceOrTab text.now)) }
+    ensures steps { IfOk result (λ r. whole.HasSteps r.0 r.1.p.items r.1.a.items r.1.b.items) }
 {
     let mut lines = WordLines::new(text, Separator::SpaceOrTab);
     let version = take_header(alloc, &mut lines)?;
     let (names, line) = take_names(alloc, version, &mut lines)?;
     let budgets = take_budgets(alloc, &mut lines, &line)?;
     let bodies = take_bodies(alloc, version, &names, &mut lines)?;
-    resolve_all(alloc, names, budgets, &bodies)
+    let script = resolve_all(alloc, names, budgets, &bodies)?;
+    Ok((script, bodies))
 }
 
 /// Takes the names that a text of this version declares, and the line after them.
@@ -137,8 +166,9 @@ fn resolve_all(
     requires { (script : spec.Script)
         → whole.resolved_in names budgets bodies.now.p.items bodies.now.a.items bodies.now.b.items ≡ Some script
         → IsScript script }
-    ensures { reading.Says (λ script. script) result
+    ensures read { reading.Says (λ script. script) result
         (whole.resolved_in names budgets bodies.now.p.items bodies.now.a.items bodies.now.b.items) }
+    ensures steps { IfOk result (λ script. whole.HasSteps script bodies.now.p.items bodies.now.a.items bodies.now.b.items) }
 {
     let p = resolve(alloc, budgets.p, &bodies.p)?;
     let a = resolve(alloc, budgets.a, &bodies.a)?;

@@ -1,6 +1,6 @@
 //! Why the words of a line can't be read.
 
-ghost use Rattle.std.specs.Prelude.{◌≡◌};
+ghost use Rattle.std.specs.Prelude.{◌≡◌, None};
 ghost use Rattle.mc_script.specs.declared.fault.ScriptKind.TheVariants.{OutOfMemory};
 
 use crate::{Expected, Misread, ScriptFault, ScriptKind};
@@ -11,6 +11,7 @@ use std::alloc::{AllocError, AllocFailed};
 pub(crate) struct WordFault {
     pub(crate) kind: ScriptKind,
     misread: Option<Misread>,
+    ghost told: { misread ≡ None → kind ≡ OutOfMemory },
 }
 
 impl WordFault {

@@ -13,6 +13,8 @@ mod print_tests;
 #[cfg(test)]
 mod printed;
 #[cfg(test)]
+mod step_line_tests;
+#[cfg(test)]
 mod told;
 #[cfg(test)]
 mod version_tests;
