@@ -10,7 +10,7 @@ use Rattle.mc_code.specs.ScriptRuns.{clearing_steps, front_of, all_steps}
 use Rattle.mc_code.specs.Layout.{request_of, requests_of, size_of_all}
 use Rattle.mc_code.specs.Assembling.{cleared_keys}
 
-front-is : (s : Script) (actor : Actor) → front_of s actor ≡ clearing_steps 0 (cleared_keys s actor)
+pub front-is : (s : Script) (actor : Actor) → front_of s actor ≡ clearing_steps 0 (cleared_keys s actor)
 front-is s actor.P = refl
 front-is s actor.A = refl
 front-is s actor.B = refl

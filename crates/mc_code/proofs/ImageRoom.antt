@@ -11,10 +11,10 @@ use Rattle.mc_script.specs.declared.step.Template.{Template}
 use Rattle.mc_script.specs.declared.version.Version.{Version}
 use Rattle.mc_script.specs.declared.version.Version.TheVariants as version
 use Rattle.mc_script.specs.Templates.{IsTemplate}
-use Rattle.mc_script.specs.Versions.{flags_limit, steps_limit, has_room, least_version}
+use Rattle.mc_script.specs.Versions.{flags_limit, steps_limit, has_room}
 use Rattle.mc_code.specs.declared.limits.TheConstants.{INSTRUCTIONS_LIMIT}
 use Rattle.mc_code.specs.Code.{Code, IsCode, longest}
-use Rattle.mc_code.specs.Image.{version_of, image_of, image_in, IsWithin, IsImageOf, CodesHaveImages, ImagesAreWrittenAgain}
+use Rattle.mc_code.specs.Image.{version_of, image_in, IsWithin, CodesHaveImages, ImagesAreWrittenAgain}
 use Rattle.mc_code.specs.ImageWriting.{FitsMask, FitsImage}
 use Rattle.mc_code.proofs.TemplateFields.{fields-suit}
 

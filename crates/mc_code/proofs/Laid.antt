@@ -42,7 +42,7 @@ size-in-front key [] steps = omega arith
 size-in-front key (_ ∷ keys) steps = omega (arith, size-in-front (key + 1) keys steps)
 
 -- the places of the steps after the front
-place-after : (key : ℕ) (keys : List Word) (steps : List Step) (p : ℕ)
+pub place-after : (key : ℕ) (keys : List Word) (steps : List Step) (p : ℕ)
     → code_place (clearing_steps key keys ++ steps) (length keys + p) ≡ length keys + code_place steps p
 place-after key keys steps p =
     let n : length (clearing_steps key keys) ≡ length keys = clearing-length key keys in

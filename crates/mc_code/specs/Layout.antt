@@ -1,5 +1,5 @@
 -- How the code of a script is laid out: templates, places and instructions.
-use Rattle.std.specs.Prelude.{ℕ, ◌+◌, ◌<◌, ◌≤◌, Option, Some, None, List, [], ◌∷◌, ◌++◌, map, length, take, slice_get, if◌then◌else◌}
+use Rattle.std.specs.Prelude.{◌⊎◌, ℕ, ◌+◌, ◌<◌, ◌≤◌, Option, Some, None, List, [], ◌∷◌, ◌++◌, map, length, take, slice_get, if◌then◌else◌}
 use Rattle.std.specs.List.{flat_map}
 use Rattle.mc_protocol.specs.Legal.{is_legal}
 use Rattle.mc_protocol.specs.declared.actor.Actor.{Actor}
@@ -18,7 +18,7 @@ use Rattle.mc_code.specs.declared.instr.Instr.{Instr}
 use Rattle.mc_code.specs.declared.instr.Instr.TheVariants as instr
 use Rattle.mc_code.specs.declared.limits.TheConstants.{TEMPLATES_LIMIT, INSTRUCTIONS_LIMIT, NO_ENTRY}
 use Rattle.mc_code.specs.Code as code
-use Rattle.mc_code.specs.ScriptRuns.{all_steps, all_labels, jump_on}
+use Rattle.mc_code.specs.ScriptRuns.{front_of, all_steps, all_labels, jump_on}
 
 -- ---- templates: one for each request, P's first, then A's, then B's
 
@@ -51,6 +51,18 @@ size_of_all (s ∷ steps) = size_of s + size_of_all steps
 -- where the code of the step at this place begins
 abbrev pub code_place : List Step → ℕ → ℕ
 code_place steps p = size_of_all (take p steps)
+
+-- the instruction at this place belongs to the step of this index: the step's code begins there or before, and ends after it
+abbrev pub IsWithin : List Step → ℕ → ℕ → Type 0
+IsWithin steps index place = (index < length steps) × (code_place steps index ≤ place) × (place < code_place steps (index + 1))
+
+-- the same of a script's own steps, before which stand those that clear the keys
+abbrev pub IsOfStep : script.Script → Actor → ℕ → ℕ → Type 0
+IsOfStep s actor index place = IsWithin (all_steps s actor) (length (front_of s actor) + index) place
+
+-- it belongs to none of them
+abbrev pub IsOfNoStep : script.Script → Actor → ℕ → Type 0
+IsOfNoStep s actor place = (place < code_place (all_steps s actor) (length (front_of s actor))) ⊎ (size_of_all (all_steps s actor) ≤ place)
 
 -- where the code begins after a label
 abbrev pub after_label : List Step → Option Label → ℕ

@@ -27,6 +27,7 @@ mod read_template;
 mod run_laws;
 mod size;
 mod standing_laws;
+mod step_places;
 mod templates;
 mod well_formed;
 
@@ -46,3 +47,4 @@ pub use run_laws::{
     runs_are_paths, sections_stop_once,
 };
 pub use standing_laws::{calls_once, calls_open, calls_stand, leaves_once, right_runs_are_called};
+pub use step_places::step_at;

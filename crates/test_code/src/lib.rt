@@ -13,3 +13,5 @@ mod fault_tests;
 mod images;
 #[cfg(test)]
 mod parts;
+#[cfg(test)]
+mod step_tests;
