@@ -17,7 +17,7 @@ use Rattle.mc_explain.specs.declared.verdict.Verdict.{Verdict}
 use Rattle.mc_run.specs.Headline.{IsTrial}
 use Rattle.mc_command.specs.Endings.{endings_text, run_status}
 use Rattle.mc_command.specs.Loading.{IsFrontCode, IsFrontFault, load_refusal}
-use Rattle.mc_command.specs.Refusals.{refusal_text}
+use Rattle.mc_command.specs.Refusals.{IsHint, refusal_text}
 use Rattle.mc_command.specs.Soundness.{unsound_text}
 use Rattle.mc_command.specs.StepLines.{IsStepLine}
 use Rattle.mc_command.specs.Verdicts.{verdict_text}
@@ -67,9 +67,9 @@ pub record LacksSteps (text : List ℕ) (fault : StepsFault) : Type 0 where
 -- the answer is right for the text
 abbrev pub IsRight : Bool → List ℕ → Driven → Type 0
 IsRight why text (driven.Ended held skipped found reasons) = IsDriven why text held skipped found reasons.items
-IsRight why text (driven.NoCode fault) = IsFrontFault text fault
+IsRight why text (driven.NoCode fault hint) = IsFrontFault text fault × IsHint why hint.items
 IsRight why text (driven.Unsound refusal) = (code : Code) × (size : ℕ) × IsFrontCode text code size × IsRightRefusal code refusal
-IsRight why text (driven.NoSteps fault) = LacksSteps text fault
+IsRight why text (driven.NoSteps fault hint) = LacksSteps text fault × IsHint why hint.items
 
 -- what is written for a text whose script no step list follows
 abbrev pub steps_refusal : StepsFault → List ℕ
@@ -84,16 +84,16 @@ ended_text held skipped found reasons =
 -- what is written for an answer
 abbrev pub text_of : Driven → List ℕ
 text_of (driven.Ended held skipped found reasons) = ended_text held skipped found reasons.items
-text_of (driven.NoCode fault) = load_refusal fault
+text_of (driven.NoCode fault hint) = load_refusal fault ++ hint.items
 text_of (driven.Unsound refusal) = unsound_text refusal
-text_of (driven.NoSteps fault) = steps_refusal fault
+text_of (driven.NoSteps fault hint) = steps_refusal fault ++ hint.items
 
 -- the exit status of an answer
 abbrev pub status_of : Driven → Status
 status_of (driven.Ended held skipped found reasons) = run_status held.endings found
-status_of (driven.NoCode fault) = status.Refused
+status_of (driven.NoCode fault hint) = status.Refused
 status_of (driven.Unsound refusal) = status.Refused
-status_of (driven.NoSteps fault) = status.Refused
+status_of (driven.NoSteps fault hint) = status.Refused
 
 -- an answer that is right for the text is what is written, with its status
 abbrev pub Drives : Bool → List ℕ → List ℕ → Status → Type 0

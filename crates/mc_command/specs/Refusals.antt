@@ -1,5 +1,5 @@
 -- What is written where an input is refused.
-use Rattle.std.specs.Prelude.{ℕ, List, [], ◌++◌, codes, decimal}
+use Rattle.std.specs.Prelude.{◌≡◌, ℕ, Bool, false, List, [], ◌++◌, codes, decimal}
 use Rattle.mc_protocol.specs.Words.{actor_word}
 use Rattle.mc_command.specs.declared.refusal.Place.{Place}
 use Rattle.mc_command.specs.declared.refusal.Place.TheVariants as place
@@ -21,3 +21,7 @@ refusal_text what number name where_is =
 -- the line of a refusal
 abbrev pub text_of : Refusal → List ℕ
 text_of refusal = refusal_text refusal.what.now refusal.number refusal.name.now refusal.place
+
+-- What stands after the line of a refusal: where more is asked, some lines, of which nothing is said; and else nothing.
+abbrev pub IsHint : Bool → List ℕ → Type 0
+IsHint asked hint = asked ≡ false → hint ≡ []

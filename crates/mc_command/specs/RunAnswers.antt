@@ -15,6 +15,7 @@ use Rattle.mc_campaign.specs.Namespaces.{IsPutFault, code_under}
 use Rattle.mc_campaign.specs.declared.naming.PutFault.TheVariants as put_fault
 use Rattle.mc_command.specs.Endings.{endings_text, run_status}
 use Rattle.mc_command.specs.Loading.{LoadsScript, load_refusal}
+use Rattle.mc_command.specs.Refusals.{IsHint}
 use Rattle.mc_command.specs.Soundness.{unsound_text}
 use Rattle.mc_command.specs.Verdicts.{verdict_text}
 use Rattle.mc_command.specs.WhyAnswers.{IsWhy, printed_line}
@@ -54,7 +55,7 @@ abbrev pub IsRightFor : Bool → Code → Played → Type 0
 IsRightFor why code (played.Ended held h found reasons) = IsRun code held h found × IsWhy why printed_line h found reasons.items
 IsRightFor why code (played.NoConnection section) = Unit {0}
 IsRightFor why code played.NotRun = Unit {0}
-IsRightFor why code (played.NoCode fault) = ⊥
+IsRightFor why code (played.NoCode fault hint) = ⊥
 IsRightFor why code (played.Unsound refusal) = ⊥
 IsRightFor why code (played.KeyTooLong index) = ⊥
 
@@ -74,7 +75,7 @@ IsRight why name text (played.Ended held h found reasons) =
     (code : Code) × SpellsUnder name text code × IsRightFor why code (played.Ended held h found reasons)
 IsRight why name text (played.NoConnection section) = (code : Code) × SpellsUnder name text code
 IsRight why name text played.NotRun = (code : Code) × SpellsUnder name text code
-IsRight why name text (played.NoCode fault) = LoadsScript text (Err fault)
+IsRight why name text (played.NoCode fault hint) = LoadsScript text (Err fault) × IsHint why hint.items
 IsRight why name text (played.Unsound refusal) = (code : Code) × IsVerified name text code × IsRightRefusal code refusal
 IsRight why name text (played.KeyTooLong index) = HasLongKey name text index
 
@@ -83,7 +84,7 @@ abbrev pub is_refusal : Played → Bool
 is_refusal (played.Ended held h found told) = false
 is_refusal (played.NoConnection section) = false
 is_refusal played.NotRun = false
-is_refusal (played.NoCode fault) = true
+is_refusal (played.NoCode fault hint) = true
 is_refusal (played.Unsound refusal) = true
 is_refusal (played.KeyTooLong index) = true
 
@@ -96,7 +97,7 @@ abbrev pub text_of : Played → List ℕ
 text_of (played.Ended held h found reasons) = ended_text held h found reasons.items
 text_of (played.NoConnection section) = codes "no connection " ++ (actor_word section ++ codes "\n")
 text_of played.NotRun = codes "not run\n"
-text_of (played.NoCode fault) = load_refusal fault
+text_of (played.NoCode fault hint) = load_refusal fault ++ hint.items
 text_of (played.Unsound refusal) = unsound_text refusal
 text_of (played.KeyTooLong index) = []
 
@@ -105,7 +106,7 @@ abbrev pub status_of : Played → Status
 status_of (played.Ended held h found reasons) = run_status held.endings found
 status_of (played.NoConnection section) = status.NoAnswer
 status_of played.NotRun = status.NoAnswer
-status_of (played.NoCode fault) = status.Refused
+status_of (played.NoCode fault hint) = status.Refused
 status_of (played.Unsound refusal) = status.Refused
 status_of (played.KeyTooLong index) = status.WrongLine
 

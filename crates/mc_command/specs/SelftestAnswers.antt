@@ -26,7 +26,7 @@ abbrev pub IsUnexplained : Played → Type 0
 IsUnexplained (played.Ended held h found why) = found ≡ verdict.Unexplained
 IsUnexplained (played.NoConnection section) = ⊥
 IsUnexplained played.NotRun = ⊥
-IsUnexplained (played.NoCode fault) = ⊥
+IsUnexplained (played.NoCode fault hint) = ⊥
 IsUnexplained (played.Unsound refusal) = ⊥
 IsUnexplained (played.KeyTooLong index) = ⊥
 

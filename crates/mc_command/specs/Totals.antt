@@ -13,7 +13,7 @@ abbrev pub standing_of : Played → Standing
 standing_of (played.Ended held h found told) = standing_by found
 standing_of (played.NoConnection section) = standing.Other
 standing_of played.NotRun = standing.Other
-standing_of (played.NoCode fault) = standing.Other
+standing_of (played.NoCode fault hint) = standing.Other
 standing_of (played.Unsound refusal) = standing.Other
 standing_of (played.KeyTooLong index) = standing.Other
 
@@ -25,7 +25,7 @@ abbrev pub is_overlapped : Played → Bool
 is_overlapped (played.Ended held h found told) = overlaps held.world.notes
 is_overlapped (played.NoConnection section) = false
 is_overlapped played.NotRun = false
-is_overlapped (played.NoCode fault) = false
+is_overlapped (played.NoCode fault hint) = false
 is_overlapped (played.Unsound refusal) = false
 is_overlapped (played.KeyTooLong index) = false
 

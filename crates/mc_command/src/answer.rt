@@ -1,5 +1,5 @@
 //! What is answered to a text, whatever the line asks for.
-ghost use Rattle.std.specs.Prelude.{◌≡◌, Bool, IfOk, None};
+ghost use Rattle.std.specs.Prelude.{◌≡◌, IfOk, None};
 ghost use Rattle.mc_command.specs.Answers as answers;
 ghost use Rattle.mc_command.specs.AsmAnswers.{Assembles};
 ghost use Rattle.mc_command.specs.CheckAnswers.{Checks};
@@ -48,7 +48,7 @@ pub fn answer_to(alloc: Global, asked: Asked, text: &[u8]) -> Result<Answer, All
         Asked::Asm => asm_answer(alloc, text),
         Asked::Drive(how) => drive_answer(alloc, text, how),
         // Whoever can reach a server answers by `run_command`.
-        Asked::Run(_) => unplayed_answer(alloc, text),
+        Asked::Run(how) => unplayed_answer(alloc, text, how),
         // The text, which isn't read for it, counts for nothing.
         Asked::Generate(seed, job) => generate_answer(alloc, seed, job),
         // Whoever can reach a network answers by `serve_connections`.
@@ -137,10 +137,10 @@ fn failed_answer(alloc: Global) -> Result<Answer, AllocError>
     })
 }
 
-fn unplayed_answer(alloc: Global, text: &[u8]) -> Result<Answer, AllocError>
-    ensures { IfOk result (λ answer. (why : Bool) → Plays why None text.now answer.output.items answer.status) }
+fn unplayed_answer(alloc: Global, text: &[u8], how: Search) -> Result<Answer, AllocError>
+    ensures { IfOk result (λ answer. Plays how.why None text.now answer.output.items answer.status) }
 {
-    let played = run::check_text(alloc, text)?;
+    let played = run::check_text(alloc, text, how.why)?;
     let output = run::text_of(alloc, &played)?;
     let status = run::status_of(&played);
     Ok(Answer { output, status })

@@ -13,11 +13,12 @@ use std::alloc::Global;
 pub struct Search {
     /// The most turns of a search.
     pub limit: u64,
-    /// Whether the answer says why nothing explains a history, where that is so. Each search for it takes at most `limit` turns.
+    /// Whether the answer says why nothing explains a history, where that is so; each search for it takes at most `limit` turns. And
+    /// whether it shows the word for which a text is refused.
     pub why: bool,
 }
 
-const HELP: &str = "Say after unexplained from which line on it is so";
+const HELP: &str = "Say from which line on it is unexplained, or which word is refused";
 
 /// The flag.
 pub fn flag<'a>(alloc: Global) -> Arg<'a>

@@ -12,7 +12,8 @@ use crate::asking::Search;
 use crate::driven_why::driven_why_text;
 use crate::loading::{LoadFault, load_front, unsound_text, verify_code};
 use crate::outcome::{endings_text, status_of_run, verdict_text};
-use crate::refusal::{Place, Refusal, refusal_text};
+use crate::refusal::{Place, Refusal, told_refusal_text};
+use crate::refusal_hint::{code_hint, steps_hint};
 use crate::status::Status;
 use crate::{asking, limit, loading};
 use clap::Command;
@@ -30,12 +31,12 @@ pub enum Driven {
     /// The world after the steps, how many of them it refused, the verdict on its history, and the text that says why nothing explains
     /// the history, which is empty where that isn't so or isn't asked for.
     Ended(World, u64, Verdict, Vec<u8>),
-    /// The text begins with no code.
-    NoCode(LoadFault),
+    /// The text begins with no code. A text says more of the fault, which is empty where that isn't asked for.
+    NoCode(LoadFault, Vec<u8>),
     /// The script's code isn't sound, and this is its least fault.
     Unsound(mc_verify::Refusal),
-    /// No step list follows the script.
-    NoSteps(StepsFault),
+    /// No step list follows the script. A text says more of the fault, which is empty where that isn't asked for.
+    NoSteps(StepsFault, Vec<u8>),
 }
 
 /// Reads the script and the steps after it, leads the script's code through the steps, and judges what they came to.
@@ -47,7 +48,10 @@ pub fn drive_text(alloc: Global, text: &[u8], how: Search) -> Result<Driven, All
             Ok(checked) => drive_steps(alloc, &checked, text, size, how),
             Err(refusal) => Ok(Driven::Unsound(refusal)),
         },
-        Err(fault) => Ok(Driven::NoCode(fault)),
+        Err(fault) => {
+            let hint = code_hint(alloc, how.why, text, fault)?;
+            Ok(Driven::NoCode(fault, hint))
+        }
     }
 }
 
@@ -74,7 +78,10 @@ fn drive_steps(
         // Want of memory is no fault of the text.
         Err(fault) => match fault.kind {
             StepsKind::OutOfMemory => Err(AllocError),
-            _ => Ok(Driven::NoSteps(fault)),
+            _ => {
+                let hint = steps_hint(alloc, how.why, text, fault)?;
+                Ok(Driven::NoSteps(fault, hint))
+            }
         },
     }
 }
@@ -96,9 +103,13 @@ pub fn text_of(alloc: Global, answer: &Driven) -> Result<Vec<u8>, AllocError>
         Driven::Ended(world, skipped, verdict, why) => {
             ended_text(alloc, world, *skipped, verdict, why.as_slice())
         }
-        Driven::NoCode(fault) => refusal_text(alloc, loading::refusal_of(*fault)),
+        Driven::NoCode(fault, hint) => {
+            told_refusal_text(alloc, loading::refusal_of(*fault), hint.as_slice())
+        }
         Driven::Unsound(refusal) => unsound_text(alloc, refusal),
-        Driven::NoSteps(fault) => refusal_text(alloc, refusal_of(*fault)),
+        Driven::NoSteps(fault, hint) => {
+            told_refusal_text(alloc, refusal_of(*fault), hint.as_slice())
+        }
     }
 }
 
@@ -136,7 +147,7 @@ pub fn status_of(answer: &Driven) -> Status
 {
     match answer {
         Driven::Ended(world, _, verdict, _) => status_of_run(world, verdict),
-        Driven::NoCode(_) | Driven::Unsound(_) | Driven::NoSteps(_) => Status::Refused,
+        Driven::NoCode(_, _) | Driven::Unsound(_) | Driven::NoSteps(_, _) => Status::Refused,
     }
 }
 
@@ -262,7 +273,10 @@ it, as `refused steps 1 Header line 13`:
   1 Header   the first line after the script isn't `steps`, or there is none
   2 Line     the line or one of its words may not stand there
   3 TooMany  more than 1,000 steps
-  4 Unended  the line `end` is missing";
+  4 Unended  the line `end` is missing
+With `--why` the line of the input follows where the text is no script, or its
+steps are no step list, with a caret under the word that is at fault, and what
+was expected in its place.";
 
 const STATUSES: &str = "Exit status:
   0  explained, and all sections are done

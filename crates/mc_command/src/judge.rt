@@ -8,7 +8,8 @@ ghost use Rattle.mc_command.specs.Verdicts as verdicts;
 
 use crate::asking::Search;
 use crate::outcome::{verdict_status, verdict_text};
-use crate::refusal::{Place, Refusal, refusal_text};
+use crate::refusal::{Place, Refusal, told_refusal_text};
+use crate::refusal_hint::history_hint;
 use crate::status::Status;
 use crate::why::{Counted, why_text};
 use crate::{asking, limit};
@@ -29,8 +30,8 @@ pub enum Judgement {
     /// The text has no explanation. This is the verdict of the search for one, how many turns it took, and the text that says why
     /// nothing explains the history, which is empty where that isn't so or isn't asked for.
     Judged(Verdict, u64, Vec<u8>),
-    /// The text is no history.
-    Refused(HistoryFault),
+    /// The text is no history. This is its fault, and the text that says more of the fault, which is empty where that isn't asked for.
+    Refused(HistoryFault, Vec<u8>),
 }
 
 /// Reads the text, and confirms its explanation, or searches for one.
@@ -48,7 +49,10 @@ pub fn judge_text(alloc: Global, text: &[u8], how: Search) -> Result<Judgement, 
         // Want of memory is no fault of the text.
         Err(fault) => match fault.kind {
             HistoryKind::OutOfMemory => Err(AllocError),
-            _ => Ok(Judgement::Refused(fault)),
+            _ => {
+                let hint = history_hint(alloc, how.why, text, fault)?;
+                Ok(Judgement::Refused(fault, hint))
+            }
         },
     }
 }
@@ -88,7 +92,9 @@ pub fn text_of(alloc: Global, answer: &Judgement) -> Result<Vec<u8>, AllocError>
         Judgement::Confirmed => Vec::from_slice(alloc, b"confirmed\n"),
         Judgement::NotConfirmed => Vec::from_slice(alloc, b"not confirmed\n"),
         Judgement::Judged(verdict, _, why) => judged_text(alloc, verdict, why.as_slice()),
-        Judgement::Refused(fault) => refusal_text(alloc, refusal_of(*fault)),
+        Judgement::Refused(fault, hint) => {
+            told_refusal_text(alloc, refusal_of(*fault), hint.as_slice())
+        }
     }
 }
 
@@ -119,7 +125,7 @@ pub fn status_of(answer: &Judgement) -> Status
         Judgement::Confirmed => Status::Success,
         Judgement::NotConfirmed => Status::Unexplained,
         Judgement::Judged(verdict, _, _) => verdict_status(verdict),
-        Judgement::Refused(_) => Status::Refused,
+        Judgement::Refused(_, _) => Status::Refused,
     }
 }
 
@@ -258,7 +264,14 @@ A text that is no history is refused, as `refused history 5 WrongReply line 4`:
   6 NotCleared    the key's first request is not a `delete` of P
   7 UnseenNumber  no `gets` of the key showed the number of this `cas` before
   8 TooMany       more than 24 requests of a client, or more than 8 keys
-  9 Unended       the line `end` is missing";
+  9 Unended       the line `end` is missing
+With `--why` the line of the input follows, with a caret under the word that is
+at fault, and what was expected in its place:
+
+  refused history 2 Line line 6
+  6 | B get n -> VALUE 0 =0
+    |            ^
+    | a reply to `get` is HIT FLAGS BODY or MISS; VALUE is written HIT here";
 
 const STATUSES: &str = "Exit status:
   0  explained, or confirmed

@@ -45,6 +45,19 @@ pub fn refusal_text(alloc: Global, refusal: Refusal) -> Result<Vec<u8>, AllocErr
     Ok(text.into_bytes())
 }
 
+/// The line that is written for a refusal, and the text that says more of it.
+pub fn told_refusal_text(
+    alloc: Global,
+    refusal: Refusal,
+    hint: &[u8],
+) -> Result<Vec<u8>, AllocError>
+    ensures { IfOk result (λ text. text.items ≡ refusals.text_of refusal ++ hint.now) }
+{
+    let mut text = refusal_text(alloc, refusal)?;
+    text.extend_from_slice(hint)?;
+    Ok(text)
+}
+
 fn place_text(alloc: Global, place: Place) -> Result<String, AllocError>
     ensures { IfOk result (λ text. string_bytes text ≡ refusals.place_text place) }
 {

@@ -9,7 +9,8 @@ use crate::loading::{LoadFault, load_script, unsound_text, verify_code};
 use crate::meeting::draw_meet;
 use crate::namespace::long_key_text;
 use crate::outcome::{endings_text, status_of_run, verdict_text};
-use crate::refusal::refusal_text;
+use crate::refusal::told_refusal_text;
+use crate::refusal_hint::code_hint;
 use crate::status::Status;
 use crate::why::{Counted, why_text};
 use crate::{loading, run_options};
@@ -39,8 +40,8 @@ pub enum Played {
     NoConnection(Actor),
     /// No thread could be made for a branch, or what was noted isn't what the connections recorded.
     NotRun,
-    /// The text has no code.
-    NoCode(LoadFault),
+    /// The text has no code. A text says more of the fault, which is empty where that isn't asked for.
+    NoCode(LoadFault, Vec<u8>),
     /// The script's code, or that under the line's name, isn't sound, and this is its least fault.
     Unsound(mc_verify::Refusal),
     /// Under the line's name the key with this index becomes too long.
@@ -67,11 +68,16 @@ pub enum Remarks {
     Evidence(Vec<String>),
 }
 
-/// The code of the script that the text spells, if it spells one whose code is sound; or what is answered in place of a run.
-pub fn read_code(alloc: Global, text: &[u8]) -> Result<Result<Checked, Played>, AllocError>
+/// The code of the script that the text spells, if it spells one whose code is sound; or what is answered in place of a run. More is said
+/// of a text without code where `asked` says so.
+pub fn read_code(
+    alloc: Global,
+    asked: bool,
+    text: &[u8],
+) -> Result<Result<Checked, Played>, AllocError>
     ensures code { IfOk result (λ read. IfOk read (λ checked. answers.Spells text.now checked.code)) }
-    ensures refused { IfOk result (λ read. IfErr read (λ refused. (why : Bool) (name : Option (List ℕ))
-        → answers.IsRight why name text.now refused)) }
+    ensures refused { IfOk result (λ read. IfErr read (λ refused. (name : Option (List ℕ))
+        → answers.IsRight asked name text.now refused)) }
     ensures unplayed { IfOk result (λ read. IfErr read (λ refused. answers.is_refusal refused ≡ true)) }
 {
     match load_script(alloc, text)? {
@@ -79,7 +85,10 @@ pub fn read_code(alloc: Global, text: &[u8]) -> Result<Result<Checked, Played>, 
             Ok(checked) => Ok(Ok(checked)),
             Err(refusal) => Ok(Err(Played::Unsound(refusal))),
         },
-        Err(fault) => Ok(Err(Played::NoCode(fault))),
+        Err(fault) => {
+            let hint = code_hint(alloc, asked, text, fault)?;
+            Ok(Err(Played::NoCode(fault, hint)))
+        }
     }
 }
 
@@ -91,11 +100,11 @@ pub fn read_target_code(
     text: &[u8],
 ) -> Result<Result<Checked, (Played, Remarks)>, AllocError>
     ensures code { IfOk result (λ read. IfOk read (λ checked. answers.SpellsUnder target.now.name text.now checked.code)) }
-    ensures refused { IfOk result (λ read. IfErr read (λ refused. (why : Bool)
-        → answers.IsRight why target.now.name text.now refused.0)) }
+    ensures refused { IfOk result (λ read. IfErr read (λ refused.
+        answers.IsRight target.now.how.why target.now.name text.now refused.0)) }
     ensures unplayed { IfOk result (λ read. IfErr read (λ refused. answers.is_refusal refused.0 ≡ true)) }
 {
-    let written = match read_code(alloc, text)? {
+    let written = match read_code(alloc, target.how.why, text)? {
         Ok(checked) => checked,
         Err(refused) => return Ok(Err((refused, Remarks::None))),
     };
@@ -211,10 +220,10 @@ pub fn play_connections<R: Threads + Wait + Clock + Sync>(
 }
 
 /// What is answered to a text where no server can be reached.
-pub fn check_text(alloc: Global, text: &[u8]) -> Result<Played, AllocError>
-    ensures { IfOk result (λ played. (why : Bool) → answers.IsRight why None text.now played) }
+pub fn check_text(alloc: Global, text: &[u8], asked: bool) -> Result<Played, AllocError>
+    ensures { IfOk result (λ played. answers.IsRight asked None text.now played) }
 {
-    let read = read_code(alloc, text)?;
+    let read = read_code(alloc, asked, text)?;
     match read {
         Ok(_) => Ok(Played::NotRun),
         Err(refused) => Ok(refused),
@@ -231,7 +240,9 @@ pub fn text_of(alloc: Global, answer: &Played) -> Result<Vec<u8>, AllocError>
         }
         Played::NoConnection(section) => no_connection_text(alloc, *section),
         Played::NotRun => Vec::from_slice(alloc, b"not run\n"),
-        Played::NoCode(fault) => refusal_text(alloc, loading::refusal_of(*fault)),
+        Played::NoCode(fault, hint) => {
+            told_refusal_text(alloc, loading::refusal_of(*fault), hint.as_slice())
+        }
         Played::Unsound(refusal) => unsound_text(alloc, refusal),
         Played::KeyTooLong(_) => Ok(Vec::new(alloc)),
     }
@@ -268,7 +279,7 @@ pub fn status_of(answer: &Played) -> Status
     match answer {
         Played::Ended(world, _, verdict, _) => status_of_run(world, verdict),
         Played::NoConnection(_) | Played::NotRun => Status::NoAnswer,
-        Played::NoCode(_) | Played::Unsound(_) => Status::Refused,
+        Played::NoCode(_, _) | Played::Unsound(_) => Status::Refused,
         Played::KeyTooLong(_) => Status::WrongLine,
     }
 }

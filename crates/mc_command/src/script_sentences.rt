@@ -1,0 +1,160 @@
+//! What is said of a word of a script that isn't what was expected in its place.
+
+use mc_protocol::{Actor, Verb};
+use mc_script::{Expected, Sort};
+use std::alloc::{AllocError, Global};
+
+/// The sentence: what was expected. `found` is the word that was found, which is empty where it is missing.
+pub fn script_sentence(
+    alloc: Global,
+    expected: Expected,
+    found: &[u8],
+) -> Result<String, AllocError> {
+    let hint = hint_on(expected, found);
+    match expected {
+        Expected::ReplyTo(verb) => {
+            let classes = classes_for(verb);
+            let verb = verb.word();
+            format!(in alloc; "a reply to `{verb}` is {classes}{hint}")
+        }
+        _ => {
+            let sentence = sentence_of(expected);
+            format!(in alloc; "{sentence}{hint}")
+        }
+    }
+}
+
+// What is said, but of a reply to a known request.
+fn sentence_of(expected: Expected) -> &'static str {
+    match expected {
+        Expected::Header => "a script begins with the line `script 1` or `script 2`",
+        Expected::Version => "the version of a script is 1 or 2",
+        Expected::Keys => "after the first line stands `keys` with their names",
+        Expected::Budget(actor) => budget_due(actor),
+        Expected::BudgetRequests => "a section has at most 24 requests, a decimal",
+        Expected::BudgetBytes => "a section has at most 8192 bytes of requests, a decimal",
+        Expected::Name(sort) => name_form(sort),
+        Expected::NewName(sort) => new_name(sort),
+        Expected::FewerNames(sort) => fewer_names(sort),
+        Expected::KnownName(sort) => known_name(sort),
+        Expected::LabelBelow => "the label stands further down, since a script has no loops",
+        Expected::Section(actor) => section_due(actor),
+        Expected::End => "the line `end` ends section B",
+        Expected::NothingAfterEnd => "nothing follows the line `end`",
+        Expected::Step => "a step is a request, `bind`, `goto` or `halt`; a label is `NAME:`",
+        Expected::FewerSteps => "a section has at most 64 steps, and 128 in a `script 2`",
+        Expected::NoDeclaration => "names and budgets stand before the first section",
+        Expected::LabelAlone => "a label stands alone on its line",
+        _ => sentence_of_request(expected),
+    }
+}
+
+// What is said of a word of a request, or of any line.
+fn sentence_of_request(expected: Expected) -> &'static str {
+    match expected {
+        Expected::Flags => "flags are a decimal below 2^32",
+        Expected::Body => "a body is `=` and its letters and digits",
+        Expected::LettersAndDigits => "a body has at most 64 bytes, and all are letters or digits",
+        Expected::NoExpiry =>
+            "no time of expiry is written here, and a body is `=text`, without its length",
+        Expected::Unique => "the cas unique is `$` and the variable that has it",
+        Expected::Amount => "the amount is a decimal below 2^64, or `$` and a variable",
+        Expected::Mark => "a mark is `?FLAG`, `!FLAG`, `+FLAG`, `-FLAG`, `CLASS:LABEL` or `>VAR`",
+        Expected::OneKey => "a request has one key",
+        Expected::WithReply => "each request has a reply",
+        Expected::ReplyClass => {
+            "a class is stored, notstored, exists, notfound, hit, miss, deleted, touched, number or notnumber"
+        }
+        Expected::ReplyWithNumber => "only the replies to `gets`, `incr` and `decr` show a number",
+        Expected::OneBind => "a request has one `>VAR`",
+        Expected::NoJumpBesideBind => "with `>VAR` the next step follows a hit or a number",
+        Expected::OneMarkOfFlag =>
+            "a request has one of `?` and `!` of a flag, and one of `+` and `-`",
+        Expected::OneJumpOnClass => "a request has one jump on a class",
+        Expected::LineEnd => "nothing follows in this line",
+        Expected::CommentAlone => "a comment is a line of its own, and `#` its first byte",
+        _ => "another word stands here",
+    }
+}
+
+fn budget_due(actor: Actor) -> &'static str {
+    match actor {
+        Actor::P =>
+            "here stand `flags`, `vars` and `budget P`, in this order; the first two may lack",
+        Actor::A => "here stands `budget A`, with its requests and bytes",
+        Actor::B => "here stands `budget B`, with its requests and bytes",
+    }
+}
+
+fn section_due(actor: Actor) -> &'static str {
+    match actor {
+        Actor::P => "after the budgets stands the line `P`",
+        Actor::A => "the line `A` ends section P",
+        Actor::B => "the line `B` ends section A",
+    }
+}
+
+fn name_form(sort: Sort) -> &'static str {
+    match sort {
+        Sort::Key => "a key is 1 to 40 of a-z, 0-9 and `-`",
+        Sort::Flag => "the name of a flag is 1 to 20 of a-z, 0-9 and `-`",
+        Sort::Variable => "the name of a variable is 1 to 20 of a-z, 0-9 and `-`",
+        Sort::Label => "the name of a label is 1 to 20 of a-z, 0-9 and `-`",
+    }
+}
+
+fn new_name(sort: Sort) -> &'static str {
+    match sort {
+        Sort::Key => "this key is declared already",
+        Sort::Flag => "this flag is declared already",
+        Sort::Variable => "this variable is declared already",
+        Sort::Label => "the section has this label already",
+    }
+}
+
+fn fewer_names(sort: Sort) -> &'static str {
+    match sort {
+        Sort::Key => "a script has at most 8 keys",
+        Sort::Flag => "a script has at most 32 flags, and 64 in a `script 2`",
+        Sort::Variable => "a script has at most 16 variables",
+        Sort::Label => "a section has no more labels",
+    }
+}
+
+fn known_name(sort: Sort) -> &'static str {
+    match sort {
+        Sort::Key => "here stands a key that `keys` declares",
+        Sort::Flag => "here stands a flag that `flags` declares",
+        Sort::Variable => "here stands a variable that `vars` declares",
+        Sort::Label => "here stands a label of this section",
+    }
+}
+
+fn classes_for(verb: Verb) -> &'static str {
+    match verb {
+        Verb::Set | Verb::Add | Verb::Replace | Verb::Append | Verb::Prepend | Verb::Cas => {
+            "stored, notstored, exists or notfound"
+        }
+        Verb::Get | Verb::Gets => "hit or miss",
+        Verb::Incr | Verb::Decr => "number, notfound or notnumber",
+        Verb::Delete => "deleted or notfound",
+        Verb::Touch => "touched or notfound",
+    }
+}
+
+// What is added where the word is the protocol's own. It is empty for any other.
+fn hint_on(expected: Expected, found: &[u8]) -> &'static str {
+    match expected {
+        Expected::ReplyClass if found.starts_with(b"END:") => "; END is miss here",
+        Expected::ReplyClass if found.starts_with(b"VALUE:") => "; VALUE is hit here",
+        Expected::ReplyClass if found.starts_with(b"CLIENT_ERROR:") => {
+            "; CLIENT_ERROR is notnumber here"
+        }
+        Expected::Body if is_decimal(found) => "; no time of expiry and no length stand before it",
+        _ => "",
+    }
+}
+
+fn is_decimal(word: &[u8]) -> bool {
+    !word.is_empty() && word.iter().all(|byte| byte.is_ascii_digit())
+}
