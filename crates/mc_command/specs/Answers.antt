@@ -25,8 +25,8 @@ INPUT_LIMIT = 1048576
 -- doing what is asked for with the text, these bytes may be written, and this is the exit status with them
 abbrev pub Does : Asked → List ℕ → List ℕ → Status → Type 0
 Does (asked.Judge how) text output ended = Judges how text output ended
-Does asked.Check text output ended = Checks text output ended
-Does asked.Asm text output ended = Assembles text output ended
+Does (asked.Check why) text output ended = Checks why text output ended
+Does (asked.Asm why) text output ended = Assembles why text output ended
 Does (asked.Drive how) text output ended = Drives how.why text output ended
 Does (asked.Run how) text output ended = Plays how.why None text output ended
 Does (asked.Generate seed job) text output ended = Generates seed job output ended

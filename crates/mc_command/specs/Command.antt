@@ -157,8 +157,8 @@ pub record AreCampaignWords (value : Text → Option Text) : Type 0 where
 -- what a subcommand asks for with the values of its options
 abbrev pub IsAskedBy : Option Text → (Text → Option Text) → Asked → Type 0
 IsAskedBy command value (asked.Judge wanted) = (command ≡ Some (codes "judge")) × IsSearch value wanted
-IsAskedBy command value asked.Check = command ≡ Some (codes "check")
-IsAskedBy command value asked.Asm = command ≡ Some (codes "asm")
+IsAskedBy command value (asked.Check why) = (command ≡ Some (codes "check")) × (why ≡ is_set (value (codes "why")))
+IsAskedBy command value (asked.Asm why) = (command ≡ Some (codes "asm")) × (why ≡ is_set (value (codes "why")))
 IsAskedBy command value (asked.Drive wanted) = (command ≡ Some (codes "drive")) × IsSearch value wanted
 IsAskedBy command value (asked.Run wanted) = (command ≡ Some (codes "run")) × IsSearch value wanted × AreRunWords value
 IsAskedBy command value (asked.Generate seed job) =

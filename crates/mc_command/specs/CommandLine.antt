@@ -64,11 +64,11 @@ judge_app = with_rule (with_rule (new_app (codes "judge")) limit_rule) why_rule
 
 -- the subcommand `asm`
 abbrev pub asm_app : App
-asm_app = new_app (codes "asm")
+asm_app = with_rule (new_app (codes "asm")) why_rule
 
 -- the subcommand `check`
 abbrev pub check_app : App
-check_app = new_app (codes "check")
+check_app = with_rule (new_app (codes "check")) why_rule
 
 -- the subcommand `drive`
 abbrev pub drive_app : App

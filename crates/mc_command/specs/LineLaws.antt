@@ -66,8 +66,8 @@ IsName word = (first : ℕ) × (others : List ℕ) × (word ≡ first ∷ others
 abbrev pub IsPlainLine : List (List ℕ) → Asked → Type 0
 IsPlainLine words (asked.Judge how) =
     (program : List ℕ) × (others : List (List ℕ)) × (words ≡ program ∷ codes "judge" ∷ others) × NamesSearch others how
-IsPlainLine words asked.Check = (program : List ℕ) × (words ≡ program ∷ codes "check" ∷ [])
-IsPlainLine words asked.Asm = (program : List ℕ) × (words ≡ program ∷ codes "asm" ∷ [])
+IsPlainLine words (asked.Check why) = (program : List ℕ) × (why ≡ false) × (words ≡ program ∷ codes "check" ∷ [])
+IsPlainLine words (asked.Asm why) = (program : List ℕ) × (why ≡ false) × (words ≡ program ∷ codes "asm" ∷ [])
 IsPlainLine words (asked.Drive how) =
     (program : List ℕ) × (others : List (List ℕ)) × (words ≡ program ∷ codes "drive" ∷ others) × NamesSearch others how
 IsPlainLine words (asked.Run how) = (program : List ℕ) × (server : List ℕ) × (others : List (List ℕ))

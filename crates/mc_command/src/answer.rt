@@ -44,8 +44,8 @@ pub fn answer_to(alloc: Global, asked: Asked, text: &[u8]) -> Result<Answer, All
     }
     match asked {
         Asked::Judge(how) => judge_answer(alloc, text, how),
-        Asked::Check => check_answer(alloc, text),
-        Asked::Asm => asm_answer(alloc, text),
+        Asked::Check(why) => check_answer(alloc, text, why),
+        Asked::Asm(why) => asm_answer(alloc, text, why),
         Asked::Drive(how) => drive_answer(alloc, text, how),
         // Whoever can reach a server answers by `run_command`.
         Asked::Run(how) => unplayed_answer(alloc, text, how),
@@ -79,20 +79,21 @@ fn judge_answer(alloc: Global, text: &[u8], how: Search) -> Result<Answer, Alloc
     Ok(Answer { output, status })
 }
 
-fn check_answer(alloc: Global, input: &[u8]) -> Result<Answer, AllocError>
-    ensures { IfOk result (λ answer. Checks input.now answer.output.items answer.status) }
+fn check_answer(alloc: Global, input: &[u8], why: bool) -> Result<Answer, AllocError>
+    ensures { IfOk result (λ answer. Checks why input.now answer.output.items answer.status) }
 {
-    let verification = check::check_input(alloc, input)?;
+    let verification = check::check_input(alloc, input, why)?;
     let output = check::text_of(alloc, &verification)?;
     let status = check::status_of(&verification);
     Ok(Answer { output, status })
 }
 
-fn asm_answer(alloc: Global, text: &[u8]) -> Result<Answer, AllocError>
-    ensures { IfOk result (λ answer. Assembles text.now answer.output.items answer.status) }
+fn asm_answer(alloc: Global, text: &[u8], why: bool) -> Result<Answer, AllocError>
+    ensures { IfOk result (λ answer. Assembles why text.now answer.output.items answer.status) }
 {
     let loaded = load_script(alloc, text)?;
-    let output = asm::text_of(alloc, &loaded)?;
+    let hint = asm::hint_of(alloc, why, text, &loaded)?;
+    let output = asm::text_of(alloc, &loaded, hint.as_slice())?;
     let status = asm::status_of(&loaded);
     Ok(Answer { output, status })
 }

@@ -40,10 +40,10 @@ const STATUSES: &str = "Exit status:
 pub enum Asked {
     /// A judgement, by this search where one is needed.
     Judge(Search),
-    /// Whether the code of a script or of an image is sound.
-    Check,
-    /// The image of a script.
-    Asm,
+    /// Whether the code of a script or of an image is sound; and whether the answer shows the line for which a script is refused.
+    Check(bool),
+    /// The image of a script; and whether the answer shows the line for which a script is refused.
+    Asm(bool),
     /// What the steps after a script come to, judged by this search.
     Drive(Search),
     /// What a script comes to that is run against a server, and is judged by this search. Which server, and how the branches meet, a
@@ -207,8 +207,8 @@ pub fn program<'a>(alloc: Global) -> Result<Command<'a>, AllocError>
 {
     bare_program(alloc)
         .subcommand(judge::subcommand(alloc)?)?
-        .subcommand(check::subcommand(alloc))?
-        .subcommand(asm::subcommand(alloc))?
+        .subcommand(check::subcommand(alloc)?)?
+        .subcommand(asm::subcommand(alloc)?)?
         .subcommand(drive::subcommand(alloc)?)?
         .subcommand(run_options::subcommand(alloc)?)?
         .subcommand(generate::subcommand(alloc)?)?

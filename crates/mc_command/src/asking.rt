@@ -20,6 +20,9 @@ pub struct Search {
 
 const HELP: &str = "Say from which line on it is unexplained, or which word is refused";
 
+/// What help tells of the flag where no explanation is searched for.
+pub const REFUSED_HELP: &str = "Show the line for which a script is refused";
+
 /// The flag.
 pub fn flag<'a>(alloc: Global) -> Arg<'a>
     ensures rule { rule_of result ≡ why_rule }

@@ -4,21 +4,43 @@ ghost use Rattle.mc_code.specs.Image.{image_of};
 ghost use Rattle.clap.specs.Words.{app_of};
 ghost use Rattle.mc_command.specs.AsmAnswers as answers;
 ghost use Rattle.mc_command.specs.CommandLine.{asm_app};
+ghost use Rattle.mc_command.specs.Refusals as refusals;
 
+use crate::asking;
 use crate::loading::{LoadFault, refusal_of};
-use crate::refusal::refusal_text;
+use crate::refusal::told_refusal_text;
+use crate::refusal_hint::code_hint;
 use crate::status::Status;
 use clap::Command;
 use mc_code::{Code, encode};
 use std::alloc::{AllocError, Global};
 
+/// What is said after the refusal of a text without code, where `asked` says so.
+pub fn hint_of(
+    alloc: Global,
+    asked: bool,
+    text: &[u8],
+    loaded: &Result<Code, LoadFault>,
+) -> Result<Vec<u8>, AllocError>
+    ensures { IfOk result (λ hint. refusals.IsHint asked hint.items) }
+{
+    match loaded {
+        Ok(_) => Ok(Vec::new(alloc)),
+        Err(fault) => code_hint(alloc, asked, text, *fault),
+    }
+}
+
 /// What is written for the code of a text, its image, or for the want of it.
-pub fn text_of(alloc: Global, loaded: &Result<Code, LoadFault>) -> Result<Vec<u8>, AllocError>
-    ensures { IfOk result (λ text. text.items ≡ answers.text_of loaded.now) }
+pub fn text_of(
+    alloc: Global,
+    loaded: &Result<Code, LoadFault>,
+    hint: &[u8],
+) -> Result<Vec<u8>, AllocError>
+    ensures { IfOk result (λ text. text.items ≡ answers.text_of loaded.now hint.now) }
 {
     match loaded {
         Ok(code) => image(alloc, code),
-        Err(fault) => refusal_text(alloc, refusal_of(*fault)),
+        Err(fault) => told_refusal_text(alloc, refusal_of(*fault), hint),
     }
 }
 
@@ -42,7 +64,7 @@ pub fn status_of(loaded: &Result<Code, LoadFault>) -> Status
 
 const ABOUT: &str = "Assembles the script on standard input";
 
-const USAGE: &str = "mcrace asm < FILE > IMAGE";
+const USAGE: &str = "mcrace asm [--why] < FILE > IMAGE";
 
 const LONG_ABOUT: &str = "Assembles the script on standard input, and writes its image.
 
@@ -126,6 +148,8 @@ A text that is no script is refused, as `refused script 5 UnknownKey line 9`:
   12 TooMany       too many names, or too many steps in a section
   13 Budget        a budget is above its limit
   14 Unended       the text ends before P, A, B or `end`
+With `--why` the line of the input follows, with a caret under the word that is
+at fault, and what was expected in its place.
 
 A script that is too large is refused, as `refused asm 2 TooManyInstructions A`:
   1 TooManyTemplates     more than 64 templates
@@ -141,12 +165,13 @@ const STATUSES: &str = "Exit status:
   4  out of memory; or input or output failed";
 
 /// The subcommand.
-pub fn subcommand<'a>(alloc: Global) -> Command<'a>
-    ensures { app_of result ≡ asm_app }
+pub fn subcommand<'a>(alloc: Global) -> Result<Command<'a>, AllocError>
+    ensures { IfOk result (λ command. app_of command ≡ asm_app) }
 {
     Command::new(alloc, "asm")
         .about(ABOUT)
         .long_about(LONG_ABOUT)
         .override_usage(USAGE)
         .after_help(STATUSES)
+        .arg(asking::flag(alloc).help(asking::REFUSED_HELP))
 }

@@ -1,14 +1,16 @@
 //! What `check` answers to an input.
-ghost use Rattle.std.specs.Prelude.{◌≡◌, IfOk, string_bytes};
+ghost use Rattle.std.specs.Prelude.{◌≡◌, ◌++◌, IfOk, string_bytes};
 ghost use Rattle.clap.specs.Words.{app_of};
 ghost use Rattle.mc_verify.specs.Checked.{IsChecked};
 ghost use Rattle.mc_command.specs.CheckAnswers as answers;
 ghost use Rattle.mc_command.specs.CommandLine.{check_app};
+ghost use Rattle.mc_command.specs.Soundness as soundness;
 
-use crate::loading;
 use crate::loading::{LoadFault, unsound_text, verify_code};
-use crate::refusal::refusal_text;
+use crate::refusal::told_refusal_text;
+use crate::refusal_hint::{code_hint, unsound_hint};
 use crate::status::Status;
+use crate::{asking, loading};
 use clap::Command;
 use mc_code::Code;
 use mc_protocol::{Actor, Sections};
@@ -20,28 +22,39 @@ use std::alloc::{AllocError, Global};
 pub enum Verification {
     /// The input's code is sound, and these are the greatest costs of its sections.
     Accepted(Sections<Cost>),
-    /// The input's code isn't sound, and this is its least fault.
-    Unsound(mc_verify::Refusal),
-    /// The input has no code.
-    NoCode(LoadFault),
+    /// The input's code isn't sound, and this is its least fault. A text says more of the fault, which is empty where that isn't asked for.
+    Unsound(mc_verify::Refusal, Vec<u8>),
+    /// The input has no code. A text says more of the fault, which is empty where that isn't asked for.
+    NoCode(LoadFault, Vec<u8>),
 }
 
-/// Reads the code of a script or of an image, and finds out whether it is sound.
-pub fn check_input(alloc: Global, input: &[u8]) -> Result<Verification, AllocError>
-    ensures { IfOk result (answers.IsRight input.now) }
+/// Reads the code of a script or of an image, and finds out whether it is sound. More is said of a refusal where `asked` says so.
+pub fn check_input(alloc: Global, input: &[u8], asked: bool) -> Result<Verification, AllocError>
+    ensures { IfOk result (answers.IsRight asked input.now) }
 {
     match loading::load(alloc, input)? {
-        Ok(code) => check_code(alloc, code),
-        Err(fault) => Ok(Verification::NoCode(fault)),
+        Ok(code) => check_code(alloc, code, input, asked),
+        Err(fault) => {
+            let hint = code_hint(alloc, asked, input, fault)?;
+            Ok(Verification::NoCode(fault, hint))
+        }
     }
 }
 
-fn check_code(alloc: Global, code: Code) -> Result<Verification, AllocError>
-    ensures { IfOk result (answers.IsRightFor code) }
+fn check_code(
+    alloc: Global,
+    code: Code,
+    input: &[u8],
+    asked: bool,
+) -> Result<Verification, AllocError>
+    ensures { IfOk result (answers.IsRightFor asked code) }
 {
     match verify_code(alloc, code)? {
         Ok(checked) => Ok(Verification::Accepted(maxima_of(&checked))),
-        Err(refusal) => Ok(Verification::Unsound(refusal)),
+        Err(refusal) => {
+            let hint = unsound_hint(alloc, asked, input, &refusal)?;
+            Ok(Verification::Unsound(refusal, hint))
+        }
     }
 }
 
@@ -64,9 +77,23 @@ pub fn text_of(alloc: Global, answer: &Verification) -> Result<Vec<u8>, AllocErr
 {
     match answer {
         Verification::Accepted(maxima) => accepted_text(alloc, maxima),
-        Verification::Unsound(refusal) => unsound_text(alloc, refusal),
-        Verification::NoCode(fault) => refusal_text(alloc, loading::refusal_of(*fault)),
+        Verification::Unsound(refusal, hint) => told_unsound_text(alloc, refusal, hint.as_slice()),
+        Verification::NoCode(fault, hint) => {
+            told_refusal_text(alloc, loading::refusal_of(*fault), hint.as_slice())
+        }
     }
+}
+
+fn told_unsound_text(
+    alloc: Global,
+    refusal: &mc_verify::Refusal,
+    hint: &[u8],
+) -> Result<Vec<u8>, AllocError>
+    ensures { IfOk result (λ text. text.items ≡ soundness.unsound_text refusal.now ++ hint.now) }
+{
+    let mut text = unsound_text(alloc, refusal)?;
+    text.extend_from_slice(hint)?;
+    Ok(text)
 }
 
 fn accepted_text(alloc: Global, maxima: &Sections<Cost>) -> Result<Vec<u8>, AllocError>
@@ -93,13 +120,13 @@ pub fn status_of(answer: &Verification) -> Status
 {
     match answer {
         Verification::Accepted(_) => Status::Success,
-        Verification::Unsound(_) | Verification::NoCode(_) => Status::Refused,
+        Verification::Unsound(_, _) | Verification::NoCode(_, _) => Status::Refused,
     }
 }
 
 const ABOUT: &str = "Checks the script on standard input before it is played";
 
-const USAGE: &str = "mcrace check < FILE";
+const USAGE: &str = "mcrace check [--why] < FILE";
 
 const LONG_ABOUT: &str =
     "Checks the script on standard input before it is played: whether it keeps its
@@ -204,7 +231,11 @@ A text that is no script, and a script that is too large, are refused as by
   2 Short     the image ends inside the field that begins here
   3 Range     a number or a key isn't within its limits, or the key stood before
   4 Template  the fields of the template that begins here don't suit each other
-  5 Extra     the image has ended before this byte";
+  5 Extra     the image has ended before this byte
+
+With `--why` the refusal of a script is followed by the line of the input, with
+a caret under the word or the step that is at fault, and what is said of it. A
+delete of a key before P's steps stands in no line.";
 
 const STATUSES: &str = "Exit status:
   0  accepted
@@ -214,12 +245,13 @@ const STATUSES: &str = "Exit status:
   4  out of memory; or input or output failed";
 
 /// The subcommand.
-pub fn subcommand<'a>(alloc: Global) -> Command<'a>
-    ensures { app_of result ≡ check_app }
+pub fn subcommand<'a>(alloc: Global) -> Result<Command<'a>, AllocError>
+    ensures { IfOk result (λ command. app_of command ≡ check_app) }
 {
     Command::new(alloc, "check")
         .about(ABOUT)
         .long_about(LONG_ABOUT)
         .override_usage(USAGE)
         .after_help(STATUSES)
+        .arg(asking::flag(alloc).help(asking::REFUSED_HELP))
 }

@@ -80,8 +80,8 @@ fn read_subcommand<'a>(
 {
     match name {
         "judge" => read_judge(alloc, options),
-        "check" => Ok(Invocation::Offline(Asked::Check)),
-        "asm" => Ok(Invocation::Offline(Asked::Asm)),
+        "check" => Ok(Invocation::Offline(Asked::Check(asking::asks_why(options)))),
+        "asm" => Ok(Invocation::Offline(Asked::Asm(asking::asks_why(options)))),
         "drive" => read_drive(alloc, options),
         "run" => read_run(alloc, options),
         "generate" => read_generate(alloc, options),

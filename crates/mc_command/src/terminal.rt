@@ -10,8 +10,8 @@ pub fn input_name(asked: Asked) -> Option<&'static str>
 {
     match asked {
         Asked::Judge(_) => Some("a history"),
-        Asked::Check => Some("a script or an image"),
-        Asked::Asm | Asked::Drive(_) | Asked::Run(_) => Some("a script"),
+        Asked::Check(_) => Some("a script or an image"),
+        Asked::Asm(_) | Asked::Drive(_) | Asked::Run(_) => Some("a script"),
         Asked::Generate(..) | Asked::Serve(_) => None,
         Asked::Campaign(_) | Asked::Selftest => None,
     }

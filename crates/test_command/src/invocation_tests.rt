@@ -29,10 +29,14 @@ static LINES: &[(&[&str], Option<Asked>, Option<&str>)] = &[
     ),
     (
         &["mcrace", "check"],
-        Some(Asked::Check),
+        Some(Asked::Check(false)),
         Some("a script or an image"),
     ),
-    (&["mcrace", "asm"], Some(Asked::Asm), Some("a script")),
+    (
+        &["mcrace", "asm"],
+        Some(Asked::Asm(false)),
+        Some("a script"),
+    ),
     (
         &["mcrace", "drive", "--why", "--limit", "7"],
         Some(Asked::Drive(SEARCH)),
@@ -138,7 +142,7 @@ fn is_that_run(alloc: Global, line: &[String]) -> bool {
 /// What is asked for where there is no network, what is written then, and the status.
 static OFFLINE: &[(Asked, &str, Status)] = &[
     (
-        Asked::Check,
+        Asked::Check(false),
         "accepted\nP 2 26\nA 1 10\nB 1 10\n",
         Status::Success,
     ),
