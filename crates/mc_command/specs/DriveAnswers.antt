@@ -68,7 +68,8 @@ pub record LacksSteps (text : List ℕ) (fault : StepsFault) : Type 0 where
 abbrev pub IsRight : Bool → List ℕ → Driven → Type 0
 IsRight why text (driven.Ended held skipped found reasons) = IsDriven why text held skipped found reasons.items
 IsRight why text (driven.NoCode fault hint) = IsFrontFault text fault × IsHint why hint.items
-IsRight why text (driven.Unsound refusal) = (code : Code) × (size : ℕ) × IsFrontCode text code size × IsRightRefusal code refusal
+IsRight why text (driven.Unsound refusal hint) =
+    (code : Code) × (size : ℕ) × IsFrontCode text code size × IsRightRefusal code refusal × IsHint why hint.items
 IsRight why text (driven.NoSteps fault hint) = LacksSteps text fault × IsHint why hint.items
 
 -- what is written for a text whose script no step list follows
@@ -85,14 +86,14 @@ ended_text held skipped found reasons =
 abbrev pub text_of : Driven → List ℕ
 text_of (driven.Ended held skipped found reasons) = ended_text held skipped found reasons.items
 text_of (driven.NoCode fault hint) = load_refusal fault ++ hint.items
-text_of (driven.Unsound refusal) = unsound_text refusal
+text_of (driven.Unsound refusal hint) = unsound_text refusal ++ hint.items
 text_of (driven.NoSteps fault hint) = steps_refusal fault ++ hint.items
 
 -- the exit status of an answer
 abbrev pub status_of : Driven → Status
 status_of (driven.Ended held skipped found reasons) = run_status held.endings found
 status_of (driven.NoCode fault hint) = status.Refused
-status_of (driven.Unsound refusal) = status.Refused
+status_of (driven.Unsound refusal hint) = status.Refused
 status_of (driven.NoSteps fault hint) = status.Refused
 
 -- an answer that is right for the text is what is written, with its status

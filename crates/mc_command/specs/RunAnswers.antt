@@ -56,7 +56,7 @@ IsRightFor why code (played.Ended held h found reasons) = IsRun code held h foun
 IsRightFor why code (played.NoConnection section) = Unit {0}
 IsRightFor why code played.NotRun = Unit {0}
 IsRightFor why code (played.NoCode fault hint) = ⊥
-IsRightFor why code (played.Unsound refusal) = ⊥
+IsRightFor why code (played.Unsound refusal hint) = ⊥
 IsRightFor why code (played.KeyTooLong index) = ⊥
 
 -- the code is that of the script which the text spells; or it is that under the name, and the one without it is sound
@@ -76,7 +76,8 @@ IsRight why name text (played.Ended held h found reasons) =
 IsRight why name text (played.NoConnection section) = (code : Code) × SpellsUnder name text code
 IsRight why name text played.NotRun = (code : Code) × SpellsUnder name text code
 IsRight why name text (played.NoCode fault hint) = LoadsScript text (Err fault) × IsHint why hint.items
-IsRight why name text (played.Unsound refusal) = (code : Code) × IsVerified name text code × IsRightRefusal code refusal
+IsRight why name text (played.Unsound refusal hint) =
+    (code : Code) × IsVerified name text code × IsRightRefusal code refusal × IsHint why hint.items
 IsRight why name text (played.KeyTooLong index) = HasLongKey name text index
 
 -- no code is played: the text is refused, or a key becomes too long under the name
@@ -85,7 +86,7 @@ is_refusal (played.Ended held h found told) = false
 is_refusal (played.NoConnection section) = false
 is_refusal played.NotRun = false
 is_refusal (played.NoCode fault hint) = true
-is_refusal (played.Unsound refusal) = true
+is_refusal (played.Unsound refusal hint) = true
 is_refusal (played.KeyTooLong index) = true
 
 -- what is written of a run: how its sections ended, the verdict, why nothing explains the history, where that is asked, and the history
@@ -98,7 +99,7 @@ text_of (played.Ended held h found reasons) = ended_text held h found reasons.it
 text_of (played.NoConnection section) = codes "no connection " ++ (actor_word section ++ codes "\n")
 text_of played.NotRun = codes "not run\n"
 text_of (played.NoCode fault hint) = load_refusal fault ++ hint.items
-text_of (played.Unsound refusal) = unsound_text refusal
+text_of (played.Unsound refusal hint) = unsound_text refusal ++ hint.items
 text_of (played.KeyTooLong index) = []
 
 -- the exit status of an answer
@@ -107,7 +108,7 @@ status_of (played.Ended held h found reasons) = run_status held.endings found
 status_of (played.NoConnection section) = status.NoAnswer
 status_of played.NotRun = status.NoAnswer
 status_of (played.NoCode fault hint) = status.Refused
-status_of (played.Unsound refusal) = status.Refused
+status_of (played.Unsound refusal hint) = status.Refused
 status_of (played.KeyTooLong index) = status.WrongLine
 
 -- an answer that is right for the text is what is written, with its status

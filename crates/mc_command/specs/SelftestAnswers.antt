@@ -27,7 +27,7 @@ IsUnexplained (played.Ended held h found why) = found ≡ verdict.Unexplained
 IsUnexplained (played.NoConnection section) = ⊥
 IsUnexplained played.NotRun = ⊥
 IsUnexplained (played.NoCode fault hint) = ⊥
-IsUnexplained (played.Unsound refusal) = ⊥
+IsUnexplained (played.Unsound refusal hint) = ⊥
 IsUnexplained (played.KeyTooLong index) = ⊥
 
 -- a run of the two increments is unexplained

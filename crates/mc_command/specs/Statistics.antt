@@ -75,5 +75,5 @@ recorded_of (played.Ended held h found told) = record { notes = held.world.notes
 recorded_of (played.NoConnection section) = []
 recorded_of played.NotRun = []
 recorded_of (played.NoCode fault hint) = []
-recorded_of (played.Unsound refusal) = []
+recorded_of (played.Unsound refusal hint) = []
 recorded_of (played.KeyTooLong index) = []

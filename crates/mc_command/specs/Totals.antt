@@ -14,7 +14,7 @@ standing_of (played.Ended held h found told) = standing_by found
 standing_of (played.NoConnection section) = standing.Other
 standing_of played.NotRun = standing.Other
 standing_of (played.NoCode fault hint) = standing.Other
-standing_of (played.Unsound refusal) = standing.Other
+standing_of (played.Unsound refusal hint) = standing.Other
 standing_of (played.KeyTooLong index) = standing.Other
 
 abbrev pub counts_as : Standing → Played → Bool
@@ -26,7 +26,7 @@ is_overlapped (played.Ended held h found told) = overlaps held.world.notes
 is_overlapped (played.NoConnection section) = false
 is_overlapped played.NotRun = false
 is_overlapped (played.NoCode fault hint) = false
-is_overlapped (played.Unsound refusal) = false
+is_overlapped (played.Unsound refusal hint) = false
 is_overlapped (played.KeyTooLong index) = false
 
 -- how many runs there are, and of how many each is so

@@ -1,12 +1,11 @@
 //! What `check` answers to an input.
-ghost use Rattle.std.specs.Prelude.{◌≡◌, ◌++◌, IfOk, string_bytes};
+ghost use Rattle.std.specs.Prelude.{◌≡◌, IfOk, string_bytes};
 ghost use Rattle.clap.specs.Words.{app_of};
 ghost use Rattle.mc_verify.specs.Checked.{IsChecked};
 ghost use Rattle.mc_command.specs.CheckAnswers as answers;
 ghost use Rattle.mc_command.specs.CommandLine.{check_app};
-ghost use Rattle.mc_command.specs.Soundness as soundness;
 
-use crate::loading::{LoadFault, unsound_text, verify_code};
+use crate::loading::{LoadFault, told_unsound_text, verify_code};
 use crate::refusal::told_refusal_text;
 use crate::refusal_hint::{code_hint, unsound_hint};
 use crate::status::Status;
@@ -82,18 +81,6 @@ pub fn text_of(alloc: Global, answer: &Verification) -> Result<Vec<u8>, AllocErr
             told_refusal_text(alloc, loading::refusal_of(*fault), hint.as_slice())
         }
     }
-}
-
-fn told_unsound_text(
-    alloc: Global,
-    refusal: &mc_verify::Refusal,
-    hint: &[u8],
-) -> Result<Vec<u8>, AllocError>
-    ensures { IfOk result (λ text. text.items ≡ soundness.unsound_text refusal.now ++ hint.now) }
-{
-    let mut text = unsound_text(alloc, refusal)?;
-    text.extend_from_slice(hint)?;
-    Ok(text)
 }
 
 fn accepted_text(alloc: Global, maxima: &Sections<Cost>) -> Result<Vec<u8>, AllocError>

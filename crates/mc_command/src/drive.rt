@@ -10,10 +10,10 @@ ghost use Rattle.mc_command.specs.Refusals as refusals;
 
 use crate::asking::Search;
 use crate::driven_why::driven_why_text;
-use crate::loading::{LoadFault, load_front, unsound_text, verify_code};
+use crate::loading::{LoadFault, load_front, told_unsound_text, verify_code};
 use crate::outcome::{endings_text, status_of_run, verdict_text};
 use crate::refusal::{Place, Refusal, told_refusal_text};
-use crate::refusal_hint::{code_hint, steps_hint};
+use crate::refusal_hint::{code_hint, steps_hint, unsound_hint};
 use crate::status::Status;
 use crate::{asking, limit, loading};
 use clap::Command;
@@ -33,8 +33,8 @@ pub enum Driven {
     Ended(World, u64, Verdict, Vec<u8>),
     /// The text begins with no code. A text says more of the fault, which is empty where that isn't asked for.
     NoCode(LoadFault, Vec<u8>),
-    /// The script's code isn't sound, and this is its least fault.
-    Unsound(mc_verify::Refusal),
+    /// The script's code isn't sound, and this is its least fault. A text says more of it, which is empty where that isn't asked for.
+    Unsound(mc_verify::Refusal, Vec<u8>),
     /// No step list follows the script. A text says more of the fault, which is empty where that isn't asked for.
     NoSteps(StepsFault, Vec<u8>),
 }
@@ -46,7 +46,11 @@ pub fn drive_text(alloc: Global, text: &[u8], how: Search) -> Result<Driven, All
     match load_front(alloc, text)? {
         Ok((code, size)) => match verify_code(alloc, code)? {
             Ok(checked) => drive_steps(alloc, &checked, text, size, how),
-            Err(refusal) => Ok(Driven::Unsound(refusal)),
+            Err(refusal) => {
+                let script = &text[..size.min(text.len())];
+                let hint = unsound_hint(alloc, how.why, script, &refusal)?;
+                Ok(Driven::Unsound(refusal, hint))
+            }
         },
         Err(fault) => {
             let hint = code_hint(alloc, how.why, text, fault)?;
@@ -106,7 +110,7 @@ pub fn text_of(alloc: Global, answer: &Driven) -> Result<Vec<u8>, AllocError>
         Driven::NoCode(fault, hint) => {
             told_refusal_text(alloc, loading::refusal_of(*fault), hint.as_slice())
         }
-        Driven::Unsound(refusal) => unsound_text(alloc, refusal),
+        Driven::Unsound(refusal, hint) => told_unsound_text(alloc, refusal, hint.as_slice()),
         Driven::NoSteps(fault, hint) => {
             told_refusal_text(alloc, refusal_of(*fault), hint.as_slice())
         }
@@ -147,7 +151,7 @@ pub fn status_of(answer: &Driven) -> Status
 {
     match answer {
         Driven::Ended(world, _, verdict, _) => status_of_run(world, verdict),
-        Driven::NoCode(_, _) | Driven::Unsound(_) | Driven::NoSteps(_, _) => Status::Refused,
+        Driven::NoCode(_, _) | Driven::Unsound(_, _) | Driven::NoSteps(_, _) => Status::Refused,
     }
 }
 
@@ -274,9 +278,8 @@ it, as `refused steps 1 Header line 13`:
   2 Line     the line or one of its words may not stand there
   3 TooMany  more than 1,000 steps
   4 Unended  the line `end` is missing
-With `--why` the line of the input follows where the text is no script, or its
-steps are no step list, with a caret under the word that is at fault, and what
-was expected in its place.";
+With `--why` the line of the input follows, with a caret under the word or the
+step that is at fault, and what was expected there.";
 
 const STATUSES: &str = "Exit status:
   0  explained, and all sections are done

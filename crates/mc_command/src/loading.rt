@@ -174,7 +174,7 @@ pub fn verify_code(
 }
 
 /// What is written for code that isn't sound: the refusal, and a run that shows its fault, if runs do.
-pub fn unsound_text(alloc: Global, refusal: &mc_verify::Refusal) -> Result<Vec<u8>, AllocError>
+fn unsound_text(alloc: Global, refusal: &mc_verify::Refusal) -> Result<Vec<u8>, AllocError>
     ensures { IfOk result (λ text. text.items ≡ soundness.unsound_text refusal.now) }
 {
     let mut text = refusal_text(alloc, refusal_of_code(refusal))?;
@@ -186,6 +186,19 @@ pub fn unsound_text(alloc: Global, refusal: &mc_verify::Refusal) -> Result<Vec<u
         | RefusalKind::OutOfMemory => {}
         _ => write_run(refusal.shown.as_slice(), &mut text)?,
     }
+    Ok(text)
+}
+
+/// What is written for code that isn't sound, and the text that says more of it.
+pub fn told_unsound_text(
+    alloc: Global,
+    refusal: &mc_verify::Refusal,
+    hint: &[u8],
+) -> Result<Vec<u8>, AllocError>
+    ensures { IfOk result (λ text. text.items ≡ soundness.unsound_text refusal.now ++ hint.now) }
+{
+    let mut text = unsound_text(alloc, refusal)?;
+    text.extend_from_slice(hint)?;
     Ok(text)
 }
 

@@ -5,12 +5,12 @@ ghost use Rattle.mc_command.specs.RunAnswers as answers;
 use crate::arguments::Target;
 use crate::dial::{Connections, connect_sections};
 use crate::evidence::evidence_of;
-use crate::loading::{LoadFault, load_script, unsound_text, verify_code};
+use crate::loading::{LoadFault, load_script, told_unsound_text, verify_code};
 use crate::meeting::draw_meet;
 use crate::namespace::long_key_text;
 use crate::outcome::{endings_text, status_of_run, verdict_text};
 use crate::refusal::told_refusal_text;
-use crate::refusal_hint::code_hint;
+use crate::refusal_hint::{code_hint, unsound_hint};
 use crate::status::Status;
 use crate::why::{Counted, why_text};
 use crate::{loading, run_options};
@@ -42,8 +42,9 @@ pub enum Played {
     NotRun,
     /// The text has no code. A text says more of the fault, which is empty where that isn't asked for.
     NoCode(LoadFault, Vec<u8>),
-    /// The script's code, or that under the line's name, isn't sound, and this is its least fault.
-    Unsound(mc_verify::Refusal),
+    /// The script's code, or that under the line's name, isn't sound, and this is its least fault. A text says more of it, which is empty
+    /// where that isn't asked for, and under a name.
+    Unsound(mc_verify::Refusal, Vec<u8>),
     /// Under the line's name the key with this index becomes too long.
     KeyTooLong(usize),
 }
@@ -83,7 +84,10 @@ pub fn read_code(
     match load_script(alloc, text)? {
         Ok(code) => match verify_code(alloc, code)? {
             Ok(checked) => Ok(Ok(checked)),
-            Err(refusal) => Ok(Err(Played::Unsound(refusal))),
+            Err(refusal) => {
+                let hint = unsound_hint(alloc, asked, text, &refusal)?;
+                Ok(Err(Played::Unsound(refusal, hint)))
+            }
         },
         Err(fault) => {
             let hint = code_hint(alloc, asked, text, fault)?;
@@ -128,7 +132,7 @@ pub fn put_code_under(
     match put_under(alloc, checked.code(), name) {
         Ok(code) => match verify_code(alloc, code)? {
             Ok(under) => Ok(Ok(under)),
-            Err(refusal) => Ok(Err((Played::Unsound(refusal), Remarks::None))),
+            Err(refusal) => { Ok(Err((Played::Unsound(refusal, Vec::new(alloc)), Remarks::None))) }
         },
         Err(PutFault::KeyTooLong(index)) => {
             let text = long_key_text(
@@ -243,7 +247,7 @@ pub fn text_of(alloc: Global, answer: &Played) -> Result<Vec<u8>, AllocError>
         Played::NoCode(fault, hint) => {
             told_refusal_text(alloc, loading::refusal_of(*fault), hint.as_slice())
         }
-        Played::Unsound(refusal) => unsound_text(alloc, refusal),
+        Played::Unsound(refusal, hint) => told_unsound_text(alloc, refusal, hint.as_slice()),
         Played::KeyTooLong(_) => Ok(Vec::new(alloc)),
     }
 }
@@ -279,7 +283,7 @@ pub fn status_of(answer: &Played) -> Status
     match answer {
         Played::Ended(world, _, verdict, _) => status_of_run(world, verdict),
         Played::NoConnection(_) | Played::NotRun => Status::NoAnswer,
-        Played::NoCode(_, _) | Played::Unsound(_) => Status::Refused,
+        Played::NoCode(_, _) | Played::Unsound(_, _) => Status::Refused,
         Played::KeyTooLong(_) => Status::WrongLine,
     }
 }

@@ -146,8 +146,8 @@ explains the history, counted from its line `history 2`, which is line 1:
 
 Without the reply of line 9 A may have counted to 6, and then B counts to 7.
 `mcrace judge --help` says how to read these lines. With `--why` the refusal of
-a text that is no script is followed by the line of the input, with a caret
-under the word that is at fault, and what was expected in its place.
+a script is followed by the line of the input, with a caret under the word or
+the step that is at fault, and what was expected there.
 
 Standard error tells what came in the place of a reply, and what came after a
 section's last one, at most 200 bytes of it:
