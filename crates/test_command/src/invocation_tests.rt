@@ -33,8 +33,8 @@ static LINES: &[(&[&str], Option<Asked>, Option<&str>)] = &[
         Some("a script or an image"),
     ),
     (
-        &["mcrace", "asm"],
-        Some(Asked::Asm(false)),
+        &["mcrace", "asm", "--why"],
+        Some(Asked::Asm(true)),
         Some("a script"),
     ),
     (
