@@ -101,8 +101,8 @@ mark (Some (b ∷ bs)) = b + 256 * length bs
 -- the name of the subcommand that asks for this
 abbrev pub name_of_asked : Asked → Text
 name_of_asked (asked.Judge limit) = codes "judge"
-name_of_asked asked.Check = codes "check"
-name_of_asked asked.Asm = codes "asm"
+name_of_asked (asked.Check why) = codes "check"
+name_of_asked (asked.Asm why) = codes "asm"
 name_of_asked (asked.Drive limit) = codes "drive"
 name_of_asked (asked.Run limit) = codes "run"
 name_of_asked (asked.Generate seed job) = codes "generate"
@@ -113,8 +113,8 @@ name_of_asked asked.Selftest = codes "selftest"
 pub is_named_by : (command : Option Text) (value : Text → Option Text) (wanted : Asked) → IsAskedBy command value wanted
     → command ≡ Some (name_of_asked wanted)
 is_named_by command value (asked.Judge limit) asks = asks.0
-is_named_by command value asked.Check asks = asks
-is_named_by command value asked.Asm asks = asks
+is_named_by command value (asked.Check why) asks = asks.0
+is_named_by command value (asked.Asm why) asks = asks.0
 is_named_by command value (asked.Drive limit) asks = asks.0
 is_named_by command value (asked.Run limit) asks = asks.0
 is_named_by command value (asked.Generate seed job) asks = asks.0
@@ -139,8 +139,8 @@ line_asks_otherwise words named wanted other asks = asks_otherwise (line_value w
 nothing_judged : (command : Option Text) (value : Text → Option Text) → command ≡ Some (codes "judge")
     → ((limit : ℕ) → IsLimit (value (codes "limit")) limit → ⊥) → (wanted : Asked) → IsAskedBy command value wanted → ⊥
 nothing_judged command value named none (asked.Judge how) asks = none how.limit asks.1.limit
-nothing_judged command value named none asked.Check asks = asks_otherwise value named asked.Check refl asks
-nothing_judged command value named none asked.Asm asks = asks_otherwise value named asked.Asm refl asks
+nothing_judged command value named none (asked.Check why) asks = asks_otherwise value named (asked.Check why) refl asks
+nothing_judged command value named none (asked.Asm why) asks = asks_otherwise value named (asked.Asm why) refl asks
 nothing_judged command value named none (asked.Drive limit) asks = asks_otherwise value named (asked.Drive limit) refl asks
 nothing_judged command value named none (asked.Run limit) asks = asks_otherwise value named (asked.Run limit) refl asks
 nothing_judged command value named none (asked.Generate seed job) asks = asks_otherwise value named (asked.Generate seed job) refl asks
@@ -151,8 +151,8 @@ nothing_judged command value named none asked.Selftest asks = asks_otherwise val
 nothing_driven : (command : Option Text) (value : Text → Option Text) → command ≡ Some (codes "drive")
     → ((limit : ℕ) → IsLimit (value (codes "limit")) limit → ⊥) → (wanted : Asked) → IsAskedBy command value wanted → ⊥
 nothing_driven command value named none (asked.Judge limit) asks = asks_otherwise value named (asked.Judge limit) refl asks
-nothing_driven command value named none asked.Check asks = asks_otherwise value named asked.Check refl asks
-nothing_driven command value named none asked.Asm asks = asks_otherwise value named asked.Asm refl asks
+nothing_driven command value named none (asked.Check why) asks = asks_otherwise value named (asked.Check why) refl asks
+nothing_driven command value named none (asked.Asm why) asks = asks_otherwise value named (asked.Asm why) refl asks
 nothing_driven command value named none (asked.Drive how) asks = none how.limit asks.1.limit
 nothing_driven command value named none (asked.Run limit) asks = asks_otherwise value named (asked.Run limit) refl asks
 nothing_driven command value named none (asked.Generate seed job) asks = asks_otherwise value named (asked.Generate seed job) refl asks
@@ -163,8 +163,8 @@ nothing_driven command value named none asked.Selftest asks = asks_otherwise val
 nothing_run : (command : Option Text) (value : Text → Option Text) → command ≡ Some (codes "run")
     → ((limit : ℕ) → IsLimit (value (codes "limit")) limit × AreRunWords value → ⊥) → (wanted : Asked) → IsAskedBy command value wanted → ⊥
 nothing_run command value named none (asked.Judge limit) asks = asks_otherwise value named (asked.Judge limit) refl asks
-nothing_run command value named none asked.Check asks = asks_otherwise value named asked.Check refl asks
-nothing_run command value named none asked.Asm asks = asks_otherwise value named asked.Asm refl asks
+nothing_run command value named none (asked.Check why) asks = asks_otherwise value named (asked.Check why) refl asks
+nothing_run command value named none (asked.Asm why) asks = asks_otherwise value named (asked.Asm why) refl asks
 nothing_run command value named none (asked.Drive limit) asks = asks_otherwise value named (asked.Drive limit) refl asks
 nothing_run command value named none (asked.Run how) asks = none how.limit (asks.1.limit, asks.2)
 nothing_run command value named none (asked.Generate seed job) asks = asks_otherwise value named (asked.Generate seed job) refl asks
@@ -175,8 +175,8 @@ nothing_run command value named none asked.Selftest asks = asks_otherwise value 
 nothing_generated : (command : Option Text) (value : Text → Option Text) → command ≡ Some (codes "generate")
     → ((seed : ℕ) (job : ℕ) → IsSeed (value (codes "seed")) seed × IsJob (value (codes "job")) job → ⊥) → (wanted : Asked) → IsAskedBy command value wanted → ⊥
 nothing_generated command value named none (asked.Judge limit) asks = asks_otherwise value named (asked.Judge limit) refl asks
-nothing_generated command value named none asked.Check asks = asks_otherwise value named asked.Check refl asks
-nothing_generated command value named none asked.Asm asks = asks_otherwise value named asked.Asm refl asks
+nothing_generated command value named none (asked.Check why) asks = asks_otherwise value named (asked.Check why) refl asks
+nothing_generated command value named none (asked.Asm why) asks = asks_otherwise value named (asked.Asm why) refl asks
 nothing_generated command value named none (asked.Drive limit) asks = asks_otherwise value named (asked.Drive limit) refl asks
 nothing_generated command value named none (asked.Run limit) asks = asks_otherwise value named (asked.Run limit) refl asks
 nothing_generated command value named none (asked.Generate seed job) asks = none seed job (asks.1, asks.2)
@@ -188,8 +188,8 @@ nothing_served : (command : Option Text) (value : Text → Option Text) → comm
     → ((service : Service) → IsPort (value (codes "port")) service.port × IsConnections (value (codes "connections")) service.connections → ⊥)
     → (wanted : Asked) → IsAskedBy command value wanted → ⊥
 nothing_served command value named none (asked.Judge limit) asks = asks_otherwise value named (asked.Judge limit) refl asks
-nothing_served command value named none asked.Check asks = asks_otherwise value named asked.Check refl asks
-nothing_served command value named none asked.Asm asks = asks_otherwise value named asked.Asm refl asks
+nothing_served command value named none (asked.Check why) asks = asks_otherwise value named (asked.Check why) refl asks
+nothing_served command value named none (asked.Asm why) asks = asks_otherwise value named (asked.Asm why) refl asks
 nothing_served command value named none (asked.Drive limit) asks = asks_otherwise value named (asked.Drive limit) refl asks
 nothing_served command value named none (asked.Run limit) asks = asks_otherwise value named (asked.Run limit) refl asks
 nothing_served command value named none (asked.Generate seed job) asks = asks_otherwise value named (asked.Generate seed job) refl asks
@@ -200,8 +200,8 @@ nothing_served command value named none asked.Selftest asks = asks_otherwise val
 nothing_reported : (command : Option Text) (value : Text → Option Text) → command ≡ Some (codes "campaign")
     → ((plan : Plan) → IsPlan value plan × AreCampaignWords value → ⊥) → (wanted : Asked) → IsAskedBy command value wanted → ⊥
 nothing_reported command value named none (asked.Judge limit) asks = asks_otherwise value named (asked.Judge limit) refl asks
-nothing_reported command value named none asked.Check asks = asks_otherwise value named asked.Check refl asks
-nothing_reported command value named none asked.Asm asks = asks_otherwise value named asked.Asm refl asks
+nothing_reported command value named none (asked.Check why) asks = asks_otherwise value named (asked.Check why) refl asks
+nothing_reported command value named none (asked.Asm why) asks = asks_otherwise value named (asked.Asm why) refl asks
 nothing_reported command value named none (asked.Drive limit) asks = asks_otherwise value named (asked.Drive limit) refl asks
 nothing_reported command value named none (asked.Run limit) asks = asks_otherwise value named (asked.Run limit) refl asks
 nothing_reported command value named none (asked.Generate seed job) asks = asks_otherwise value named (asked.Generate seed job) refl asks

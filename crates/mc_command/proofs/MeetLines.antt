@@ -6,7 +6,8 @@ use Rattle.clap.specs.Walk.{Held, Text, Walk, settled}
 use Rattle.clap.proofs.OnLiterals.{clap_on_literals}
 use Rattle.mc_command.proofs.Line.{line_asks_otherwise}
 use Rattle.mc_command.proofs.OptionValue.{IsNoFlag, value_walked, value_has_no_fault}
-use Rattle.mc_command.proofs.PlainLines.{name_is_no_flag, no_word_is_no_name, no_word_is_no_spread, no_word_is_no_time}
+use Rattle.mc_command.proofs.NoWords.{no_word_is_no_name, no_word_is_no_spread, no_word_is_no_time}
+use Rattle.mc_command.proofs.PlainLines.{name_is_no_flag}
 use Rattle.mc_command.proofs.RepeatWords.{once_is_right}
 use Rattle.mc_command.proofs.RunLines.{run_shape, server_taken, takes_server, takes_it_without_faults, end_of, found_after, faults_after, faults_at}
 use Rattle.mc_command.specs.Command.{AsksFor, IsFaulty, IsMeeting, NamesMeeting, meeting_word}
@@ -238,8 +239,8 @@ found_asks words server word found wanted is = (
 
 found_is_faulty : (words : List Text) (server : Text) (word : Text) → Found words server word → (NamesMeeting (Some word) → ⊥) → IsFaulty words
 found_is_faulty words server word found none (asked.Judge how) asks = line_asks_otherwise words found.named (asked.Judge how) refl asks
-found_is_faulty words server word found none asked.Check asks = line_asks_otherwise words found.named asked.Check refl asks
-found_is_faulty words server word found none asked.Asm asks = line_asks_otherwise words found.named asked.Asm refl asks
+found_is_faulty words server word found none (asked.Check why) asks = line_asks_otherwise words found.named (asked.Check why) refl asks
+found_is_faulty words server word found none (asked.Asm why) asks = line_asks_otherwise words found.named (asked.Asm why) refl asks
 found_is_faulty words server word found none (asked.Drive limit) asks = line_asks_otherwise words found.named (asked.Drive limit) refl asks
 found_is_faulty words server word found none (asked.Generate seed job) asks = line_asks_otherwise words found.named (asked.Generate seed job) refl asks
 found_is_faulty words server word found none (asked.Serve service) asks = line_asks_otherwise words found.named (asked.Serve service) refl asks

@@ -1,10 +1,11 @@
 -- The lines that are mostly written: what clap finds in them, and that they ask for what they say.
-use Rattle.std.proofs.Common.{Bool, ℕ, suc, ◌+◌, ◌^◌, ◌≤◌}
-use Rattle.std.proofs.Common.{refl, sym, arith, ap, inl, inr, codes, true, false, List, [], ◌∷◌, ◌++◌, ◌≡◌, ◌<◌, ◌∙◌, ◌==◌, Option, Some, None}
+use Rattle.std.proofs.Common.{Bool, ℕ}
+use Rattle.std.proofs.Common.{refl, arith, ap, inl, inr, codes, true, false, List, [], ◌∷◌, ◌++◌, ◌≡◌, ◌∙◌, ◌==◌, Option, Some, None}
 use Rattle.clap.proofs.OnLiterals.{clap_on_literals}
 use Rattle.mc_protocol.specs.Decimals.{SpellsNumber, are_digits, is_digit}
 use Rattle.clap.specs.Words.{Text}
-use Rattle.mc_command.proofs.CampaignLines as campaign
+use Rattle.mc_command.proofs.CampaignAsks.{campaign_asks}
+use Rattle.mc_command.proofs.NoWords.{no_word_is_drawn, no_word_is_no_name, no_word_is_no_spread, no_word_is_no_time}
 use Rattle.mc_command.proofs.RunLines as run
 use Rattle.mc_command.proofs.RepeatWords.{once_is_right}
 use Rattle.mc_command.proofs.RunLines.{NoRunWords}
@@ -13,40 +14,65 @@ use Rattle.mc_command.proofs.LimitLines as limited
 use Rattle.mc_command.proofs.LimitLines.{TakesLimit, drive_takes_limit, judge_takes_limit}
 use Rattle.mc_command.proofs.OptionValue.{IsNoFlag, no_flag}
 use Rattle.mc_command.specs.declared.arguments.Asked.TheVariants as asked
-use Rattle.mc_campaign.specs.declared.meeting.Meeting.TheVariants as meeting
-use Rattle.mc_command.specs.declared.campaign.Plan.{Plan}
 use Rattle.mc_command.specs.declared.asking.Search.{Search}
 use Rattle.mc_command.specs.declared.serve.Service.{Service}
-use Rattle.mc_command.specs.Command.{AreCampaignWords, AreRunWords, AsksFor, IsConnections, IsLimit, MayBeSpread, MayBeTime}
-use Rattle.mc_command.specs.Command.{MayName, NamesMeeting, WhyIsShown, is_set}
-use Rattle.mc_command.specs.CommandLine.{DEFAULT_FIRST, DEFAULT_JOBS, DEFAULT_LIMIT, DEFAULT_SEED, DEFAULT_TRIES, DEFAULT_WORKERS}
+use Rattle.mc_command.specs.Command.{AreRunWords, AsksFor, IsConnections, IsLimit, is_set}
 use Rattle.mc_command.specs.CommandLine.{line_command, line_faults, line_limit, line_value}
-use Rattle.mc_command.specs.LineLaws.{IsName, NamesJob, NamesLimit, NamesPlan, NamesSearch, NamesService, plain_search}
+use Rattle.mc_command.specs.LineLaws.{IsName, NamesJob, NamesLimit, NamesRefusals, NamesSearch, NamesService, plain_search}
 use Rattle.mc_command.specs.LineLaws.{PlainLinesAsk}
-use Rattle.mc_command.specs.Untils.{AreUntilWords, until_in}
-use Rattle.std.specs.Prelude.{is_some}
-use Rattle.std.proofs.lemmas.Bool.{false≢true, ne_eqb}
+use Rattle.std.proofs.lemmas.Bool.{ne_eqb}
 use Rattle.std.proofs.lemmas.Grind.{common_steps}
 
--- ---- `check`
+-- ---- `check` and `asm`
 
-check_has_no_faults : (program : List ℕ) → line_faults (program ∷ codes "check" ∷ []) ≡ []
-unfolding line_faults clap_on_literals
-check_has_no_faults program = refl
+module _ (program : List ℕ) where
+  check_has_no_faults : line_faults (program ∷ codes "check" ∷ []) ≡ []
+  unfolding line_faults clap_on_literals
+  check_has_no_faults = refl
 
-check_is_named : (program : List ℕ) → line_command (program ∷ codes "check" ∷ []) ≡ Some (codes "check")
-unfolding line_command clap_on_literals
-check_is_named program = refl
+  check_is_named : line_command (program ∷ codes "check" ∷ []) ≡ Some (codes "check")
+  unfolding line_command clap_on_literals
+  check_is_named = refl
 
--- ---- `asm`
+  check_is_calm : line_value (program ∷ codes "check" ∷ []) (codes "why") ≡ Some (codes "false")
+  unfolding line_value clap_on_literals
+  check_is_calm = refl
 
-asm_has_no_faults : (program : List ℕ) → line_faults (program ∷ codes "asm" ∷ []) ≡ []
-unfolding line_faults clap_on_literals
-asm_has_no_faults program = refl
+  check_why_has_no_faults : line_faults (program ∷ codes "check" ∷ codes "--why" ∷ []) ≡ []
+  unfolding line_faults clap_on_literals
+  check_why_has_no_faults = refl
 
-asm_is_named : (program : List ℕ) → line_command (program ∷ codes "asm" ∷ []) ≡ Some (codes "asm")
-unfolding line_command clap_on_literals
-asm_is_named program = refl
+  check_why_is_named : line_command (program ∷ codes "check" ∷ codes "--why" ∷ []) ≡ Some (codes "check")
+  unfolding line_command clap_on_literals
+  check_why_is_named = refl
+
+  check_why_asks : line_value (program ∷ codes "check" ∷ codes "--why" ∷ []) (codes "why") ≡ Some (codes "true")
+  unfolding line_value clap_on_literals
+  check_why_asks = refl
+
+  asm_has_no_faults : line_faults (program ∷ codes "asm" ∷ []) ≡ []
+  unfolding line_faults clap_on_literals
+  asm_has_no_faults = refl
+
+  asm_is_named : line_command (program ∷ codes "asm" ∷ []) ≡ Some (codes "asm")
+  unfolding line_command clap_on_literals
+  asm_is_named = refl
+
+  asm_is_calm : line_value (program ∷ codes "asm" ∷ []) (codes "why") ≡ Some (codes "false")
+  unfolding line_value clap_on_literals
+  asm_is_calm = refl
+
+  asm_why_has_no_faults : line_faults (program ∷ codes "asm" ∷ codes "--why" ∷ []) ≡ []
+  unfolding line_faults clap_on_literals
+  asm_why_has_no_faults = refl
+
+  asm_why_is_named : line_command (program ∷ codes "asm" ∷ codes "--why" ∷ []) ≡ Some (codes "asm")
+  unfolding line_command clap_on_literals
+  asm_why_is_named = refl
+
+  asm_why_asks : line_value (program ∷ codes "asm" ∷ codes "--why" ∷ []) (codes "why") ≡ Some (codes "true")
+  unfolding line_value clap_on_literals
+  asm_why_asks = refl
 
 -- ---- `generate`
 
@@ -132,18 +158,6 @@ names_limit name takes program others limit (inr (number, spells, inr joined)) =
 
 pub name_is_no_flag : (server : List ℕ) → IsName server → IsNoFlag server
 name_is_no_flag server (first, others, is, other) = rw is (no_flag first others other)
-
-no_word_is_drawn : {word : Option (List ℕ)} → word ≡ None → NamesMeeting word
-no_word_is_drawn is = rw is (meeting.Drawn, refl)
-
-pub no_word_is_no_name : {word : Option (List ℕ)} → word ≡ None → MayName word
-no_word_is_no_name is = rw is tt
-
-pub no_word_is_no_time : {word : Option (List ℕ)} → word ≡ None → MayBeTime word
-no_word_is_no_time is = rw is tt
-
-pub no_word_is_no_spread : {word : Option (List ℕ)} → word ≡ None → MayBeSpread word
-no_word_is_no_spread is = rw is tt
 
 pub no_words_are_right : {value : Text → Option Text} → NoRunWords value → AreRunWords value
 no_words_are_right none = record {
@@ -256,23 +270,19 @@ drive_searches program others how (inr (alone, unlimited, asking)) =
       ),
     )
 
-no_campaign_words_are_right : {value : Text → Option Text} → campaign.NoWords value → AreCampaignWords value
-no_campaign_words_are_right none = record {
-  meeting = no_word_is_drawn none.meeting;
-  timeout = no_word_is_no_time none.timeout;
-  wait = no_word_is_no_time none.wait;
-  spread = no_word_is_no_spread none.spread;
-}
+check_asks : (program : List ℕ) (others : List (List ℕ)) (why : Bool) → NamesRefusals others why
+    → AsksFor (program ∷ codes "check" ∷ others) (asked.Check why)
+check_asks program others why (inl (none, calm)) =
+    rw none (check_has_no_faults program, (check_is_named program, rw (check_is_calm program) calm))
+check_asks program others why (inr (alone, asking)) =
+    rw alone (check_why_has_no_faults program, (check_why_is_named program, rw (check_why_asks program) asking))
 
-no_bounds_are_right : {value : Text → Option Text} → campaign.NoWords value → AreUntilWords value
-no_bounds_are_right none = record {
-  time = rw none.time tt;
-  unexplained = rw none.stop_after tt;
-  apart = λ given. absurd (false≢true (ap is_some (sym none.time) ∙ given));
-}
-
-no_bounds_are_none : {value : Text → Option Text} → campaign.NoWords value → None ≡ until_in value
-no_bounds_are_none none = rw (none.time, none.stop_after) refl
+asm_asks : (program : List ℕ) (others : List (List ℕ)) (why : Bool) → NamesRefusals others why
+    → AsksFor (program ∷ codes "asm" ∷ others) (asked.Asm why)
+asm_asks program others why (inl (none, calm)) =
+    rw none (asm_has_no_faults program, (asm_is_named program, rw (asm_is_calm program) calm))
+asm_asks program others why (inr (alone, asking)) =
+    rw alone (asm_why_has_no_faults program, (asm_why_is_named program, rw (asm_why_asks program) asking))
 
 generate_asks : (program : List ℕ) (others : List (List ℕ)) (seed : ℕ) (job : ℕ) → NamesJob others seed job
     → AsksFor (program ∷ codes "generate" ∷ others) (asked.Generate seed job)
@@ -319,90 +329,10 @@ serve_asks program port others service spells (named, inr (number, are, is), inr
     rw (racing.0 ∙ ap (λ n. n ++ codes "--racy" ∷ []) is)
     (serve_found service (serve.limited_racing program port plain number) spells are racing.1)
 
--- a default that is no zero
-some : {n : ℕ} {m : ℕ} → n ≡ suc m → 0 < n
-some is = omega (arith, is)
-
--- the last of at most 10,000 jobs from 0 on has a number of 64 bits
-last_is_small : (first : ℕ) (jobs : ℕ) → first ≡ 0 → jobs ≤ 10000 → first + jobs ≤ 2 ^ 64
-last_is_small first jobs zero few = omega (arith, zero, few)
-
-default_is_few : (jobs : ℕ) → jobs ≡ 100 → jobs ≤ 10000
-default_is_few jobs is = omega (arith, is)
-
--- a flag that isn't there needs no other
-not_asked : {words : List (List ℕ)} {seed jobs workers : Option Text} {brief : Bool} → campaign.Found words seed jobs workers brief
-    → WhyIsShown (line_value words)
-not_asked found set = absurd (false≢true (sym found.unasked ∙ set))
-
--- what clap finds in a line of `campaign` is what it asks for
-campaign_found : {words : List (List ℕ)} {brief : Bool} (plan : Plan) → campaign.Found words None None None brief
-    → plan.limit ≡ DEFAULT_LIMIT → plan.first ≡ DEFAULT_FIRST → plan.show ≡ false → plan.why ≡ false → plan.tries ≡ DEFAULT_TRIES
-    → plan.until ≡ None → plan.seed ≡ DEFAULT_SEED → plan.jobs ≡ DEFAULT_JOBS → plan.workers ≡ DEFAULT_WORKERS → plan.brief ≡ brief
-    → AsksFor words (asked.Campaign plan)
-campaign_found plan found limit first show why tries until seed jobs workers brief = (
-  found.right,
-  (
-    found.named,
-    record {
-      seed = rw found.seed_is seed;
-      first = rw found.from_zero first;
-      jobs = rw found.words_are.time (rw found.jobs_are jobs, some jobs);
-      workers = (rw found.workers_are workers, some workers);
-      limit = rw found.unlimited limit;
-      last = last_is_small plan.first plan.jobs first (default_is_few plan.jobs jobs);
-      name = rw found.words_are.name tt;
-      keys = rw found.words_are.name tt;
-      brief = brief ∙ sym found.brief_is;
-      show = show ∙ sym found.hidden;
-      why = why ∙ sym found.unasked;
-      shown = not_asked found;
-      tries = (rw found.tried_once tries, some tries);
-      bounds = no_bounds_are_right found.words_are;
-      until = until ∙ no_bounds_are_none found.words_are;
-    },
-    no_campaign_words_are_right found.words_are,
-  ),
-)
-
-campaign_asks : (program : List ℕ) (server : List ℕ) (others : List (List ℕ)) (plan : Plan) → IsNoFlag server → NamesPlan others plan
-    → AsksFor (program ∷ codes "campaign" ∷ server ∷ others) (asked.Campaign plan)
-campaign_asks program server others plan plain (limit, first, show, why, tries, until, inl (seed, jobs, workers, inl (none, whole))) =
-    rw none (campaign_found plan (campaign.alone program server plain) limit first show why tries until seed jobs workers whole)
-campaign_asks program server others plan plain (limit, first, show, why, tries, until, inl (seed, jobs, workers, inr (is, brief))) =
-    rw is (campaign_found plan (campaign.brief program server plain) limit first show why tries until seed jobs workers brief)
-campaign_asks program server others plan plain
-    (limit, first, show, why, tries, until, inr (seed, jobs, workers, is_seed, is_jobs, some_jobs, is_workers, some_workers, whole, is)) =
-    let found = campaign.numbered program server plain seed jobs workers in
-    rw is (
-      found.right,
-      (
-        found.named,
-        record {
-          seed = rw found.seed_is is_seed;
-          first = rw found.from_zero first;
-          jobs = rw found.words_are.time (rw found.jobs_are is_jobs, some_jobs);
-          workers = (rw found.workers_are is_workers, some_workers);
-          limit = rw found.unlimited limit;
-          last = last_is_small plan.first plan.jobs first is_jobs.small;
-          name = rw found.words_are.name tt;
-          keys = rw found.words_are.name tt;
-          brief = whole ∙ sym found.brief_is;
-          show = show ∙ sym found.hidden;
-          why = why ∙ sym found.unasked;
-          shown = not_asked found;
-          tries = (rw found.tried_once tries, some tries);
-          bounds = no_bounds_are_right found.words_are;
-          until = until ∙ no_bounds_are_none found.words_are;
-        },
-        no_campaign_words_are_right found.words_are,
-      ),
-    )
-
 pub plain_lines_ask : PlainLinesAsk
 plain_lines_ask words (asked.Judge how) (program, others, is, names) = rw is (judge_searches program others how names)
-plain_lines_ask words asked.Check (program, is) = rw is (check_has_no_faults program, check_is_named program)
-plain_lines_ask words asked.Asm (program, is) = rw is (asm_has_no_faults program, asm_is_named program)
+plain_lines_ask words (asked.Check why) (program, others, is, names) = rw is (check_asks program others why names)
+plain_lines_ask words (asked.Asm why) (program, others, is, names) = rw is (asm_asks program others why names)
 plain_lines_ask words (asked.Drive how) (program, others, is, names) = rw is (drive_searches program others how names)
 plain_lines_ask words (asked.Run how) (program, server, others, is, names, searches) =
     rw is (run_searches program server others how (name_is_no_flag server names) searches)

@@ -27,8 +27,8 @@ signed_limits_are_faulty program name sign number (inl judge) other wanted asks 
     signed_judge : (wanted : Asked) → AsksFor (signed_line program (codes "judge") sign number) wanted → ⊥
     signed_judge (asked.Judge how) asks =
         signed_is_none sign number how.limit other (rw (judge_takes_limit.joined_has_limit program (sign ∷ number)) at asks.1.1.limit)
-    signed_judge asked.Check asks = line_asks_otherwise (signed_line program (codes "judge") sign number) named asked.Check refl asks
-    signed_judge asked.Asm asks = line_asks_otherwise (signed_line program (codes "judge") sign number) named asked.Asm refl asks
+    signed_judge (asked.Check why) asks = line_asks_otherwise (signed_line program (codes "judge") sign number) named (asked.Check why) refl asks
+    signed_judge (asked.Asm why) asks = line_asks_otherwise (signed_line program (codes "judge") sign number) named (asked.Asm why) refl asks
     signed_judge (asked.Drive limit) asks =
         line_asks_otherwise (signed_line program (codes "judge") sign number) named (asked.Drive limit) refl asks
     signed_judge (asked.Run limit) asks =
@@ -48,8 +48,8 @@ signed_limits_are_faulty program name sign number (inr drive) other wanted asks 
     signed_drive : (wanted : Asked) → AsksFor (signed_line program (codes "drive") sign number) wanted → ⊥
     signed_drive (asked.Judge limit) asks =
         line_asks_otherwise (signed_line program (codes "drive") sign number) named (asked.Judge limit) refl asks
-    signed_drive asked.Check asks = line_asks_otherwise (signed_line program (codes "drive") sign number) named asked.Check refl asks
-    signed_drive asked.Asm asks = line_asks_otherwise (signed_line program (codes "drive") sign number) named asked.Asm refl asks
+    signed_drive (asked.Check why) asks = line_asks_otherwise (signed_line program (codes "drive") sign number) named (asked.Check why) refl asks
+    signed_drive (asked.Asm why) asks = line_asks_otherwise (signed_line program (codes "drive") sign number) named (asked.Asm why) refl asks
     signed_drive (asked.Drive how) asks =
         signed_is_none sign number how.limit other (rw (drive_takes_limit.joined_has_limit program (sign ∷ number)) at asks.1.1.limit)
     signed_drive (asked.Run limit) asks =

@@ -1,5 +1,5 @@
 -- What the definition of a line says of the lines that are mostly written, and of any line.
-use Rattle.std.specs.Prelude.{◌≡◌, ◌<◌, ◌⊎◌, ◌==◌, ℕ, true, false, None, Some, List, [], ◌∷◌, ◌++◌, codes}
+use Rattle.std.specs.Prelude.{◌≡◌, ◌<◌, ◌⊎◌, ◌==◌, ℕ, Bool, true, false, None, Some, List, [], ◌∷◌, ◌++◌, codes}
 use Rattle.mc_protocol.specs.Decimals.{MAX_64, SpellsNumber, is_digit}
 use Rattle.mc_command.specs.Command.{AsksFor, IsFaulty, IsMeeting, MayTell, NamesMeeting, meeting_word}
 use Rattle.mc_command.specs.CommandLine.{DEFAULT_CONNECTIONS, DEFAULT_FIRST, DEFAULT_JOB, DEFAULT_JOBS, DEFAULT_LIMIT, DEFAULT_SEED}
@@ -56,18 +56,24 @@ NamesPlan words plan = (plan.limit ≡ DEFAULT_LIMIT) × (plan.first ≡ DEFAULT
     × SpellsNumber GREATEST_WORKERS workers plan.workers × (0 < plan.workers) × (plan.brief ≡ false)
     × (words ≡ (codes "--seed=" ++ seed) ∷ (codes "--jobs=" ++ jobs) ∷ (codes "--workers=" ++ workers) ∷ [])))
 
+-- the words after `check` or `asm` say whether the line of a refusal is shown: there are none, or `--why` alone
+abbrev pub NamesRefusals : List (List ℕ) → Bool → Type 0
+NamesRefusals words why = ((words ≡ []) × (why ≡ false)) ⊎ ((words ≡ codes "--why" ∷ []) × (why ≡ true))
+
 -- the word is no option, and not empty
 abbrev pub IsName : List ℕ → Type 0
 IsName word = (first : ℕ) × (others : List ℕ) × (word ≡ first ∷ others) × ((first == 45) ≡ false)
 
 -- the words are the program's name, a subcommand, the name of a server after `run`, and words that name the search of `judge`, `drive` and
--- `run`, or the seed and the job of `generate`; or a port after `serve`, and words that name its connections; or the name of a server after
+-- `run`, the refusals of `check` and `asm`, or the seed and the job of `generate`; or a port after `serve`, and words that name its connections; or the name of a server after
 -- `campaign`, and words that name its jobs
 abbrev pub IsPlainLine : List (List ℕ) → Asked → Type 0
 IsPlainLine words (asked.Judge how) =
     (program : List ℕ) × (others : List (List ℕ)) × (words ≡ program ∷ codes "judge" ∷ others) × NamesSearch others how
-IsPlainLine words (asked.Check why) = (program : List ℕ) × (why ≡ false) × (words ≡ program ∷ codes "check" ∷ [])
-IsPlainLine words (asked.Asm why) = (program : List ℕ) × (why ≡ false) × (words ≡ program ∷ codes "asm" ∷ [])
+IsPlainLine words (asked.Check why) =
+    (program : List ℕ) × (others : List (List ℕ)) × (words ≡ program ∷ codes "check" ∷ others) × NamesRefusals others why
+IsPlainLine words (asked.Asm why) =
+    (program : List ℕ) × (others : List (List ℕ)) × (words ≡ program ∷ codes "asm" ∷ others) × NamesRefusals others why
 IsPlainLine words (asked.Drive how) =
     (program : List ℕ) × (others : List (List ℕ)) × (words ≡ program ∷ codes "drive" ∷ others) × NamesSearch others how
 IsPlainLine words (asked.Run how) = (program : List ℕ) × (server : List ℕ) × (others : List (List ℕ))

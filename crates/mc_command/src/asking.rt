@@ -20,8 +20,8 @@ pub struct Search {
 
 const HELP: &str = "Say from which line on it is unexplained, or which word is refused";
 
-/// What help tells of the flag where no explanation is searched for.
-pub const REFUSED_HELP: &str = "Show the line for which a script is refused";
+// What help tells of the flag where no explanation is searched for.
+const REFUSED_HELP: &str = "Show the line for which a script is refused";
 
 /// The flag.
 pub fn flag<'a>(alloc: Global) -> Arg<'a>
@@ -32,6 +32,14 @@ pub fn flag<'a>(alloc: Global) -> Arg<'a>
         .long("why")
         .action(ArgAction::SetTrue)
         .help(HELP)
+}
+
+/// The flag, of a subcommand that searches for no explanation.
+pub fn refusal_flag<'a>(alloc: Global) -> Arg<'a>
+    ensures rule { rule_of result ≡ why_rule }
+    ensures local { result.global ≡ false }
+{
+    flag(alloc).help(REFUSED_HELP)
 }
 
 /// Whether the flag is there.

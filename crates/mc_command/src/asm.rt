@@ -173,5 +173,5 @@ pub fn subcommand<'a>(alloc: Global) -> Result<Command<'a>, AllocError>
         .long_about(LONG_ABOUT)
         .override_usage(USAGE)
         .after_help(STATUSES)
-        .arg(asking::flag(alloc).help(asking::REFUSED_HELP))
+        .arg(asking::refusal_flag(alloc))
 }

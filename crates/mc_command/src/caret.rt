@@ -39,6 +39,37 @@ pub fn find_spot<'a>(text: &'a [u8], separator: Separator, number: u32, index: u
     }
 }
 
+/// The place of the only word of the line with this number that begins with this byte; that of its first word, where none or more than
+/// one does.
+pub fn find_mark<'a>(text: &'a [u8], separator: Separator, number: u32, mark: u8) -> Spot<'a> {
+    let index = match line_of(text, separator, number) {
+        Some(line) => index_of_mark(separator, line, mark),
+        None => None,
+    };
+    find_spot(text, separator, number, index.unwrap_or(0))
+}
+
+// The index of the only word of the line that begins with this byte.
+fn index_of_mark(separator: Separator, line: &[u8], mark: u8) -> Option<usize> {
+    let mut found = None;
+    let mut index: usize = 0;
+    let mut inside = false;
+    'bytes: for byte in line {
+        let separates = separator.separates(*byte);
+        if !separates && !inside {
+            if *byte == mark {
+                if found.is_some() {
+                    return None;
+                }
+                found = Some(index);
+            }
+            index = index.saturating_add(1);
+        }
+        inside = !separates;
+    }
+    found
+}
+
 // The line with this number, if it is there and counts.
 fn line_of<'a>(text: &'a [u8], separator: Separator, number: u32) -> Option<&'a [u8]> {
     let mut lines = Lines::new(text, separator);
@@ -112,9 +143,14 @@ impl<'a> Spot<'a> {
         self.word
     }
 
+    /// The bytes of the line.
+    pub fn line(&self) -> &'a [u8] {
+        self.line
+    }
+
     /// The line, and below it a caret under the word, and the sentence. Nothing of it is wider than 80 columns, if no word of the
     /// sentence is.
-    pub fn text(&self, alloc: Global, sentence: &str) -> Result<Vec<u8>, AllocError> {
+    pub fn text(&self, alloc: Global, sentence: &[u8]) -> Result<Vec<u8>, AllocError> {
         let number = self.number;
         let front = format!(in alloc; "{number} |")?;
         let margin = margin_below(alloc, front.len())?;
@@ -126,7 +162,7 @@ impl<'a> Spot<'a> {
         out.push(b'^')?;
         if column.saturating_add(sentence.len()).saturating_add(2) <= room {
             out.push(b' ')?;
-            out.extend_from_slice(sentence.as_bytes())?;
+            out.extend_from_slice(sentence)?;
         } else {
             append_folded(&mut out, margin.as_slice(), room, sentence)?;
         }
@@ -146,7 +182,7 @@ impl<'a> Spot<'a> {
         }
         // Where both sides are wide the caret stands in the middle.
         let column = append_head(out, head, before, room.saturating_sub(after.min(room / 2)))?;
-        append_tail(out, tail, room.saturating_sub(column))?;
+        append_cut(out, tail, room.saturating_sub(column))?;
         out.push(b'\n')?;
         Ok(column)
     }
@@ -194,22 +230,22 @@ fn append_head(
     Ok(column.saturating_add(CUT.len()))
 }
 
-// Appends what stands from the caret on, cut at its end where it is wider than `room`.
-fn append_tail(out: &mut Vec<u8>, tail: &[u8], room: usize) -> Result<(), AllocError> {
-    if columns_of(tail) <= room {
-        return append_shown(out, tail);
+/// Appends the bytes as they are shown, cut at their end where they are wider than `room`.
+pub fn append_cut(out: &mut Vec<u8>, bytes: &[u8], room: usize) -> Result<(), AllocError> {
+    if columns_of(bytes) <= room {
+        return append_shown(out, bytes);
     }
     let room = room.saturating_sub(CUT.len());
     let mut used: usize = 0;
     let mut count: usize = 0;
-    'bytes: for byte in tail {
+    'bytes: for byte in bytes {
         used = used.saturating_add(columns(*byte));
         if used > room {
             break;
         }
         count = count.saturating_add(1);
     }
-    let (shown, _) = tail.split_at(count.min(tail.len()));
+    let (shown, _) = bytes.split_at(count.min(bytes.len()));
     append_shown(out, shown)?;
     out.extend_from_slice(CUT)
 }
@@ -219,11 +255,11 @@ fn append_folded(
     out: &mut Vec<u8>,
     margin: &[u8],
     room: usize,
-    sentence: &str,
+    sentence: &[u8],
 ) -> Result<(), AllocError> {
     // How many columns the line has that was begun; the caret's is full.
     let mut used = room;
-    'words: for word in sentence.as_bytes().split(|byte| *byte == b' ') {
+    'words: for word in sentence.split(|byte| *byte == b' ') {
         used = used.saturating_add(1).saturating_add(word.len());
         if used > room {
             out.push(b'\n')?;

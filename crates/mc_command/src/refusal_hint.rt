@@ -5,11 +5,11 @@ ghost use Rattle.mc_command.specs.Refusals as refusals;
 use crate::caret::find_spot;
 use crate::history_sentences::history_sentence;
 use crate::loading::LoadFault;
-use crate::script_sentences::{script_sentence, unsound_sentence};
-use mc_code::step_at;
+use crate::script_sentences::script_sentence;
+use crate::unsound_hint::unsound_lines;
 use mc_history::{HistoryFault, Misread, StepsFault};
 use mc_protocol::Separator;
-use mc_script::{ScriptFault, ScriptKind, parse_lines};
+use mc_script::ScriptFault;
 use std::alloc::{AllocError, Global};
 
 /// What stands after the refusal of a text that is no history.
@@ -60,8 +60,7 @@ pub fn code_hint(
     }
 }
 
-/// What stands after the refusal of an input whose code isn't sound: the line of the step. It is empty for an image, and where the place is
-/// no step's: before P's steps stand the deletes of the keys.
+/// What stands after the refusal of an input whose code isn't sound. It is empty for an image.
 pub fn unsound_hint(
     alloc: Global,
     asked: bool,
@@ -70,38 +69,11 @@ pub fn unsound_hint(
 ) -> Result<Vec<u8>, AllocError>
     ensures { IfOk result (λ hint. refusals.IsHint asked hint.items) }
 {
-    if !asked {
-        return Ok(Vec::new(alloc));
+    if asked {
+        unsound_lines(alloc, text, refusal)
+    } else {
+        Ok(Vec::new(alloc))
     }
-    match (
-        line_of_step(alloc, text, refusal)?,
-        unsound_sentence(refusal.kind),
-    ) {
-        (Some(line), Some(sentence)) => {
-            find_spot(text, Separator::SpaceOrTab, line, 0).text(alloc, sentence)
-        }
-        _ => Ok(Vec::new(alloc)),
-    }
-}
-
-// The number of the line of the step that is refused.
-fn line_of_step(
-    alloc: Global,
-    text: &[u8],
-    refusal: &mc_verify::Refusal,
-) -> Result<Option<u32>, AllocError> {
-    let (script, lines) = match parse_lines(alloc, text) {
-        Ok(read) => read,
-        // Want of memory is no fault of the text.
-        Err(fault) => match fault.kind {
-            ScriptKind::OutOfMemory => return Err(AllocError),
-            _ => return Ok(None),
-        },
-    };
-    let Some(index) = step_at(&script, refusal.actor, usize::from(refusal.place)) else {
-        return Ok(None);
-    };
-    Ok(lines.of(refusal.actor).get(index).copied())
 }
 
 // What is said of a line of a history or of a step list.
@@ -116,7 +88,7 @@ fn recorded_hint(
     };
     let spot = find_spot(text, Separator::Space, line, word);
     let sentence = history_sentence(alloc, expected, spot.word())?;
-    spot.text(alloc, sentence.as_str())
+    spot.text(alloc, sentence.as_bytes())
 }
 
 // What is said of a line of a script.
@@ -126,5 +98,5 @@ fn script_hint(alloc: Global, text: &[u8], fault: ScriptFault) -> Result<Vec<u8>
     };
     let spot = find_spot(text, Separator::SpaceOrTab, fault.line, misread.word);
     let sentence = script_sentence(alloc, misread.expected, spot.word())?;
-    spot.text(alloc, sentence.as_str())
+    spot.text(alloc, sentence.as_bytes())
 }

@@ -2,7 +2,6 @@
 
 use mc_protocol::{Actor, Verb};
 use mc_script::{Expected, Sort};
-use mc_verify::RefusalKind;
 use std::alloc::{AllocError, Global};
 
 /// The sentence: what was expected. `found` is the word that was found, which is empty where it is missing.
@@ -22,26 +21,6 @@ pub fn script_sentence(
             let sentence = sentence_of(expected);
             format!(in alloc; "{sentence}{hint}")
         }
-    }
-}
-
-/// What is said of a step for which a script's code isn't sound. Nothing is of the kinds that only images have.
-pub fn unsound_sentence(kind: RefusalKind) -> Option<&'static str> {
-    match kind {
-        RefusalKind::Unbound => Some("the variable may have no number here"),
-        RefusalKind::WrongKind => Some("the variable may have a number of another kind here"),
-        RefusalKind::NothingToBind => Some("the last reply before it may have shown no number"),
-        RefusalKind::FlagMayBeClear => Some("a flag that is required may be clear here"),
-        RefusalKind::FlagMayBeSet => Some("a flag that is forbidden may be set here"),
-        RefusalKind::TooManyRequests => Some(
-            "there may be more requests here than the budget allows",
-        ),
-        RefusalKind::TooManyBytes => Some("there may be more bytes here than the budget allows"),
-        RefusalKind::BadTarget
-        | RefusalKind::BadIndex
-        | RefusalKind::NoHalt
-        | RefusalKind::NotCleared
-        | RefusalKind::OutOfMemory => None,
     }
 }
 

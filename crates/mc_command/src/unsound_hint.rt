@@ -1,0 +1,209 @@
+//! What is said of a script whose code isn't sound: the run that shows it, in the lines of the script, and the line of the step.
+
+use crate::caret::{Spot, append_cut, find_mark};
+use crate::shown_run::step_of_reply;
+use crate::unsound_sentences::{needed_variable, unbinding_classes, unsound_sentence};
+use bstr::ByteSlice;
+use mc_code::step_at;
+use mc_protocol::{Actor, Class, Separator, append_all};
+use mc_script::{Script, ScriptKind, Step, StepLines, parse_lines};
+use mc_verify::{Refusal, RefusalKind};
+use std::alloc::{AllocError, Global};
+
+// The most columns of a line that is written.
+const WIDTH: usize = 80;
+
+// A script with the text that spells it, and the refusal of its code.
+#[derive(Clone, Copy, Drop)]
+struct Unsound<'a> {
+    text: &'a [u8],
+    script: &'a Script,
+    lines: &'a StepLines,
+    refusal: &'a Refusal,
+}
+
+/// The lines: each reply of the run with the line that asked for it, and the line of the step that is at fault with a caret and a
+/// sentence. There are none for an image; and of a delete before P's steps, which stands in no line, it is said that it is one.
+pub fn unsound_lines(alloc: Global, text: &[u8], refusal: &Refusal) -> Result<Vec<u8>, AllocError> {
+    match parse_lines(alloc, text) {
+        Ok((script, lines)) => {
+            let unsound = Unsound {
+                text,
+                script: &script,
+                lines: &lines,
+                refusal,
+            };
+            unsound.text(alloc)
+        }
+        // Want of memory is no fault of the text.
+        Err(fault) => match fault.kind {
+            ScriptKind::OutOfMemory => Err(AllocError),
+            _ => Ok(Vec::new(alloc)),
+        },
+    }
+}
+
+impl Unsound<'_> {
+    fn text(&self, alloc: Global) -> Result<Vec<u8>, AllocError> {
+        let section = self.refusal.actor;
+        let Some(step) = step_at(self.script, section, usize::from(self.refusal.place)) else {
+            return self.delete_text(alloc);
+        };
+        let mut out = self.run_text(alloc)?;
+        let Some(line) = self.lines.of(section).get(step) else {
+            return Ok(out);
+        };
+        let spot = self.spot(*line);
+        let sentence = self.sentence(alloc, step, spot.word())?;
+        let told = spot.text(alloc, sentence.as_slice())?;
+        out.extend_from_slice(told.as_slice())?;
+        Ok(out)
+    }
+
+    // The word of the line that is at fault; its first one where no word alone is.
+    fn spot(&self, line: u32) -> Spot<'_> {
+        let mark = match self.refusal.kind {
+            RefusalKind::Unbound | RefusalKind::WrongKind => b'$',
+            RefusalKind::FlagMayBeClear => b'?',
+            RefusalKind::FlagMayBeSet => b'!',
+            _ => b' ',
+        };
+        find_mark(self.text, Separator::SpaceOrTab, line, mark)
+    }
+
+    // What is said of a delete of a key before P's steps: it may be too much for P's budget.
+    fn delete_text(&self, alloc: Global) -> Result<Vec<u8>, AllocError> {
+        match self.refusal.kind {
+            RefusalKind::TooManyRequests | RefusalKind::TooManyBytes => Vec::from_slice(
+                alloc,
+                b"P deletes each key before its steps, and `budget P` has to allow that too\n",
+            ),
+            _ => Ok(Vec::new(alloc)),
+        }
+    }
+
+    // A line for each reply to a request of a step.
+    fn run_text(&self, alloc: Global) -> Result<Vec<u8>, AllocError> {
+        let mut out = Vec::new(alloc);
+        'replies: for (index, (section, class)) in self.refusal.shown.iter().enumerate() {
+            if let Some(step) = step_of_reply(self.script, self.refusal.shown.as_slice(), index) {
+                if let Some(line) = self.lines.of(*section).get(step) {
+                    let unbound = self.left_unbound(*section, step);
+                    append_reply(&mut out, self.text, *line, *class, unbound)?;
+                }
+            }
+        }
+        Ok(out)
+    }
+
+    // The name of the variable that the step at fault needs, where this step should have given it a number.
+    fn left_unbound(&self, section: Actor, step: usize) -> Option<&[u8]> {
+        let (variable, name) = self.unbound()?;
+        match self.script.steps(section).get(step) {
+            Some(
+                Step::Send {
+                    bind: Some(bound),
+                    ..
+                },
+            ) if *bound == variable && (section == Actor::P || section == self.refusal.actor) => {
+                Some(name)
+            }
+            _ => None,
+        }
+    }
+
+    // The variable that has no number at the step at fault, with its name.
+    fn unbound(&self) -> Option<(u8, &[u8])> {
+        match self.refusal.kind {
+            RefusalKind::Unbound => {
+                let section = self.refusal.actor;
+                let step = step_at(self.script, section, usize::from(self.refusal.place))?;
+                needed_variable(self.script, section, step)
+            }
+            _ => None,
+        }
+    }
+
+    // The sentence below the line of the step; and where one more jump before it would do, which.
+    fn sentence(&self, alloc: Global, step: usize, word: &[u8]) -> Result<Vec<u8>, AllocError> {
+        let mut sentence = unsound_sentence(alloc, self.script, self.refusal, step, word)?;
+        if let Some(index) = self.last_unbinding() {
+            if let Some((line, classes)) = self.missing_jumps(index) {
+                append_jumps(alloc, &mut sentence, line, classes)?;
+            }
+        }
+        Ok(sentence)
+    }
+
+    // The last reply of the run, by its index, that left the variable of the step at fault without a number, where the same section
+    // had it.
+    fn last_unbinding(&self) -> Option<usize> {
+        let mut last = None;
+        'replies: for (index, (section, _)) in self.refusal.shown.iter().enumerate() {
+            if *section == self.refusal.actor {
+                if let Some(step) = step_of_reply(
+                    self.script,
+                    self.refusal.shown.as_slice(),
+                    index,
+                ) {
+                    if self.left_unbound(*section, step).is_some() {
+                        last = Some(index);
+                    }
+                }
+            }
+        }
+        last
+    }
+
+    // The line of the step that asked for this reply, and the classes on which it could jump past the step at fault.
+    fn missing_jumps(&self, index: usize) -> Option<(u32, &'static [Class])> {
+        let section = self.refusal.actor;
+        let step = step_of_reply(self.script, self.refusal.shown.as_slice(), index)?;
+        let line = self.lines.of(section).get(step)?;
+        match self.script.steps(section).get(step)? {
+            Step::Send {
+                template,
+                jumps,
+                ..
+            } if jumps.as_slice().is_empty() => Some((*line, unbinding_classes(template.verb))),
+            _ => None,
+        }
+    }
+}
+
+// Appends that these jumps are to be written on this line.
+fn append_jumps(
+    alloc: Global,
+    sentence: &mut Vec<u8>,
+    line: u32,
+    classes: &[Class],
+) -> Result<(), AllocError> {
+    sentence.extend_from_slice(b"; write")?;
+    'classes: for class in classes {
+        append_all(sentence, &[b" ", class.word().as_bytes(), b":LABEL"])?;
+    }
+    let place = format!(in alloc; " on line {line}")?;
+    sentence.extend_from_slice(place.as_bytes())
+}
+
+// Appends the line of the script, and by which reply it was answered. A variable that is left without a number is named.
+fn append_reply(
+    out: &mut Vec<u8>,
+    text: &[u8],
+    line: u32,
+    class: Class,
+    unbound: Option<&[u8]>,
+) -> Result<(), AllocError> {
+    let front = format!(in *out.allocator(); "line {line}: ")?;
+    let mut back = Vec::from_slice(*out.allocator(), b" was answered ")?;
+    back.extend_from_slice(class.word().as_bytes())?;
+    if let Some(name) = unbound {
+        append_all(&mut back, &[b": `", name, b"` has no number"])?;
+    }
+    let room = WIDTH.saturating_sub(front.len()).saturating_sub(back.len());
+    out.extend_from_slice(front.as_bytes())?;
+    let spot = find_mark(text, Separator::SpaceOrTab, line, b' ');
+    append_cut(out, spot.line().trim_ascii(), room)?;
+    back.push(b'\n')?;
+    out.extend_from_slice(back.as_slice())
+}
