@@ -1,6 +1,7 @@
 pub mod BlockJobs
 pub mod BlockSteps
 pub mod BlockTexts
+pub mod CampaignAsks
 pub mod CampaignLines
 pub mod Counts
 pub mod Fronts
@@ -14,6 +15,7 @@ pub mod MoreAnswers
 pub mod MoreNotes
 pub mod MoreRuns
 pub mod NamedServers
+pub mod NoWords
 pub mod OneAsking
 pub mod OptionValue
 pub mod PlainLines

@@ -65,8 +65,8 @@ abbrev pub IsName : List ℕ → Type 0
 IsName word = (first : ℕ) × (others : List ℕ) × (word ≡ first ∷ others) × ((first == 45) ≡ false)
 
 -- the words are the program's name, a subcommand, the name of a server after `run`, and words that name the search of `judge`, `drive` and
--- `run`, the refusals of `check` and `asm`, or the seed and the job of `generate`; or a port after `serve`, and words that name its connections; or the name of a server after
--- `campaign`, and words that name its jobs
+-- `run`, the refusals of `check` and `asm`, or the seed and the job of `generate`; or a port after `serve`, and words that name its
+-- connections; or the name of a server after `campaign`, and words that name its jobs
 abbrev pub IsPlainLine : List (List ℕ) → Asked → Type 0
 IsPlainLine words (asked.Judge how) =
     (program : List ℕ) × (others : List (List ℕ)) × (words ≡ program ∷ codes "judge" ∷ others) × NamesSearch others how

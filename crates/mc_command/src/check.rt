@@ -221,8 +221,12 @@ A text that is no script, and a script that is too large, are refused as by
   5 Extra     the image has ended before this byte
 
 With `--why` the refusal of a script is followed by the line of the input, with
-a caret under the word or the step that is at fault, and what is said of it. A
-delete of a key before P's steps stands in no line.";
+a caret under the word or the step that is at fault, and what is said of it;
+and the run that shows a fault by a line for each reply to a step:
+
+  line 10: gets k >u was answered miss: `u` has no number
+  11 | cas k 0 =6 $u
+     |            ^ `u` may have no number here; write miss:LABEL on line 10";
 
 const STATUSES: &str = "Exit status:
   0  accepted

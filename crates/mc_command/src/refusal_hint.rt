@@ -5,7 +5,7 @@ ghost use Rattle.mc_command.specs.Refusals as refusals;
 use crate::caret::find_spot;
 use crate::history_sentences::history_sentence;
 use crate::loading::LoadFault;
-use crate::script_sentences::script_sentence;
+use crate::script_sentences::{script_sentence, size_sentence};
 use crate::unsound_hint::unsound_lines;
 use mc_history::{HistoryFault, Misread, StepsFault};
 use mc_protocol::Separator;
@@ -42,7 +42,7 @@ pub fn steps_hint(
     recorded_hint(alloc, text, fault.line, fault.misread)
 }
 
-/// What stands after the refusal of an input that has no code. It is empty where that is no fault of a line.
+/// What stands after the refusal of an input that has no code. It is empty for an image.
 pub fn code_hint(
     alloc: Global,
     asked: bool,
@@ -56,7 +56,8 @@ pub fn code_hint(
     }
     match fault {
         LoadFault::NoScript(fault) => script_hint(alloc, text, fault),
-        LoadFault::TooLarge(_) | LoadFault::NoImage(_) => Ok(Vec::new(alloc)),
+        LoadFault::TooLarge(fault) => Vec::from_slice(alloc, size_sentence(fault).as_bytes()),
+        LoadFault::NoImage(_) => Ok(Vec::new(alloc)),
     }
 }
 

@@ -1,5 +1,6 @@
-//! What is said of a word of a script that isn't what was expected in its place.
+//! What is said of a word of a script that isn't what was expected in its place, and of a script that is too large.
 
+use mc_code::AsmFault;
 use mc_protocol::{Actor, Verb};
 use mc_script::{Expected, Sort};
 use std::alloc::{AllocError, Global};
@@ -21,6 +22,18 @@ pub fn script_sentence(
             let sentence = sentence_of(expected);
             format!(in alloc; "{sentence}{hint}")
         }
+    }
+}
+
+/// What is said of a script that is too large, in lines.
+pub fn size_sentence(fault: AsmFault) -> &'static str {
+    match fault {
+        AsmFault::TooManyTemplates =>
+            "each key and each request takes a template, and there are at most 64\n",
+        AsmFault::TooManyInstructions(_) =>
+            "a section has at most 128 instructions: one for each step, one more for each\n\
+             `>VAR`, one for its end, and in P one for each key\n",
+        AsmFault::OutOfMemory => "",
     }
 }
 

@@ -62,8 +62,8 @@ fn place_after(script: &Script, section: Actor, step: usize, class: Class) -> us
     }
 }
 
-// The label to which a reply of this class leads.
-fn label_on(jumps: &[(Class, usize)], class: Class) -> Option<usize> {
+/// The label to which a reply of this class leads, by its index.
+pub fn label_on(jumps: &[(Class, usize)], class: Class) -> Option<usize> {
     'jumps: for (of, label) in jumps {
         if *of == class {
             return Some(*label);

@@ -1,7 +1,7 @@
 //! What is said of a script whose code isn't sound: the run that shows it, in the lines of the script, and the line of the step.
 
 use crate::caret::{Spot, append_cut, find_mark};
-use crate::shown_run::step_of_reply;
+use crate::shown_run::{label_on, step_of_reply};
 use crate::unsound_sentences::{needed_variable, unbinding_classes, unsound_sentence};
 use bstr::ByteSlice;
 use mc_code::step_at;
@@ -45,8 +45,9 @@ pub fn unsound_lines(alloc: Global, text: &[u8], refusal: &Refusal) -> Result<Ve
 
 impl Unsound<'_> {
     fn text(&self, alloc: Global) -> Result<Vec<u8>, AllocError> {
-        let section = self.refusal.actor;
-        let Some(step) = step_at(self.script, section, usize::from(self.refusal.place)) else {
+        let refusal = self.refusal;
+        let section = refusal.actor;
+        let Some(step) = step_at(self.script, section, usize::from(refusal.place)) else {
             return self.delete_text(alloc);
         };
         let mut out = self.run_text(alloc)?;
@@ -62,7 +63,8 @@ impl Unsound<'_> {
 
     // The word of the line that is at fault; its first one where no word alone is.
     fn spot(&self, line: u32) -> Spot<'_> {
-        let mark = match self.refusal.kind {
+        let refusal = self.refusal;
+        let mark = match refusal.kind {
             RefusalKind::Unbound | RefusalKind::WrongKind => b'$',
             RefusalKind::FlagMayBeClear => b'?',
             RefusalKind::FlagMayBeSet => b'!',
@@ -73,7 +75,8 @@ impl Unsound<'_> {
 
     // What is said of a delete of a key before P's steps: it may be too much for P's budget.
     fn delete_text(&self, alloc: Global) -> Result<Vec<u8>, AllocError> {
-        match self.refusal.kind {
+        let refusal = self.refusal;
+        match refusal.kind {
             RefusalKind::TooManyRequests | RefusalKind::TooManyBytes => Vec::from_slice(
                 alloc,
                 b"P deletes each key before its steps, and `budget P` has to allow that too\n",
@@ -84,9 +87,10 @@ impl Unsound<'_> {
 
     // A line for each reply to a request of a step.
     fn run_text(&self, alloc: Global) -> Result<Vec<u8>, AllocError> {
+        let refusal = self.refusal;
         let mut out = Vec::new(alloc);
-        'replies: for (index, (section, class)) in self.refusal.shown.iter().enumerate() {
-            if let Some(step) = step_of_reply(self.script, self.refusal.shown.as_slice(), index) {
+        'replies: for (index, (section, class)) in refusal.shown.iter().enumerate() {
+            if let Some(step) = step_of_reply(self.script, refusal.shown.as_slice(), index) {
                 if let Some(line) = self.lines.of(*section).get(step) {
                     let unbound = self.left_unbound(*section, step);
                     append_reply(&mut out, self.text, *line, *class, unbound)?;
@@ -98,6 +102,7 @@ impl Unsound<'_> {
 
     // The name of the variable that the step at fault needs, where this step should have given it a number.
     fn left_unbound(&self, section: Actor, step: usize) -> Option<&[u8]> {
+        let refusal = self.refusal;
         let (variable, name) = self.unbound()?;
         match self.script.steps(section).get(step) {
             Some(
@@ -105,7 +110,7 @@ impl Unsound<'_> {
                     bind: Some(bound),
                     ..
                 },
-            ) if *bound == variable && (section == Actor::P || section == self.refusal.actor) => {
+            ) if *bound == variable && (section == Actor::P || section == refusal.actor) => {
                 Some(name)
             }
             _ => None,
@@ -114,22 +119,23 @@ impl Unsound<'_> {
 
     // The variable that has no number at the step at fault, with its name.
     fn unbound(&self) -> Option<(u8, &[u8])> {
-        match self.refusal.kind {
+        let refusal = self.refusal;
+        match refusal.kind {
             RefusalKind::Unbound => {
-                let section = self.refusal.actor;
-                let step = step_at(self.script, section, usize::from(self.refusal.place))?;
+                let section = refusal.actor;
+                let step = step_at(self.script, section, usize::from(refusal.place))?;
                 needed_variable(self.script, section, step)
             }
             _ => None,
         }
     }
 
-    // The sentence below the line of the step; and where one more jump before it would do, which.
+    // The sentence below the line of the step, and which jumps before it would pass it over.
     fn sentence(&self, alloc: Global, step: usize, word: &[u8]) -> Result<Vec<u8>, AllocError> {
         let mut sentence = unsound_sentence(alloc, self.script, self.refusal, step, word)?;
         if let Some(index) = self.last_unbinding() {
-            if let Some((line, classes)) = self.missing_jumps(index) {
-                append_jumps(alloc, &mut sentence, line, classes)?;
+            if let Some((line, step)) = self.unbinding_step(index) {
+                append_jumps(alloc, &mut sentence, line, step)?;
             }
         }
         Ok(sentence)
@@ -138,14 +144,11 @@ impl Unsound<'_> {
     // The last reply of the run, by its index, that left the variable of the step at fault without a number, where the same section
     // had it.
     fn last_unbinding(&self) -> Option<usize> {
+        let refusal = self.refusal;
         let mut last = None;
-        'replies: for (index, (section, _)) in self.refusal.shown.iter().enumerate() {
-            if *section == self.refusal.actor {
-                if let Some(step) = step_of_reply(
-                    self.script,
-                    self.refusal.shown.as_slice(),
-                    index,
-                ) {
+        'replies: for (index, (section, _)) in refusal.shown.iter().enumerate() {
+            if *section == refusal.actor {
+                if let Some(step) = step_of_reply(self.script, refusal.shown.as_slice(), index) {
                     if self.left_unbound(*section, step).is_some() {
                         last = Some(index);
                     }
@@ -155,32 +158,36 @@ impl Unsound<'_> {
         last
     }
 
-    // The line of the step that asked for this reply, and the classes on which it could jump past the step at fault.
-    fn missing_jumps(&self, index: usize) -> Option<(u32, &'static [Class])> {
-        let section = self.refusal.actor;
-        let step = step_of_reply(self.script, self.refusal.shown.as_slice(), index)?;
+    // The step that asked for this reply, with its line.
+    fn unbinding_step(&self, index: usize) -> Option<(u32, &Step)> {
+        let refusal = self.refusal;
+        let section = refusal.actor;
+        let step = step_of_reply(self.script, refusal.shown.as_slice(), index)?;
         let line = self.lines.of(section).get(step)?;
-        match self.script.steps(section).get(step)? {
-            Step::Send {
-                template,
-                jumps,
-                ..
-            } if jumps.as_slice().is_empty() => Some((*line, unbinding_classes(template.verb))),
-            _ => None,
-        }
+        Some((*line, self.script.steps(section).get(step)?))
     }
 }
 
-// Appends that these jumps are to be written on this line.
+// Appends which jumps are to be written on this line, so that the step at fault is passed over where the reply shows no number.
 fn append_jumps(
     alloc: Global,
     sentence: &mut Vec<u8>,
     line: u32,
-    classes: &[Class],
+    step: &Step,
 ) -> Result<(), AllocError> {
+    let Step::Send {
+        template,
+        jumps,
+        ..
+    } = step
+    else {
+        return Ok(());
+    };
     sentence.extend_from_slice(b"; write")?;
-    'classes: for class in classes {
-        append_all(sentence, &[b" ", class.word().as_bytes(), b":LABEL"])?;
+    'classes: for class in unbinding_classes(template.verb) {
+        if label_on(jumps.as_slice(), *class).is_none() {
+            append_all(sentence, &[b" ", class.word().as_bytes(), b":LABEL"])?;
+        }
     }
     let place = format!(in alloc; " on line {line}")?;
     sentence.extend_from_slice(place.as_bytes())

@@ -33,19 +33,11 @@ pub fn unsound_sentence(
         RefusalKind::FlagMayBeSet => append_flag(&mut out, word, b'!', b"set")?,
         RefusalKind::TooManyRequests => {
             let most = script.budget(refusal.actor).requests;
-            let name = refusal.actor.word();
-            let text = format!(in alloc;
-                "this may be one more than the {most} requests of `budget {name}`"
-            )?;
-            out.extend_from_slice(text.as_bytes())?
+            append_budget(alloc, &mut out, refusal.actor, "requests", most)?
         }
         RefusalKind::TooManyBytes => {
             let most = script.budget(refusal.actor).bytes;
-            let name = refusal.actor.word();
-            let text = format!(in alloc;
-                "with this there may be more than the {most} bytes of `budget {name}`"
-            )?;
-            out.extend_from_slice(text.as_bytes())?
+            append_budget(alloc, &mut out, refusal.actor, "bytes", most)?
         }
         // Only images have these, and of no memory nothing is said.
         RefusalKind::BadTarget
@@ -94,6 +86,21 @@ fn append_flag(out: &mut Vec<u8>, word: &[u8], mark: u8, state: &[u8]) -> Result
         ),
         _ => append_all(out, &[b"one of these flags may be ", state, b" here"]),
     }
+}
+
+// What is said where there may be more of something than a section's budget has.
+fn append_budget(
+    alloc: Global,
+    out: &mut Vec<u8>,
+    section: Actor,
+    what: &str,
+    most: u32,
+) -> Result<(), AllocError> {
+    let section = section.word();
+    let text = format!(in alloc;
+        "with this there may be more {what} than `budget {section}` allows: {most}"
+    )?;
+    out.extend_from_slice(text.as_bytes())
 }
 
 fn append_wrong_kind(
