@@ -4,4 +4,5 @@ pub returns : goal.returns
 returns c = (
   c.in_default.not-OutOfMemory,
   λ s claim spelled. c.in-Err.ensures.none c.in_default.not-OutOfMemory (s, claim) spelled,
+  c.in_ok-hint-in_default.ensures,
 )
