@@ -51,7 +51,10 @@ def image_in(program, given):
 
 def odd_run(program, name, given, printed):
     """What is wrong with the run of this answer; None where it shows the fault."""
+    # After the run stands what `--why` says of it.
     first, *rest = printed.removesuffix("\n").split("\n")
+    if "end" in rest:
+        rest = rest[: rest.index("end") + 1]
     _, _, kind, word, section, place = first.split(" ")
     fault = int(kind), SECTIONS.index(section), int(place)
     if word != NAMES[fault[0] - 1] or not printed.endswith("\n"):

@@ -42,5 +42,5 @@ class Runs:
             return f"it took {used.ru_maxrss // 1024} MB"
         if not all(line.startswith(b"mcrace: ") for line in faults.splitlines()):
             return f"it wrote to standard error: {faults[:200]!r}"
-        found = forms.fault(words[0], self.output.read_bytes(), os.WEXITSTATUS(ended))
+        found = forms.fault(words, self.output.read_bytes(), os.WEXITSTATUS(ended))
         return found and f"{found}: {self.output.read_bytes()[:200]!r}"

@@ -48,46 +48,60 @@ def status_of_sections(found):
     return 0 if found["verdict"].startswith("explained") and endings == ["done"] * 3 else 4
 
 
-# Of each command the forms, and for each its status, which may rest on what is written.
-FORMS = {
-    "judge": [
-        ("confirmed\n", 0),
-        ("not confirmed\n", 1),
-        (rf"explained\n{EXPLANATION}", 0),
-        ("unexplained\n", 1),
-        ("undecided\n", 4),
-        (f"{NO_HISTORY}|{TOO_LONG}", 3),
-        (OUT_OF_MEMORY, 4),
-    ],
-    "check": [
-        (r"accepted\nP \d+ \d+\nA \d+ \d+\nB \d+ \d+\n", 0),
-        (f"{NO_SCRIPT}|{TOO_LARGE}|{NO_IMAGE}|{UNSOUND}|{TOO_LONG}", 3),
-        (OUT_OF_MEMORY, 4),
-    ],
-    "asm": [
-        (r"MCR[12].*", 0),
-        (f"{NO_SCRIPT}|{TOO_LARGE}|{TOO_LONG}", 3),
-        (OUT_OF_MEMORY, 4),
-    ],
-    "drive": [
-        (rf"skipped \d+\n{ENDINGS}{VERDICT}", status_of_sections),
-        (f"{NO_SCRIPT}|{TOO_LARGE}|{UNSOUND}|{NO_STEPS}|{TOO_LONG}", 3),
-        (OUT_OF_MEMORY, 4),
-    ],
-    "run": [
-        (rf"{ENDINGS}{VERDICT}{HISTORY}", status_of_sections),
-        (f"{NO_SCRIPT}|{TOO_LARGE}|{UNSOUND}|{TOO_LONG}", 3),
-        (r"no connection [PAB]\n|not run\n", 4),
-        (OUT_OF_MEMORY, 4),
-    ],
-}
-READ = {command: [(re.compile(form, re.S), status) for form, status in forms] for command, forms in FORMS.items()}
+# What `--why` says after a refusal, in lines for a person, and after `unexplained`.
+HINT = r"(?:[ -~]{1,80}\n)*"
+WHY = r"(?:why\n(?:[ -~]+\n)*?end\n)?"
 
 
-def fault(command, output, status):
-    """What is wrong with what the command wrote and its status, or None."""
+def forms_with(hint, why):
+    """Of each command the forms, and for each its status, which may rest on what is written. After a refusal of a line stands a hint, and
+    after `unexplained` why it is so."""
+    no_code = f"{NO_SCRIPT}{hint}|{TOO_LARGE}{hint}|{UNSOUND}{hint}|{TOO_LONG}"
+    return {
+        "judge": [
+            ("confirmed\n", 0),
+            ("not confirmed\n", 1),
+            (rf"explained\n{EXPLANATION}", 0),
+            (f"unexplained\n{why}", 1),
+            ("undecided\n", 4),
+            (f"{NO_HISTORY}{hint}|{TOO_LONG}", 3),
+            (OUT_OF_MEMORY, 4),
+        ],
+        "check": [
+            (r"accepted\nP \d+ \d+\nA \d+ \d+\nB \d+ \d+\n", 0),
+            (f"{no_code}|{NO_IMAGE}", 3),
+            (OUT_OF_MEMORY, 4),
+        ],
+        "asm": [
+            (r"MCR[12].*", 0),
+            (f"{NO_SCRIPT}{hint}|{TOO_LARGE}{hint}|{TOO_LONG}", 3),
+            (OUT_OF_MEMORY, 4),
+        ],
+        "drive": [
+            (rf"skipped \d+\n{ENDINGS}{VERDICT}{why}", status_of_sections),
+            (f"{no_code}|{NO_STEPS}{hint}", 3),
+            (OUT_OF_MEMORY, 4),
+        ],
+        "run": [
+            (rf"{ENDINGS}{VERDICT}{why}{HISTORY}", status_of_sections),
+            (no_code, 3),
+            (r"no connection [PAB]\n|not run\n", 4),
+            (OUT_OF_MEMORY, 4),
+        ],
+    }
+
+
+def read(forms):
+    return {command: [(re.compile(form, re.S), status) for form, status in of_command] for command, of_command in forms.items()}
+
+
+PLAIN, ASKED_WHY = read(forms_with("", "")), read(forms_with(HINT, WHY))
+
+
+def fault(words, output, status):
+    """What is wrong with what the command of these words wrote and its status, or None."""
     text = output.decode("latin-1")
-    for form, expected in READ[command]:
+    for form, expected in (ASKED_WHY if "--why" in words else PLAIN)[words[0]]:
         found = form.fullmatch(text)
         if found:
             expected = expected(found) if callable(expected) else expected

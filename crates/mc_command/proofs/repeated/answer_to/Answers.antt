@@ -8,4 +8,4 @@ returns-in_ok-answer_of-in-Err g c =
     let unplayed = rw c.in-Err.is at c.in_ok-checked.ensures.unplayed in
     let written = c.in_ok-answer_of-in-Err.ensures in
     let short : length c.args.text.now ≤ INPUT_LIMIT = omega (arith, c.if-text-gt-INPUT_LIMIT.false) in
-    inl (short, inl (c.in-Err.refused, right c.args.target.now.how.why, unplayed, written.0, written.1))
+    inl (short, inl (c.in-Err.refused, right, unplayed, written.0, written.1))
