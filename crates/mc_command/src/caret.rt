@@ -4,8 +4,8 @@ use bstr::ByteSlice;
 use mc_protocol::{Lines, Separator};
 use std::alloc::{AllocError, Global};
 
-// The most columns of a line that is written.
-const WIDTH: usize = 80;
+/// The most columns of a line that is written.
+pub const WIDTH: usize = 80;
 
 // What stands where a line is cut.
 const CUT: &[u8] = b"..";
@@ -148,8 +148,21 @@ impl<'a> Spot<'a> {
         self.line
     }
 
-    /// The line, and below it a caret under the word, and the sentence. Nothing of it is wider than 80 columns, if no word of the
-    /// sentence is.
+    /// The place after this many bytes of the word, if it has more.
+    pub fn after(self, count: usize) -> Spot<'a> {
+        if count >= self.word.len() {
+            return self;
+        }
+        let (_, word) = self.word.split_at(count);
+        Spot {
+            start: self.start.saturating_add(count),
+            word,
+            ..self
+        }
+    }
+
+    /// The line, and below it a caret under the word, and the sentence; what stands after an LF in it begins a line. Nothing is wider
+    /// than 80 columns, if no word of the sentence is.
     pub fn text(&self, alloc: Global, sentence: &[u8]) -> Result<Vec<u8>, AllocError> {
         let number = self.number;
         let front = format!(in alloc; "{number} |")?;
@@ -160,11 +173,15 @@ impl<'a> Spot<'a> {
         out.extend_from_slice(margin.as_slice())?;
         append_spaces(&mut out, column.saturating_add(1))?;
         out.push(b'^')?;
-        if column.saturating_add(sentence.len()).saturating_add(2) <= room {
-            out.push(b' ')?;
-            out.extend_from_slice(sentence)?;
-        } else {
-            append_folded(&mut out, margin.as_slice(), room, sentence)?;
+        let mut beside = room.saturating_sub(column).saturating_sub(2);
+        'parts: for part in sentence.split(|byte| *byte == b'\n') {
+            if part.len() <= beside {
+                out.push(b' ')?;
+                out.extend_from_slice(part)?;
+            } else {
+                append_folded(&mut out, margin.as_slice(), room, part)?;
+            }
+            beside = 0;
         }
         out.push(b'\n')?;
         Ok(out)

@@ -226,7 +226,8 @@ and the run that shows a fault by a line for each reply to a step:
 
   line 10: gets k >u was answered miss: `u` has no number
   11 | cas k 0 =6 $u
-     |            ^ `u` may have no number here; write miss:LABEL on line 10";
+     |            ^ `u` may have no number here, since any reply may come
+     | write miss:LABEL on line 10, and a line `LABEL:` further down";
 
 const STATUSES: &str = "Exit status:
   0  accepted

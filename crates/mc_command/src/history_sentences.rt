@@ -2,7 +2,7 @@
 
 use mc_history::Expected;
 use mc_model::ExpectedWord;
-use mc_protocol::{Verb, is_word};
+use mc_protocol::{Verb, append_all, is_word};
 use std::alloc::{AllocError, Global};
 
 /// The sentence: what was expected, and where the word that was found is the protocol's own, how it is written here. `found` is that
@@ -11,51 +11,56 @@ pub fn history_sentence(
     alloc: Global,
     expected: Expected,
     found: &[u8],
-) -> Result<String, AllocError> {
-    let hint = hint_on(expected, found);
+) -> Result<Vec<u8>, AllocError> {
+    let mut out = Vec::new(alloc);
     match expected {
-        Expected::ReplyTo(verb) => {
-            let replies = replies_to(verb);
-            let verb = verb.word();
-            format!(in alloc; "a reply to `{verb}` is {replies}{hint}")
-        }
-        _ => {
-            let sentence = sentence_of(expected);
-            format!(in alloc; "{sentence}{hint}")
-        }
+        Expected::ReplyTo(verb) => append_all(
+            &mut out,
+            &[
+                b"a reply to `",
+                verb.word().as_bytes(),
+                b"` is ",
+                replies_to(verb).as_bytes(),
+            ],
+        )?,
+        _ => out.extend_from_slice(sentence_of(expected).as_bytes())?,
     }
+    out.extend_from_slice(hint_on(expected, found).as_bytes())?;
+    Ok(out)
 }
 
 // What is said, but of a reply to a known request.
 fn sentence_of(expected: Expected) -> &'static str {
     match expected {
         Expected::Word(word) => sentence_of_word(word),
-        Expected::ReplyTo(_) => "a reply to the request stands here",
+        Expected::ReplyTo(_) => "a reply to the request must stand here",
         Expected::HistoryHeader => "a history begins with the line `history 1` or `history 2`",
         Expected::SectionOrEnd => "a line begins with P, A or B, or is `explain` or `end` alone",
-        Expected::Arrow => "after the request stand `->` and the reply",
-        Expected::BeginOrReply => "after the client stands `begin` or `reply`",
+        Expected::Arrow => "after the request must stand `->` and the reply",
+        Expected::BeginOrReply => "after the client must stand `begin` or `reply`",
         Expected::NewKey => "an earlier `start` line has this key",
-        Expected::StartNumber => "after the key stands the number of its version, in decimal",
+        Expected::StartNumber => "after the key must stand the number of its version, in decimal",
         Expected::EndOfStart => "nothing follows the number in a `start` line",
         Expected::MoveOrEnd =>
             "a move begins with P, A or B, and `end` stands alone after the last",
-        Expected::MoveNumber => "after the client stands the number of the version, in decimal",
+        Expected::MoveNumber => "after the client must stand the number of the version, in decimal",
         Expected::Marks => "after the number stand `pad`, `refuse`, both in this order, or none",
         Expected::EndLine => "the text ends before the line `end`",
         Expected::EndOfText => "nothing follows the line `end`",
         Expected::RoomForRequest => "a client has at most 24 requests, and a history 8 keys",
-        Expected::RequestInTurn => "P is before A and B, and a client waits for each reply",
+        Expected::RequestInTurn =>
+            "P must come before A and B, and a client must wait for each reply",
         Expected::AwaitedReply => "the client waits for no reply here",
-        Expected::ClearedKey => "P deletes each key before any other request of it",
+        Expected::ClearedKey =>
+            "P must delete this key first, answered DELETED where it is there, or NOT_FOUND",
         Expected::SeenUnique => "no `gets` of the key showed this number to the client or to P",
         Expected::ReplyToLastRequest => "the client's last request can't have this reply",
         Expected::StepsHeader => "a step list begins with the line `steps`",
         Expected::StepOrEnd =>
             "a step begins with P, A or B, and `end` stands alone after the last",
-        Expected::Event => "after the section stands `begin`, `reply` or `fail`",
+        Expected::Event => "after the section must stand `begin`, `reply` or `fail`",
         Expected::EndAfterBegin => "nothing follows `begin`",
-        Expected::FaultNumber => "after `fail` stands the number of a fault, 1 to 8",
+        Expected::FaultNumber => "after `fail` must stand the number of a fault, 1 to 8",
         Expected::EndAfterFault => "nothing follows the number of a fault",
         Expected::RoomForStep => "a step list has at most 1000 steps",
     }
@@ -73,13 +78,13 @@ fn sentence_of_word(expected: ExpectedWord) -> &'static str {
             "such a byte of a body is written `%` and two hexadecimal digits",
         ExpectedWord::HexDigits => "two hexadecimal digits follow `%` in a body; `%25` is a `%`",
         ExpectedWord::ShortBody => "a body has at most 65536 bytes",
-        ExpectedWord::Unique => "after the body of a `cas` stands the cas unique, a decimal",
+        ExpectedWord::Unique => "after the body of a `cas` must stand the cas unique, a decimal",
         ExpectedWord::Amount => "the amount is a decimal",
         ExpectedWord::ReplyWord => {
             "a reply is HIT, MISS, STORED, NOT_STORED, EXISTS, NOT_FOUND, DELETED, TOUCHED, NUMBER or NOT_A_NUMBER"
         }
-        ExpectedWord::ShownUnique => "after the body of a HIT stands its cas unique, a decimal",
-        ExpectedWord::NewValue => "after NUMBER stands the new value, a decimal",
+        ExpectedWord::ShownUnique => "after the body of a HIT must stand its cas unique, a decimal",
+        ExpectedWord::NewValue => "after NUMBER must stand the new value, a decimal",
         ExpectedWord::FlagsOf32Bits => "flags are below 2^32, in at most 20 digits",
         ExpectedWord::NumberOf64Bits => "a number is below 2^64, in at most 20 digits",
         ExpectedWord::EndAfterKey => "nothing follows the key in this request",
@@ -105,6 +110,11 @@ fn replies_to(verb: Verb) -> &'static str {
 // What is added where the word is one that the protocol has there. It is empty for any other.
 fn hint_on(expected: Expected, found: &[u8]) -> &'static str {
     match expected {
+        Expected::SectionOrEnd if is_word(found, b"start") => {
+            "; `start` stands after `explain` alone: what P is answered shows what was there"
+        }
+        // Its replies are named already.
+        Expected::ReplyTo(Verb::Incr | Verb::Decr) if is_decimal(found) => "",
         Expected::ReplyTo(_)
         | Expected::ReplyToLastRequest
         | Expected::Word(ExpectedWord::ReplyWord) => hint_on_reply(found),
@@ -118,14 +128,16 @@ fn hint_on(expected: Expected, found: &[u8]) -> &'static str {
         | Expected::Word(ExpectedWord::EndAfterKey)
         | Expected::Word(ExpectedWord::EndAfterBody)
         | Expected::Word(ExpectedWord::EndAfterNumber)
-            if is_word(found, b"noreply") => { "; each request has a reply" }
+            if is_word(found, b"noreply") => {
+            "; leave `noreply` out: each request gets its reply"
+        }
         _ => "",
     }
 }
 
 fn hint_on_reply(found: &[u8]) -> &'static str {
     match found {
-        b"END" => "; END is written MISS here",
+        b"END" => "; END of a get is written MISS here",
         b"VALUE" => "; VALUE is written HIT here",
         b"CLIENT_ERROR" => "; CLIENT_ERROR is written NOT_A_NUMBER here",
         b"ERROR" => "; ERROR is no reply that is recorded",

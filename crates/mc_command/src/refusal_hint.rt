@@ -5,7 +5,7 @@ ghost use Rattle.mc_command.specs.Refusals as refusals;
 use crate::caret::find_spot;
 use crate::history_sentences::history_sentence;
 use crate::loading::LoadFault;
-use crate::script_sentences::{script_sentence, size_sentence};
+use crate::script_sentences::{mark_length, script_sentence, size_sentence};
 use crate::unsound_hint::unsound_lines;
 use mc_history::{HistoryFault, Misread, StepsFault};
 use mc_protocol::Separator;
@@ -89,7 +89,7 @@ fn recorded_hint(
     };
     let spot = find_spot(text, Separator::Space, line, word);
     let sentence = history_sentence(alloc, expected, spot.word())?;
-    spot.text(alloc, sentence.as_bytes())
+    spot.text(alloc, sentence.as_slice())
 }
 
 // What is said of a line of a script.
@@ -97,7 +97,8 @@ fn script_hint(alloc: Global, text: &[u8], fault: ScriptFault) -> Result<Vec<u8>
     let Some(misread) = fault.misread else {
         return Ok(Vec::new(alloc));
     };
-    let spot = find_spot(text, Separator::SpaceOrTab, fault.line, misread.word);
+    let word = find_spot(text, Separator::SpaceOrTab, fault.line, misread.word);
+    let spot = word.after(mark_length(misread.expected, word.word()));
     let sentence = script_sentence(alloc, misread.expected, spot.word())?;
-    spot.text(alloc, sentence.as_bytes())
+    spot.text(alloc, sentence.as_slice())
 }

@@ -1,28 +1,66 @@
 //! What is said of a word of a script that isn't what was expected in its place, and of a script that is too large.
 
+use crate::caret::append_cut;
 use mc_code::AsmFault;
-use mc_protocol::{Actor, Verb};
+use mc_protocol::{Actor, Verb, append_all};
 use mc_script::{Expected, Sort};
 use std::alloc::{AllocError, Global};
 
-/// The sentence: what was expected. `found` is the word that was found, which is empty where it is missing.
+// The most columns of a name in a sentence.
+const NAME_WIDTH: usize = 40;
+
+/// The sentence: what was expected. `found` is the word that was found, after its mark; it is empty where the word is missing.
 pub fn script_sentence(
     alloc: Global,
     expected: Expected,
     found: &[u8],
-) -> Result<String, AllocError> {
-    let hint = hint_on(expected, found);
+) -> Result<Vec<u8>, AllocError> {
+    let mut out = Vec::new(alloc);
     match expected {
-        Expected::ReplyTo(verb) => {
-            let classes = classes_for(verb);
-            let verb = verb.word();
-            format!(in alloc; "a reply to `{verb}` is {classes}{hint}")
-        }
-        _ => {
-            let sentence = sentence_of(expected);
-            format!(in alloc; "{sentence}{hint}")
-        }
+        Expected::ReplyTo(verb) => append_all(
+            &mut out,
+            &[
+                b"a reply to `",
+                verb.word().as_bytes(),
+                b"` is ",
+                classes_for(verb).as_bytes(),
+            ],
+        )?,
+        Expected::KnownName(sort) => append_unknown(&mut out, sort, found)?,
+        _ => out.extend_from_slice(sentence_of(expected).as_bytes())?,
     }
+    out.extend_from_slice(hint_on(expected, found).as_bytes())?;
+    Ok(out)
+}
+
+/// How many bytes of the word stand before the name that is at fault: a mark of a flag or a variable, or the class of a jump.
+pub fn mark_length(expected: Expected, word: &[u8]) -> usize {
+    match expected {
+        Expected::KnownName(Sort::Label) | Expected::LabelBelow => {
+            match word.iter().position(|byte| *byte == b':') {
+                Some(end) => end.saturating_add(1),
+                None => 0,
+            }
+        }
+        Expected::KnownName(Sort::Flag) | Expected::KnownName(Sort::Variable) => match word {
+            [b'>' | b'$' | b'?' | b'!' | b'+' | b'-', ..] => 1,
+            _ => 0,
+        },
+        _ => 0,
+    }
+}
+
+// What is said of a name that isn't declared, or of a label that isn't there. It may have any bytes.
+fn append_unknown(out: &mut Vec<u8>, sort: Sort, name: &[u8]) -> Result<(), AllocError> {
+    let (front, back) = match sort {
+        Sort::Key => ("`keys` doesn't declare `", "`"),
+        Sort::Flag => ("`flags` doesn't declare `", "`"),
+        Sort::Variable => ("`vars` doesn't declare `", "`"),
+        Sort::Label => ("this section has no line `", ":` further down"),
+    };
+    out.extend_from_slice(front.as_bytes())?;
+    append_cut(out, name, NAME_WIDTH)?;
+    out.extend_from_slice(back.as_bytes())
 }
 
 /// What is said of a script that is too large, in lines.
@@ -42,21 +80,23 @@ fn sentence_of(expected: Expected) -> &'static str {
     match expected {
         Expected::Header => "a script begins with the line `script 1` or `script 2`",
         Expected::Version => "the version of a script is 1 or 2",
-        Expected::Keys => "after the first line stands `keys` with their names",
+        Expected::Keys => "`keys` with their names must follow the first line",
         Expected::Budget(actor) => budget_due(actor),
         Expected::BudgetRequests => "a section has at most 24 requests, a decimal",
         Expected::BudgetBytes => "a section has at most 8192 bytes of requests, a decimal",
         Expected::Name(sort) => name_form(sort),
         Expected::NewName(sort) => new_name(sort),
         Expected::FewerNames(sort) => fewer_names(sort),
-        Expected::KnownName(sort) => known_name(sort),
-        Expected::LabelBelow => "the label stands further down, since a script has no loops",
+        Expected::LabelBelow =>
+            "a jump leads further down, and this label stands above: there are no loops",
         Expected::Section(actor) => section_due(actor),
-        Expected::End => "the line `end` ends section B",
+        Expected::End => "the line `end` must end section B",
         Expected::NothingAfterEnd => "nothing follows the line `end`",
-        Expected::Step => "a step is a request, `bind`, `goto` or `halt`; a label is `NAME:`",
+        Expected::Step =>
+            "a step is a request (set, add, replace, append, prepend, cas, get, gets, incr, decr, \
+                               delete or touch), `bind`, `goto` or `halt`; a label is `NAME:`",
         Expected::FewerSteps => "a section has at most 64 steps, and 128 in a `script 2`",
-        Expected::NoDeclaration => "names and budgets stand before the first section",
+        Expected::NoDeclaration => "names and budgets must stand before the first section",
         Expected::LabelAlone => "a label stands alone on its line",
         _ => sentence_of_request(expected),
     }
@@ -69,12 +109,12 @@ fn sentence_of_request(expected: Expected) -> &'static str {
         Expected::Body => "a body is `=` and its letters and digits",
         Expected::LettersAndDigits => "a body has at most 64 bytes, and all are letters or digits",
         Expected::NoExpiry =>
-            "no time of expiry is written here, and a body is `=text`, without its length",
+            "a body is `=` and its letters and digits; no time of expiry and no length stand before it",
         Expected::Unique => "the cas unique is `$` and the variable that has it",
         Expected::Amount => "the amount is a decimal below 2^64, or `$` and a variable",
         Expected::Mark => "a mark is `?FLAG`, `!FLAG`, `+FLAG`, `-FLAG`, `CLASS:LABEL` or `>VAR`",
-        Expected::OneKey => "a request has one key",
-        Expected::WithReply => "each request has a reply",
+        Expected::OneKey => "a request has one key: write one request for each",
+        Expected::WithReply => "each request gets its reply: leave `noreply` out",
         Expected::ReplyClass => {
             "a class is stored, notstored, exists, notfound, hit, miss, deleted, touched, number or notnumber"
         }
@@ -86,24 +126,24 @@ fn sentence_of_request(expected: Expected) -> &'static str {
         Expected::OneJumpOnClass => "a request has one jump on a class",
         Expected::LineEnd => "nothing follows in this line",
         Expected::CommentAlone => "a comment is a line of its own, and `#` its first byte",
-        _ => "another word stands here",
+        _ => "another word must stand here",
     }
 }
 
 fn budget_due(actor: Actor) -> &'static str {
     match actor {
         Actor::P =>
-            "here stand `flags`, `vars` and `budget P`, in this order; the first two may lack",
-        Actor::A => "here stands `budget A`, with its requests and bytes",
-        Actor::B => "here stands `budget B`, with its requests and bytes",
+            "`flags`, `vars` and `budget P` must stand here in this order; the first two may lack",
+        Actor::A => "`budget A` must stand here, with its requests and bytes",
+        Actor::B => "`budget B` must stand here, with its requests and bytes",
     }
 }
 
 fn section_due(actor: Actor) -> &'static str {
     match actor {
-        Actor::P => "after the budgets stands the line `P`",
-        Actor::A => "the line `A` ends section P",
-        Actor::B => "the line `B` ends section A",
+        Actor::P => "P must stand here, and then A and B, even where a section is empty",
+        Actor::A => "A must follow P, and then B, even where a section is empty",
+        Actor::B => "B must follow A, even where a section is empty",
     }
 }
 
@@ -131,15 +171,6 @@ fn fewer_names(sort: Sort) -> &'static str {
         Sort::Flag => "a script has at most 32 flags, and 64 in a `script 2`",
         Sort::Variable => "a script has at most 16 variables",
         Sort::Label => "a section has no more labels",
-    }
-}
-
-fn known_name(sort: Sort) -> &'static str {
-    match sort {
-        Sort::Key => "here stands a key that `keys` declares",
-        Sort::Flag => "here stands a flag that `flags` declares",
-        Sort::Variable => "here stands a variable that `vars` declares",
-        Sort::Label => "here stands a label of this section",
     }
 }
 

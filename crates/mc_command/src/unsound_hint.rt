@@ -1,6 +1,6 @@
 //! What is said of a script whose code isn't sound: the run that shows it, in the lines of the script, and the line of the step.
 
-use crate::caret::{Spot, append_cut, find_mark};
+use crate::caret::{Spot, WIDTH, append_cut, find_mark};
 use crate::shown_run::{label_on, step_of_reply};
 use crate::unsound_sentences::{needed_variable, unbinding_classes, unsound_sentence};
 use bstr::ByteSlice;
@@ -9,9 +9,6 @@ use mc_protocol::{Actor, Class, Separator, append_all};
 use mc_script::{Script, ScriptKind, Step, StepLines, parse_lines};
 use mc_verify::{Refusal, RefusalKind};
 use std::alloc::{AllocError, Global};
-
-// The most columns of a line that is written.
-const WIDTH: usize = 80;
 
 // A script with the text that spells it, and the refusal of its code.
 #[derive(Clone, Copy, Drop)]
@@ -47,10 +44,11 @@ impl Unsound<'_> {
     fn text(&self, alloc: Global) -> Result<Vec<u8>, AllocError> {
         let refusal = self.refusal;
         let section = refusal.actor;
-        let Some(step) = step_at(self.script, section, usize::from(refusal.place)) else {
-            return self.delete_text(alloc);
-        };
         let mut out = self.run_text(alloc)?;
+        let Some(step) = step_at(self.script, section, usize::from(refusal.place)) else {
+            self.append_why_delete(&mut out)?;
+            return Ok(out);
+        };
         let Some(line) = self.lines.of(section).get(step) else {
             return Ok(out);
         };
@@ -73,27 +71,34 @@ impl Unsound<'_> {
         find_mark(self.text, Separator::SpaceOrTab, line, mark)
     }
 
-    // What is said of a delete of a key before P's steps: it may be too much for P's budget.
-    fn delete_text(&self, alloc: Global) -> Result<Vec<u8>, AllocError> {
+    // Appends what is said of a delete of a key before P's steps: it may be too much for P's budget.
+    fn append_why_delete(&self, out: &mut Vec<u8>) -> Result<(), AllocError> {
         let refusal = self.refusal;
         match refusal.kind {
-            RefusalKind::TooManyRequests | RefusalKind::TooManyBytes => Vec::from_slice(
-                alloc,
-                b"P deletes each key before its steps, and `budget P` has to allow that too\n",
+            RefusalKind::TooManyRequests | RefusalKind::TooManyBytes => out.extend_from_slice(
+                b"P deletes each key before its steps, and `budget P` must allow that too\n",
             ),
-            _ => Ok(Vec::new(alloc)),
+            _ => Ok(()),
         }
     }
 
-    // A line for each reply to a request of a step.
+    // A line for each reply.
     fn run_text(&self, alloc: Global) -> Result<Vec<u8>, AllocError> {
         let refusal = self.refusal;
         let mut out = Vec::new(alloc);
         'replies: for (index, (section, class)) in refusal.shown.iter().enumerate() {
-            if let Some(step) = step_of_reply(self.script, refusal.shown.as_slice(), index) {
-                if let Some(line) = self.lines.of(*section).get(step) {
-                    let unbound = self.left_unbound(*section, step);
-                    append_reply(&mut out, self.text, *line, *class, unbound)?;
+            match step_of_reply(self.script, refusal.shown.as_slice(), index) {
+                Some(step) => {
+                    if let Some(line) = self.lines.of(*section).get(step) {
+                        let unbound = self.left_unbound(*section, step);
+                        append_reply(&mut out, self.text, *line, *class, unbound)?;
+                    }
+                }
+                // P has one delete of each key before its steps.
+                None => {
+                    if let Some(key) = self.script.keys().get(index) {
+                        append_delete(&mut out, key.as_slice(), *class)?;
+                    }
                 }
             }
         }
@@ -130,41 +135,47 @@ impl Unsound<'_> {
         }
     }
 
-    // The sentence below the line of the step, and which jumps before it would pass it over.
+    // The sentence below the line of the step; and where a variable has no number, why, and which jumps before it would pass it over.
     fn sentence(&self, alloc: Global, step: usize, word: &[u8]) -> Result<Vec<u8>, AllocError> {
         let mut sentence = unsound_sentence(alloc, self.script, self.refusal, step, word)?;
-        if let Some(index) = self.last_unbinding() {
-            if let Some((line, step)) = self.unbinding_step(index) {
-                append_jumps(alloc, &mut sentence, line, step)?;
+        if self.unbound().is_some() {
+            match self.last_unbinding() {
+                Some(index) => {
+                    sentence.extend_from_slice(b", since any reply may come")?;
+                    if let Some((line, step)) = self.own_step(index) {
+                        append_jumps(alloc, &mut sentence, line, step)?;
+                    }
+                }
+                None => sentence.extend_from_slice(b": no step before gives it one")?,
             }
         }
         Ok(sentence)
     }
 
-    // The last reply of the run, by its index, that left the variable of the step at fault without a number, where the same section
-    // had it.
+    // The last reply of the run, by its index, that left the variable of the step at fault without a number.
     fn last_unbinding(&self) -> Option<usize> {
         let refusal = self.refusal;
         let mut last = None;
         'replies: for (index, (section, _)) in refusal.shown.iter().enumerate() {
-            if *section == refusal.actor {
-                if let Some(step) = step_of_reply(self.script, refusal.shown.as_slice(), index) {
-                    if self.left_unbound(*section, step).is_some() {
-                        last = Some(index);
-                    }
+            if let Some(step) = step_of_reply(self.script, refusal.shown.as_slice(), index) {
+                if self.left_unbound(*section, step).is_some() {
+                    last = Some(index);
                 }
             }
         }
         last
     }
 
-    // The step that asked for this reply, with its line.
-    fn unbinding_step(&self, index: usize) -> Option<(u32, &Step)> {
+    // The step that asked for this reply, with its line, if it stands in the section of the step at fault.
+    fn own_step(&self, index: usize) -> Option<(u32, &Step)> {
         let refusal = self.refusal;
-        let section = refusal.actor;
+        let (section, _) = refusal.shown.get(index)?;
+        if *section != refusal.actor {
+            return None;
+        }
         let step = step_of_reply(self.script, refusal.shown.as_slice(), index)?;
-        let line = self.lines.of(section).get(step)?;
-        Some((*line, self.script.steps(section).get(step)?))
+        let line = self.lines.of(*section).get(step)?;
+        Some((*line, self.script.steps(*section).get(step)?))
     }
 }
 
@@ -183,14 +194,20 @@ fn append_jumps(
     else {
         return Ok(());
     };
-    sentence.extend_from_slice(b"; write")?;
+    sentence.extend_from_slice(b"\nwrite")?;
     'classes: for class in unbinding_classes(template.verb) {
         if label_on(jumps.as_slice(), *class).is_none() {
             append_all(sentence, &[b" ", class.word().as_bytes(), b":LABEL"])?;
         }
     }
-    let place = format!(in alloc; " on line {line}")?;
+    let place = format!(in alloc; " on line {line}, and a line `LABEL:` further down")?;
     sentence.extend_from_slice(place.as_bytes())
+}
+
+// Appends that the key is deleted before P's steps, and by which reply that was answered.
+fn append_delete(out: &mut Vec<u8>, key: &[u8], class: Class) -> Result<(), AllocError> {
+    append_all(out, &[b"first: delete ", key, b" was answered "])?;
+    append_all(out, &[class.word().as_bytes(), b"\n"])
 }
 
 // Appends the line of the script, and by which reply it was answered. A variable that is left without a number is named.

@@ -29,8 +29,18 @@ pub fn unsound_sentence(
         RefusalKind::NothingToBind => {
             out.extend_from_slice(b"the last reply before it may have shown no number")?
         }
-        RefusalKind::FlagMayBeClear => append_flag(&mut out, word, b'?', b"clear")?,
-        RefusalKind::FlagMayBeSet => append_flag(&mut out, word, b'!', b"set")?,
+        RefusalKind::FlagMayBeClear => append_flag(
+            &mut out,
+            word,
+            b'?',
+            b"clear here: set it above in this section, or in P",
+        )?,
+        RefusalKind::FlagMayBeSet => append_flag(
+            &mut out,
+            word,
+            b'!',
+            b"set here: a step above sets it, or the other branch may",
+        )?,
         RefusalKind::TooManyRequests => {
             let most = script.budget(refusal.actor).requests;
             append_budget(alloc, &mut out, refusal.actor, "requests", most)?
@@ -82,9 +92,9 @@ fn append_flag(out: &mut Vec<u8>, word: &[u8], mark: u8, state: &[u8]) -> Result
     match word {
         [first, name @ ..] if *first == mark => append_all(
             out,
-            &[b"the flag `", name, b"` may be ", state, b" here"],
+            &[b"the flag `", name, b"` may be ", state],
         ),
-        _ => append_all(out, &[b"one of these flags may be ", state, b" here"]),
+        _ => append_all(out, &[b"one of these flags may be ", state]),
     }
 }
 
@@ -96,11 +106,15 @@ fn append_budget(
     what: &str,
     most: u32,
 ) -> Result<(), AllocError> {
-    let section = section.word();
+    let name = section.word();
     let text = format!(in alloc;
-        "with this there may be more {what} than `budget {section}` allows: {most}"
+        "with this there may be more {what} than `budget {name}` allows: {most}"
     )?;
-    out.extend_from_slice(text.as_bytes())
+    out.extend_from_slice(text.as_bytes())?;
+    match section {
+        Actor::P => out.extend_from_slice(b"\na delete of each key before P's steps counts too"),
+        Actor::A | Actor::B => Ok(()),
+    }
 }
 
 fn append_wrong_kind(
