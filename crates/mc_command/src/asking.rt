@@ -18,7 +18,7 @@ pub struct Search {
     pub why: bool,
 }
 
-const HELP: &str = "Say from which line on it is unexplained, or which word is refused";
+const HELP: &str = "Say why it is unexplained, or which word is refused";
 
 // What help tells of the flag where no explanation is searched for.
 const REFUSED_HELP: &str = "Show the line for which a script is refused";
