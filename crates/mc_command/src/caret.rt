@@ -125,7 +125,7 @@ fn end_of(separator: Separator, line: &[u8]) -> usize {
     end
 }
 
-// The word that begins after so many bytes of the line. It is empty where none does.
+// The word of the line whose first byte has the index `start`. It is empty where the line ends before.
 fn word_from<'a>(separator: Separator, line: &'a [u8], start: usize) -> &'a [u8] {
     if start >= line.len() {
         return &[];

@@ -2,7 +2,7 @@
 
 use mc_history::Expected;
 use mc_model::ExpectedWord;
-use mc_protocol::{Verb, append_all, is_word};
+use mc_protocol::{Verb, append_all, has_digits_alone, is_word};
 use std::alloc::{AllocError, Global};
 
 /// The sentence: what was expected, and where the word that was found is the protocol's own, how it is written here. `found` is that
@@ -73,7 +73,7 @@ fn sentence_of_word(expected: ExpectedWord) -> &'static str {
         }
         ExpectedWord::Key => "a key is 1 to 40 of a-z, 0-9 and `-`",
         ExpectedWord::Flags => "flags are a decimal below 2^32",
-        ExpectedWord::Body => "a body is `=` and its bytes",
+        ExpectedWord::Body => "after the flags stands a body: `=` and its bytes",
         ExpectedWord::VisibleByte =>
             "such a byte of a body is written `%` and two hexadecimal digits",
         ExpectedWord::HexDigits => "two hexadecimal digits follow `%` in a body; `%25` is a `%`",
@@ -114,14 +114,17 @@ fn hint_on(expected: Expected, found: &[u8]) -> &'static str {
             "; `start` stands after `explain` alone: what P is answered shows what was there"
         }
         // Its replies are named already.
-        Expected::ReplyTo(Verb::Incr | Verb::Decr) if is_decimal(found) => "",
+        Expected::ReplyTo(Verb::Incr | Verb::Decr) if has_digits_alone(found) => "",
         Expected::ReplyTo(_)
         | Expected::ReplyToLastRequest
         | Expected::Word(ExpectedWord::ReplyWord) => hint_on_reply(found),
-        Expected::Word(ExpectedWord::Body) if is_decimal(found) => {
+        Expected::Word(ExpectedWord::Body) if has_digits_alone(found) => {
             "; no time of expiry and no length stand before it"
         }
-        Expected::Word(ExpectedWord::EndAfterKey) if is_decimal(found) => {
+        Expected::Word(ExpectedWord::Verb) if is_word(found, b"flush_all") => {
+            "; write a delete of each key in its place"
+        }
+        Expected::Word(ExpectedWord::EndAfterKey) if has_digits_alone(found) => {
             "; no time of expiry is written"
         }
         Expected::Arrow
@@ -142,11 +145,7 @@ fn hint_on_reply(found: &[u8]) -> &'static str {
         b"CLIENT_ERROR" => "; CLIENT_ERROR is written NOT_A_NUMBER here",
         b"ERROR" => "; ERROR is no reply that is recorded",
         b"SERVER_ERROR" => "; SERVER_ERROR is no reply that is recorded",
-        _ if is_decimal(found) => "; a number is written NUMBER n here",
+        _ if has_digits_alone(found) => "; a number is written NUMBER n here",
         _ => "",
     }
-}
-
-fn is_decimal(word: &[u8]) -> bool {
-    !word.is_empty() && word.iter().all(|byte| byte.is_ascii_digit())
 }

@@ -2,7 +2,7 @@
 
 use crate::caret::append_cut;
 use mc_code::AsmFault;
-use mc_protocol::{Actor, Verb, append_all};
+use mc_protocol::{Actor, Verb, append_all, has_digits_alone, is_word};
 use mc_script::{Expected, Sort};
 use std::alloc::{AllocError, Global};
 
@@ -194,11 +194,10 @@ fn hint_on(expected: Expected, found: &[u8]) -> &'static str {
         Expected::ReplyClass if found.starts_with(b"CLIENT_ERROR:") => {
             "; CLIENT_ERROR is notnumber here"
         }
-        Expected::Body if is_decimal(found) => "; no time of expiry and no length stand before it",
+        Expected::Step if is_word(found, b"flush_all") => {
+            "; P deletes each key before its steps without being asked"
+        }
+        Expected::Body if has_digits_alone(found) => "; no time of expiry and no length stand before it",
         _ => "",
     }
-}
-
-fn is_decimal(word: &[u8]) -> bool {
-    !word.is_empty() && word.iter().all(|byte| byte.is_ascii_digit())
 }

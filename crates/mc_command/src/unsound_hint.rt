@@ -142,8 +142,8 @@ impl Unsound<'_> {
             match self.last_unbinding() {
                 Some(index) => {
                     sentence.extend_from_slice(b", since any reply may come")?;
-                    if let Some((line, step)) = self.own_step(index) {
-                        append_jumps(alloc, &mut sentence, line, step)?;
+                    if let Some((line, step, class)) = self.own_step(index) {
+                        append_jumps(alloc, &mut sentence, line, step, class)?;
                     }
                 }
                 None => sentence.extend_from_slice(b": no step before gives it one")?,
@@ -166,25 +166,27 @@ impl Unsound<'_> {
         last
     }
 
-    // The step that asked for this reply, with its line, if it stands in the section of the step at fault.
-    fn own_step(&self, index: usize) -> Option<(u32, &Step)> {
+    // The step that asked for this reply, with its line and the reply's class, if it stands in the section of the step at fault.
+    fn own_step(&self, index: usize) -> Option<(u32, &Step, Class)> {
         let refusal = self.refusal;
-        let (section, _) = refusal.shown.get(index)?;
+        let (section, class) = refusal.shown.get(index)?;
         if *section != refusal.actor {
             return None;
         }
         let step = step_of_reply(self.script, refusal.shown.as_slice(), index)?;
         let line = self.lines.of(*section).get(step)?;
-        Some((*line, self.script.steps(*section).get(step)?))
+        Some((*line, self.script.steps(*section).get(step)?, *class))
     }
 }
 
-// Appends which jumps are to be written on this line, so that the step at fault is passed over where the reply shows no number.
+// Appends which jumps are to be written on this line, so that the step at fault is passed over where the reply shows no number; or, where
+// the line has a jump on the reply that was received, that it is to lead further down.
 fn append_jumps(
     alloc: Global,
     sentence: &mut Vec<u8>,
     line: u32,
     step: &Step,
+    received: Class,
 ) -> Result<(), AllocError> {
     let Step::Send {
         template,
@@ -194,6 +196,11 @@ fn append_jumps(
     else {
         return Ok(());
     };
+    if label_on(jumps.as_slice(), received).is_some() {
+        let class = received.word();
+        let change = format!(in alloc; "\nlet `{class}:` on line {line} lead to a line below this one")?;
+        return sentence.extend_from_slice(change.as_bytes());
+    }
     sentence.extend_from_slice(b"\nwrite")?;
     'classes: for class in unbinding_classes(template.verb) {
         if label_on(jumps.as_slice(), *class).is_none() {

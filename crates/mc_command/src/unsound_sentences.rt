@@ -33,7 +33,7 @@ pub fn unsound_sentence(
             &mut out,
             word,
             b'?',
-            b"clear here: set it above in this section, or in P",
+            b"clear here: set it above in this section, or in P, or leave its mark out",
         )?,
         RefusalKind::FlagMayBeSet => append_flag(
             &mut out,

@@ -15,7 +15,7 @@ use mc_script::{Expected, ScriptKind as Kind, parse};
 use std::alloc::Global;
 use std::test::Fail;
 
-// A text or a part of one, and what is told of it: the kind and the line, and the word and what was expected there.
+// A text or a part of one, and its fault: the kind and the line, and the word and what was expected there.
 type Row = (&'static str, Kind, u32, usize, Expected);
 
 // The first lines of each text, seven of them.
@@ -290,7 +290,7 @@ fn tells_the_word_of_a_section(rt: HostRuntime) -> Result<(), Fail> {
     Ok(())
 }
 
-// What is told of these lines in section A: the last of them has the fault, but for its number.
+// The fault that a script with these lines in section A has, without the number of its line.
 fn told_in_section(alloc: Global, lines: &str) -> Result<Option<(Kind, usize, Expected)>, Fail> {
     let text = format!(in alloc; "{HEAD}P\nA\n {lines}\nB\nend\n")?;
     match told_of(alloc, &text) {
