@@ -197,7 +197,8 @@ fn hint_on(expected: Expected, found: &[u8]) -> &'static str {
         Expected::Step if is_word(found, b"flush_all") => {
             "; P deletes each key before its steps without being asked"
         }
-        Expected::Body if has_digits_alone(found) => "; no time of expiry and no length stand before it",
+        Expected::Body if has_digits_alone(found) =>
+            "; no time of expiry and no length stand before it",
         _ => "",
     }
 }

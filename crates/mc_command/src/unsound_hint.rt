@@ -198,7 +198,9 @@ fn append_jumps(
     };
     if label_on(jumps.as_slice(), received).is_some() {
         let class = received.word();
-        let change = format!(in alloc; "\nlet `{class}:` on line {line} lead to a line below this one")?;
+        let change = format!(in alloc;
+            "\nlet `{class}:` on line {line} lead to a line below this one"
+        )?;
         return sentence.extend_from_slice(change.as_bytes());
     }
     sentence.extend_from_slice(b"\nwrite")?;
