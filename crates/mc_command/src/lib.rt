@@ -23,6 +23,7 @@ mod campaign_show;
 mod campaigning;
 mod caret;
 mod check;
+mod connections;
 mod dial;
 mod dialer;
 mod drive;
@@ -44,6 +45,7 @@ mod line_laws;
 mod loading;
 mod meeting;
 mod namespace;
+mod network;
 mod number;
 mod outcome;
 mod overlap;
@@ -88,17 +90,19 @@ pub use asking::Search;
 pub use campaign::Plan;
 pub use campaign_line::CampaignTarget;
 pub use campaigning::{campaign_answer, run_campaign_at};
+pub use dial::TcpNetwork;
 pub use invocation::{Invocation, read_invocation};
 pub use line_laws::{
     help_is_shown, lines_ask_once, plain_lines_ask, run_lines_meet, run_lines_name_servers,
     signed_limits_are_faulty,
 };
+pub use network::{Connection, Network, Unconnected};
 pub use outcome::run_status;
 pub use playing::{run_command, run_script};
 pub use program::{answer_offline, command, explain_fault, unread_line};
 pub use repeat::Repeat;
 pub use repeated::run_target;
-pub use run::{Remarks, Unconnected};
+pub use run::Remarks;
 pub use seconds::Seconds;
 pub use selftest::run_selftest;
 pub use serve::Service;

@@ -1,4 +1,5 @@
 //! Connections that tell whether a read or a write took longer than it may.
+use crate::network::Connection;
 use std::alloc::Global;
 use std::io;
 use std::io::{ErrorKind, Read, Write};
@@ -8,14 +9,14 @@ use std::sync::atomic::{AtomicBool, Ordering};
 
 /// A connection of a section, which notes where a read or a write of it took longer than it may.
 #[derive(Debug, Drop)]
-pub struct Socket<'a> {
-    stream: &'a TcpStream,
+pub struct Socket<'a, C> {
+    stream: &'a C,
     is_late: &'a AtomicBool,
 }
 
-impl<'a> Socket<'a> {
+impl<'a, C> Socket<'a, C> {
     /// What reads and writes over the connection, and notes in `is_late` that a call took too long.
-    pub fn new(stream: &'a TcpStream, is_late: &'a AtomicBool) -> Self {
+    pub fn new(stream: &'a C, is_late: &'a AtomicBool) -> Self {
         Socket { stream, is_late }
     }
 }
@@ -54,10 +55,9 @@ fn note(error: &io::Error, is_late: &AtomicBool) {
     }
 }
 
-impl<'a> Read for Socket<'a> {
+impl<'a, C: Connection> Read for Socket<'a, C> {
     fn read(&mut self, buffer: &mut [u8]) -> io::Result<usize> {
-        let mut stream = self.stream;
-        let result = stream.read(buffer);
+        let result = self.stream.receive(buffer);
         if let Err(error) = &result {
             note(error, self.is_late);
         }
@@ -65,10 +65,9 @@ impl<'a> Read for Socket<'a> {
     }
 }
 
-impl<'a> Write for Socket<'a> {
+impl<'a, C: Connection> Write for Socket<'a, C> {
     fn write(&mut self, bytes: &[u8]) -> io::Result<usize> {
-        let mut stream = self.stream;
-        let result = stream.write(bytes);
+        let result = self.stream.send(bytes);
         if let Err(error) = &result {
             note(error, self.is_late);
         }
@@ -76,8 +75,7 @@ impl<'a> Write for Socket<'a> {
     }
 
     fn flush(&mut self) -> io::Result<()> {
-        let mut stream = self.stream;
-        stream.flush()
+        Ok(())
     }
 }
 
