@@ -3,9 +3,9 @@ ghost use Rattle.std.specs.Prelude.{◌≡◌, IfOk};
 ghost use Rattle.mc_command.specs.RunAnswers as answers;
 
 use crate::arguments::Target;
-use crate::connections::Connections;
 use crate::network::{Connection, Network, Unconnected};
 use crate::run::{Played, Remarks, no_connection, play_connections, status_of};
+use crate::socket::Connections;
 use mc_verify::Checked;
 use std::alloc::{AllocError, Global};
 use std::rt::Clock;

@@ -3,7 +3,6 @@ ghost use Rattle.std.specs.Prelude.{◌≡◌, Bool, Option, IfErr, IfOk, List, 
 ghost use Rattle.mc_command.specs.RunAnswers as answers;
 
 use crate::arguments::Target;
-use crate::connections::Connections;
 use crate::evidence::evidence_of;
 use crate::loading::{LoadFault, load_script, told_unsound_text, verify_code};
 use crate::meeting::draw_meet;
@@ -12,6 +11,7 @@ use crate::network::{Connection, Network, Unconnected};
 use crate::outcome::{endings_text, status_of_run, verdict_text};
 use crate::refusal::told_refusal_text;
 use crate::refusal_hint::{code_hint, unsound_hint};
+use crate::socket::Connections;
 use crate::status::Status;
 use crate::why::{Counted, why_text};
 use crate::{loading, run_options};
