@@ -4,9 +4,10 @@
 //! over three lanes, `mc_explain`, which judges histories, `mc_server`, and the readers of scripts, images and step lists.
 //! `read_invocation` reads a line, once: what it asks for, with all that its words say, which is said by what clap reads in it
 //! (`specs/CommandLine.antt`, `specs/Invocations.antt`). Over a `Network` `run_target` answers a line of `run`, by `run_script` where the
-//! script is run once; `run_command` is that for a server alone, over TCP. `serve_connections` answers one of `serve`, `run_campaign_at` one of
-//! `campaign`, and `run_selftest` one of `selftest`. `command` answers any line where there is no network: what it writes is right for the
-//! input that it read, whatever that is (`specs/Command.antt`, and for each subcommand the definitions that `specs/Answers.antt` names).
+//! script is run once; `run_command` is that for a server alone, over TCP. `serve_connections` answers one of `serve`, `run_campaign_at`
+//! one of `campaign`, and `run_selftest` one of `selftest`. `command` answers any line where there is no network: what it writes is right
+//! for the input that it read, whatever that is (`specs/Command.antt`, and for each subcommand the definitions that `specs/Answers.antt`
+//! names).
 #![tactic(auto)]
 
 mod answer;

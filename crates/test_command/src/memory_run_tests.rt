@@ -125,7 +125,7 @@ const TO_P_IN_THREE: Answers = &[
 ];
 
 // What is answered to A on each connection, whether the target says that each run is to have new ones, the beginning of what is written
-// of up to three runs, and how often the sections were connected and their connections given back.
+// of three runs, and how often the sections were connected and their connections given back.
 static REPEATS: [(Answers, bool, &str, (u32, u32)); 4] = [
     (
         &[b"6\r\n", b"6\r\n", b"6\r\n"],
@@ -146,11 +146,12 @@ static REPEATS: [(Answers, bool, &str, (u32, u32)); 4] = [
         "run 3 of 3\nruns 3 explained 3 unexplained 0 other 0 overlapped 0\nP done\n",
         (3, 3),
     ),
+    // The second run is unexplained, so the third one has new connections.
     (
         &[b"6\r\n", b"7\r\n"],
         false,
-        "run 2 of 3\nruns 2 explained 1 unexplained 1 other 0 overlapped 0\nP done\n",
-        (1, 1),
+        "run 2 of 3\nruns 3 explained 2 unexplained 1 other 0 overlapped 0\nP done\n",
+        (2, 2),
     ),
 ];
 
@@ -159,7 +160,7 @@ fn connections_serve_the_next_run(rt: HostRuntime) {
     let repeat = Repeat {
         times: Some(3),
         time: None,
-        keep_going: false,
+        keep_going: true,
     };
     for (to_a, reconnect, text, counts) in REPEATS {
         let mut network = CannedNetwork::new([TO_P_IN_THREE, to_a, &[]]);
