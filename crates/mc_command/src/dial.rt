@@ -1,112 +1,66 @@
-//! Connections to a server.
-ghost use Rattle.std.specs.Prelude.{◌≡◌, false};
-ghost use Rattle.mc_lane.specs.Streams.{silent, no_counts};
-ghost use Rattle.mc_run.specs.Running.{AreNew, IsNew};
-
+//! Connections to a server over TCP.
 use crate::arguments::Target;
+use crate::network::{Network, Unconnected};
 use crate::quitting::Closing;
 use crate::seconds::Seconds;
-use crate::socket::Socket;
-use mc_campaign::RECEIVED_LIMIT;
-use mc_lane::{Lane, Stream, Wire};
 use mc_protocol::{Actor, Sections};
-use mc_run::Lanes;
-use std::alloc::Global;
 use std::io;
-use std::io::{ErrorKind, Read};
+use std::io::ErrorKind;
 use std::net::{Net, SocketAddr, TcpStream, ToSocketAddrs};
 use std::rt::Clock;
-use std::sync::atomic::{AtomicBool, Ordering};
 use std::thread::sleep;
 use std::time::{Duration, Instant};
 
 // The milliseconds between two tries to connect.
 const PAUSE: u64 = 50;
 
-/// The connection of each section.
-#[derive(Debug, Drop)]
-pub struct Connections {
-    streams: Sections<TcpStream>,
-    late: Sections<AtomicBool>,
+/// Connections over TCP.
+#[derive(Drop)]
+pub struct TcpNetwork<'a, R> {
+    /// Where sockets and the time come from.
+    pub rt: &'a R,
 }
 
-impl Connections {
-    /// A new lane of each section, over its connection.
-    pub fn lanes(&self, alloc: Global) -> Lanes<Wire<Socket<'_>>>
-        ensures new { AreNew result }
-        ensures limits { (result.p.limit ≡ 262144) × (result.a.limit ≡ 262144) × (result.b.limit ≡ 262144) }
-    {
-        Lanes {
-            p: self.lane(alloc, Actor::P),
-            a: self.lane(alloc, Actor::A),
-            b: self.lane(alloc, Actor::B),
-        }
-    }
+impl<'a, R: Net<Stream = TcpStream> + Clock> Network for TcpNetwork<'a, R> {
+    type Connection = TcpStream;
 
-    fn lane(&self, alloc: Global, section: Actor) -> Lane<Wire<Socket<'_>>>
-        ensures new { IsNew result }
-        ensures limit { result.limit ≡ 262144 }
-    {
-        let socket = Socket::new(self.streams.get(section), self.late.get(section));
-        Lane::new(alloc, Wire::new(socket), RECEIVED_LIMIT)
-    }
-
-    /// The connection of a section.
-    pub fn stream(&self, section: Actor) -> &TcpStream {
-        self.streams.get(section)
-    }
-
-    /// Whether the server holds each of them open, and nothing has come on it that wasn't read.
-    pub fn are_idle(&self) -> bool {
-        let Sections { p, a, b } = &self.streams;
-        is_idle(p) && is_idle(a) && is_idle(b)
+    fn connect(&mut self, target: &Target<'_>) -> Result<Sections<TcpStream>, Unconnected> {
+        connect_sections(self.rt, target)
     }
 
     /// Has the server close them, and waits for that, but not for long.
-    pub fn quit<R: Clock>(self, rt: &R) {
-        let Connections { streams, .. } = self;
-        let Sections { p, a, b } = streams;
+    fn quit(&mut self, connections: Sections<TcpStream>) {
+        let Sections { p, a, b } = connections;
         let closing = Closing::ask(Sections {
             p: Some(p),
             a: Some(a),
             b: Some(b),
         });
-        closing.wait(rt);
-    }
-
-    /// Whether a read or a write of the section took longer than it may.
-    pub fn is_late(&self, section: Actor) -> bool {
-        self.late.get(section).load(Ordering::SeqCst)
+        closing.wait(self.rt);
     }
 }
 
-/// A connection of each section to the server that `target` names for it. They are connected in the order P, A, B. P looks the name up and
-/// tries its addresses one after another, and all of this again every 50 ms for as long as `target.wait` says. A and B connect to the
-/// address that took P, but where they have a server of their own, whose addresses each of them tries once.
-///
-/// # Errors
-///
-/// The first section that gets no connection, and why.
-pub fn connect_sections<R: Net<Stream = TcpStream> + Clock>(
+// A connection of each section to the server that `target` names for it. They are connected in the order P, A, B. P looks the name up and
+// tries its addresses one after another, and all of this again every 50 ms for as long as `target.wait` says. A and B connect to the
+// address that took P, but where they have a server of their own, whose addresses each of them tries once.
+fn connect_sections<R: Net<Stream = TcpStream> + Clock>(
     rt: &R,
     target: &Target<'_>,
-) -> Result<Connections, (Actor, io::Error)> {
+) -> Result<Sections<TcpStream>, Unconnected> {
     let timeout = target.timeout;
     let server = Place::Named(target.server);
     let (p, address) = match connect_patiently(rt, server, timeout, target.wait) {
         Ok(found) => found,
-        Err(error) => return Err((Actor::P, error)),
+        Err(error) => {
+            return Err(Unconnected {
+                section: Actor::P,
+                error,
+            });
+        }
     };
     let a = connect_branch(rt, target.a, address, timeout, Actor::A)?;
     let b = connect_branch(rt, target.b, address, timeout, Actor::B)?;
-    Ok(Connections {
-        streams: Sections { p, a, b },
-        late: Sections {
-            p: AtomicBool::new(false),
-            a: AtomicBool::new(false),
-            b: AtomicBool::new(false),
-        },
-    })
+    Ok(Sections { p, a, b })
 }
 
 /// Where a server is: at the addresses of its name, HOST:PORT, or at one address.
@@ -150,22 +104,6 @@ fn connect_at<R: Net<Stream = TcpStream>>(
     }
 }
 
-// Whether nothing is there to be read, and more may come. The connection waits for what comes afterwards.
-fn is_idle(stream: &TcpStream) -> bool {
-    if stream.set_nonblocking(true).is_err() {
-        return false;
-    }
-    let mut reader = stream;
-    let found = reader.read(&mut [0; 1]);
-    if stream.set_nonblocking(false).is_err() {
-        return false;
-    }
-    match found {
-        Ok(_) => false,
-        Err(error) => error.kind() == ErrorKind::WouldBlock,
-    }
-}
-
 // A connection to the branch's own server, or else to the address that took P.
 fn connect_branch<R: Net<Stream = TcpStream>>(
     rt: &R,
@@ -173,14 +111,17 @@ fn connect_branch<R: Net<Stream = TcpStream>>(
     address: SocketAddr,
     timeout: Option<Seconds<'_>>,
     branch: Actor,
-) -> Result<TcpStream, (Actor, io::Error)> {
+) -> Result<TcpStream, Unconnected> {
     let connected = match own {
         Some(server) => connect_first(rt, server, timeout).map(|(stream, _)| stream),
         None => connect(rt, address, timeout),
     };
     match connected {
         Ok(stream) => Ok(stream),
-        Err(error) => Err((branch, error)),
+        Err(error) => Err(Unconnected {
+            section: branch,
+            error,
+        }),
     }
 }
 

@@ -1,15 +1,14 @@
 //! What the program says of a run beside its answer: what came in the place of a reply, what didn't come in time, and what came after the
 //! last reply.
-use crate::dial::Connections;
+use crate::network::Connection;
 use crate::seconds::Seconds;
+use crate::socket::Connections;
 use mc_lane::{Lane, Stream};
 use mc_model::{History, Sent};
 use mc_protocol::{Actor, Fault, Request, render_request};
 use mc_reader::{ReadFault, ReplyReader, Shape};
 use mc_run::Lanes;
 use std::alloc::{AllocError, Global};
-use std::io::Read;
-use std::net::TcpStream;
 
 // At most this many bytes of a request, and of what came, are shown.
 const MOST_SHOWN: usize = 200;
@@ -23,11 +22,11 @@ const PIECE: usize = 4096;
 /// A remark on each section that failed by what it received, or by what it didn't receive within the time, with what it had asked and what
 /// came; and for each that has all its replies and received more, or for which more is there at once. What isn't printable ASCII is
 /// escaped.
-pub fn evidence_of<S: Stream>(
+pub fn evidence_of<S: Stream, C: Connection>(
     alloc: Global,
     history: &History,
     lanes: &Lanes<S>,
-    connections: &Connections,
+    connections: &Connections<C>,
     timeout: Option<Seconds<'_>>,
 ) -> Result<Vec<String>, AllocError> {
     let mut remarks = Vec::new(alloc);
@@ -85,11 +84,11 @@ fn late_text<S: Stream>(
 }
 
 // What the program says of a section: how it failed, or what came after its last reply.
-fn section_text<S: Stream>(
+fn section_text<S: Stream, C: Connection>(
     alloc: Global,
     sent: &[Sent],
     lane: &Lane<S>,
-    stream: &TcpStream,
+    stream: &C,
     late: Option<Seconds<'_>>,
 ) -> Result<Option<String>, AllocError> {
     match (late, lane.fault(), sent.last()) {
@@ -127,7 +126,7 @@ fn wrong_text<S: Stream>(
 }
 
 // Appends the bytes that have come over the connection, without waiting for any.
-fn take_waiting(stream: &TcpStream, bytes: &mut Vec<u8>) -> Result<(), AllocError> {
+fn take_waiting<C: Connection>(stream: &C, bytes: &mut Vec<u8>) -> Result<(), AllocError> {
     if stream.set_nonblocking(true).is_err() {
         return Ok(());
     }
@@ -138,10 +137,10 @@ fn take_waiting(stream: &TcpStream, bytes: &mut Vec<u8>) -> Result<(), AllocErro
 }
 
 // Appends the bytes that are there, where a read doesn't wait.
-fn read_waiting(mut stream: &TcpStream, bytes: &mut Vec<u8>) -> Result<(), AllocError> {
+fn read_waiting<C: Connection>(stream: &C, bytes: &mut Vec<u8>) -> Result<(), AllocError> {
     let mut piece = [0; PIECE];
     for _ in 0..MOST_READS {
-        match stream.read(&mut piece) {
+        match stream.receive(&mut piece) {
             Ok(count) if count > 0 => bytes.extend_from_slice(&piece[..count])?,
             _ => return Ok(()),
         }

@@ -3,51 +3,52 @@ ghost use Rattle.std.specs.Prelude.{◌≡◌, IfOk};
 ghost use Rattle.mc_command.specs.RunAnswers as answers;
 
 use crate::arguments::Target;
-use crate::dial::{Connections, connect_sections};
+use crate::network::{Connection, Network, Unconnected};
 use crate::run::{Played, Remarks, no_connection, play_connections, status_of};
+use crate::socket::Connections;
 use mc_verify::Checked;
 use std::alloc::{AllocError, Global};
-use std::net::{Net, TcpStream};
 use std::rt::Clock;
 use std::sync::Wait;
 use std::thread::Threads;
 
 /// The connections of the last run, where the next one may use them.
 #[derive(Debug, Drop)]
-pub struct Kept {
-    connections: Option<Connections>,
+pub struct Kept<C> {
+    connections: Option<Connections<C>>,
 }
 
-impl Kept {
+impl<C: Connection> Kept<C> {
     /// No connections.
-    pub fn new() -> Kept {
+    pub fn new() -> Self {
         Kept { connections: None }
     }
 
-    /// Has the server close the connections, if there are any.
-    pub fn quit<R: Clock>(self, rt: &R) {
+    /// Gives the connections back, if there are any.
+    pub fn quit<N: Network<Connection = C>>(self, network: &mut N) {
         if let Some(connections) = self.connections {
-            connections.quit(rt);
+            network.quit(connections.into_streams());
         }
     }
 }
 
 /// Runs the code over the connections that are kept, or else over new ones, and judges what came of it. They are kept where the run is
 /// done and explained, nothing more has come, and the server has closed none of them; with `target.reconnect` none are.
-pub fn play_kept<R: Net<Stream = TcpStream> + Threads + Wait + Clock + Sync>(
+pub fn play_kept<R: Threads + Wait + Clock + Sync, N: Network>(
     rt: &R,
     alloc: Global,
     target: &Target<'_>,
     checked: &Checked,
-    kept: &mut Kept,
+    network: &mut N,
+    kept: &mut Kept<N::Connection>,
 ) -> Result<(Played, Remarks), AllocError>
     ensures { IfOk result (λ played. answers.IsRightFor target.now.how.why checked.now.code played.0) }
 {
     let connections = match kept.connections.take() {
         Some(connections) => connections,
-        None => match connect_sections(rt, target) {
-            Ok(connections) => connections,
-            Err((section, error)) => return Ok(no_connection(section, error)),
+        None => match network.connect(target) {
+            Ok(streams) => Connections::new(streams),
+            Err(Unconnected { section, error }) => return Ok(no_connection(section, error)),
         },
     };
     let (played, remarks) = play_connections(rt, alloc, target, checked, &connections)?;
@@ -55,7 +56,7 @@ pub fn play_kept<R: Net<Stream = TcpStream> + Threads + Wait + Clock + Sync>(
         kept.connections = Some(connections);
     } else {
         // Another run may follow, and this side is not to run out of ports.
-        connections.quit(rt);
+        network.quit(connections.into_streams());
     }
     Ok((played, remarks))
 }

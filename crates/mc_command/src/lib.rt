@@ -3,10 +3,11 @@
 //! The program `mcrace` is a thin `main` above this library. Below it stand `mc_run`, which leads scripts through steps and runs them
 //! over three lanes, `mc_explain`, which judges histories, `mc_server`, and the readers of scripts, images and step lists.
 //! `read_invocation` reads a line, once: what it asks for, with all that its words say, which is said by what clap reads in it
-//! (`specs/CommandLine.antt`, `specs/Invocations.antt`). Over a network `run_target` answers a line of `run`, by `run_script` where the
-//! script is run once; `run_command` is that for a server alone. `serve_connections` answers one of `serve`, `run_campaign_at` one of
-//! `campaign`, and `run_selftest` one of `selftest`. `command` answers any line where there is no network: what it writes is right for the
-//! input that it read, whatever that is (`specs/Command.antt`, and for each subcommand the definitions that `specs/Answers.antt` names).
+//! (`specs/CommandLine.antt`, `specs/Invocations.antt`). Over a `Network` `run_target` answers a line of `run`, by `run_script` where the
+//! script is run once; `run_command` is that for a server alone, over TCP. `serve_connections` answers one of `serve`, `run_campaign_at`
+//! one of `campaign`, and `run_selftest` one of `selftest`. `command` answers any line where there is no network: what it writes is right
+//! for the input that it read, whatever that is (`specs/Command.antt`, and for each subcommand the definitions that `specs/Answers.antt`
+//! names).
 #![tactic(auto)]
 
 mod answer;
@@ -44,6 +45,7 @@ mod line_laws;
 mod loading;
 mod meeting;
 mod namespace;
+mod network;
 mod number;
 mod outcome;
 mod overlap;
@@ -88,17 +90,19 @@ pub use asking::Search;
 pub use campaign::Plan;
 pub use campaign_line::CampaignTarget;
 pub use campaigning::{campaign_answer, run_campaign_at};
+pub use dial::TcpNetwork;
 pub use invocation::{Invocation, read_invocation};
 pub use line_laws::{
     help_is_shown, lines_ask_once, plain_lines_ask, run_lines_meet, run_lines_name_servers,
     signed_limits_are_faulty,
 };
+pub use network::{Connection, Network, Unconnected};
 pub use outcome::run_status;
 pub use playing::{run_command, run_script};
 pub use program::{answer_offline, command, explain_fault, unread_line};
 pub use repeat::Repeat;
 pub use repeated::run_target;
-pub use run::{Remarks, Unconnected};
+pub use run::Remarks;
 pub use seconds::Seconds;
 pub use selftest::run_selftest;
 pub use serve::Service;

@@ -10,6 +10,7 @@ ghost use Rattle.mc_command.specs.Streams.{TakesAtMost};
 use crate::answer::{Answer, INPUT_LIMIT, too_long};
 use crate::arguments::Target;
 use crate::input::{InputFault, read_input};
+use crate::network::Network;
 use crate::playing::run_script;
 use crate::program::{write_fault, write_text};
 use crate::repeat::Repeat;
@@ -22,7 +23,6 @@ use crate::streams::{Sink, Source};
 use mc_verify::Checked;
 use std::alloc::{AllocError, Global};
 use std::io::Eprint;
-use std::net::{Net, TcpStream};
 use std::rt::Clock;
 use std::sync::Wait;
 use std::thread::Threads;
@@ -32,17 +32,18 @@ use std::thread::Threads;
 /// one. The runs are counted in the statistics where the target asks for them.
 ///
 /// [`run_script`]: crate::run_script
-pub fn run_target<R, I: Source, O: Sink>(
+pub fn run_target<R, N: Network, I: Source, O: Sink>(
     rt: &R,
     alloc: Global,
     target: &Target<'_>,
     columns: Option<usize>,
+    network: &mut N,
     statistics: &mut Statistics,
     input: &mut I,
     output: &mut O,
 ) -> (Status, Remarks)
 where
-    R: Net<Stream = TcpStream> + Threads + Wait + Clock + Sync + Eprint,
+    R: Threads + Wait + Clock + Sync + Eprint,
     ensures answered { I.has_failed input.old ≡ false → I.has_failed input.new ≡ false
         → O.has_failed output.old ≡ false → O.has_failed output.new ≡ false
         → AnswersTarget target.now.repeat target.now.how.why target.now.name
@@ -54,24 +55,25 @@ where
 {
     match target.repeat {
         Some(repeat) => repeat_script(
-            rt, alloc, target, repeat, columns, statistics, input, output,
+            rt, alloc, target, repeat, columns, network, statistics, input, output,
         ),
-        None => run_script(rt, alloc, target, statistics, input, output),
+        None => run_script(rt, alloc, target, network, statistics, input, output),
     }
 }
 
-fn repeat_script<R, I: Source, O: Sink>(
+fn repeat_script<R, N: Network, I: Source, O: Sink>(
     rt: &R,
     alloc: Global,
     target: &Target<'_>,
     repeat: Repeat,
     columns: Option<usize>,
+    network: &mut N,
     statistics: &mut Statistics,
     input: &mut I,
     output: &mut O,
 ) -> (Status, Remarks)
 where
-    R: Net<Stream = TcpStream> + Threads + Wait + Clock + Sync + Eprint,
+    R: Threads + Wait + Clock + Sync + Eprint,
     ensures answered { I.has_failed input.old ≡ false → I.has_failed input.new ≡ false
         → O.has_failed output.old ≡ false → O.has_failed output.new ≡ false
         → AnswersBy (IsRepeatAnswer repeat target.now.how.why target.now.name)
@@ -81,7 +83,9 @@ where
     ensures broken_output { O.has_failed output.old ≡ false → O.has_failed output.new ≡ true → result.0 ≡ Status.NoAnswer }
     ensures taken { TakesAtMost 1048577 (I.left input.old) (I.left input.new) }
 {
-    match read_and_repeat(rt, alloc, target, repeat, columns, statistics, input) {
+    match read_and_repeat(
+        rt, alloc, target, repeat, columns, network, statistics, input,
+    ) {
         Ok((answer, remarks)) => {
             let status = write_text(answer.output.as_slice(), answer.status, output);
             (status, remarks)
@@ -91,17 +95,18 @@ where
 }
 
 // Reads the input whole, and finds the answer to it.
-fn read_and_repeat<R, I: Source>(
+fn read_and_repeat<R, N: Network, I: Source>(
     rt: &R,
     alloc: Global,
     target: &Target<'_>,
     repeat: Repeat,
     columns: Option<usize>,
+    network: &mut N,
     statistics: &mut Statistics,
     input: &mut I,
 ) -> Result<(Answer, Remarks), InputFault>
 where
-    R: Net<Stream = TcpStream> + Threads + Wait + Clock + Sync + Eprint,
+    R: Threads + Wait + Clock + Sync + Eprint,
     ensures right { IfOk result (λ found. (text : List ℕ) × IsWhole (I.left input.old) text
         × IsRepeatAnswer repeat target.now.how.why target.now.name text found.0.output.items found.0.status) }
     ensures fails { input_rule.Fails (I.has_failed input.old) (I.has_failed input.new) result }
@@ -114,23 +119,25 @@ where
         target,
         repeat,
         columns,
+        network,
         statistics,
         text.as_slice(),
     )?)
 }
 
 // The answer to a text, which has been read to its end or to one byte more than the limit.
-fn answer_to<R>(
+fn answer_to<R, N: Network>(
     rt: &R,
     alloc: Global,
     target: &Target<'_>,
     repeat: Repeat,
     columns: Option<usize>,
+    network: &mut N,
     statistics: &mut Statistics,
     text: &[u8],
 ) -> Result<(Answer, Remarks), AllocError>
 where
-    R: Net<Stream = TcpStream> + Threads + Wait + Clock + Sync + Eprint,
+    R: Threads + Wait + Clock + Sync + Eprint,
     ensures { IfOk result (λ found. IsRepeatAnswer repeat target.now.how.why target.now.name
         text.now found.0.output.items found.0.status) }
 {
@@ -138,28 +145,33 @@ where
         return Ok((too_long(alloc)?, Remarks::None));
     }
     match read_target_code(alloc, target, text)? {
-        Ok(checked) => answer_of_runs(rt, alloc, target, repeat, columns, statistics, &checked),
+        Ok(checked) => answer_of_runs(
+            rt, alloc, target, repeat, columns, network, statistics, &checked,
+        ),
         Err((refused, remarks)) => Ok((answer_of(alloc, &refused)?, remarks)),
     }
 }
 
 // What is written of the code's runs.
-fn answer_of_runs<R>(
+fn answer_of_runs<R, N: Network>(
     rt: &R,
     alloc: Global,
     target: &Target<'_>,
     repeat: Repeat,
     columns: Option<usize>,
+    network: &mut N,
     statistics: &mut Statistics,
     checked: &Checked,
 ) -> Result<(Answer, Remarks), AllocError>
 where
-    R: Net<Stream = TcpStream> + Threads + Wait + Clock + Sync + Eprint,
+    R: Threads + Wait + Clock + Sync + Eprint,
     ensures { IfOk result (λ found. answers.RepeatsFor repeat target.now.how.why checked.now.code
         found.0.output.items found.0.status) }
 {
     let columns = if target.quiet { None } else { columns };
-    let runs = runs_of(rt, alloc, target, repeat, columns, statistics, checked)?;
+    let runs = runs_of(
+        rt, alloc, target, repeat, columns, network, statistics, checked,
+    )?;
     let output = repeated_text(alloc, repeat, &runs)?;
     let status = status_of(&runs.played);
     Ok((Answer { output, status }, runs.remarks))
@@ -176,22 +188,32 @@ fn answer_of(alloc: Global, refused: &Played) -> Result<Answer, AllocError>
 }
 
 // Runs the code, and says on a terminal how many runs there were.
-fn runs_of<R>(
+fn runs_of<R, N: Network>(
     rt: &R,
     alloc: Global,
     target: &Target<'_>,
     repeat: Repeat,
     columns: Option<usize>,
+    network: &mut N,
     statistics: &mut Statistics,
     checked: &Checked,
 ) -> Result<Runs, AllocError>
 where
-    R: Net<Stream = TcpStream> + Threads + Wait + Clock + Sync + Eprint,
+    R: Threads + Wait + Clock + Sync + Eprint,
     ensures { IfOk result (λ runs.
         answers.Comes repeat target.now.how.why checked.now.code runs.number runs.played runs.totals) }
 {
     let mut teller = RunTeller::new(rt, alloc, columns, repeat.times);
-    let runs = repeat_code(rt, alloc, target, repeat, checked, &mut teller, statistics);
+    let runs = repeat_code(
+        rt,
+        alloc,
+        target,
+        repeat,
+        checked,
+        network,
+        &mut teller,
+        statistics,
+    );
     teller.clear();
     runs
 }

@@ -8,6 +8,7 @@ ghost use Rattle.mc_command.specs.declared.run.Played.{Played};
 
 use crate::arguments::Target;
 use crate::keeping::{Kept, play_kept};
+use crate::network::Network;
 use crate::repeat::Repeat;
 use crate::run::{Played, Remarks, status_of};
 use crate::run_teller::RunTeller;
@@ -17,7 +18,6 @@ use mc_verify::Checked;
 use std::alloc::{AllocError, Global};
 use std::io;
 use std::io::Eprint;
-use std::net::{Net, TcpStream};
 use std::rt::Clock;
 use std::sync::Wait;
 use std::thread::Threads;
@@ -98,47 +98,49 @@ impl Runs {
 /// Runs the code until there are as many runs as are wanted, or the time is over, or a run's status isn't 0 and `repeat` doesn't go on
 /// after such a one. A run that has begun is not cut off. `teller` says how many there were, and they are counted in the statistics where
 /// the target asks for them. Connections serve more than one run, unless the target says otherwise.
-pub fn repeat_code<R>(
+pub fn repeat_code<R, N: Network>(
     rt: &R,
     alloc: Global,
     target: &Target<'_>,
     repeat: Repeat,
     checked: &Checked,
+    network: &mut N,
     teller: &mut RunTeller<'_, R>,
     statistics: &mut Statistics,
 ) -> Result<Runs, AllocError>
 where
-    R: Net<Stream = TcpStream> + Threads + Wait + Clock + Sync + Eprint,
+    R: Threads + Wait + Clock + Sync + Eprint,
     ensures { IfOk result (λ runs.
         answers.Comes repeat target.now.how.why checked.now.code runs.number runs.played runs.totals) }
 {
     let mut kept = Kept::new();
     let runs = repeat_over(
-        rt, alloc, target, repeat, checked, teller, statistics, &mut kept,
+        rt, alloc, target, repeat, checked, network, teller, statistics, &mut kept,
     )?;
-    kept.quit(rt);
+    kept.quit(network);
     Ok(runs)
 }
 
 // The same over the connections that are kept.
-fn repeat_over<R>(
+fn repeat_over<R, N: Network>(
     rt: &R,
     alloc: Global,
     target: &Target<'_>,
     repeat: Repeat,
     checked: &Checked,
+    network: &mut N,
     teller: &mut RunTeller<'_, R>,
     statistics: &mut Statistics,
-    kept: &mut Kept,
+    kept: &mut Kept<N::Connection>,
 ) -> Result<Runs, AllocError>
 where
-    R: Net<Stream = TcpStream> + Threads + Wait + Clock + Sync + Eprint,
+    R: Threads + Wait + Clock + Sync + Eprint,
     ensures { IfOk result (λ runs.
         answers.Comes repeat target.now.how.why checked.now.code runs.number runs.played runs.totals) }
 {
     let begun = Instant::now(rt);
     let most = repeat.times.unwrap_or(u64::MAX);
-    let (played, remarks) = play_kept(rt, alloc, target, checked, kept)?;
+    let (played, remarks) = play_kept(rt, alloc, target, checked, network, kept)?;
     count(target, &played, teller, statistics);
     let mut runs = Runs::new(played, remarks);
     'runs: for done in 1..most {
@@ -148,7 +150,7 @@ where
         if is_late(rt, &begun, repeat.time) {
             return Ok(runs);
         }
-        let (played, remarks) = play_kept(rt, alloc, target, checked, kept)?;
+        let (played, remarks) = play_kept(rt, alloc, target, checked, network, kept)?;
         count(target, &played, teller, statistics);
         runs.tell_lost(&remarks, teller);
         runs = runs.with(played, remarks);

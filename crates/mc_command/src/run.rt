@@ -3,14 +3,15 @@ ghost use Rattle.std.specs.Prelude.{◌≡◌, Bool, Option, IfErr, IfOk, List, 
 ghost use Rattle.mc_command.specs.RunAnswers as answers;
 
 use crate::arguments::Target;
-use crate::dial::{Connections, connect_sections};
 use crate::evidence::evidence_of;
 use crate::loading::{LoadFault, load_script, told_unsound_text, verify_code};
 use crate::meeting::draw_meet;
 use crate::namespace::long_key_text;
+use crate::network::{Connection, Network, Unconnected};
 use crate::outcome::{endings_text, status_of_run, verdict_text};
 use crate::refusal::told_refusal_text;
 use crate::refusal_hint::{code_hint, unsound_hint};
+use crate::socket::Connections;
 use crate::status::Status;
 use crate::why::{Counted, why_text};
 use crate::{loading, run_options};
@@ -25,7 +26,6 @@ use mc_run::{FreeGate, Judged, Run, RunError, play};
 use mc_verify::Checked;
 use std::alloc::{AllocError, Global};
 use std::io;
-use std::net::{Net, TcpStream};
 use std::rt::Clock;
 use std::sync::Wait;
 use std::thread::Threads;
@@ -47,13 +47,6 @@ pub enum Played {
     Unsound(mc_verify::Refusal, Vec<u8>),
     /// Under the line's name the key with this index becomes too long.
     KeyTooLong(usize),
-}
-
-/// The first section that got no connection, and why.
-#[derive(Debug, Drop)]
-pub struct Unconnected {
-    pub section: Actor,
-    pub error: io::Error,
 }
 
 /// What standard error says of a run, beside its answer.
@@ -150,32 +143,37 @@ pub fn put_code_under(
 /// Reads the script, runs it over three connections to the server, and judges what came of it. How its
 /// branches meet is drawn where the target says so. Nothing is connected for a script that is refused. What standard
 /// error is to say comes with the answer. Where the target has a name, the script's keys are put under it first.
-pub fn play_text<R: Net<Stream = TcpStream> + Threads + Wait + Clock + Sync>(
+pub fn play_text<R: Threads + Wait + Clock + Sync, N: Network>(
     rt: &R,
     alloc: Global,
     target: &Target<'_>,
+    network: &mut N,
     text: &[u8],
 ) -> Result<(Played, Remarks), AllocError>
     ensures { IfOk result (λ played. answers.IsRight target.now.how.why target.now.name text.now played.0) }
 {
     match read_target_code(alloc, target, text)? {
-        Ok(checked) => play_code(rt, alloc, target, &checked),
+        Ok(checked) => play_code(rt, alloc, target, network, &checked),
         Err(refused) => Ok(refused),
     }
 }
 
 // Runs the code over three new connections to the server, and judges what came of it. What standard error is to say comes with the answer.
-fn play_code<R: Net<Stream = TcpStream> + Threads + Wait + Clock + Sync>(
+fn play_code<R: Threads + Wait + Clock + Sync, N: Network>(
     rt: &R,
     alloc: Global,
     target: &Target<'_>,
+    network: &mut N,
     checked: &Checked,
 ) -> Result<(Played, Remarks), AllocError>
     ensures { IfOk result (λ played. answers.IsRightFor target.now.how.why checked.now.code played.0) }
 {
-    match connect_sections(rt, target) {
-        Ok(connections) => play_connections(rt, alloc, target, checked, &connections),
-        Err((section, error)) => Ok(no_connection(section, error)),
+    match network.connect(target) {
+        Ok(streams) => {
+            let connections = Connections::new(streams);
+            play_connections(rt, alloc, target, checked, &connections)
+        }
+        Err(Unconnected { section, error }) => Ok(no_connection(section, error)),
     }
 }
 
@@ -190,12 +188,12 @@ pub fn no_connection(section: Actor, error: io::Error) -> (Played, Remarks)
 }
 
 /// The same over connections that are there.
-pub fn play_connections<R: Threads + Wait + Clock + Sync>(
+pub fn play_connections<R: Threads + Wait + Clock + Sync, C: Connection>(
     rt: &R,
     alloc: Global,
     target: &Target<'_>,
     checked: &Checked,
-    connections: &Connections,
+    connections: &Connections<C>,
 ) -> Result<(Played, Remarks), AllocError>
     ensures { IfOk result (λ played. answers.IsRightFor target.now.how.why checked.now.code played.0) }
 {

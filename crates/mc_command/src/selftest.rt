@@ -8,6 +8,7 @@ ghost use Rattle.mc_command.specs.SelftestAnswers as answers;
 use crate::arguments::Target;
 use crate::asking::Search;
 use crate::both_read::BothRead;
+use crate::dial::TcpNetwork;
 use crate::dialer::Dialer;
 use crate::failures::Failures;
 use crate::late_calls::LateCalls;
@@ -220,7 +221,8 @@ where
         quiet: true,
         spread: 0,
     };
-    match play_text(rt, alloc, &target, TWO_INCREMENTS) {
+    let mut network = TcpNetwork { rt };
+    match play_text(rt, alloc, &target, &mut network, TWO_INCREMENTS) {
         Ok((played, _)) => is_unexplained(&played),
         Err(_) => false,
     }

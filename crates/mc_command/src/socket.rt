@@ -1,4 +1,13 @@
-//! Connections that tell whether a read or a write took longer than it may.
+//! Connections that tell whether a read or a write took longer than it may, and the lanes of a run over them.
+ghost use Rattle.std.specs.Prelude.{◌≡◌, false};
+ghost use Rattle.mc_lane.specs.Streams.{silent, no_counts};
+ghost use Rattle.mc_run.specs.Running.{AreNew, IsNew};
+
+use crate::network::Connection;
+use mc_campaign::RECEIVED_LIMIT;
+use mc_lane::{Lane, Stream, Wire};
+use mc_protocol::{Actor, Sections};
+use mc_run::Lanes;
 use std::alloc::Global;
 use std::io;
 use std::io::{ErrorKind, Read, Write};
@@ -6,16 +15,79 @@ use std::net::TcpStream;
 use std::sync::Arc;
 use std::sync::atomic::{AtomicBool, Ordering};
 
+/// The connection of each section, and whether a read or a write of it took longer than it may.
+#[derive(Debug, Drop)]
+pub struct Connections<C> {
+    streams: Sections<C>,
+    late: Sections<AtomicBool>,
+}
+
+impl<C: Connection> Connections<C> {
+    /// Connections on which nothing took too long.
+    pub fn new(streams: Sections<C>) -> Self {
+        Connections {
+            streams,
+            late: Sections {
+                p: AtomicBool::new(false),
+                a: AtomicBool::new(false),
+                b: AtomicBool::new(false),
+            },
+        }
+    }
+
+    /// A new lane of each section, over its connection.
+    pub fn lanes(&self, alloc: Global) -> Lanes<Wire<Socket<'_, C>>>
+        ensures new { AreNew result }
+        ensures limits { (result.p.limit ≡ 262144) × (result.a.limit ≡ 262144) × (result.b.limit ≡ 262144) }
+    {
+        Lanes {
+            p: self.lane(alloc, Actor::P),
+            a: self.lane(alloc, Actor::A),
+            b: self.lane(alloc, Actor::B),
+        }
+    }
+
+    fn lane(&self, alloc: Global, section: Actor) -> Lane<Wire<Socket<'_, C>>>
+        ensures new { IsNew result }
+        ensures limit { result.limit ≡ 262144 }
+    {
+        let socket = Socket::new(self.streams.get(section), self.late.get(section));
+        Lane::new(alloc, Wire::new(socket), RECEIVED_LIMIT)
+    }
+
+    /// The connection of a section.
+    pub fn stream(&self, section: Actor) -> &C {
+        self.streams.get(section)
+    }
+
+    /// Whether the server holds each of them open, and nothing has come on it that wasn't read.
+    pub fn are_idle(&self) -> bool {
+        let Sections { p, a, b } = &self.streams;
+        is_idle(p) && is_idle(a) && is_idle(b)
+    }
+
+    /// Whether a read or a write of the section took longer than it may.
+    pub fn is_late(&self, section: Actor) -> bool {
+        self.late.get(section).load(Ordering::SeqCst)
+    }
+
+    /// The connections themselves.
+    pub fn into_streams(self) -> Sections<C> {
+        let Connections { streams, .. } = self;
+        streams
+    }
+}
+
 /// A connection of a section, which notes where a read or a write of it took longer than it may.
 #[derive(Debug, Drop)]
-pub struct Socket<'a> {
-    stream: &'a TcpStream,
+pub struct Socket<'a, C> {
+    stream: &'a C,
     is_late: &'a AtomicBool,
 }
 
-impl<'a> Socket<'a> {
+impl<'a, C> Socket<'a, C> {
     /// What reads and writes over the connection, and notes in `is_late` that a call took too long.
-    pub fn new(stream: &'a TcpStream, is_late: &'a AtomicBool) -> Self {
+    pub fn new(stream: &'a C, is_late: &'a AtomicBool) -> Self {
         Socket { stream, is_late }
     }
 }
@@ -54,10 +126,9 @@ fn note(error: &io::Error, is_late: &AtomicBool) {
     }
 }
 
-impl<'a> Read for Socket<'a> {
+impl<'a, C: Connection> Read for Socket<'a, C> {
     fn read(&mut self, buffer: &mut [u8]) -> io::Result<usize> {
-        let mut stream = self.stream;
-        let result = stream.read(buffer);
+        let result = self.stream.receive(buffer);
         if let Err(error) = &result {
             note(error, self.is_late);
         }
@@ -65,10 +136,9 @@ impl<'a> Read for Socket<'a> {
     }
 }
 
-impl<'a> Write for Socket<'a> {
+impl<'a, C: Connection> Write for Socket<'a, C> {
     fn write(&mut self, bytes: &[u8]) -> io::Result<usize> {
-        let mut stream = self.stream;
-        let result = stream.write(bytes);
+        let result = self.stream.send(bytes);
         if let Err(error) = &result {
             note(error, self.is_late);
         }
@@ -76,8 +146,7 @@ impl<'a> Write for Socket<'a> {
     }
 
     fn flush(&mut self) -> io::Result<()> {
-        let mut stream = self.stream;
-        stream.flush()
+        Ok(())
     }
 }
 
@@ -102,5 +171,20 @@ impl Write for JobSocket {
 
     fn flush(&mut self) -> io::Result<()> {
         self.stream.flush()
+    }
+}
+
+// Whether nothing is there to be read, and more may come. The connection waits for what comes afterwards.
+fn is_idle<C: Connection>(stream: &C) -> bool {
+    if stream.set_nonblocking(true).is_err() {
+        return false;
+    }
+    let found = stream.receive(&mut [0; 1]);
+    if stream.set_nonblocking(false).is_err() {
+        return false;
+    }
+    match found {
+        Ok(_) => false,
+        Err(error) => error.kind() == ErrorKind::WouldBlock,
     }
 }

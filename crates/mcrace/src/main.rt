@@ -8,8 +8,8 @@ ghost use Rattle.mc_command.specs.Streams.{TakesAtMost};
 
 use mc_command::{
     Asked, CampaignTarget, Invocation, Reader, Remarks, Service, Sink, Source, Statistics, Status,
-    Target, Told, Unconnected, Writer, answer_offline, explain_fault, input_name, read_invocation,
-    run_campaign_at, run_selftest, run_target, serve_connections, unread_line,
+    Target, TcpNetwork, Told, Unconnected, Writer, answer_offline, explain_fault, input_name,
+    read_invocation, run_campaign_at, run_selftest, run_target, serve_connections, unread_line,
 };
 use std::alloc::Global;
 use std::io::{Eprint, ErrorKind, IsTerminal};
@@ -159,7 +159,17 @@ where
     ensures taken { TakesAtMost 1048577 (I.left input.old) (I.left input.new) }
 {
     let mut statistics = Statistics::new();
-    let (status, remarks) = run_target(rt, alloc, target, columns, &mut statistics, input, output);
+    let mut network = TcpNetwork { rt };
+    let (status, remarks) = run_target(
+        rt,
+        alloc,
+        target,
+        columns,
+        &mut network,
+        &mut statistics,
+        input,
+        output,
+    );
     match remarks {
         Remarks::None => {}
         Remarks::NoConnection(Unconnected { section, error }) => {

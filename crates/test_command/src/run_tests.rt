@@ -3,7 +3,7 @@
 use crate::driven::SCRIPT;
 use mc_campaign::Meeting;
 use mc_command::{
-    Reader, Repeat, Search, Statistics, Status, Target, Writer, run_command, run_target,
+    Reader, Repeat, Search, Statistics, Status, Target, TcpNetwork, Writer, run_command, run_target,
 };
 use std::alloc::{AllocError, Global};
 use std::io::Eprint;
@@ -90,6 +90,7 @@ where
         alloc,
         &target,
         None,
+        &mut TcpNetwork { rt },
         &mut Statistics::new(),
         &mut Reader::new(SCRIPT.as_bytes()),
         &mut Writer::new(&mut output),

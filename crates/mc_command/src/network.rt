@@ -1,0 +1,73 @@
+//! What runs need from outside: connections to the servers that are tested.
+ghost use Rattle.std.specs.Prelude.{◌≤◌, IfOk, length};
+
+use crate::arguments::Target;
+use mc_protocol::{Actor, Sections};
+use std::io;
+use std::io::{Read, Write};
+use std::net::TcpStream;
+
+/// A connection to a server. It is read and written through a shared reference, by one thread at a time.
+pub trait Connection: Sync + Drop {
+    /// Reads some bytes into the front of `buffer`, and answers how many: 0 where the server has ended the connection.
+    ///
+    /// # Errors
+    ///
+    /// Why nothing was read. The kind is `WouldBlock` where it took longer than it may, or where nothing is there and a read doesn't wait.
+    fn receive(&self, buffer: &mut [u8]) -> io::Result<usize>
+        ensures { IfOk result (λ count. count ≤ length buffer.new) };
+
+    /// Writes some bytes from the front of `bytes`, and answers how many.
+    ///
+    /// # Errors
+    ///
+    /// Why nothing was written. The kind is `WouldBlock` where it took longer than it may.
+    fn send(&self, bytes: &[u8]) -> io::Result<usize>
+        ensures { IfOk result (λ count. count ≤ length bytes.now) };
+
+    /// From now on a read waits until something has come, or with `nonblocking` it doesn't.
+    ///
+    /// # Errors
+    ///
+    /// Why this can't be had.
+    fn set_nonblocking(&self, nonblocking: bool) -> io::Result<()>;
+}
+
+impl Connection for TcpStream {
+    fn receive(&self, buffer: &mut [u8]) -> io::Result<usize> {
+        let mut stream = self;
+        stream.read(buffer)
+    }
+
+    fn send(&self, bytes: &[u8]) -> io::Result<usize> {
+        let mut stream = self;
+        stream.write(bytes)
+    }
+
+    fn set_nonblocking(&self, nonblocking: bool) -> io::Result<()> {
+        TcpStream::set_nonblocking(self, nonblocking)
+    }
+}
+
+/// The first section that got no connection, and why.
+#[derive(Debug, Drop)]
+pub struct Unconnected {
+    pub section: Actor,
+    pub error: io::Error,
+}
+
+/// What connects the sections of runs to the servers that are tested.
+pub trait Network {
+    /// What each of them gets.
+    type Connection: Connection;
+
+    /// A new connection of each section to the server that `target` names for it.
+    ///
+    /// # Errors
+    ///
+    /// The first section that gets none, and why.
+    fn connect(&mut self, target: &Target<'_>) -> Result<Sections<Self::Connection>, Unconnected>;
+
+    /// Takes back connections that are done with, where another run may follow.
+    fn quit(&mut self, connections: Sections<Self::Connection>);
+}

@@ -1,0 +1,119 @@
+//! A network in memory: on each connection come answers that are known beforehand, each after its request.
+
+use mc_command::{Connection, Network, Target, Unconnected};
+use mc_protocol::{Actor, Sections};
+use std::io;
+use std::io::{ErrorKind, Read};
+use std::sync::atomic::{AtomicBool, AtomicUsize, Ordering};
+
+/// What a server answers on one connection, to each request.
+pub(crate) type Answers = &'static [&'static [u8]];
+
+/// A connection in memory. When there is no answer more, the server has ended it.
+#[derive(Drop)]
+pub(crate) struct Canned {
+    answers: Answers,
+    requests: AtomicUsize,
+    reads: AtomicUsize,
+    is_nonblocking: AtomicBool,
+}
+
+impl Canned {
+    fn new(answers: Answers) -> Self {
+        Canned {
+            answers,
+            requests: AtomicUsize::new(0),
+            reads: AtomicUsize::new(0),
+            is_nonblocking: AtomicBool::new(false),
+        }
+    }
+
+    // The answer that is to be read next, if its request was written. It counts as read.
+    fn take_answer(&self) -> Option<&'static [u8]> {
+        let number = self.reads.load(Ordering::SeqCst);
+        if number >= self.requests.load(Ordering::SeqCst) {
+            return None;
+        }
+        self.reads.store(number.saturating_add(1), Ordering::SeqCst);
+        self.answers.get(number).copied()
+    }
+}
+
+impl Connection for Canned {
+    fn receive(&self, buffer: &mut [u8]) -> io::Result<usize> {
+        match self.take_answer() {
+            Some(mut answer) => answer.read(buffer),
+            None if self.is_nonblocking.load(Ordering::SeqCst) => {
+                Err(io::Error::from(ErrorKind::WouldBlock))
+            }
+            None => Ok(0),
+        }
+    }
+
+    fn send(&self, bytes: &[u8]) -> io::Result<usize> {
+        self.requests.fetch_add(1, Ordering::SeqCst);
+        Ok(bytes.len())
+    }
+
+    fn set_nonblocking(&self, nonblocking: bool) -> io::Result<()> {
+        self.is_nonblocking.store(nonblocking, Ordering::SeqCst);
+        Ok(())
+    }
+}
+
+/// A network that connects all sections, or but for one all.
+#[derive(Drop)]
+pub(crate) struct CannedNetwork {
+    /// What comes on each connection of P, A and B.
+    answers: [Answers; 3],
+    /// The section that gets no connection.
+    unconnected: Option<Actor>,
+    /// How often the sections were connected.
+    pub(crate) connected: u32,
+    /// How often connections were given back.
+    pub(crate) quit: u32,
+}
+
+impl CannedNetwork {
+    /// One on which these answers come.
+    pub(crate) fn new(answers: [Answers; 3]) -> Self {
+        CannedNetwork {
+            answers,
+            unconnected: None,
+            connected: 0,
+            quit: 0,
+        }
+    }
+
+    /// One in which this section gets no connection.
+    pub(crate) fn without(section: Actor) -> Self {
+        CannedNetwork {
+            answers: [&[], &[], &[]],
+            unconnected: Some(section),
+            connected: 0,
+            quit: 0,
+        }
+    }
+}
+
+impl Network for CannedNetwork {
+    type Connection = Canned;
+
+    fn connect(&mut self, _target: &Target<'_>) -> Result<Sections<Canned>, Unconnected> {
+        if let Some(section) = self.unconnected {
+            let error = io::Error::from(ErrorKind::ConnectionRefused);
+            return Err(Unconnected { section, error });
+        }
+        self.connected = self.connected.saturating_add(1);
+        let [p, a, b] = self.answers;
+        Ok(Sections {
+            p: Canned::new(p),
+            a: Canned::new(a),
+            b: Canned::new(b),
+        })
+    }
+
+    fn quit(&mut self, _connections: Sections<Canned>) {
+        self.quit = self.quit.saturating_add(1);
+    }
+}
