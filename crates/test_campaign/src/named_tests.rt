@@ -5,13 +5,14 @@ ghost use Rattle.std.specs.Prelude.{◌≡◌, ◌≤◌, ◌+◌, ◌^◌};
 use crate::connectors::Stores;
 use crate::memory::has_memory;
 use crate::store_stream::StoreStream;
+use crate::texts::report_text;
 use crate::watching::Seen;
 use mc_campaign::{
-    Campaign, Collector, JobFault, JobMessage, JobOutcome, Meeting, Namespace, Unwatched, keys_fit,
-    print_report, run_jobs,
+    Campaign, Collector, JobFault, JobMessage, JobOutcome, Meeting, Namespace, Report, Unwatched,
+    keys_fit, run_jobs,
 };
 use mc_lane::Wire;
-use mc_protocol::Sections;
+use mc_protocol::{OutOfMemory, Sections};
 use mc_run::{FreeGate, Lanes};
 use mc_server::Shared;
 use std::alloc::Global;
@@ -60,32 +61,38 @@ fn campaign<'a>(name: Option<&'a Namespace<'a>>, first: u64, jobs: u64) -> Campa
     }
 }
 
-/// Whether no key of the jobs becomes too long under the word.
-fn fits(word: &str, first: u64, jobs: u64) -> Result<bool, Fail>
+/// Whether no key of the jobs becomes too long under the word, where it is a name.
+fn fits(word: &str, first: u64, jobs: u64) -> Option<bool>
     requires { first + jobs ≤ 2 ^ 64 }
 {
-    Ok(keys_fit(&named(word)?, first, jobs))
+    let name = Namespace::new(word.as_bytes())?;
+    Some(keys_fit(&name, first, jobs))
 }
 
 #[test]
-fn keys_of_the_last_job_are_the_longest(rt: HostRuntime) -> Result<(), Fail> {
-    // `r9-0` has 4 bytes, and a dash stands before it.
-    assert!(rt; fits(LONG, 0, 10)?);
-    assert!(rt; !fits(LONG, 0, 11)?);
-    assert!(rt; !fits(LONG, 10, 1)?);
-    assert!(rt; !fits("a-name-of-36-bytes-leaves-room-for-n", 0, 1)?);
-    // `r99-0` has 5.
-    assert!(rt; fits("a-name-of-34-bytes-leaves-room-for", 10, 90)?);
-    assert!(rt; !fits("a-name-of-34-bytes-leaves-room-for", 10, 91)?);
-    // `r18446744073709551615-0` has 23, and `r9999999999999999999-0` has 22.
-    assert!(rt; fits("sixteen-bytes-ok", u64::MAX, 1)?);
-    assert!(rt; !fits("seventeen-bytes-n", u64::MAX, 1)?);
-    assert!(rt; fits("seventeen-bytes-n", 9_999_999_999_999_999_999, 1)?);
-    assert!(rt; !fits("seventeen-bytes-n", 9_999_999_999_999_999_999, 2)?);
-    // Where there are no jobs, no key is too long.
-    assert!(rt; fits("a-name-of-36-bytes-leaves-room-for-n", 0, 0)?);
-    assert!(rt; fits(LONG, 10, 0)?);
-    Ok(())
+fn keys_of_the_last_job_are_the_longest(rt: HostRuntime) {
+    let fit = [
+        // `r9-0` has 4 bytes, and a dash stands before it.
+        fits(LONG, 0, 10),
+        // `r99-0` has 5.
+        fits("a-name-of-34-bytes-leaves-room-for", 10, 90),
+        // `r18446744073709551615-0` has 23, and `r9999999999999999999-0` has 22.
+        fits("sixteen-bytes-ok", u64::MAX, 1),
+        fits("seventeen-bytes-n", 9_999_999_999_999_999_999, 1),
+        // Where there are no jobs, no key is too long.
+        fits("a-name-of-36-bytes-leaves-room-for-n", 0, 0),
+        fits(LONG, 10, 0),
+    ];
+    assert_eq!(rt; fit, [Some(true); 6]);
+    let too_long = [
+        fits(LONG, 0, 11),
+        fits(LONG, 10, 1),
+        fits("a-name-of-36-bytes-leaves-room-for-n", 0, 1),
+        fits("a-name-of-34-bytes-leaves-room-for", 10, 91),
+        fits("seventeen-bytes-n", u64::MAX, 1),
+        fits("seventeen-bytes-n", 9_999_999_999_999_999_999, 2),
+    ];
+    assert_eq!(rt; too_long, [Some(false); 6]);
 }
 
 /// Whether the sections sent these requests.
@@ -102,7 +109,17 @@ fn sends<R: Threads + Wait + Sync>(
 ) -> Result<bool, Fail> {
     let store = Shared::new(alloc)?;
     let connector = Stores::honest(rt, alloc, &store);
-    let message = JobMessage::run(rt, alloc, campaign(name, 0, 1), &connector, &FreeGate, 31);
+    sends_over(rt, alloc, &connector, name, requests)
+}
+
+fn sends_over<R: Threads + Wait + Sync>(
+    rt: &R,
+    alloc: Global,
+    connector: &Stores<'_, R>,
+    name: Option<&Namespace<'_>>,
+    requests: Sections<&[u8]>,
+) -> Result<bool, Fail> {
+    let message = JobMessage::run(rt, alloc, campaign(name, 0, 1), connector, &FreeGate, 31);
     match message.into_outcome() {
         JobOutcome::Ran { run, .. } => Ok(have_sent(&run.lanes, requests)),
         _ => Err(Fail::new("the job didn't run")),
@@ -119,113 +136,158 @@ fn job_sends_its_requests_with_keys_under_the_name(rt: HostRuntime) -> Result<()
 
 #[test]
 fn job_whose_key_is_too_long_connects_nothing(rt: HostRuntime) -> Result<(), Fail> {
-    let alloc = rt.alloc();
-    let store = Shared::new(alloc)?;
-    let connector = Stores::honest(&rt, alloc, &store);
-    let name = named(LONG)?;
-    let message = JobMessage::run(
-        &rt,
-        alloc,
-        campaign(Some(&name), 0, 11),
-        &connector,
-        &FreeGate,
-        10,
-    );
-    match message.into_outcome() {
-        JobOutcome::NotMade(fault) if fault == JobFault::OutOfMemory => {
-            return Err(Fail::new("there was no memory for the job"));
-        }
-        JobOutcome::NotMade(fault) => assert_eq!(rt; fault, JobFault::KeyTooLong),
-        _ => return Err(Fail::new("the job was made")),
-    }
-    assert_eq!(rt; connector.count(), 0);
+    let (fault, connections) = run_with_too_long_a_key(&rt, rt.alloc())?;
+    assert_eq!(rt; fault, JobFault::KeyTooLong);
+    assert_eq!(rt; connections, 0);
     Ok(())
 }
 
-/// The text of the report on the jobs from `first` to 9 under a name.
-fn report_under<R: Threads + Wait + Sync>(
+/// Why a job whose key is too long isn't made, and how many connections were made for it.
+fn run_with_too_long_a_key<R: Threads + Wait + Sync>(
+    rt: &R,
+    alloc: Global,
+) -> Result<(JobFault, u64), Fail> {
+    let store = Shared::new(alloc)?;
+    let connector = Stores::honest(rt, alloc, &store);
+    let fault = fault_over(rt, alloc, &connector)?;
+    Ok((fault, connector.count()))
+}
+
+fn fault_over<R: Threads + Wait + Sync>(
+    rt: &R,
+    alloc: Global,
+    connector: &Stores<'_, R>,
+) -> Result<JobFault, Fail> {
+    let name = named(LONG)?;
+    let campaign = campaign(Some(&name), 0, 11);
+    let message = JobMessage::run(rt, alloc, campaign, connector, &FreeGate, 10);
+    match message.into_outcome() {
+        JobOutcome::NotMade(JobFault::OutOfMemory) => {
+            Err(Fail::new("there was no memory for the job"))
+        }
+        JobOutcome::NotMade(fault) => Ok(fault),
+        _ => Err(Fail::new("the job was made")),
+    }
+}
+
+/// Whether the jobs 7 to 9 are explained under a name.
+fn are_explained<R: Threads + Wait + Sync>(
     rt: &R,
     alloc: Global,
     store: &Shared,
     word: &str,
-    first: u64,
-) -> Result<Vec<u8>, Fail>
-    requires { first ≤ 10 }
-{
-    let name = named(word)?;
+) -> Result<bool, Fail> {
     let connector = Stores::honest(rt, alloc, store);
-    let jobs = 10 - first;
+    let text = text_under(rt, alloc, &connector, word)?;
+    let expected = b"7 explained\n8 explained\n9 explained\n\
+        jobs 3 explained 3 unexplained 0 other 0\n"
+        .as_slice();
+    Ok(text.as_slice() == expected)
+}
+
+/// The text of the report on these jobs.
+fn text_under<R: Threads + Wait + Sync>(
+    rt: &R,
+    alloc: Global,
+    connector: &Stores<'_, R>,
+    word: &str,
+) -> Result<Vec<u8>, Fail> {
+    let name = named(word)?;
+    text_of(rt, alloc, connector, &name)
+}
+
+fn text_of<R: Threads + Wait + Sync>(
+    rt: &R,
+    alloc: Global,
+    connector: &Stores<'_, R>,
+    name: &Namespace<'_>,
+) -> Result<Vec<u8>, Fail> {
     let report = run_jobs(
         rt,
         alloc,
-        campaign(Some(&name), first, jobs),
+        campaign(Some(name), 7, 3),
         2,
-        &connector,
+        connector,
         &FreeGate,
         &mut Unwatched,
     )?;
-    has_memory(&report)?;
-    let mut text = Vec::new(alloc);
-    print_report(&report, &mut text)?;
-    Ok(text)
+    Ok(report_text(alloc, &report)?)
 }
 
 #[test]
 fn campaigns_under_names_are_explained(rt: HostRuntime) -> Result<(), Fail> {
-    let alloc = rt.alloc();
-    let expected = b"7 explained\n8 explained\n9 explained\n\
-        jobs 3 explained 3 unexplained 0 other 0\n"
-        .as_slice();
-    let store = Shared::new(alloc)?;
-    assert_eq!(rt;
-        report_under(&rt, alloc, &store, "ci7", 7)?.as_slice(),
-        expected
-    );
-    assert_eq!(rt;
-        report_under(&rt, alloc, &store, LONG, 7)?.as_slice(),
-        expected
-    );
+    assert!(rt; are_explained_under_both(&rt, rt.alloc())?);
     Ok(())
 }
 
+/// Whether the jobs are explained under a short name and a long one, in one store.
+fn are_explained_under_both<R: Threads + Wait + Sync>(rt: &R, alloc: Global) -> Result<bool, Fail> {
+    let store = Shared::new(alloc)?;
+    let under_short = are_explained(rt, alloc, &store, "ci7")?;
+    Ok(under_short && are_explained(rt, alloc, &store, LONG)?)
+}
+
+/// The name of a campaign of one job, that of a message of this job which comes to it, and how many connections are made until there is
+/// a report.
+static MESSAGES: [(Option<&str>, Option<&str>, u64); 5] = [
+    (None, None, 3),
+    (Some("ci7"), Some("ci7"), 3),
+    (Some("ci7"), Some("ci8"), 6),
+    (Some("ci7"), None, 6),
+    (None, Some("ci7"), 6),
+];
+
+#[test]
+fn message_of_another_name_is_of_no_job(rt: HostRuntime) -> Result<(), Fail> {
+    assert_eq!(rt; first_odd(&rt, rt.alloc())?, None);
+    Ok(())
+}
+
+/// The first row of messages that isn't met.
+fn first_odd<R: Threads + Wait + Sync>(rt: &R, alloc: Global) -> Result<Option<usize>, Fail> {
+    for (index, (name, other, connections)) in MESSAGES.iter().enumerate() {
+        if connections_under(rt, alloc, *name, *other)? != *connections {
+            return Ok(Some(index));
+        }
+    }
+    Ok(None)
+}
+
 /// How many connections are made until there is a report on job 0 under a name, where a message of it comes that was run under another.
-fn connections_after_a_message_of<R: Threads + Wait + Sync>(
+fn connections_under<R: Threads + Wait + Sync>(
+    rt: &R,
+    alloc: Global,
+    word: Option<&str>,
+    other: Option<&str>,
+) -> Result<u64, Fail> {
+    let name = word.map(named).transpose()?;
+    let other = other.map(named).transpose()?;
+    Ok(connections_after(rt, alloc, name.as_ref(), other.as_ref())?)
+}
+
+fn connections_after<R: Threads + Wait + Sync>(
     rt: &R,
     alloc: Global,
     name: Option<&Namespace<'_>>,
     other: Option<&Namespace<'_>>,
-) -> Result<u64, Fail> {
+) -> Result<u64, OutOfMemory> {
     let store = Shared::new(alloc)?;
     let connector = Stores::honest(rt, alloc, &store);
-    let mut watcher = Seen::new(alloc);
-    let mut collector = Collector::new(alloc, campaign(name, 0, 1))?;
-    let message = JobMessage::run(rt, alloc, campaign(other, 0, 1), &connector, &FreeGate, 0);
-    collector.keep(message, &mut watcher);
-    let report = collector.finish(rt, alloc, &connector, &FreeGate, &mut watcher)?;
+    let report = report_after(rt, alloc, &connector, name, other)?;
     has_memory(&report)?;
     Ok(connector.count())
 }
 
-#[test]
-fn message_of_another_name_is_of_no_job(rt: HostRuntime) -> Result<(), Fail> {
-    let alloc = rt.alloc();
-    let (ci7, same, ci8) = (named("ci7")?, named("ci7")?, named("ci8")?);
-    assert_eq!(rt; connections_after_a_message_of(&rt, alloc, None, None)?, 3);
-    assert_eq!(rt;
-        connections_after_a_message_of(&rt, alloc, Some(&ci7), Some(&same))?,
-        3
-    );
-    assert_eq!(rt;
-        connections_after_a_message_of(&rt, alloc, Some(&ci7), Some(&ci8))?,
-        6
-    );
-    assert_eq!(rt;
-        connections_after_a_message_of(&rt, alloc, Some(&ci7), None)?,
-        6
-    );
-    assert_eq!(rt;
-        connections_after_a_message_of(&rt, alloc, None, Some(&ci7))?,
-        6
-    );
-    Ok(())
+fn report_after<'s, R: Threads + Wait + Sync>(
+    rt: &R,
+    alloc: Global,
+    connector: &Stores<'s, R>,
+    name: Option<&Namespace<'_>>,
+    other: Option<&Namespace<'_>>,
+) -> Result<Report<Wire<StoreStream<'s, R>>>, OutOfMemory> {
+    let mut watcher = Seen::new(alloc);
+    let mut collector = Collector::new(alloc, campaign(name, 0, 1))?;
+    let message = JobMessage::run(rt, alloc, campaign(other, 0, 1), connector, &FreeGate, 0);
+    collector.keep(message, &mut watcher);
+    collector.finish(rt, alloc, connector, &FreeGate, &mut watcher)
 }

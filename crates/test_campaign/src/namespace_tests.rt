@@ -110,59 +110,66 @@ fn names_have_1_to_38_bytes(rt: HostRuntime) {
 #[test]
 fn code_under_a_name_is_that_of_the_script_with_its_keys(rt: HostRuntime) -> Result<(), Fail> {
     let alloc = rt.alloc();
-    assert_eq!(rt;
-        image_under(alloc, COUNTER, "ci7")?,
-        image_of(alloc, COUNTER_UNDER_CI7)?
-    );
-    assert_eq!(rt;
-        image_under(alloc, SWAP, "x")?,
-        image_of(alloc, SWAP_UNDER_X)?
-    );
+    assert!(rt; is_under(alloc, COUNTER, "ci7", COUNTER_UNDER_CI7)?);
+    assert!(rt; is_under(alloc, SWAP, "x", SWAP_UNDER_X)?);
     Ok(())
+}
+
+// Whether the code of the script under the name is that of the other script.
+fn is_under(alloc: Global, text: &str, name: &str, expected: &str) -> Result<bool, Fail> {
+    let image = image_under(alloc, text, name)?;
+    Ok(image == image_of(alloc, expected)?)
 }
 
 // A budget that is just enough is just enough under a name.
 #[test]
 fn budgets_stay_just_enough(rt: HostRuntime) -> Result<(), Fail> {
-    let alloc = rt.alloc();
     for name in ["ci7", LONGEST] {
-        let under = put_under(alloc, &code_of(alloc, COUNTER)?, &named(name)?)?;
         let added = name.len() as u32 + 1;
-        assert_eq!(rt;
-            under.budget(Actor::P),
-            Budget {
-                requests: 2,
-                bytes: 26 + 2 * added
-            },
-            "{name}"
-        );
-        assert_eq!(rt;
-            under.budget(Actor::A),
-            Budget {
-                requests: 1,
-                bytes: 10 + added
-            },
-            "{name}"
-        );
-        let checked = verify(alloc, under).map_err(|(refusal, _)| refusal)?;
-        assert_eq!(rt; checked.maxima(Actor::P).bytes, 26 + 2 * added, "{name}");
+        let p = Budget {
+            requests: 2,
+            bytes: 26 + 2 * added,
+        };
+        let a = Budget {
+            requests: 1,
+            bytes: 10 + added,
+        };
+        let found = budgets_under(rt.alloc(), name)?;
+        assert_eq!(rt; found, (p, a, p.bytes), "{name}");
     }
     Ok(())
+}
+
+// The budgets of the counter's P and A under a name, and how many bytes P sends at most.
+fn budgets_under(alloc: Global, name: &str) -> Result<(Budget, Budget, u32), Fail> {
+    let under = code_under(alloc, COUNTER, name)?;
+    let (p, a) = (under.budget(Actor::P), under.budget(Actor::A));
+    let checked = verify(alloc, under).map_err(|(refusal, _)| refusal)?;
+    Ok((p, a, checked.maxima(Actor::P).bytes))
 }
 
 // The key of 1 byte has room after a name of 38 bytes, that of 2 has none. The first key without room is named.
 #[test]
 fn keys_have_at_most_40_bytes(rt: HostRuntime) -> Result<(), Fail> {
-    let alloc = rt.alloc();
-    let short = code_of(alloc, COUNTER)?;
-    assert!(rt; put_under(alloc, &short, &named(LONGEST)?).is_ok());
-    let long = code_of(alloc, SWAP)?;
-    let fault = put_under(alloc, &long, &named(LONGEST)?).err();
-    assert_eq!(rt; fault, Some(PutFault::KeyTooLong(0)));
-    let fault = put_under(alloc, &long, &named("a-name-that-has-only-33-bytes-now")?).err();
-    assert_eq!(rt; fault, Some(PutFault::KeyTooLong(1)));
-    assert!(rt; put_under(alloc, &long, &named("a-name-that-has-but-32-bytes-now")?).is_ok());
+    for (text, name, key) in [
+        (COUNTER, LONGEST, None),
+        (SWAP, LONGEST, Some(0)),
+        (SWAP, "a-name-that-has-only-33-bytes-now", Some(1)),
+        (SWAP, "a-name-that-has-but-32-bytes-now", None),
+    ] {
+        assert_eq!(rt; key_without_room(rt.alloc(), text, name)?, key, "{name}");
+    }
     Ok(())
+}
+
+// The index of the key that becomes too long under the name, if one does.
+fn key_without_room(alloc: Global, text: &str, name: &str) -> Result<Option<usize>, Fail> {
+    let code = code_of(alloc, text)?;
+    match put_under(alloc, &code, &named(name)?) {
+        Ok(_) => Ok(None),
+        Err(PutFault::KeyTooLong(index)) => Ok(Some(index)),
+        Err(fault) => Err(Fail::from(fault)),
+    }
 }
 
 fn named(name: &str) -> Result<Namespace<'_>, Fail> {
@@ -173,18 +180,24 @@ fn named(name: &str) -> Result<Namespace<'_>, Fail> {
 }
 
 fn code_of(alloc: Global, text: &str) -> Result<Code, Fail> {
-    Ok(assemble(alloc, &parse(alloc, text.as_bytes())?)?)
+    let script = parse(alloc, text.as_bytes())?;
+    Ok(assemble(alloc, &script)?)
+}
+
+fn code_under(alloc: Global, text: &str, name: &str) -> Result<Code, Fail> {
+    let name = named(name)?;
+    let code = code_of(alloc, text)?;
+    Ok(put_under(alloc, &code, &name)?)
 }
 
 fn image_of(alloc: Global, text: &str) -> Result<Vec<u8>, Fail> {
-    image(alloc, &code_of(alloc, text)?)
+    let code = code_of(alloc, text)?;
+    image(alloc, &code)
 }
 
 fn image_under(alloc: Global, text: &str, name: &str) -> Result<Vec<u8>, Fail> {
-    image(
-        alloc,
-        &put_under(alloc, &code_of(alloc, text)?, &named(name)?)?,
-    )
+    let code = code_under(alloc, text, name)?;
+    image(alloc, &code)
 }
 
 fn image(alloc: Global, code: &Code) -> Result<Vec<u8>, Fail> {

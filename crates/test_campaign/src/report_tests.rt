@@ -39,14 +39,7 @@ fn text_and_status<R: Wait>(
 
 #[test]
 fn tells_what_each_job_came_to(rt: HostRuntime) -> Result<(), Fail> {
-    let store = Shared::new(rt.alloc())?;
-    let connector = Stores {
-        closed: Some((1, Actor::A)),
-        refusing: Some((2, Actor::P)),
-        ..Stores::honest(&rt, rt.alloc(), &store)
-    };
-    let report = run_campaign(&rt, rt.alloc(), 1, 3, 2, LIMIT, &connector, &FreeGate)?;
-    let (text, status) = text_and_status(rt.alloc(), &report)?;
+    let (text, status) = told_of_faults(&rt, rt.alloc())?;
     assert_eq!(rt;
         text.as_slice(),
         b"report\n0 explained\n1 no connection A\n2 explained P ErrorLine\n\
@@ -57,38 +50,84 @@ fn tells_what_each_job_came_to(rt: HostRuntime) -> Result<(), Fail> {
     Ok(())
 }
 
+/// The text and the status of a report on three jobs, where A of the second gets no connection and P of the third is refused.
+fn told_of_faults<R: Threads + Wait + Sync>(rt: &R, alloc: Global) -> Result<(Vec<u8>, u8), Fail> {
+    let store = Shared::new(alloc)?;
+    let connector = faulty_stores(rt, alloc, &store);
+    told_over(rt, alloc, &connector)
+}
+
+fn told_over<R: Threads + Wait + Sync>(
+    rt: &R,
+    alloc: Global,
+    connector: &Stores<'_, R>,
+) -> Result<(Vec<u8>, u8), Fail> {
+    let report = run_campaign(rt, alloc, 1, 3, 2, LIMIT, connector, &FreeGate)?;
+    text_and_status(alloc, &report)
+}
+
+/// Connects all sections but A of job 1, and refuses what P of job 2 asks.
+fn faulty_stores<'s, R: Wait>(rt: &'s R, alloc: Global, store: &'s Shared) -> Stores<'s, R> {
+    Stores {
+        closed: Some((1, Actor::A)),
+        refusing: Some((2, Actor::P)),
+        ..Stores::honest(rt, alloc, store)
+    }
+}
+
 // Where memory runs out for what a worker sends, its job is run once more, and more of its connections are released.
 #[test]
 fn releases_the_connections_that_no_fault_ended(rt: HostRuntime) -> Result<(), Fail> {
-    let store = Shared::new(rt.alloc())?;
-    let connector = Stores {
-        closed: Some((1, Actor::A)),
-        refusing: Some((2, Actor::P)),
-        ..Stores::honest(&rt, rt.alloc(), &store)
-    };
-    let report = run_campaign(&rt, rt.alloc(), 1, 3, 2, LIMIT, &connector, &FreeGate)?;
-    has_memory(&report)?;
     // All three of job 0, none of job 1, and of job 2 those that no fault ended.
-    assert_eq!(rt; connector.released(), 5);
+    assert_eq!(rt; released_with_faults(&rt, rt.alloc())?, 5);
     Ok(())
+}
+
+/// How many connections are released of three such jobs.
+fn released_with_faults<R: Threads + Wait + Sync>(rt: &R, alloc: Global) -> Result<u64, Fail> {
+    let store = Shared::new(alloc)?;
+    let connector = faulty_stores(rt, alloc, &store);
+    told_over(rt, alloc, &connector)?;
+    Ok(connector.released())
 }
 
 #[test]
 fn brief_report_leaves_out_what_is_right(rt: HostRuntime) -> Result<(), Fail> {
-    let store = Shared::new(rt.alloc())?;
-    let connector = Stores {
-        closed: Some((1, Actor::A)),
-        ..Stores::honest(&rt, rt.alloc(), &store)
-    };
-    let report = run_campaign(&rt, rt.alloc(), 1, 3, 0, LIMIT, &connector, &FreeGate)?;
-    has_memory(&report)?;
-    let mut text = Vec::new(rt.alloc());
-    print_brief_report(&report, &mut text)?;
+    let text = brief_text(&rt, rt.alloc())?;
     assert_eq!(rt;
         text.as_slice(),
         b"1 no connection A\njobs 3 explained 2 unexplained 0 other 1\n".as_slice()
     );
     Ok(())
+}
+
+/// The text of a brief report on three jobs, where A of the second gets no connection.
+fn brief_text<R: Threads + Wait + Sync>(rt: &R, alloc: Global) -> Result<Vec<u8>, Fail> {
+    let store = Shared::new(alloc)?;
+    let connector = Stores {
+        closed: Some((1, Actor::A)),
+        ..Stores::honest(rt, alloc, &store)
+    };
+    brief_text_over(rt, alloc, &connector)
+}
+
+fn brief_text_over<R: Threads + Wait + Sync>(
+    rt: &R,
+    alloc: Global,
+    connector: &Stores<'_, R>,
+) -> Result<Vec<u8>, Fail> {
+    let report = run_campaign(rt, alloc, 1, 3, 0, LIMIT, connector, &FreeGate)?;
+    Ok(brief_text_of(alloc, &report)?)
+}
+
+fn brief_text_of<R: Wait>(
+    alloc: Global,
+    report: &Report<Wire<StoreStream<'_, R>>>,
+) -> Result<Vec<u8>, AllocError> {
+    has_memory(report)?;
+    let mut text = Vec::new(alloc);
+    print_brief_report(report, &mut text)?;
+    Ok(text)
 }
 
 /// A campaign of seed 1.
@@ -122,23 +161,58 @@ fn comes_to<R: Threads + Wait + Sync>(
 {
     let store = Shared::new(alloc)?;
     let connector = Stores::honest(rt, alloc, &store);
+    let is_reported = comes_to_over(rt, alloc, campaign, workers, &connector, expected)?;
+    Ok(is_reported && are_released(&connector, 3 * campaign.jobs)?)
+}
+
+/// Whether this is the text of the campaign's report, and its status is 0.
+fn comes_to_over<R: Threads + Wait + Sync>(
+    rt: &R,
+    alloc: Global,
+    campaign: Campaign<'_>,
+    workers: u32,
+    connector: &Stores<'_, R>,
+    expected: &[u8],
+) -> Result<bool, Fail>
+    requires jobs { campaign.jobs ≤ 10000 }
+    requires last { campaign.first + campaign.jobs ≤ 2 ^ 64 }
+    requires workers { workers ≤ 16 }
+{
     let report = run_jobs(
         rt,
         alloc,
         campaign,
         workers,
-        &connector,
+        connector,
         &FreeGate,
         &mut Unwatched,
     )?;
     let (text, status) = text_and_status(alloc, &report)?;
-    let all = 3 * campaign.jobs;
-    // Where memory runs out for what a worker sends, its job is run once more.
-    if connector.count() > all {
-        return Err(Fail::from(AllocError));
+    Ok(text.as_slice() == expected && status == 0)
+}
+
+/// Whether so many connections were made, and as many released. That more were made is an error: where memory runs out for what a worker
+/// sends, its job is run once more.
+fn are_released<R: Wait>(connector: &Stores<'_, R>, connections: u64) -> Result<bool, AllocError> {
+    if connector.count() > connections {
+        return Err(AllocError);
     }
-    let connected = connector.count() == all && connector.released() == all;
-    Ok(text.as_slice() == expected && status == 0 && connected)
+    Ok(connector.count() == connections && connector.released() == connections)
+}
+
+/// The same of no worker, one and sixteen.
+fn comes_to_by_any<R: Threads + Wait + Sync>(
+    rt: &R,
+    alloc: Global,
+    campaign: Campaign<'_>,
+    expected: &[u8],
+) -> Result<bool, Fail>
+    requires jobs { campaign.jobs ≤ 10000 }
+    requires last { campaign.first + campaign.jobs ≤ 2 ^ 64 }
+{
+    let without = comes_to(rt, alloc, campaign, 0, expected)?;
+    let by_one = comes_to(rt, alloc, campaign, 1, expected)?;
+    Ok(without && by_one && comes_to(rt, alloc, campaign, 16, expected)?)
 }
 
 #[test]
@@ -146,17 +220,13 @@ fn jobs_are_run_by_any_number_of_workers(rt: HostRuntime) -> Result<(), Fail> {
     let expected = b"report\n8 explained\n9 explained\n10 explained\n\
         jobs 3 explained 3 unexplained 0 other 0\n"
         .as_slice();
-    assert!(rt; comes_to(&rt, rt.alloc(), campaign(8, 3), 0, expected)?);
-    assert!(rt; comes_to(&rt, rt.alloc(), campaign(8, 3), 1, expected)?);
-    assert!(rt; comes_to(&rt, rt.alloc(), campaign(8, 3), 16, expected)?);
+    assert!(rt; comes_to_by_any(&rt, rt.alloc(), campaign(8, 3), expected)?);
     Ok(())
 }
 
 #[test]
 fn no_jobs_give_an_empty_report(rt: HostRuntime) -> Result<(), Fail> {
     let expected = b"report\njobs 0 explained 0 unexplained 0 other 0\n".as_slice();
-    assert!(rt; comes_to(&rt, rt.alloc(), campaign(0, 0), 0, expected)?);
-    assert!(rt; comes_to(&rt, rt.alloc(), campaign(0, 0), 1, expected)?);
-    assert!(rt; comes_to(&rt, rt.alloc(), campaign(0, 0), 16, expected)?);
+    assert!(rt; comes_to_by_any(&rt, rt.alloc(), campaign(0, 0), expected)?);
     Ok(())
 }

@@ -3,8 +3,8 @@
 use crate::status_tests::Given::*;
 use Word::*;
 use mc_campaign::{JobFault, JobOutcome, JobResult, Report, report_status};
-use mc_code::assemble;
-use mc_core::{Event, drive};
+use mc_code::{Code, assemble};
+use mc_core::{Event, World, drive};
 use mc_explain::{Explanation, Verdict};
 use mc_lane::{Lane, MemoryStream};
 use mc_protocol::{Actor, Fault, OutOfMemory, Reply};
@@ -73,13 +73,36 @@ static ROWS: &[(&[Given], u8)] = &[
 
 #[test]
 fn statuses_follow_from_what_jobs_came_to(rt: HostRuntime) -> Result<(), Fail> {
-    let code = assemble(rt.alloc(), &parse(rt.alloc(), COUNTER)?)?;
-    let counter = verify(rt.alloc(), code).map_err(|(refusal, _)| refusal)?;
-    for (given, status) in ROWS {
-        let report = report_of(rt.alloc(), &counter, given)?;
-        assert_eq!(rt; report_status(&report), *status);
-    }
+    assert_eq!(rt; first_odd(rt.alloc())?, None);
     Ok(())
+}
+
+/// The first row that isn't met.
+fn first_odd(alloc: Global) -> Result<Option<usize>, Fail> {
+    let code = code(alloc)?;
+    let counter = verify(alloc, code).map_err(|(refusal, _)| refusal)?;
+    Ok(first_odd_of(alloc, &counter)?)
+}
+
+/// The code of the counter.
+fn code(alloc: Global) -> Result<Code, Fail> {
+    let script = parse(alloc, COUNTER)?;
+    Ok(assemble(alloc, &script)?)
+}
+
+fn first_odd_of(alloc: Global, counter: &Checked) -> Result<Option<usize>, OutOfMemory> {
+    for (index, (given, status)) in ROWS.iter().enumerate() {
+        if status_of(alloc, counter, given)? != *status {
+            return Ok(Some(index));
+        }
+    }
+    Ok(None)
+}
+
+/// The status after the report of jobs that came to this.
+fn status_of(alloc: Global, counter: &Checked, given: &[Given]) -> Result<u8, OutOfMemory> {
+    let report = report_of(alloc, counter, given)?;
+    Ok(report_status(&report))
 }
 
 /// The report of jobs that came to this.
@@ -90,12 +113,20 @@ fn report_of(
 ) -> Result<Report<MemoryStream>, OutOfMemory> {
     let mut results = Vec::new(alloc);
     'jobs: for one in given {
-        results.push(JobResult {
-            job: 7,
-            outcome: outcome(alloc, counter, *one)?,
-        })?;
+        results.push(result(alloc, counter, *one)?)?;
     }
     Ok(Report { seed: 1, results })
+}
+
+fn result(
+    alloc: Global,
+    counter: &Checked,
+    given: Given,
+) -> Result<JobResult<MemoryStream>, OutOfMemory> {
+    Ok(JobResult {
+        job: 7,
+        outcome: outcome(alloc, counter, given)?,
+    })
 }
 
 fn outcome(
@@ -103,13 +134,13 @@ fn outcome(
     counter: &Checked,
     given: Given,
 ) -> Result<JobOutcome<MemoryStream>, OutOfMemory> {
-    Ok(match given {
-        NotMade(fault) => JobOutcome::NotMade(fault),
-        NoLane(actor) => JobOutcome::NoLane(actor),
-        NotRun(error) => JobOutcome::NotRun(error),
-        Done(word) => ran(alloc, counter, word, None)?,
-        Failed(word, actor, fault) => ran(alloc, counter, word, Some((actor, fault)))?,
-    })
+    match given {
+        NotMade(fault) => Ok(JobOutcome::NotMade(fault)),
+        NoLane(actor) => Ok(JobOutcome::NoLane(actor)),
+        NotRun(error) => Ok(JobOutcome::NotRun(error)),
+        Done(word) => ran(alloc, counter, word, None),
+        Failed(word, actor, fault) => ran(alloc, counter, word, Some((actor, fault))),
+    }
 }
 
 /// A run with this verdict, in which this section failed by this fault.
@@ -119,17 +150,27 @@ fn ran(
     word: Word,
     failed: Option<(Actor, Fault)>,
 ) -> Result<JobOutcome<MemoryStream>, OutOfMemory> {
-    let (world, _) = drive(alloc, counter, events(alloc, failed)?)?;
+    let events = events(alloc, failed)?;
+    let (world, _) = drive(alloc, counter, events)?;
     let history = world.history(alloc, counter)?;
-    let lanes = Lanes {
+    Ok(JobOutcome::Ran {
+        run: run(alloc, world)?,
+        history,
+        verdict: verdict(alloc, word),
+    })
+}
+
+/// A run with this world, over lanes that carry nothing.
+fn run(alloc: Global, world: World) -> Result<Run<MemoryStream>, OutOfMemory> {
+    let lanes = lanes(alloc)?;
+    Ok(Run { world, lanes })
+}
+
+fn lanes(alloc: Global) -> Result<Lanes<MemoryStream>, OutOfMemory> {
+    Ok(Lanes {
         p: lane(alloc)?,
         a: lane(alloc)?,
         b: lane(alloc)?,
-    };
-    Ok(JobOutcome::Ran {
-        run: Run { world, lanes },
-        history,
-        verdict: verdict(alloc, word),
     })
 }
 
@@ -139,21 +180,34 @@ fn events(
     failed: Option<(Actor, Fault)>,
 ) -> Result<Vec<(Actor, Event)>, OutOfMemory> {
     let mut events = Vec::new(alloc);
+    push_events(&mut events, failed)?;
+    Ok(events)
+}
+
+fn push_events(
+    events: &mut Vec<(Actor, Event)>,
+    failed: Option<(Actor, Fault)>,
+) -> Result<(), OutOfMemory> {
     if let Some((Actor::P, fault)) = failed {
         events.push((Actor::P, Event::Fail(fault)))?;
     }
-    for reply in [Reply::NotFound, Reply::Stored] {
-        events.push((Actor::P, Event::Begin))?;
-        events.push((Actor::P, Event::Reply(reply)))?;
-    }
+    push_call(events, Actor::P, Reply::NotFound)?;
+    push_call(events, Actor::P, Reply::Stored)?;
     if let Some((actor, fault)) = failed {
         events.push((actor, Event::Fail(fault)))?;
     }
-    for (actor, number) in [(Actor::A, 6), (Actor::B, 7)] {
-        events.push((actor, Event::Begin))?;
-        events.push((actor, Event::Reply(Reply::Number(number))))?;
-    }
-    Ok(events)
+    push_call(events, Actor::A, Reply::Number(6))?;
+    push_call(events, Actor::B, Reply::Number(7))
+}
+
+fn push_call(
+    events: &mut Vec<(Actor, Event)>,
+    actor: Actor,
+    reply: Reply,
+) -> Result<(), OutOfMemory> {
+    events.push((actor, Event::Begin))?;
+    events.push((actor, Event::Reply(reply)))?;
+    Ok(())
 }
 
 fn lane(alloc: Global) -> Result<Lane<MemoryStream>, OutOfMemory> {

@@ -1,6 +1,8 @@
-//! The texts of generated scripts.
+//! The texts of generated scripts and of reports.
 
-use mc_campaign::generate_script;
+use crate::memory::has_memory;
+use mc_campaign::{Report, generate_script, print_report};
+use mc_lane::Stream;
 use mc_protocol::OutOfMemory;
 use mc_script::print;
 use std::alloc::Global;
@@ -10,5 +12,16 @@ pub(crate) fn text_of(alloc: Global, seed: u64, job: u64) -> Result<Vec<u8>, Out
     let script = generate_script(alloc, seed, job)?;
     let mut text = Vec::new(alloc);
     print(alloc, &script, &mut text)?;
+    Ok(text)
+}
+
+/// The text of a report. Where memory ran out in a job, that is an error.
+pub(crate) fn report_text<S: Stream>(
+    alloc: Global,
+    report: &Report<S>,
+) -> Result<Vec<u8>, OutOfMemory> {
+    has_memory(report)?;
+    let mut text = Vec::new(alloc);
+    print_report(report, &mut text)?;
     Ok(text)
 }

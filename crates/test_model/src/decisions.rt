@@ -4,7 +4,7 @@ use mc_model::{
     Answer, Cache, Change, Choice, Decision, Found, Item, Numeral, Reading, WordsFault, decide,
     make_version, numeral_of, reply_with,
 };
-use mc_protocol::{OutOfMemory, Reply, Verb};
+use mc_protocol::{OutOfMemory, Reply, Request, Verb};
 use std::alloc::Global;
 use std::test::Fail;
 
@@ -31,25 +31,38 @@ fn holds(cache: &Cache, body: &str) -> bool {
     }
 }
 
-/// Two requests are decided by what is there, and then both are done.
-fn decides_twice(
+/// The body of an item, two requests that are decided by it before both are done, and the body after that.
+type Twice = (&'static str, &'static str, &'static str, &'static str);
+
+/// Whether the row's body is there after its requests.
+fn is_met(alloc: Global, row: &Twice) -> Result<bool, WordsFault> {
+    let (body, first, second, after) = *row;
+    let mut cache = cache_of(alloc, body)?;
+    decide_twice(alloc, &mut cache, first, second)?;
+    Ok(holds(&cache, after))
+}
+
+fn decide_twice(
     alloc: Global,
-    body: &str,
+    cache: &mut Cache,
     first: &str,
     second: &str,
-) -> Result<Cache, WordsFault> {
-    let mut cache = cache_of(alloc, body)?;
+) -> Result<(), WordsFault> {
     let first = request_in(alloc, first)?;
     let second = request_in(alloc, second)?;
-    let earlier = cache.decide(&first, PLAIN);
-    let later = cache.decide(&second, PLAIN);
-    let _ = cache.apply(&first, earlier, false, 9)?;
-    let _ = cache.apply(&second, later, false, 10)?;
-    Ok(cache)
+    Ok(apply_both(cache, &first, &second)?)
+}
+
+fn apply_both(cache: &mut Cache, first: &Request, second: &Request) -> Result<(), OutOfMemory> {
+    let earlier = cache.decide(first, PLAIN);
+    let later = cache.decide(second, PLAIN);
+    let _ = cache.apply(first, earlier, false, 9)?;
+    let _ = cache.apply(second, later, false, 10)?;
+    Ok(())
 }
 
 /// Of two counts that are decided by one number, one is lost; what joins a body is not.
-static TWICE: &[(&str, &str, &str, &str)] = &[
+static TWICE: &[Twice] = &[
     ("5", "incr k 1", "incr k 2", "7"),
     ("5", "decr k 7", "append k 0 =x", "0x"),
     ("5", "set k 0 =x", "prepend k 0 =y", "yx"),
@@ -57,9 +70,8 @@ static TWICE: &[(&str, &str, &str, &str)] = &[
 
 #[test]
 fn applies_what_was_decided_before(rt: HostRuntime) -> Result<(), Fail> {
-    for (body, first, second, after) in TWICE {
-        let cache = decides_twice(rt.alloc(), body, first, second)?;
-        assert!(rt; holds(&cache, after), "{first}, {second}");
+    for row in TWICE {
+        assert!(rt; is_met(rt.alloc(), row)?, "{row:?}");
     }
     Ok(())
 }
@@ -68,8 +80,15 @@ fn answers_a_miss(alloc: Global) -> Result<bool, WordsFault> {
     let mut cache = cache_of(alloc, "x")?;
     let get = request_in(alloc, "get k")?;
     let decision = cache.decide(&get, PLAIN);
-    let _ = cache.act(&request_in(alloc, "delete k")?, PLAIN, 9)?;
-    Ok(cache.apply(&get, decision, false, 10)? == reply_in(alloc, "MISS")?)
+    delete(alloc, &mut cache)?;
+    let shown = cache.apply(&get, decision, false, 10)?;
+    Ok(shown == Reply::Miss)
+}
+
+fn delete(alloc: Global, cache: &mut Cache) -> Result<(), WordsFault> {
+    let delete = request_in(alloc, "delete k")?;
+    let _ = cache.act(&delete, PLAIN, 9)?;
+    Ok(())
 }
 
 #[test]
@@ -116,10 +135,18 @@ fn appends_in_steps(alloc: Global) -> Result<bool, WordsFault> {
     let cache = cache_of(alloc, "12")?;
     let append = request_in(alloc, "append k 7 =x")?;
     let found = cache.find(b"k");
-    let decision = Decision::of(&append, PLAIN, found);
-    let made = make_version(alloc, &append, decision.change, false, 9, found)?;
+    Ok(is_appended(alloc, &append, found)? && is_shown(alloc, found)?)
+}
+
+fn is_appended(alloc: Global, append: &Request, found: Option<&Item>) -> Result<bool, OutOfMemory> {
+    let decision = Decision::of(append, PLAIN, found);
+    let made = make_version(alloc, append, decision.change, false, 9, found)?;
+    Ok(is_version(made, 5, b"12x", 9))
+}
+
+fn is_shown(alloc: Global, found: Option<&Item>) -> Result<bool, WordsFault> {
     let shown = reply_with(alloc, Answer::ShowsNumber, found)?;
-    Ok(is_version(made, 5, b"12x", 9) && shown == reply_in(alloc, "HIT 5 =12 4")?)
+    Ok(shown == reply_in(alloc, "HIT 5 =12 4")?)
 }
 
 fn is_version(made: Option<Item>, flags: u32, body: &[u8], number: u64) -> bool {

@@ -1,6 +1,6 @@
 //! Worlds, and lanes that carried the calls of two increments of one counter, or something else.
 
-use crate::branch_rows::BRANCHES;
+use crate::branch_rows::{BRANCHES, Branches};
 use crate::carried::Carried;
 use crate::counter::Given::*;
 use crate::counter::{Given, checked, counter, events};
@@ -23,70 +23,91 @@ const PREFIX: [(Actor, Given); 4] = [(P, Begin), (P, NotFound), (P, Begin), (P, 
 
 #[test]
 fn branches_agree(rt: HostRuntime) -> Result<(), Fail> {
-    let counter = counter(rt.alloc())?;
-    for (steps, a, b, expected) in &BRANCHES {
-        let carried = [Carried::P_DONE, *a, *b];
-        let found = agree_after_prefix(rt.alloc(), &counter, &counter, steps, carried)?;
-        assert_eq!(rt; found, *expected);
-    }
+    assert_eq!(rt; first_odd_branches(rt.alloc())?, None);
     Ok(())
+}
+
+/// The first row of branches that isn't met.
+fn first_odd_branches(alloc: Global) -> Result<Option<usize>, Fail> {
+    let counter = counter(alloc)?;
+    Ok(first_odd_branches_in(alloc, &counter)?)
+}
+
+fn first_odd_branches_in(alloc: Global, counter: &Checked) -> Result<Option<usize>, OutOfMemory> {
+    for (index, row) in BRANCHES.iter().enumerate() {
+        if agree_as_branches(alloc, counter, counter, row)? != row.3 {
+            return Ok(Some(index));
+        }
+    }
+    Ok(None)
 }
 
 #[test]
 fn prefixes_agree(rt: HostRuntime) -> Result<(), Fail> {
-    let counter = counter(rt.alloc())?;
-    for (steps, p, a, expected) in &PREFIXES {
-        let carried = [*p, *a, Carried::NOTHING];
-        let found = agree(rt.alloc(), &counter, &counter, steps, carried)?;
-        assert_eq!(rt; found, *expected);
-    }
+    assert_eq!(rt; first_odd_prefix(rt.alloc())?, None);
     Ok(())
 }
+
+/// The first row of prefixes that isn't met.
+fn first_odd_prefix(alloc: Global) -> Result<Option<usize>, Fail> {
+    let counter = counter(alloc)?;
+    Ok(first_odd_prefix_in(alloc, &counter)?)
+}
+
+fn first_odd_prefix_in(alloc: Global, counter: &Checked) -> Result<Option<usize>, OutOfMemory> {
+    for (index, (steps, p, a, expected)) in PREFIXES.iter().enumerate() {
+        let carried = [*p, *a, Carried::NOTHING];
+        if agree(alloc, counter, counter, steps, carried)? != *expected {
+            return Ok(Some(index));
+        }
+    }
+    Ok(None)
+}
+
+/// Where both branches are done.
+static BOTH_DONE: Branches = (
+    &[(A, Begin), (A, Number(6)), (B, Begin), (B, Number(7))],
+    Carried {
+        got: b"6\r\n",
+        ..Carried::BRANCH
+    },
+    Carried {
+        got: b"7\r\n",
+        ..Carried::BRANCH
+    },
+    true,
+);
 
 /// A world of one script is no world of another, whatever the lanes carried.
 #[test]
 fn other_code_does_not_agree(rt: HostRuntime) -> Result<(), Fail> {
-    let steps = [(A, Begin), (A, Number(6)), (B, Begin), (B, Number(7))];
-    let carried = [
-        Carried::P_DONE,
-        Carried {
-            got: b"6\r\n",
-            ..Carried::BRANCH
-        },
-        Carried {
-            got: b"7\r\n",
-            ..Carried::BRANCH
-        },
-    ];
-    let found = agree_with_both(rt.alloc(), &steps, carried)?;
-    assert_eq!(rt; found, (true, false));
+    assert!(rt; agrees_with_its_code_alone(rt.alloc())?);
     Ok(())
 }
 
-/// Whether the world to which these events lead in the counter agrees with lanes that carried this, as one of the counter, and as one
-/// of the script that adds 2.
-fn agree_with_both(
-    alloc: Global,
-    steps: &[(Actor, Given)],
-    carried: [Carried; 3],
-) -> Result<(bool, bool), Fail> {
+/// Whether the world in which both branches of the counter are done agrees as one of the counter, and doesn't as one of the script that
+/// adds 2.
+fn agrees_with_its_code_alone(alloc: Global) -> Result<bool, Fail> {
     let counter = counter(alloc)?;
-    let by_itself = agree_after_prefix(alloc, &counter, &counter, steps, carried)?;
-    Ok((
-        by_itself,
-        agree_with_other(alloc, &counter, steps, carried)?,
-    ))
+    agrees_with_it_alone(alloc, &counter)
 }
 
-/// The same, as one of the script that adds 2.
-fn agree_with_other(
-    alloc: Global,
-    counter: &Checked,
-    steps: &[(Actor, Given)],
-    carried: [Carried; 3],
-) -> Result<bool, Fail> {
+fn agrees_with_it_alone(alloc: Global, counter: &Checked) -> Result<bool, Fail> {
     let by_two = checked(alloc, BY_TWO)?;
-    Ok(agree_after_prefix(alloc, counter, &by_two, steps, carried)?)
+    let in_other = agree_as_branches(alloc, counter, &by_two, &BOTH_DONE)?;
+    Ok(!in_other && agree_as_branches(alloc, counter, counter, &BOTH_DONE)?)
+}
+
+/// Whether the world to which the row's events lead in `code` agrees, as one of `other`, with lanes that carried what the row has, where
+/// P is done before.
+fn agree_as_branches(
+    alloc: Global,
+    code: &Checked,
+    other: &Checked,
+    row: &Branches,
+) -> Result<bool, OutOfMemory> {
+    let (steps, a, b, _) = *row;
+    agree_after_prefix(alloc, code, other, steps, [Carried::P_DONE, a, b])
 }
 
 /// The same as `agree`, where P is done before these events.

@@ -5,26 +5,36 @@ use crate::counter::{Given, counter};
 use mc_core::{Ending, Event, StepRefusal, World};
 use mc_protocol::{Actor, Reply};
 use mc_run::Book;
+use std::alloc::Global;
 use std::test::Fail;
 
 #[test]
 fn notes_events_in_order(rt: HostRuntime) -> Result<(), Fail> {
-    let counter = counter(rt.alloc())?;
-    let mut book = Book::new(rt.alloc(), &counter)?;
-    assert_eq!(rt; note_some(&mut book), [true; 5]);
-    assert_eq!(rt; book.checked().code().keys().len(), 1);
-    assert_eq!(rt; noted_only_p(&book.into_world()), [true; 2]);
+    assert_eq!(rt; note_in_order(rt.alloc())?, ([true; 6], [true; 2]));
     Ok(())
 }
 
-/// Whether the book takes or hands back each of these events as it should, and P's first call waits then.
-fn note_some(book: &mut Book<'_>) -> [bool; 5] {
+/// What holds of a book of the counter while it is led, and of its world at the end.
+fn note_in_order(alloc: Global) -> Result<([bool; 6], [bool; 2]), Fail> {
+    let counter = counter(alloc)?;
+    let book = Book::new(alloc, &counter)?;
+    Ok(note_and_close(book))
+}
+
+fn note_and_close(mut book: Book<'_>) -> ([bool; 6], [bool; 2]) {
+    let are_noted = note_some(&mut book);
+    (are_noted, noted_only_p(&book.into_world()))
+}
+
+/// Whether the book takes or hands back each of these events as it should, P's first call waits then, and the code has one key.
+fn note_some(book: &mut Book<'_>) -> [bool; 6] {
     [
         hands_back(book, Actor::A, Begin, StepRefusal::NotYet),
         takes(book, Actor::P, Begin),
         book.world().waiting(Actor::P).is_some(),
         hands_back(book, Actor::P, Stored, StepRefusal::WrongReply),
         takes(book, Actor::P, NotFound),
+        book.checked().code().keys().len() == 1,
     ]
 }
 

@@ -1,6 +1,6 @@
 //! The script that the tests run: two increments of one counter.
 
-use mc_code::assemble;
+use mc_code::{Code, assemble};
 use mc_core::Event;
 use mc_protocol::{Actor, Fault, OutOfMemory, Reply};
 use mc_script::parse;
@@ -42,8 +42,13 @@ pub(crate) fn counter(alloc: Global) -> Result<Checked, Fail> {
 
 /// The code of a script, which is sound.
 pub(crate) fn checked(alloc: Global, script: &[u8]) -> Result<Checked, Fail> {
-    let code = assemble(alloc, &parse(alloc, script)?)?;
+    let code = code_of(alloc, script)?;
     Ok(verify(alloc, code).map_err(|(refusal, _)| refusal)?)
+}
+
+fn code_of(alloc: Global, script: &[u8]) -> Result<Code, Fail> {
+    let script = parse(alloc, script)?;
+    Ok(assemble(alloc, &script)?)
 }
 
 /// The events of a table.

@@ -41,10 +41,10 @@ fn lane(alloc: Global, served: Served) -> Result<Lane<MemoryStream>, OutOfMemory
 }
 
 /// The lanes of P, A and B, in this order.
-pub(crate) fn lanes(alloc: Global, served: [Served; 3]) -> Result<Lanes<MemoryStream>, OutOfMemory>
+pub(crate) fn lanes(alloc: Global, served: &[Served; 3]) -> Result<Lanes<MemoryStream>, OutOfMemory>
     ensures { IfOk result AreNew }
 {
-    let [p, a, b] = served;
+    let [p, a, b] = *served;
     Ok(Lanes {
         p: lane(alloc, p)?,
         a: lane(alloc, a)?,
@@ -103,6 +103,11 @@ pub(crate) fn has_memory<S: Stream>(run: &Run<S>) -> Result<(), AllocError> {
         }
     }
     Ok(())
+}
+
+/// How the sections of a run stand.
+pub(crate) fn endings(run: &Run<MemoryStream>) -> [Ending; 3] {
+    [Actor::P, Actor::A, Actor::B].map(|actor| run.world.ending(actor))
 }
 
 /// A gate that holds the first call of each branch until both have come to it.

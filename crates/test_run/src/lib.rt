@@ -17,6 +17,8 @@ mod lanes;
 #[cfg(test)]
 mod meet_tests;
 #[cfg(test)]
+mod meets;
+#[cfg(test)]
 mod prefix_rows;
 #[cfg(test)]
 mod run_tests;
@@ -26,6 +28,8 @@ mod signal;
 mod tcp_tests;
 #[cfg(test)]
 mod thread_tests;
+#[cfg(test)]
+mod threadless_tests;
 #[cfg(test)]
 mod trial_tests;
 #[cfg(test)]

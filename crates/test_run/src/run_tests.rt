@@ -1,14 +1,15 @@
 //! Runs of two increments of one counter, over streams in memory: what they note, what their lanes record, and the verdict.
 
+ghost use Rattle.std.specs.Prelude.{IfOk};
 ghost use Rattle.mc_core.specs.Held.{IsHeldBy};
 
 use crate::counter::counter;
-use crate::lanes::{BothBegin, NEVER, Served, lanes, run};
-use crate::verdict::text;
+use crate::lanes::{BothBegin, NEVER, Served, endings, lanes, run};
+use crate::verdict::is_written;
 use Ending::{Done, Failed, NotBegun};
 use mc_core::Ending;
 use mc_lane::{Lane, MemoryStream};
-use mc_protocol::{Actor, Fault, OutOfMemory, Verb};
+use mc_protocol::{Fault, OutOfMemory, Verb};
 use mc_reader::Shape;
 use mc_run::{FreeGate, Lanes, Run, agrees};
 use mc_verify::Checked;
@@ -28,6 +29,14 @@ const TO_PREFIX: &[&[u8]] = &[b"NOT_FOUND\r\n", b"STORED\r\n"];
 const SIX: Served = (&[b"6\r\n"], NEVER);
 
 const SEVEN: Served = (&[b"7\r\n"], NEVER);
+
+/// What is served to P, A and B in a run that comes to its end; and the same with something after B's reply.
+static TO_ALL: [Served; 3] = [(TO_PREFIX, NEVER), SIX, SEVEN];
+
+static TO_ALL_AND_MORE: [Served; 3] = [(TO_PREFIX, NEVER), SIX, (&[b"7\r\n8\r\n"], NEVER)];
+
+/// What is sent over the lanes of P, A and B then.
+static ALL_SENT: [&[u8]; 3] = [PREFIX, INCREMENT, INCREMENT];
 
 /// What the streams of P, A and B do, how the sections end, what is sent over each lane, and the verdict: the lines of an
 /// explanation, or a word.
@@ -162,12 +171,31 @@ static ROWS: &[Row] = &[
 
 #[test]
 fn comes_to_what_its_streams_answer(rt: HostRuntime) -> Result<(), Fail> {
-    let counter = counter(rt.alloc())?;
-    for (number, row) in ROWS.iter().enumerate() {
-        let found = fit(&rt, rt.alloc(), &counter, row)?;
-        assert_eq!(rt; found, [true; 5], "{number}");
-    }
+    assert_eq!(rt; first_odd(&rt, rt.alloc())?, None);
     Ok(())
+}
+
+/// The first row that a run doesn't fit, and what of it is as the row has it.
+fn first_odd<R: Threads + Wait + Sync>(
+    rt: &R,
+    alloc: Global,
+) -> Result<Option<(usize, [bool; 5])>, Fail> {
+    let counter = counter(alloc)?;
+    first_odd_of(rt, alloc, &counter)
+}
+
+fn first_odd_of<R: Threads + Wait + Sync>(
+    rt: &R,
+    alloc: Global,
+    counter: &Checked,
+) -> Result<Option<(usize, [bool; 5])>, Fail> {
+    for (number, row) in ROWS.iter().enumerate() {
+        let found = fit(rt, alloc, counter, row)?;
+        if found != [true; 5] {
+            return Ok(Some((number, found)));
+        }
+    }
+    Ok(None)
 }
 
 /// What of a run over the row's streams is as the row has it.
@@ -177,30 +205,49 @@ fn fit<R: Threads + Wait + Sync>(
     counter: &Checked,
     row: &Row,
 ) -> Result<[bool; 5], Fail> {
-    let given = lanes(alloc, [row.p, row.a, row.b])?;
-    let run = run(rt, alloc, counter, given, &FreeGate)?;
-    fits(alloc, counter, run, row)
+    let run = run_of(rt, alloc, counter, row)?;
+    let judged = agrees_and_is_judged(alloc, counter, &run, row)?;
+    Ok(fits(run, row, judged))
+}
+
+/// A run over the row's streams.
+fn run_of<R: Threads + Wait + Sync>(
+    rt: &R,
+    alloc: Global,
+    counter: &Checked,
+    row: &Row,
+) -> Result<Run<MemoryStream>, Fail>
+    ensures { IfOk result (λ run. IsHeldBy counter.now.code run.world) }
+{
+    let given = lanes(alloc, &[row.p, row.a, row.b])?;
+    run(rt, alloc, counter, given, &FreeGate)
+}
+
+/// Whether the lanes of a run agree with its world, and whether the verdict on it is that of the row.
+fn agrees_and_is_judged(
+    alloc: Global,
+    counter: &Checked,
+    run: &Run<MemoryStream>,
+    row: &Row,
+) -> Result<(bool, bool), Fail>
+    requires { IsHeldBy counter.now.code run.now.world }
+{
+    let agrees = agrees(alloc, counter, &run.world, &run.lanes)?;
+    let is_judged = is_judged_as(alloc, counter, run, 1_000_000, row.verdict.as_bytes())?;
+    Ok((agrees, is_judged))
 }
 
 /// Whether the sections end as in the row, this was sent over the lanes, they agree, the verdict is that of the row, and nothing is
 /// sent in one more call.
-fn fits(
-    alloc: Global,
-    counter: &Checked,
-    run: Run<MemoryStream>,
-    row: &Row,
-) -> Result<[bool; 5], Fail>
-    requires { IsHeldBy counter.now.code run.world }
-{
-    let agrees = agrees(alloc, counter, &run.world, &run.lanes)?;
-    let is_judged = is_judged_as(alloc, counter, &run, 1_000_000, row.verdict.as_bytes())?;
-    Ok([
+fn fits(run: Run<MemoryStream>, row: &Row, judged: (bool, bool)) -> [bool; 5] {
+    let (agrees, is_judged) = judged;
+    [
         endings(&run) == row.endings,
         have_sent(&run.lanes, row.sent),
         agrees,
         is_judged,
         send_nothing_when_closed(run.lanes),
-    ])
+    ]
 }
 
 /// Whether this is the verdict on the run after at most this many turns: the lines of an explanation, or a word.
@@ -214,16 +261,35 @@ fn is_judged_as(
     requires { IsHeldBy counter.now.code run.now.world }
 {
     let (_, found, _) = run.judge(alloc, counter, limit)?;
-    Ok(text(alloc, &found)?.as_slice() == verdict)
+    Ok(is_written(alloc, &found, verdict)?)
 }
 
 #[test]
 fn notes_both_increments(rt: HostRuntime) -> Result<(), Fail> {
-    let counter = counter(rt.alloc())?;
-    let gate = BothBegin::new();
-    let found = increment_twice(&rt, rt.alloc(), &counter, &gate)?;
-    assert_eq!(rt; (found, gate.missed.is_raised()), ([true; 6], false));
+    assert_eq!(rt;
+        increment_once_both_begin(&rt, rt.alloc())?,
+        Some([true; 6])
+    );
     Ok(())
+}
+
+/// What holds of a run whose branches wait for each other, where neither waits for too long.
+fn increment_once_both_begin<R: Threads + Wait + Sync>(
+    rt: &R,
+    alloc: Global,
+) -> Result<Option<[bool; 6]>, Fail> {
+    let counter = counter(alloc)?;
+    increment_in_time(rt, alloc, &counter)
+}
+
+fn increment_in_time<R: Threads + Wait + Sync>(
+    rt: &R,
+    alloc: Global,
+    counter: &Checked,
+) -> Result<Option<[bool; 6]>, Fail> {
+    let gate = BothBegin::new();
+    let found = increment_twice(rt, alloc, counter, &gate)?;
+    Ok((!gate.missed.is_raised()).then_some(found))
 }
 
 /// What holds of a run in which this gate is passed, and something comes after B's reply.
@@ -233,8 +299,7 @@ fn increment_twice<R: Threads + Wait + Sync>(
     counter: &Checked,
     gate: &BothBegin,
 ) -> Result<[bool; 6], Fail> {
-    let to_b: Served = (&[b"7\r\n8\r\n"], NEVER);
-    let given = lanes(alloc, [(TO_PREFIX, NEVER), SIX, to_b])?;
+    let given = lanes(alloc, &TO_ALL_AND_MORE)?;
     let run = run(rt, alloc, counter, given, gate)?;
     has_incremented_twice(alloc, counter, &run)
 }
@@ -253,7 +318,7 @@ fn has_incremented_twice(
     let is_undecided = is_judged_as(alloc, counter, run, 0, b"undecided")?;
     Ok([
         endings(run) == [Done, Done, Done],
-        have_sent(&run.lanes, [PREFIX, INCREMENT, INCREMENT]),
+        have_sent(&run.lanes, ALL_SENT),
         run.lanes.b.got() == b"7\r\n8\r\n".as_slice(),
         run.lanes.b.taken() == 3,
         is_explained,
@@ -263,22 +328,25 @@ fn has_incremented_twice(
 
 #[test]
 fn agrees_with_its_own_lanes_alone(rt: HostRuntime) -> Result<(), Fail> {
-    let counter = counter(rt.alloc())?;
-    let found = run_and_exchange(&rt, rt.alloc(), &counter)?;
-    assert_eq!(rt; found, (true, false));
+    assert!(rt; agrees_in_order_alone(&rt, rt.alloc())?);
     Ok(())
 }
 
-/// Whether the lanes of a run agree with its world, and whether they do so with A's and B's exchanged.
+/// Whether the lanes of a run agree with its world, and no longer do so with A's and B's exchanged.
+fn agrees_in_order_alone<R: Threads + Wait + Sync>(rt: &R, alloc: Global) -> Result<bool, Fail> {
+    let counter = counter(alloc)?;
+    run_and_exchange(rt, alloc, &counter)
+}
+
 fn run_and_exchange<R: Threads + Wait + Sync>(
     rt: &R,
     alloc: Global,
     counter: &Checked,
-) -> Result<(bool, bool), Fail> {
-    let given = lanes(alloc, [(TO_PREFIX, NEVER), SIX, SEVEN])?;
+) -> Result<bool, Fail> {
+    let given = lanes(alloc, &TO_ALL)?;
     let run = run(rt, alloc, counter, given, &FreeGate)?;
     let in_order = agrees(alloc, counter, &run.world, &run.lanes)?;
-    Ok((in_order, agree_exchanged(alloc, counter, run)?))
+    Ok(in_order && !agree_exchanged(alloc, counter, run)?)
 }
 
 /// Whether the lanes of a run agree with its world where A's and B's are exchanged.
@@ -291,11 +359,6 @@ fn agree_exchanged(
     let Lanes { p, a, b } = lanes;
     let exchanged = Lanes { p, a: b, b: a };
     agrees(alloc, counter, &world, &exchanged)
-}
-
-/// How the sections of a run stand.
-fn endings(run: &Run<MemoryStream>) -> [Ending; 3] {
-    [Actor::P, Actor::A, Actor::B].map(|actor| run.world.ending(actor))
 }
 
 /// Whether this was sent over the lanes of P, A and B.

@@ -40,6 +40,16 @@ struct Increments {
     missed: AtomicU64,
 }
 
+impl Increments {
+    /// None has read.
+    fn new() -> Increments {
+        Increments {
+            read: AtomicU64::new(0),
+            missed: AtomicU64::new(0),
+        }
+    }
+}
+
 /// Holds each increment until both have read.
 #[derive(Drop)]
 struct BothRead<'i> {
@@ -105,27 +115,42 @@ fn judged(
 ) -> Result<(bool, Vec<u8>), Fail>
     requires { IsHeldBy counter.now.code run.world }
 {
-    let (_, found, _) = run.judge(alloc, counter, 1_000_000)?;
     let are_done = [Actor::P, Actor::A, Actor::B]
         .iter()
         .all(|section| run.world.ending(*section) == Ending::Done);
+    let (_, found, _) = run.judge(alloc, counter, 1_000_000)?;
     Ok((are_done, text(alloc, &found)?))
 }
 
-/// The same of a run against a server that answers by this caller and serves three connections, and what came of these.
-fn run_against<
+/// The verdict on a run against a server that answers by this caller and serves three connections. Nothing, where a section isn't done or
+/// a connection isn't served.
+fn verdict_against<
     R: Net<Listener = TcpListener, Stream = TcpStream> + Threads + Wait + Clock + Sync,
     C: Caller,
->(rt: &R, alloc: Global, counter: &Checked, caller: &C) -> Result<(bool, Vec<u8>, Listened), Fail> {
+>(rt: &R, alloc: Global, counter: &Checked, caller: &C) -> Result<Option<Vec<u8>>, Fail> {
     let listener = TcpListener::bind(rt, FREE_PORT)?;
+    let (listened, (are_done, verdict)) = run_beside(rt, alloc, counter, caller, &listener)?;
+    Ok((are_done && listened == ALL).then_some(verdict))
+}
+
+/// What comes of the listener, and of a run against it.
+fn run_beside<
+    R: Net<Listener = TcpListener, Stream = TcpStream> + Threads + Wait + Clock + Sync,
+    C: Caller,
+>(
+    rt: &R,
+    alloc: Global,
+    counter: &Checked,
+    caller: &C,
+    listener: &TcpListener,
+) -> Result<(Listened, (bool, Vec<u8>)), Fail> {
     let address = listener.local_addr()?;
     let (listened, ran) = join(
         rt,
-        || listen(rt, alloc, &listener, caller, 3),
+        || listen(rt, alloc, listener, caller, 3),
         || run_at(rt, alloc, counter, address),
     );
-    let (are_done, verdict) = ran?;
-    Ok((are_done, verdict, listened))
+    Ok((listened, ran?))
 }
 
 /// All three are served.
@@ -136,28 +161,58 @@ const ALL: Listened = Listened {
 
 #[test]
 fn a_server_explains_what_it_answers(rt: HostRuntime) -> Result<(), Fail> {
-    let counter = counter(rt.alloc())?;
-    let shared = Shared::new(rt.alloc())?;
-    let (are_done, verdict, listened) = run_against(&rt, rt.alloc(), &counter, &shared)?;
-    assert_eq!(rt; (are_done, listened), (true, ALL));
-    assert!(rt; verdict.starts_with(b"P 0\nP 1\n"));
+    assert!(rt; is_explained_by_a_server(&rt, rt.alloc())?);
     Ok(())
+}
+
+fn is_explained_by_a_server<
+    R: Net<Listener = TcpListener, Stream = TcpStream> + Threads + Wait + Clock + Sync,
+>(rt: &R, alloc: Global) -> Result<bool, Fail> {
+    let counter = counter(alloc)?;
+    is_explained(rt, alloc, &counter)
+}
+
+/// Whether a run against a server that is right is explained.
+fn is_explained<R: Net<Listener = TcpListener, Stream = TcpStream> + Threads + Wait + Clock + Sync>(
+    rt: &R,
+    alloc: Global,
+    counter: &Checked,
+) -> Result<bool, Fail> {
+    let shared = Shared::new(alloc)?;
+    match verdict_against(rt, alloc, counter, &shared)? {
+        Some(verdict) => Ok(verdict.starts_with(b"P 0\nP 1\n")),
+        None => Ok(false),
+    }
 }
 
 #[test]
 fn a_server_with_a_race_cannot_be_explained(rt: HostRuntime) -> Result<(), Fail> {
-    let counter = counter(rt.alloc())?;
-    let increments = Increments {
-        read: AtomicU64::new(0),
-        missed: AtomicU64::new(0),
-    };
-    let between = BothRead {
-        increments: &increments,
-    };
-    let racy = Racy::new(rt.alloc(), between)?;
-    let (are_done, verdict, listened) = run_against(&rt, rt.alloc(), &counter, &racy)?;
-    assert_eq!(rt; (are_done, listened), (true, ALL));
-    assert_eq!(rt; verdict.as_slice(), b"unexplained".as_slice());
-    assert_eq!(rt; increments.missed.load(Ordering::SeqCst), 0);
+    assert!(rt; is_unexplained_by_a_race(&rt, rt.alloc())?);
     Ok(())
+}
+
+fn is_unexplained_by_a_race<
+    R: Net<Listener = TcpListener, Stream = TcpStream> + Threads + Wait + Clock + Sync,
+>(rt: &R, alloc: Global) -> Result<bool, Fail> {
+    let counter = counter(alloc)?;
+    is_unexplained_in_time(rt, alloc, &counter)
+}
+
+/// Whether nothing explains a run against a server whose increments both read first, and neither waits for too long.
+fn is_unexplained_in_time<
+    R: Net<Listener = TcpListener, Stream = TcpStream> + Threads + Wait + Clock + Sync,
+>(rt: &R, alloc: Global, counter: &Checked) -> Result<bool, Fail> {
+    let increments = Increments::new();
+    let is_unexplained = is_unexplained(rt, alloc, counter, &increments)?;
+    Ok(is_unexplained && increments.missed.load(Ordering::SeqCst) == 0)
+}
+
+fn is_unexplained<
+    R: Net<Listener = TcpListener, Stream = TcpStream> + Threads + Wait + Clock + Sync,
+>(rt: &R, alloc: Global, counter: &Checked, increments: &Increments) -> Result<bool, Fail> {
+    let racy = Racy::new(alloc, BothRead { increments })?;
+    match verdict_against(rt, alloc, counter, &racy)? {
+        Some(verdict) => Ok(verdict.as_slice() == b"unexplained".as_slice()),
+        None => Ok(false),
+    }
 }

@@ -18,11 +18,11 @@ use std::test::Fail;
 use std::thread::Threads;
 
 /// What the server answers to P, and the replies to an increment that is the first or the second.
-const TO_PREFIX: Served = (&[b"NOT_FOUND\r\n", b"STORED\r\n"], NEVER);
+static TO_PREFIX: Served = (&[b"NOT_FOUND\r\n", b"STORED\r\n"], NEVER);
 
-const SIX: Served = (&[b"6\r\n"], NEVER);
+static SIX: Served = (&[b"6\r\n"], NEVER);
 
-const SEVEN: Served = (&[b"7\r\n"], NEVER);
+static SEVEN: Served = (&[b"7\r\n"], NEVER);
 
 /// A gate that holds A's first call until B's first call has passed.
 #[derive(Drop)]
@@ -45,16 +45,35 @@ impl Gate for BFirst {
     }
 }
 
+impl BFirst {
+    fn new() -> BFirst {
+        BFirst {
+            b_passed: Signal::new(),
+            missed: Signal::new(),
+        }
+    }
+}
+
 #[test]
 fn goes_on_while_a_gate_holds_the_other_branch(rt: HostRuntime) -> Result<(), Fail> {
-    let counter = counter(rt.alloc())?;
-    let gate = BFirst {
-        b_passed: Signal::new(),
-        missed: Signal::new(),
-    };
-    let done = run_both(&rt, rt.alloc(), &counter, &gate)?;
-    assert_eq!(rt; (done, gate.missed.is_raised()), (true, false));
+    assert!(rt; goes_on_at_a_gate(&rt, rt.alloc())?);
     Ok(())
+}
+
+/// Whether all sections are done where A is held until B's call has passed, and no thread waits for too long.
+fn goes_on_at_a_gate<R: Threads + Wait + Sync>(rt: &R, alloc: Global) -> Result<bool, Fail> {
+    let counter = counter(alloc)?;
+    run_in_time(rt, alloc, &counter)
+}
+
+fn run_in_time<R: Threads + Wait + Sync>(
+    rt: &R,
+    alloc: Global,
+    counter: &Checked,
+) -> Result<bool, Fail> {
+    let gate = BFirst::new();
+    let done = run_both(rt, alloc, counter, &gate)?;
+    Ok(done && !gate.missed.is_raised())
 }
 
 /// Whether all sections are done where this gate is passed, and B's increment is the first.
@@ -64,7 +83,7 @@ fn run_both<R: Threads + Wait + Sync>(
     counter: &Checked,
     gate: &BFirst,
 ) -> Result<bool, Fail> {
-    let given = lanes(alloc, [TO_PREFIX, SEVEN, SIX])?;
+    let given = lanes(alloc, &[TO_PREFIX, SEVEN, SIX])?;
     let run = run(rt, alloc, counter, given, gate)?;
     Ok(are_done(&run.world))
 }
@@ -93,11 +112,24 @@ impl Signals {
 
 #[test]
 fn goes_on_while_the_other_branch_is_read(rt: HostRuntime) -> Result<(), Fail> {
-    let counter = counter(rt.alloc())?;
-    let signals = Signals::new();
-    let done = run_crosswise(&rt, rt.alloc(), &counter, &signals)?;
-    assert_eq!(rt; (done, signals.missed.is_raised()), (true, false));
+    assert!(rt; goes_on_crosswise(&rt, rt.alloc())?);
     Ok(())
+}
+
+/// Whether all sections are done where each branch waits for the other, and no thread waits for too long.
+fn goes_on_crosswise<R: Threads + Wait + Sync>(rt: &R, alloc: Global) -> Result<bool, Fail> {
+    let counter = counter(alloc)?;
+    run_crosswise_in_time(rt, alloc, &counter)
+}
+
+fn run_crosswise_in_time<R: Threads + Wait + Sync>(
+    rt: &R,
+    alloc: Global,
+    counter: &Checked,
+) -> Result<bool, Fail> {
+    let signals = Signals::new();
+    let done = run_crosswise(rt, alloc, counter, &signals)?;
+    Ok(done && !signals.missed.is_raised())
 }
 
 /// Whether all sections are done where each branch's stream is read once the other's was written to.
@@ -128,25 +160,37 @@ impl<'s> Gate for TellsOfB<'s> {
 
 #[test]
 fn notes_that_a_call_begins_before_its_reply_is_read(rt: HostRuntime) -> Result<(), Fail> {
-    let counter = counter(rt.alloc())?;
-    let signals = Signals::new();
-    let found = run_until_b_passed(&rt, rt.alloc(), &counter, &signals)?;
-    assert_eq!(rt; (found, signals.missed.is_raised()), ([true; 2], false));
+    assert!(rt; notes_in_order(&rt, rt.alloc())?);
     Ok(())
 }
 
 /// Whether all sections are done, and A's call was noted to begin before B's reply was, where B's stream is read once A's was written
-/// to, and A's once B's reply was noted.
+/// to, and A's once B's reply was noted; and no thread waits for too long.
+fn notes_in_order<R: Threads + Wait + Sync>(rt: &R, alloc: Global) -> Result<bool, Fail> {
+    let counter = counter(alloc)?;
+    notes_in_time(rt, alloc, &counter)
+}
+
+fn notes_in_time<R: Threads + Wait + Sync>(
+    rt: &R,
+    alloc: Global,
+    counter: &Checked,
+) -> Result<bool, Fail> {
+    let signals = Signals::new();
+    let are_in_order = run_until_b_passed(rt, alloc, counter, &signals)?;
+    Ok(are_in_order && !signals.missed.is_raised())
+}
+
 fn run_until_b_passed<R: Threads + Wait + Sync>(
     rt: &R,
     alloc: Global,
     counter: &Checked,
     signals: &Signals,
-) -> Result<[bool; 2], Fail> {
+) -> Result<bool, Fail> {
     let given = waiting_lanes(alloc, signals, &signals.b_passed)?;
     let gate = TellsOfB(&signals.b_passed);
     let run = run(rt, alloc, counter, given, &gate)?;
-    Ok([are_done(&run.world), begins_before(&run.world)])
+    Ok(are_done(&run.world) && begins_before(&run.world))
 }
 
 /// Whether it was noted that A's call begins before B's reply was.

@@ -8,6 +8,11 @@ pub(crate) fn request_in(alloc: Global, line: &str) -> Result<Request, WordsFaul
     read_request_words(alloc, words.as_slice())
 }
 
+/// Whether this is the reply that the line has.
+pub(crate) fn is_reply(alloc: Global, reply: &Reply, line: &str) -> Result<bool, WordsFault> {
+    Ok(*reply == reply_in(alloc, line)?)
+}
+
 pub(crate) fn reply_in(alloc: Global, line: &str) -> Result<Reply, WordsFault> {
     let words = words_in(alloc, Separator::Space, line.as_bytes())?;
     read_reply_words(alloc, words.as_slice())

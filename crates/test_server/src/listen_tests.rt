@@ -32,9 +32,17 @@ fn is_answered<N: Net>(
     answer: &[u8],
 ) -> io::Result<bool> {
     let mut stream = TcpStream::connect(net, address)?;
+    is_answered_over(&mut stream, sent, answer)
+}
+
+fn is_answered_over<S: OpenStream + Read + Write>(
+    stream: &mut S,
+    sent: &[u8],
+    answer: &[u8],
+) -> io::Result<bool> {
     stream.write_all(sent)?;
     stream.shutdown(Shutdown::Write)?;
-    let (read, len) = read_to_end(&mut stream)?;
+    let (read, len) = read_to_end(stream)?;
     Ok(read.get(..len) == Some(answer))
 }
 
@@ -57,7 +65,7 @@ fn read_to_end<S: Read>(stream: &mut S) -> io::Result<([u8; 256], usize)> {
 
 /// Whether each client is answered as it should be, one after another.
 fn are_answered<N: Net>(net: &N, address: SocketAddr) -> io::Result<bool> {
-    for (sent, answer) in CLIENTS {
+    for (sent, answer) in &CLIENTS {
         if !is_answered(net, address, sent, answer)? {
             return Ok(false);
         }
@@ -122,13 +130,26 @@ fn listened_after<
     let listener = TcpListener::bind(rt, FREE_PORT)?;
     let mut stream = TcpStream::connect(rt, listener.local_addr()?)?;
     stream.write_all(sent)?;
+    let listened = listened_once(rt, &listener)?;
+    Ok((listened, is_all(&mut stream, answer)?))
+}
+
+/// What comes of a listener that serves one connection.
+fn listened_once<
+    R: Net<Listener = TcpListener, Stream = TcpStream>
+        + Threads
+        + Wait
+        + Clock
+        + Sync
+        + AllocGlobal,
+>(rt: &R, listener: &TcpListener) -> Result<Listened, AllocError> {
     let shared = Shared::new(rt.alloc())?;
-    let listened = listen(rt, rt.alloc(), &listener, &shared, 1);
+    let listened = listen(rt, rt.alloc(), listener, &shared, 1);
     // what the client sent isn't read where the connection got no thread
     if listened.accepted == 0 {
-        return Err(AllocError)?;
+        return Err(AllocError);
     }
-    Ok((listened, is_all(&mut stream, answer)?))
+    Ok(listened)
 }
 
 /// Whether this is what comes until the connection is closed. That the server has no memory is an error.

@@ -1,6 +1,9 @@
 //! A server with a race: its `incr` reads, and writes later.
-use crate::lines::{reply_in, request_in};
-use mc_server::{Between, Caller, FreeBetween, Racy};
+use crate::lines::{is_reply, reply_in, request_in};
+use mc_model::WordsFault;
+use mc_protocol::{Reply, Request};
+use mc_server::{Between, Caller, FreeBetween, Racy, StoreFault};
+use std::alloc::Global;
 use std::sync::Wait;
 use std::sync::atomic::{AtomicU64, Ordering};
 use std::test::Fail;
@@ -36,8 +39,9 @@ fn answers<R: Wait + AllocGlobal, C: Caller>(
     line: &str,
     reply: &str,
 ) -> Result<bool, Fail> {
-    let answer = caller.call(rt, &request_in(rt.alloc(), line)?)?;
-    Ok(answer == reply_in(rt.alloc(), reply)?)
+    let request = request_in(rt.alloc(), line)?;
+    let answer = caller.call(rt, &request)?;
+    Ok(is_reply(rt.alloc(), &answer, reply)?)
 }
 
 /// Requests and their replies, where nothing else happens.
@@ -61,24 +65,46 @@ fn answers_as_others_do_where_nothing_happens_between(rt: HostRuntime) -> Result
     Ok(())
 }
 
-/// Whether two increments at once are both answered with the first one's number.
+/// Whether two increments at once are both answered with the first one's number, where these are counted.
 fn loses_one<R: Threads + Wait + Sync + AllocGlobal>(
     rt: &R,
     read: &AtomicU64,
     missed: &AtomicU64,
 ) -> Result<bool, Fail> {
     let racy = Racy::new(rt.alloc(), BothRead { read, missed })?;
+    loses_one_of_two(rt, &racy)
+}
+
+fn loses_one_of_two<R: Threads + Wait + Sync + AllocGlobal, C: Caller + Sync>(
+    rt: &R,
+    racy: &C,
+) -> Result<bool, Fail> {
+    let are_six = answers(rt, racy, "set a 0 =5", "STORED")? && both_answer_six(rt, racy)?;
+    Ok(are_six && answers(rt, racy, "gets a", "HIT 0 =6 3")?)
+}
+
+fn both_answer_six<R: Threads + Wait + Sync + AllocGlobal, C: Caller + Sync>(
+    rt: &R,
+    racy: &C,
+) -> Result<bool, Fail> {
     let increment = request_in(rt.alloc(), "incr a 1")?;
-    if !answers(rt, &racy, "set a 0 =5", "STORED")? {
-        return Ok(false);
-    }
-    let (a, b) = join(
-        rt,
-        || racy.call(rt, &increment),
-        || racy.call(rt, &increment),
-    );
-    let six = reply_in(rt.alloc(), "NUMBER 6")?;
-    Ok(a? == six && b? == six && answers(rt, &racy, "gets a", "HIT 0 =6 3")?)
+    let (a, b) = call_twice(rt, racy, &increment)?;
+    Ok(are_six(rt.alloc(), &a, &b)?)
+}
+
+/// What two calls at once are answered.
+fn call_twice<R: Threads + Wait + Sync, C: Caller + Sync>(
+    rt: &R,
+    caller: &C,
+    request: &Request,
+) -> Result<(Reply, Reply), StoreFault> {
+    let (a, b) = join(rt, || caller.call(rt, request), || caller.call(rt, request));
+    Ok((a?, b?))
+}
+
+fn are_six(alloc: Global, a: &Reply, b: &Reply) -> Result<bool, WordsFault> {
+    let six = reply_in(alloc, "NUMBER 6")?;
+    Ok(*a == six && *b == six)
 }
 
 #[test]

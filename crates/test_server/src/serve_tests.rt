@@ -284,48 +284,47 @@ static IN_TURN: &[Failing] = &[
 
 #[test]
 fn ends_where_a_call_of_the_stream_fails(rt: HostRuntime) -> Result<(), Fail> {
-    for (call, answers, requests, why) in AT_ONCE {
-        assert!(rt;
-            is_served(&rt, &[SENT], Some(*call), answers, served(*requests, *why))?,
-            "{call}"
-        );
-    }
-    for (call, answers, requests, why) in IN_TURN {
-        let pieces = [&SENT[..16], &SENT[16..]];
-        assert!(rt;
-            is_served(&rt, &pieces, Some(*call), answers, served(*requests, *why))?,
-            "{call}"
-        );
-    }
+    assert_eq!(rt; first_odd_call(&rt, &[SENT], AT_ONCE)?, None);
+    let pieces = [&SENT[..16], &SENT[16..]];
+    assert_eq!(rt; first_odd_call(&rt, &pieces, IN_TURN)?, None);
     Ok(())
+}
+
+/// The first of these calls after whose failure something else comes.
+fn first_odd_call<R: Wait + AllocGlobal>(
+    rt: &R,
+    pieces: &[&[u8]],
+    rows: &[Failing],
+) -> Result<Option<u64>, AllocError> {
+    for (call, answers, requests, why) in rows {
+        if !is_served(rt, pieces, Some(*call), answers, served(*requests, *why))? {
+            return Ok(Some(*call));
+        }
+    }
+    Ok(None)
 }
 
 #[test]
 fn closes_after_a_line_that_is_too_long(rt: HostRuntime) -> Result<(), Fail> {
     let line = [b'a'; 2_048];
-    let answer = b"CLIENT_ERROR line too long\r\n";
     assert!(rt; is_served(&rt, &[&line[..2_047]], None, b"", served(0, Why::Ended))?);
-    // also where no reply is asked for
-    assert!(rt;
-        is_served(
-            &rt,
-            &[b"delete a noreply", &line],
-            None,
-            answer,
-            served(0, Why::Refused)
-        )?
-    );
-    assert!(rt; is_served(&rt, &[&line], None, answer, served(0, Why::Refused))?);
-    assert!(rt;
-        is_served(
-            &rt,
-            &[&line[..2_047], b"\r\nget a\r\n"],
-            None,
-            answer,
-            served(0, Why::Refused)
-        )?
-    );
+    assert_eq!(rt; are_refused(&rt, &line)?, [true; 3]);
     Ok(())
+}
+
+/// Whether lines of so many bytes are refused: one, one where no reply is asked for, and one that ends.
+fn are_refused<R: Wait + AllocGlobal>(rt: &R, line: &[u8; 2_048]) -> Result<[bool; 3], AllocError> {
+    Ok([
+        is_refused(rt, &[line])?,
+        is_refused(rt, &[b"delete a noreply", line])?,
+        is_refused(rt, &[&line[..2_047], b"\r\nget a\r\n"])?,
+    ])
+}
+
+/// Whether the connection ends where a client sends these pieces of a line.
+fn is_refused<R: Wait + AllocGlobal>(rt: &R, pieces: &[&[u8]]) -> Result<bool, AllocError> {
+    let answer = b"CLIENT_ERROR line too long\r\n";
+    is_served(rt, pieces, None, answer, served(0, Why::Refused))
 }
 
 /// The lines of a request whose body is too large, which asks for a reply or doesn't.

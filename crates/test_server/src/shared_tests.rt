@@ -1,5 +1,5 @@
 //! What stores answer that threads share, and which store a key is in.
-use crate::lines::{reply_in, request_in};
+use crate::lines::{is_reply, request_in};
 use mc_server::{Caller, Shared, shard_of};
 use std::sync::Wait;
 use std::test::Fail;
@@ -44,8 +44,9 @@ fn answers<R: Wait + AllocGlobal, C: Caller>(
     line: &str,
     reply: &str,
 ) -> Result<bool, Fail> {
-    let answer = caller.call(rt, &request_in(rt.alloc(), line)?)?;
-    Ok(answer == reply_in(rt.alloc(), reply)?)
+    let request = request_in(rt.alloc(), line)?;
+    let answer = caller.call(rt, &request)?;
+    Ok(is_reply(rt.alloc(), &answer, reply)?)
 }
 
 #[test]

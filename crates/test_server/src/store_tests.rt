@@ -1,5 +1,6 @@
 //! What a store answers, and what it holds then. Requests and replies are written as in the lines of a history.
-use crate::lines::{reply_in, request_in};
+use crate::lines::{is_reply, request_in};
+use mc_protocol::Reply;
 use mc_server::{Store, StoreFault};
 use std::alloc::Global;
 use std::test::Fail;
@@ -9,10 +10,16 @@ const USED_UP: &str = "used up";
 
 /// Whether the store answers so.
 fn answers(alloc: Global, store: &mut Store, line: &str, reply: &str) -> Result<bool, Fail> {
-    match store.call(&request_in(alloc, line)?) {
-        Ok(answer) => Ok(reply != USED_UP && answer == reply_in(alloc, reply)?),
+    let request = request_in(alloc, line)?;
+    is_answer(alloc, &store.call(&request), reply)
+}
+
+/// Whether this is the answer of a store. Want of memory is an error.
+fn is_answer(alloc: Global, answer: &Result<Reply, StoreFault>, reply: &str) -> Result<bool, Fail> {
+    match answer {
+        Ok(answer) => Ok(reply != USED_UP && is_reply(alloc, answer, reply)?),
         Err(StoreFault::NumbersUsedUp) => Ok(reply == USED_UP),
-        Err(fault) => Err(Fail::from(fault)),
+        Err(fault) => Err(Fail::from(*fault)),
     }
 }
 
@@ -129,20 +136,35 @@ fn first_other(alloc: Global, next: u64, rows: Rows) -> Result<Option<&'static s
     Ok(None)
 }
 
-#[test]
-fn answers_in_turn(rt: HostRuntime) -> Result<(), Fail> {
+/// The same of all stores.
+fn first_other_of_all(alloc: Global) -> Result<Option<&'static str>, Fail> {
     for (next, rows) in STORES {
-        assert_eq!(rt; first_other(rt.alloc(), *next, rows)?, None);
+        let other = first_other(alloc, *next, rows)?;
+        if other.is_some() {
+            return Ok(other);
+        }
     }
-    Ok(())
+    Ok(None)
 }
 
 #[test]
-fn begins_with_the_number_1(rt: HostRuntime) -> Result<(), Fail> {
-    let mut store = Store::new(rt.alloc());
-    let is_stored = answers(rt.alloc(), &mut store, "set k 0 =1", "STORED")?;
-    assert!(rt; is_stored && answers(rt.alloc(), &mut store, "gets k", "HIT 0 =1 1")?);
+fn answers_in_turn(rt: HostRuntime) -> Result<(), Fail> {
+    assert_eq!(rt; first_other_of_all(rt.alloc())?, None);
     Ok(())
+}
+
+/// The first item has the number 1.
+const FIRST: Rows = &[("set k 0 =1", "STORED"), ("gets k", "HIT 0 =1 1")];
+
+#[test]
+fn begins_with_the_number_1(rt: HostRuntime) -> Result<(), Fail> {
+    assert!(rt; begins_with_1(rt.alloc())?);
+    Ok(())
+}
+
+fn begins_with_1(alloc: Global) -> Result<bool, Fail> {
+    let mut store = Store::new(alloc);
+    are_answered(alloc, &mut store, FIRST)
 }
 
 /// What takes memory, on a store that holds `7` at the key k.
@@ -166,13 +188,24 @@ const UNCHANGED: Rows = &[
 /// Whether the store does what is asked, or is as it was where it answers that memory ran out, which is given on.
 fn changes_or_keeps(alloc: Global, line: &str) -> Result<bool, Fail> {
     let mut store = Store::new(alloc);
-    if !answers(alloc, &mut store, "set k 5 =7", "STORED")? {
-        return Ok(false);
-    }
-    match store.call(&request_in(alloc, line)?) {
+    let is_stored = answers(alloc, &mut store, "set k 5 =7", "STORED")?;
+    Ok(is_stored && changes_or_is_kept(alloc, &mut store, line)?)
+}
+
+fn changes_or_is_kept(alloc: Global, store: &mut Store, line: &str) -> Result<bool, Fail> {
+    let request = request_in(alloc, line)?;
+    match store.call(&request) {
         Ok(_) => Ok(true),
-        Err(fault) if are_answered(alloc, &mut store, UNCHANGED)? => Err(Fail::from(fault)),
-        Err(_) => Ok(false),
+        Err(fault) => is_kept(alloc, store, fault),
+    }
+}
+
+/// An error where the store is as it was, and else the answer is false.
+fn is_kept(alloc: Global, store: &mut Store, fault: StoreFault) -> Result<bool, Fail> {
+    if are_answered(alloc, store, UNCHANGED)? {
+        Err(Fail::from(fault))
+    } else {
+        Ok(false)
     }
 }
 
