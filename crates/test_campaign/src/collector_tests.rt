@@ -1,12 +1,11 @@
 //! What a collector makes of messages that it wasn't to get, and of those that are missing.
 
 use crate::connectors::Stores;
+use crate::memory::has_memory;
 use crate::store_stream::StoreStream;
-use crate::texts::report_text;
 use crate::watching::Seen;
-use mc_campaign::{Campaign, Collector, JobMessage, Meeting, Report};
+use mc_campaign::{Campaign, Collector, JobMessage, Meeting, print_report};
 use mc_lane::Wire;
-use mc_protocol::OutOfMemory;
 use mc_run::FreeGate;
 use mc_server::Shared;
 use std::alloc::Global;
@@ -67,17 +66,20 @@ fn collect<R: Threads + Wait + Sync>(
 ) -> Result<Collected, Fail> {
     let store = Shared::new(alloc)?;
     let connector = Stores::honest(rt, alloc, &store);
-    Ok(collect_over(rt, alloc, &connector, messages)?)
-}
-
-fn collect_over<R: Threads + Wait + Sync>(
-    rt: &R,
-    alloc: Global,
-    connector: &Stores<'_, R>,
-    messages: &[(u64, u64)],
-) -> Result<Collected, OutOfMemory> {
+    let mut collector: Collector<'_, Wire<StoreStream<'_, R>>> = Collector::new(alloc, CAMPAIGN)?;
     let mut watcher = Seen::new(alloc);
-    let text = text_after(rt, alloc, connector, messages, &mut watcher)?;
+    'messages: for (seed, job) in messages {
+        let campaign = Campaign {
+            seed: *seed,
+            ..CAMPAIGN
+        };
+        let message = JobMessage::run(rt, alloc, campaign, &connector, &FreeGate, *job);
+        collector.keep(message, &mut watcher);
+    }
+    let report = collector.finish(rt, alloc, &connector, &FreeGate, &mut watcher)?;
+    has_memory(&report)?;
+    let mut text = Vec::new(alloc);
+    print_report(&report, &mut text)?;
     Ok(Collected {
         text,
         made: connector.count(),
@@ -85,67 +87,21 @@ fn collect_over<R: Threads + Wait + Sync>(
     })
 }
 
-/// The text of the report after these messages.
-fn text_after<R: Threads + Wait + Sync>(
-    rt: &R,
-    alloc: Global,
-    connector: &Stores<'_, R>,
-    messages: &[(u64, u64)],
-    watcher: &mut Seen,
-) -> Result<Vec<u8>, OutOfMemory> {
-    let report = report_after(rt, alloc, connector, messages, watcher)?;
-    report_text(alloc, &report)
-}
-
-fn report_after<'s, R: Threads + Wait + Sync>(
-    rt: &R,
-    alloc: Global,
-    connector: &Stores<'s, R>,
-    messages: &[(u64, u64)],
-    watcher: &mut Seen,
-) -> Result<Report<Wire<StoreStream<'s, R>>>, OutOfMemory> {
-    let mut collector = Collector::new(alloc, CAMPAIGN)?;
-    'messages: for (seed, job) in messages {
-        let campaign = Campaign {
-            seed: *seed,
-            ..CAMPAIGN
-        };
-        let message = JobMessage::run(rt, alloc, campaign, connector, &FreeGate, *job);
-        collector.keep(message, watcher);
-    }
-    collector.finish(rt, alloc, connector, &FreeGate, watcher)
-}
-
-/// Whether so many connections are made after the row's messages, the watcher is told of the row's jobs, and each job stands in the
-/// report once.
-fn is_met<R: Threads + Wait + Sync>(rt: &R, alloc: Global, row: &Row) -> Result<bool, Fail> {
-    let (messages, connections, told) = *row;
-    let collected = collect(rt, alloc, messages)?;
-    let is_explained = collected.text.as_slice() == ALL_EXPLAINED;
-    Ok(is_explained && collected.made == connections && collected.told.as_slice() == told)
-}
-
-/// The first row that isn't met.
-fn first_odd<R: Threads + Wait + Sync>(rt: &R, alloc: Global) -> Result<Option<usize>, Fail> {
-    for (index, row) in ROWS.iter().enumerate() {
-        if !is_met(rt, alloc, row)? {
-            return Ok(Some(index));
-        }
-    }
-    Ok(None)
-}
-
 #[test]
 fn each_job_stands_in_the_report_once(rt: HostRuntime) -> Result<(), Fail> {
-    assert_eq!(rt; first_odd(&rt, rt.alloc())?, None);
+    for (messages, connections, told) in ROWS {
+        let collected = collect(&rt, rt.alloc(), messages)?;
+        assert_eq!(rt; collected.text.as_slice(), ALL_EXPLAINED);
+        assert_eq!(rt; collected.made, *connections);
+        assert_eq!(rt; collected.told.as_slice(), *told);
+    }
     Ok(())
 }
 
-/// The first two messages are lost.
-static LAST_ALONE: Row = (&[(1, 2)], 9, &[2, 0, 1]);
-
 #[test]
 fn runs_the_jobs_whose_messages_are_lost(rt: HostRuntime) -> Result<(), Fail> {
-    assert!(rt; is_met(&rt, rt.alloc(), &LAST_ALONE)?);
+    let collected = collect(&rt, rt.alloc(), &[(1, 2)])?;
+    assert_eq!(rt; collected.text.as_slice(), ALL_EXPLAINED);
+    assert_eq!(rt; collected.made, 9);
     Ok(())
 }
