@@ -191,8 +191,8 @@ fn comes_to_over<R: Threads + Wait + Sync>(
     Ok(text.as_slice() == expected && status == 0)
 }
 
-/// Whether so many connections were made, and as many released. That more were made is an error: where memory runs out for what a worker
-/// sends, its job is run once more.
+/// Whether the connector has made this number of connections, and all of them are released. More of them are an error: where memory runs
+/// out for what a worker sends, its job is run once more.
 fn are_released<R: Wait>(connector: &Stores<'_, R>, connections: u64) -> Result<bool, AllocError> {
     if connector.count() > connections {
         return Err(AllocError);
@@ -200,7 +200,7 @@ fn are_released<R: Wait>(connector: &Stores<'_, R>, connections: u64) -> Result<
     Ok(connector.count() == connections && connector.released() == connections)
 }
 
-/// The same of no worker, one and sixteen.
+/// Whether the campaign comes to the expected report without workers, with one and with sixteen.
 fn comes_to_by_any<R: Threads + Wait + Sync>(
     rt: &R,
     alloc: Global,

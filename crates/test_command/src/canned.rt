@@ -9,7 +9,7 @@ use std::sync::atomic::{AtomicBool, AtomicUsize, Ordering};
 /// What a server answers on one connection, to each request.
 pub(crate) type Answers = &'static [&'static [u8]];
 
-/// A connection in memory. When there is no answer more, the server has ended it.
+/// A connection in memory, which the server ends after its last answer.
 #[derive(Drop)]
 pub(crate) struct Canned {
     answers: Answers,
@@ -61,7 +61,7 @@ impl Connection for Canned {
     }
 }
 
-/// A network that connects all sections, or but for one all.
+/// A network that connects all sections, or all but one.
 #[derive(Drop)]
 pub(crate) struct CannedNetwork {
     /// What comes on each connection of P, A and B.

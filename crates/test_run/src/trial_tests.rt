@@ -110,7 +110,7 @@ fn first_odd_of(alloc: Global, counter: &Checked) -> Result<Option<usize>, Fail>
     Ok(None)
 }
 
-/// Whether so many of the row's events are refused, and the verdict is that of the row.
+/// Whether a trial of the row's steps refuses as many of them as the row says, and has its verdict.
 fn is_met(alloc: Global, counter: &Checked, row: &Row) -> Result<bool, Fail> {
     let (steps, limit, skipped, verdict) = *row;
     let (found, is_judged) = try_steps(alloc, counter, steps, limit, verdict.as_bytes())?;

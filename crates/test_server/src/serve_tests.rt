@@ -312,7 +312,8 @@ fn closes_after_a_line_that_is_too_long(rt: HostRuntime) -> Result<(), Fail> {
     Ok(())
 }
 
-/// Whether lines of so many bytes are refused: one, one where no reply is asked for, and one that ends.
+/// Whether a line of 2,048 bytes is refused: by itself, after the words of a request for which no reply is asked, and where the end of the
+/// line follows.
 fn are_refused<R: Wait + AllocGlobal>(rt: &R, line: &[u8; 2_048]) -> Result<[bool; 3], AllocError> {
     Ok([
         is_refused(rt, &[line])?,

@@ -136,7 +136,7 @@ fn first_other(alloc: Global, next: u64, rows: Rows) -> Result<Option<&'static s
     Ok(None)
 }
 
-/// The same of all stores.
+/// The first request of any store's rows that is answered in another way.
 fn first_other_of_all(alloc: Global) -> Result<Option<&'static str>, Fail> {
     for (next, rows) in STORES {
         let other = first_other(alloc, *next, rows)?;
@@ -200,7 +200,7 @@ fn changes_or_is_kept(alloc: Global, store: &mut Store, line: &str) -> Result<bo
     }
 }
 
-/// An error where the store is as it was, and else the answer is false.
+/// Gives the fault on where the store holds what it held before the call that failed; otherwise the answer is false.
 fn is_kept(alloc: Global, store: &mut Store, fault: StoreFault) -> Result<bool, Fail> {
     if are_answered(alloc, store, UNCHANGED)? {
         Err(Fail::from(fault))
