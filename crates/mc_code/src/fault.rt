@@ -1,9 +1,7 @@
 //! Why a script has no code, and why bytes are no image.
 ghost use Rattle.std.specs.Prelude.{◌≡◌};
-ghost use Rattle.mc_code.specs.AsmKinds as asm_kinds;
-ghost use Rattle.mc_code.specs.ImageKinds as image_kinds;
 
-use mc_protocol::Actor;
+use mc_protocol::{Actor, FaultKind};
 use std::alloc::{AllocError, AllocFailed};
 use thiserror::Error;
 
@@ -21,11 +19,17 @@ pub enum AsmFault {
     OutOfMemory,
 }
 
-impl AsmFault {
-    /// The number of the fault, as a refusal shows it.
-    pub fn number(self) -> u32
-        ensures { result ≡ asm_kinds.kind_number self }
-    {
+impl FaultKind for AsmFault {
+    ghost use Rattle.mc_code.specs.AsmKinds as asm_kinds;
+    ghost use Rattle.mc_code.specs.declared.fault.AsmFault.TheVariants.{OutOfMemory};
+
+    ghost kind_number = { asm_kinds.kind_number };
+
+    ghost kind_name = { asm_kinds.kind_name };
+
+    ghost OutOfMemory = { OutOfMemory };
+
+    fn number(self) -> u32 {
         match self {
             AsmFault::TooManyTemplates => 1,
             AsmFault::TooManyInstructions(_) => 2,
@@ -33,15 +37,16 @@ impl AsmFault {
         }
     }
 
-    /// The name of the fault, as a refusal shows it.
-    pub fn name(self) -> &'static str
-        ensures { result.now ≡ asm_kinds.kind_name self }
-    {
+    fn name(self) -> &'static str {
         match self {
             AsmFault::TooManyTemplates => "TooManyTemplates",
             AsmFault::TooManyInstructions(_) => "TooManyInstructions",
             AsmFault::OutOfMemory => "OutOfMemory",
         }
+    }
+
+    fn is_out_of_memory(self) -> bool {
+        self == AsmFault::OutOfMemory
     }
 }
 
@@ -88,11 +93,17 @@ pub enum ImageKind {
     OutOfMemory,
 }
 
-impl ImageKind {
-    /// The number of the kind, as a refusal shows it.
-    pub fn number(self) -> u32
-        ensures { result ≡ image_kinds.kind_number self }
-    {
+impl FaultKind for ImageKind {
+    ghost use Rattle.mc_code.specs.ImageKinds as image_kinds;
+    ghost use Rattle.mc_code.specs.declared.fault.ImageKind.TheVariants.{OutOfMemory};
+
+    ghost kind_number = { image_kinds.kind_number };
+
+    ghost kind_name = { image_kinds.kind_name };
+
+    ghost OutOfMemory = { OutOfMemory };
+
+    fn number(self) -> u32 {
         match self {
             ImageKind::Magic => 1,
             ImageKind::Short => 2,
@@ -103,10 +114,7 @@ impl ImageKind {
         }
     }
 
-    /// The name of the kind, as a refusal shows it.
-    pub fn name(self) -> &'static str
-        ensures { result.now ≡ image_kinds.kind_name self }
-    {
+    fn name(self) -> &'static str {
         match self {
             ImageKind::Magic => "Magic",
             ImageKind::Short => "Short",
@@ -115,6 +123,10 @@ impl ImageKind {
             ImageKind::Extra => "Extra",
             ImageKind::OutOfMemory => "OutOfMemory",
         }
+    }
+
+    fn is_out_of_memory(self) -> bool {
+        self == ImageKind::OutOfMemory
     }
 }
 

@@ -20,7 +20,7 @@ pub mod OneAsking
 pub mod OptionValue
 pub mod PlainLines
 pub mod Plans
-pub mod Played
+pub mod PlayedRuns
 pub mod RepeatWords
 pub mod ReportStatuses
 pub mod Right
@@ -30,4 +30,5 @@ pub mod Shown
 pub mod SignedLimits
 pub mod StepNotes
 pub mod Taken
+pub mod TargetRight
 pub mod TallyMore

@@ -5,10 +5,10 @@ use Rattle.mc_protocol.specs.Sections.{section_of}
 use Rattle.mc_protocol.specs.declared.sections.Sections.{Sections}
 use Rattle.mc_code.specs.Code.{Code}
 use Rattle.mc_verify.specs.Checked.{IsChecked}
-use Rattle.mc_verify.specs.Costs.{IsGreatestCost}
+use Rattle.mc_flow.specs.Costs.{IsGreatestCost}
 use Rattle.mc_verify.specs.Faults.{IsSound}
-use Rattle.mc_verify.specs.declared.cost.Cost.{Cost}
-use Rattle.mc_verify.specs.declared.measure.Measure.TheVariants as measure
+use Rattle.mc_flow.specs.declared.cost.Cost.{Cost}
+use Rattle.mc_flow.specs.declared.measure.Measure.TheVariants as measure
 
 -- what holds of each of the three sections holds of all
 in_each : (H : Actor → Type 0) → H actor.P → H actor.A → H actor.B → (section : Actor) → H section

@@ -12,7 +12,7 @@ use Rattle.mc_command.specs.CheckAnswers.{Checks}
 use Rattle.mc_command.specs.DriveAnswers.{Drives}
 use Rattle.mc_command.specs.GenerateAnswers.{Generates}
 use Rattle.mc_command.specs.JudgeAnswers.{Judges}
-use Rattle.mc_command.specs.RepeatAnswers.{Repeats}
+use Rattle.mc_command.specs.RepeatAnswers.{Runs}
 use Rattle.mc_command.specs.RunAnswers.{Plays}
 use Rattle.mc_command.specs.SelftestAnswers.{Selftests}
 use Rattle.mc_command.specs.ServeAnswers.{Serves}
@@ -49,10 +49,7 @@ IsAnswerBy does text output ended = ((length text ≤ INPUT_LIMIT) × does text 
 abbrev pub IsAnswer : Asked → List ℕ → List ℕ → Status → Type 0
 IsAnswer asked text output ended = IsAnswerBy (Does asked) text output ended
 
--- the same of a run whose keys are put under the name, if there is one; it may be asked why nothing explains its history
-abbrev pub IsRunAnswer : Bool → Option Word → List ℕ → List ℕ → Status → Type 0
-IsRunAnswer why name text output ended = IsAnswerBy (Plays why name) text output ended
-
--- the same where the script is run repeatedly
-abbrev pub IsRepeatAnswer : Repeat → Bool → Option Word → List ℕ → List ℕ → Status → Type 0
-IsRepeatAnswer repeat why name text output ended = IsAnswerBy (Repeats repeat why name) text output ended
+-- The same of a run whose keys are put under the name, if there is one, or of repeated ones. It may be asked why nothing explains its
+-- history.
+abbrev pub IsTargetAnswer : Option Repeat → Bool → Option Word → List ℕ → List ℕ → Status → Type 0
+IsTargetAnswer repeat why name text output ended = IsAnswerBy (Runs repeat why name) text output ended

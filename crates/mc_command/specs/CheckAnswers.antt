@@ -6,7 +6,7 @@ use Rattle.mc_protocol.specs.declared.actor.Actor.TheVariants as actor
 use Rattle.mc_protocol.specs.declared.sections.Sections.{Sections}
 use Rattle.mc_code.specs.Code.{Code}
 use Rattle.mc_verify.specs.Checked.{IsChecked, IsRightRefusal}
-use Rattle.mc_verify.specs.declared.cost.Cost.{Cost}
+use Rattle.mc_flow.specs.declared.cost.Cost.{Cost}
 use Rattle.mc_command.specs.Loading.{Loads, load_refusal}
 use Rattle.mc_command.specs.Refusals.{IsHint}
 use Rattle.mc_command.specs.Soundness.{unsound_text}

@@ -16,7 +16,7 @@ use Rattle.mc_command.specs.declared.repeat.Repeat.{Repeat}
 use Rattle.mc_command.specs.declared.serve.Service.{Service}
 use Rattle.mc_command.specs.declared.status.Status.{Status}
 use Rattle.mc_command.specs.declared.status.Status.TheVariants as status
-use Rattle.mc_command.specs.Answers.{IsAnswer, IsRepeatAnswer, IsRunAnswer, out_of_memory_text}
+use Rattle.mc_command.specs.Answers.{IsAnswer, IsTargetAnswer, out_of_memory_text}
 use Rattle.mc_command.specs.Blocks.{Campaigns}
 use Rattle.mc_command.specs.CommandLine.{DEFAULT_CONNECTIONS, DEFAULT_FIRST, DEFAULT_JOB, DEFAULT_JOBS, DEFAULT_LIMIT, DEFAULT_SEED}
 use Rattle.mc_command.specs.CommandLine.{DEFAULT_TRIES, DEFAULT_WORKERS, GREATEST_JOBS, GREATEST_TRIES, GREATEST_LIMIT, GREATEST_WORKERS}
@@ -209,14 +209,9 @@ pub record AnswersBy (right_for : List ℕ → List ℕ → Status → Type 0) (
 abbrev pub Answers : Asked → Option (List ℕ) → Option (List ℕ) → Option (List ℕ) → Status → Type 0
 Answers asked left old new ended = AnswersBy (IsAnswer asked) left old new ended
 
--- the same of a run whose keys are put under the name, if there is one; it may be asked why nothing explains its history
-abbrev pub AnswersRun : Bool → Option (List ℕ) → Option (List ℕ) → Option (List ℕ) → Option (List ℕ) → Status → Type 0
-AnswersRun why name left old new ended = AnswersBy (IsRunAnswer why name) left old new ended
-
--- the same where the script is run repeatedly, if it is
+-- the same of a run whose keys are put under the name, if there is one, or of repeated ones
 abbrev pub AnswersTarget : Option Repeat → Bool → Option (List ℕ) → Option (List ℕ) → Option (List ℕ) → Option (List ℕ) → Status → Type 0
-AnswersTarget None why name left old new ended = AnswersRun why name left old new ended
-AnswersTarget (Some repeat) why name left old new ended = AnswersBy (IsRepeatAnswer repeat why name) left old new ended
+AnswersTarget repeat why name left old new ended = AnswersBy (IsTargetAnswer repeat why name) left old new ended
 
 -- the input is read: lines of `generate`, `serve`, `campaign` and `selftest` don't do that
 abbrev pub reads_input : Asked → Bool

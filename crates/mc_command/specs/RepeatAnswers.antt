@@ -3,7 +3,7 @@ use Rattle.std.specs.Prelude.{◌≡◌, ◌⊎◌, ℕ, ◌+◌, ◌<◌, ◌�
 use Rattle.std.specs.Prelude.{length, codes, decimal}
 use Rattle.mc_protocol.specs.Lines.{Word}
 use Rattle.mc_code.specs.Code.{Code}
-use Rattle.mc_command.specs.RunAnswers.{IsRight, IsRightFor, SpellsUnder, is_refusal, status_of, text_of}
+use Rattle.mc_command.specs.RunAnswers.{IsRight, IsRightFor, Plays, PlaysFor, SpellsUnder, is_refusal, status_of, text_of}
 use Rattle.mc_command.specs.Statuses.{is_success}
 use Rattle.mc_command.specs.Totals.{totals_line, totals_of}
 use Rattle.mc_command.specs.declared.repeat.Repeat.{Repeat}
@@ -56,3 +56,13 @@ abbrev pub Repeats : Repeat → Bool → Option Word → List ℕ → List ℕ �
 Repeats repeat why name text output ended =
     ((given : Played) × IsRight why name text given × (is_refusal given ≡ true) × (output ≡ text_of given) × (ended ≡ status_of given))
     ⊎ ((code : Code) × SpellsUnder name text code × RepeatsFor repeat why code output ended)
+
+-- for sound code, what is written of one run, or of repeated ones where the line asks for them
+abbrev pub AnswersFor : Option Repeat → Bool → Code → List ℕ → Status → Type 0
+AnswersFor None why code output ended = PlaysFor why code output ended
+AnswersFor (Some repeat) why code output ended = RepeatsFor repeat why code output ended
+
+-- the same for a text
+abbrev pub Runs : Option Repeat → Bool → Option Word → List ℕ → List ℕ → Status → Type 0
+Runs None why name text output ended = Plays why name text output ended
+Runs (Some repeat) why name text output ended = Repeats repeat why name text output ended

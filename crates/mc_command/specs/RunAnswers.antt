@@ -114,3 +114,7 @@ status_of (played.KeyTooLong index) = status.WrongLine
 -- an answer that is right for the text is what is written, with its status
 abbrev pub Plays : Bool → Option Word → List ℕ → List ℕ → Status → Type 0
 Plays why name text output ended = (given : Played) × IsRight why name text given × (output ≡ text_of given) × (ended ≡ status_of given)
+
+-- for sound code, a run that is right is what is written, with its status
+abbrev pub PlaysFor : Bool → Code → List ℕ → Status → Type 0
+PlaysFor why code output ended = (given : Played) × IsRightFor why code given × (output ≡ text_of given) × (ended ≡ status_of given)

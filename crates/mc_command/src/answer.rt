@@ -1,22 +1,27 @@
 //! What is answered to a text, whatever the line asks for.
-ghost use Rattle.std.specs.Prelude.{◌≡◌, IfOk, None};
+ghost use Rattle.std.specs.Prelude.{◌≡◌, ◌<◌, ◌≤◌, ℕ, List, length, IfErr, IfOk, None};
 ghost use Rattle.mc_command.specs.Answers as answers;
 ghost use Rattle.mc_command.specs.AsmAnswers.{Assembles};
 ghost use Rattle.mc_command.specs.CheckAnswers.{Checks};
+ghost use Rattle.mc_command.specs.Command.{IsWhole};
 ghost use Rattle.mc_command.specs.DriveAnswers.{Drives};
 ghost use Rattle.mc_command.specs.GenerateAnswers.{Generates};
+ghost use Rattle.mc_command.specs.Input as input_rule;
 ghost use Rattle.mc_command.specs.JudgeAnswers.{Judges};
 ghost use Rattle.mc_command.specs.RunAnswers.{Plays};
 ghost use Rattle.mc_command.specs.SelftestAnswers.{failed_text};
 ghost use Rattle.mc_command.specs.ServeAnswers.{no_listener_text};
+ghost use Rattle.mc_command.specs.Streams.{TakesAtMost};
 
 use crate::arguments::Asked;
 use crate::asking::Search;
 use crate::campaigning::not_run;
+use crate::input::{InputFault, read_input};
 use crate::loading::load_script;
 use crate::selftest::FAILED;
 use crate::serving::NO_LISTENER;
 use crate::status::Status;
+use crate::streams::Source;
 use crate::{asm, check, drive, generate, judge, run};
 use std::alloc::{AllocError, Global};
 
@@ -35,13 +40,29 @@ pub struct Answer {
     pub status: Status,
 }
 
-/// Does what is asked for with the text, which has been read to its end or to one byte more than the limit.
-pub fn answer_to(alloc: Global, asked: Asked, text: &[u8]) -> Result<Answer, AllocError>
-    ensures { IfOk result (λ answer. answers.IsAnswer asked text.now answer.output.items answer.status) }
+/// Reads the input whole, and answers its text; or what is written of an input that is longer than the limit.
+pub fn read_text<I: Source>(
+    alloc: Global,
+    input: &mut I,
+) -> Result<Result<Vec<u8>, Answer>, InputFault>
+    ensures text { IfOk result (λ read. IfOk read (λ text. (length text.items ≤ answers.INPUT_LIMIT)
+        × IsWhole (I.left input.old) text.items)) }
+    ensures too_long { IfOk result (λ read. IfErr read (λ answer. (text : List ℕ) × IsWhole (I.left input.old) text
+        × (answers.INPUT_LIMIT < length text) × (answer.output.items ≡ answers.too_long_text) × (answer.status ≡ Status.Refused))) }
+    ensures fails { input_rule.Fails (I.has_failed input.old) (I.has_failed input.new) result }
+    ensures taken { TakesAtMost 1048577 (I.left input.old) (I.left input.new) }
 {
+    let text = read_input(alloc, input, INPUT_LIMIT)?;
     if text.len() > INPUT_LIMIT {
-        return too_long(alloc);
+        return Ok(Err(too_long(alloc)?));
     }
+    Ok(Ok(text))
+}
+
+/// Does what is asked for with the text.
+pub fn answer_to(alloc: Global, asked: Asked, text: &[u8]) -> Result<Answer, AllocError>
+    ensures { IfOk result (λ answer. answers.Does asked text.now answer.output.items answer.status) }
+{
     match asked {
         Asked::Judge(how) => judge_answer(alloc, text, how),
         Asked::Check(why) => check_answer(alloc, text, why),
@@ -59,8 +80,8 @@ pub fn answer_to(alloc: Global, asked: Asked, text: &[u8]) -> Result<Answer, All
     }
 }
 
-/// What is answered to a text that is too long.
-pub fn too_long(alloc: Global) -> Result<Answer, AllocError>
+// What is answered to a text that is too long.
+fn too_long(alloc: Global) -> Result<Answer, AllocError>
     ensures { IfOk result (λ answer. (answer.output.items ≡ answers.too_long_text) × (answer.status ≡ Status.Refused)) }
 {
     let output = Vec::from_slice(alloc, TOO_LONG)?;

@@ -1,9 +1,8 @@
 //! What `drive` answers to a text: a script, and after it a step list.
-ghost use Rattle.std.specs.Prelude.{◌≡◌, ◌≤◌, IfOk, length};
+ghost use Rattle.std.specs.Prelude.{◌≡◌, IfOk};
 ghost use Rattle.clap.specs.Words.{app_of};
 ghost use Rattle.mc_protocol.specs.Lines.{line_count, lines_of_text};
 ghost use Rattle.mc_protocol.specs.declared.lines.Separator.TheVariants.{Space};
-ghost use Rattle.mc_verify.specs.Faults.{IsSound};
 ghost use Rattle.mc_command.specs.CommandLine.{drive_app};
 ghost use Rattle.mc_command.specs.DriveAnswers as answers;
 ghost use Rattle.mc_command.specs.Refusals as refusals;
@@ -19,8 +18,8 @@ use crate::{asking, limit, loading};
 use clap::Command;
 use mc_core::World;
 use mc_explain::Verdict;
-use mc_history::{StepsFault, StepsKind, parse_steps};
-use mc_protocol::{Lines, Separator};
+use mc_history::{StepsFault, parse_steps};
+use mc_protocol::{Lines, Separator, fault_of_input};
 use mc_run::trial;
 use mc_verify::Checked;
 use std::alloc::{AllocError, Global};
@@ -79,14 +78,11 @@ fn drive_steps(
             let why = driven_why_text(alloc, how, checked, before, list, &world, &verdict)?;
             Ok(Driven::Ended(world, skipped, verdict, why))
         }
-        // Want of memory is no fault of the text.
-        Err(fault) => match fault.kind {
-            StepsKind::OutOfMemory => Err(AllocError),
-            _ => {
-                let hint = steps_hint(alloc, how.why, text, fault)?;
-                Ok(Driven::NoSteps(fault, hint))
-            }
-        },
+        Err(fault) => {
+            fault_of_input(fault.kind)?;
+            let hint = steps_hint(alloc, how.why, text, fault)?;
+            Ok(Driven::NoSteps(fault, hint))
+        }
     }
 }
 
@@ -137,12 +133,7 @@ fn ended_text(
 fn refusal_of(fault: StepsFault) -> Refusal
     ensures { refusals.text_of result ≡ answers.steps_refusal fault }
 {
-    Refusal {
-        what: "steps",
-        number: fault.kind.number(),
-        name: fault.kind.name(),
-        place: Place::Line(fault.line),
-    }
+    Refusal::of("steps", fault.kind, Place::Line(fault.line))
 }
 
 /// The exit status of an answer.

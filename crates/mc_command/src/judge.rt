@@ -17,7 +17,8 @@ use clap::Command;
 use mc_claims::confirms;
 use mc_explain::{Verdict, judge};
 use mc_history::{Explanation, HistoryFault, parse_history};
-use mc_model::{History, HistoryKind};
+use mc_model::History;
+use mc_protocol::fault_of_input;
 use std::alloc::{AllocError, Global};
 
 /// What is answered to a text.
@@ -46,14 +47,11 @@ pub fn judge_text(alloc: Global, text: &[u8], how: Search) -> Result<Judgement, 
                 None => find_verdict(alloc, text, &history, how),
             }
         }
-        // Want of memory is no fault of the text.
-        Err(fault) => match fault.kind {
-            HistoryKind::OutOfMemory => Err(AllocError),
-            _ => {
-                let hint = history_hint(alloc, how.why, text, fault)?;
-                Ok(Judgement::Refused(fault, hint))
-            }
-        },
+        Err(fault) => {
+            fault_of_input(fault.kind)?;
+            let hint = history_hint(alloc, how.why, text, fault)?;
+            Ok(Judgement::Refused(fault, hint))
+        }
     }
 }
 
@@ -109,12 +107,7 @@ fn judged_text(alloc: Global, verdict: &Verdict, why: &[u8]) -> Result<Vec<u8>, 
 fn refusal_of(fault: HistoryFault) -> Refusal
     ensures { refusals.text_of result ≡ answers.history_refusal fault }
 {
-    Refusal {
-        what: "history",
-        number: fault.kind.number(),
-        name: fault.kind.name(),
-        place: Place::Line(fault.line),
-    }
+    Refusal::of("history", fault.kind, Place::Line(fault.line))
 }
 
 /// The exit status of an answer.

@@ -3,11 +3,11 @@
 //! The program `mcrace` is a thin `main` above this library. Below it stand `mc_run`, which leads scripts through steps and runs them
 //! over three lanes, `mc_explain`, which judges histories, `mc_server`, and the readers of scripts, images and step lists.
 //! `read_invocation` reads a line, once: what it asks for, with all that its words say, which is said by what clap reads in it
-//! (`specs/CommandLine.antt`, `specs/Invocations.antt`). Over a `Network` `run_target` answers a line of `run`, by `run_script` where the
-//! script is run once; `run_command` is that for a server alone, over TCP. `serve_connections` answers one of `serve`, `run_campaign_at`
-//! one of `campaign`, and `run_selftest` one of `selftest`. `command` answers any line where there is no network: what it writes is right
-//! for the input that it read, whatever that is (`specs/Command.antt`, and for each subcommand the definitions that `specs/Answers.antt`
-//! names).
+//! (`specs/CommandLine.antt`, `specs/Invocations.antt`). Over a `Network` `run_target` answers a line of `run`, and tells a `RunObserver`
+//! of each run; `run_command` is that for one run at a server alone, over TCP. `serve_connections` answers one of `serve`,
+//! `run_campaign_at` one of `campaign`, and `run_selftest` one of `selftest`. `command` answers any line where there is no network: what
+//! it writes is right for the input that it read, whatever that is (`specs/Command.antt`, and for each subcommand the definitions that
+//! `specs/Answers.antt` names).
 #![tactic(auto)]
 
 mod answer;
@@ -98,11 +98,11 @@ pub use line_laws::{
 };
 pub use network::{Connection, Network, Unconnected};
 pub use outcome::run_status;
-pub use playing::{run_command, run_script};
+pub use playing::{run_command, run_target};
 pub use program::{answer_offline, command, explain_fault, unread_line};
 pub use repeat::Repeat;
-pub use repeated::run_target;
-pub use run::Remarks;
+pub use run::{Played, Remarks};
+pub use run_teller::{RunObserver, RunTeller, Unobserved};
 pub use seconds::Seconds;
 pub use selftest::run_selftest;
 pub use serve::Service;

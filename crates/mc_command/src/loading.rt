@@ -1,5 +1,6 @@
 //! Reading code: a script's, which is assembled, or an image's; and whether it may be played.
 ghost use Rattle.std.specs.Prelude.{◌≡◌, ◌≢◌, ◌++◌, IfErr, IfOk, OnOk, codes, flat_map};
+ghost use Rattle.mc_script.specs.declared.fault.ScriptKind.TheVariants as script_kind;
 ghost use Rattle.mc_verify.specs.Checked.{IsRightRefusal};
 ghost use Rattle.mc_verify.specs.Faults.{IsSound};
 ghost use Rattle.mc_verify.specs.Refusals.{kind_name, kind_number};
@@ -8,9 +9,9 @@ ghost use Rattle.mc_command.specs.Refusals as refusals;
 ghost use Rattle.mc_command.specs.Soundness as soundness;
 
 use crate::refusal::{Place, Refusal, refusal_text};
-use mc_code::{AsmFault, Code, ImageFault, ImageKind, assemble, decode};
-use mc_protocol::{Actor, Class, append_all};
-use mc_script::{Script, ScriptFault, ScriptKind, parse, parse_front};
+use mc_code::{AsmFault, Code, ImageFault, assemble, decode};
+use mc_protocol::{Actor, Class, append_all, fault_of_input};
+use mc_script::{Script, ScriptFault, parse, parse_front};
 use mc_verify::{Checked, RefusalKind, verify};
 use std::alloc::{AllocError, Global};
 
@@ -66,14 +67,12 @@ pub fn load_front(
     }
 }
 
-// Want of memory is no fault of the text.
-fn no_script(fault: ScriptFault) -> Result<LoadFault, AllocError>
-    ensures { IfOk result (λ found. (found ≡ LoadFault.NoScript fault) × (fault.kind ≢ ScriptKind.OutOfMemory)) }
+// Why a text has no code that is no script.
+fn no_script(script_fault: ScriptFault) -> Result<LoadFault, AllocError>
+    ensures { IfOk result (λ found. (found ≡ LoadFault.NoScript script_fault) × (script_fault.kind ≢ script_kind.OutOfMemory)) }
 {
-    match fault.kind {
-        ScriptKind::OutOfMemory => Err(AllocError),
-        _ => Ok(LoadFault::NoScript(fault)),
-    }
+    fault_of_input(script_fault.kind)?;
+    Ok(LoadFault::NoScript(script_fault))
 }
 
 fn assemble_script(alloc: Global, script: &Script) -> Result<Result<Code, LoadFault>, AllocError>
@@ -82,11 +81,7 @@ fn assemble_script(alloc: Global, script: &Script) -> Result<Result<Code, LoadFa
 {
     match assemble(alloc, script) {
         Ok(code) => Ok(Ok(code)),
-        // Want of memory is no fault of the script.
-        Err(fault) => match fault {
-            AsmFault::OutOfMemory => Err(AllocError),
-            _ => Ok(Err(LoadFault::TooLarge(fault))),
-        },
+        Err(fault) => Ok(Err(LoadFault::TooLarge(fault_of_input(fault)?))),
     }
 }
 
@@ -95,11 +90,10 @@ fn load_image(alloc: Global, bytes: &[u8]) -> Result<Result<Code, LoadFault>, Al
 {
     match decode(alloc, bytes) {
         Ok(code) => Ok(Ok(code)),
-        // Want of memory is no fault of the bytes.
-        Err(fault) => match fault.kind {
-            ImageKind::OutOfMemory => Err(AllocError),
-            _ => Ok(Err(LoadFault::NoImage(fault))),
-        },
+        Err(fault) => {
+            fault_of_input(fault.kind)?;
+            Ok(Err(LoadFault::NoImage(fault)))
+        }
     }
 }
 
@@ -117,12 +111,7 @@ pub fn refusal_of(fault: LoadFault) -> Refusal
 fn refusal_of_script(fault: ScriptFault) -> Refusal
     ensures { refusals.text_of result ≡ loading.script_refusal fault }
 {
-    Refusal {
-        what: "script",
-        number: fault.kind.number(),
-        name: fault.kind.name(),
-        place: Place::Line(fault.line),
-    }
+    Refusal::of("script", fault.kind, Place::Line(fault.line))
 }
 
 fn refusal_of_size(fault: AsmFault) -> Refusal
@@ -132,23 +121,13 @@ fn refusal_of_size(fault: AsmFault) -> Refusal
         AsmFault::TooManyInstructions(actor) => Place::Section(actor),
         _ => Place::Whole,
     };
-    Refusal {
-        what: "asm",
-        number: fault.number(),
-        name: fault.name(),
-        place,
-    }
+    Refusal::of("asm", fault, place)
 }
 
 fn refusal_of_image(fault: ImageFault) -> Refusal
     ensures { refusals.text_of result ≡ loading.image_refusal fault }
 {
-    Refusal {
-        what: "image",
-        number: fault.kind.number(),
-        name: fault.kind.name(),
-        place: Place::Byte(fault.offset),
-    }
+    Refusal::of("image", fault.kind, Place::Byte(fault.offset))
 }
 
 /// The code where it is sound, or its least fault.
@@ -165,11 +144,10 @@ pub fn verify_code(
             let _code = checked.code();
             Ok(Ok(checked))
         }
-        // Want of memory is no fault of the code.
-        Err((refusal, _)) => match refusal.kind {
-            RefusalKind::OutOfMemory => Err(AllocError),
-            _ => Ok(Err(refusal)),
-        },
+        Err((refusal, _)) => {
+            fault_of_input(refusal.kind)?;
+            Ok(Err(refusal))
+        }
     }
 }
 
@@ -206,12 +184,8 @@ fn refusal_of_code(refusal: &mc_verify::Refusal) -> Refusal
     ensures { refusals.text_of result ≡ refusals.refusal_text (codes "verify") (kind_number refusal.now.kind)
         (kind_name refusal.now.kind) (Place.Instruction refusal.now.actor refusal.now.place) }
 {
-    Refusal {
-        what: "verify",
-        number: refusal.kind.number(),
-        name: refusal.kind.name(),
-        place: Place::Instruction(refusal.actor, refusal.place),
-    }
+    let place = Place::Instruction(refusal.actor, refusal.place);
+    Refusal::of("verify", refusal.kind, place)
 }
 
 // Appends a line for each reply, and `end`.

@@ -1,23 +1,27 @@
 //! The command `run`, over any streams for input and output.
 ghost use Rattle.std.specs.Prelude.{◌≡◌, ℕ, List, true, false, IfOk};
-ghost use Rattle.mc_command.specs.Answers.{IsRunAnswer};
-ghost use Rattle.mc_command.specs.Command.{Answers, AnswersRun, IsWhole};
+ghost use Rattle.mc_command.specs.Answers.{IsTargetAnswer};
+ghost use Rattle.mc_command.specs.Command.{Answers, AnswersTarget, IsWhole};
 ghost use Rattle.mc_command.specs.Input as input_rule;
+ghost use Rattle.mc_command.specs.RepeatAnswers.{AnswersFor};
+ghost use Rattle.mc_command.specs.RunAnswers as run_answers;
 ghost use Rattle.mc_command.specs.Statuses.{status_number};
 ghost use Rattle.mc_command.specs.Streams.{TakesAtMost};
 
-use crate::answer::{Answer, INPUT_LIMIT, too_long};
+use crate::answer::{Answer, read_text};
 use crate::arguments::{Asked, Target};
 use crate::asking::Search;
 use crate::dial::TcpNetwork;
-use crate::input::{InputFault, read_input};
+use crate::input::InputFault;
 use crate::network::Network;
 use crate::program::{write_fault, write_text};
-use crate::run::{Remarks, play_text, status_of, text_of};
-use crate::statistics::Statistics;
+use crate::repeated::answer_of_runs;
+use crate::run::{Played, Remarks, play_code, read_target_code, status_of, text_of};
+use crate::run_teller::{RunObserver, Unobserved};
 use crate::status::Status;
 use crate::streams::{Sink, Source};
 use mc_campaign::Meeting;
+use mc_verify::Checked;
 use std::alloc::{AllocError, Global};
 use std::net::{Net, TcpStream};
 use std::rt::Clock;
@@ -64,27 +68,27 @@ where
         spread: 0,
     };
     let mut network = TcpNetwork { rt };
-    let mut statistics = Statistics::new();
-    let (status, _) = run_script(
+    let (status, _) = run_target(
         rt,
         alloc,
         &target,
         &mut network,
-        &mut statistics,
+        &mut Unobserved,
         input,
         output,
     );
     status.number()
 }
 
-/// The same for a run whose branches may meet otherwise, with the status as it stands, and what standard error is to say. It is one run,
-/// whatever `target.repeat` says. It is counted in the statistics where the target asks for them.
-pub fn run_script<R, N: Network, I: Source, O: Sink>(
+/// Runs the script on the input as the target says, once or repeatedly, and answers the status of the run that is handed out, with what
+/// standard error is to say of it. Where the target has a name, the script's keys are put under it first. Nothing is connected for a
+/// script that is refused. The observer is told of each run.
+pub fn run_target<R, N: Network, T: RunObserver, I: Source, O: Sink>(
     rt: &R,
     alloc: Global,
     target: &Target<'_>,
     network: &mut N,
-    statistics: &mut Statistics,
+    observer: &mut T,
     input: &mut I,
     output: &mut O,
 ) -> (Status, Remarks)
@@ -92,13 +96,14 @@ where
     R: Threads + Wait + Clock + Sync,
     ensures answered { I.has_failed input.old ≡ false → I.has_failed input.new ≡ false
         → O.has_failed output.old ≡ false → O.has_failed output.new ≡ false
-        → AnswersRun target.now.how.why target.now.name (I.left input.old) (O.written output.old) (O.written output.new) result.0 }
+        → AnswersTarget target.now.repeat target.now.how.why target.now.name
+        (I.left input.old) (O.written output.old) (O.written output.new) result.0 }
     ensures broken_input { I.has_failed input.old ≡ false → I.has_failed input.new ≡ true
         → (result.0 ≡ Status.NoAnswer) × (output.new ≡ output.old) }
     ensures broken_output { O.has_failed output.old ≡ false → O.has_failed output.new ≡ true → result.0 ≡ Status.NoAnswer }
     ensures taken { TakesAtMost 1048577 (I.left input.old) (I.left input.new) }
 {
-    match read_and_run(rt, alloc, target, network, statistics, input) {
+    match read_and_run(rt, alloc, target, network, observer, input) {
         Ok((answer, remarks)) => {
             let status = write_text(answer.output.as_slice(), answer.status, output);
             (status, remarks)
@@ -108,46 +113,59 @@ where
 }
 
 // Reads the input whole, and finds the answer to it.
-fn read_and_run<R, N: Network, I: Source>(
+fn read_and_run<R, N: Network, T: RunObserver, I: Source>(
     rt: &R,
     alloc: Global,
     target: &Target<'_>,
     network: &mut N,
-    statistics: &mut Statistics,
+    observer: &mut T,
     input: &mut I,
 ) -> Result<(Answer, Remarks), InputFault>
 where
     R: Threads + Wait + Clock + Sync,
     ensures right { IfOk result (λ found. (text : List ℕ) × IsWhole (I.left input.old) text
-        × IsRunAnswer target.now.how.why target.now.name text found.0.output.items found.0.status) }
+        × IsTargetAnswer target.now.repeat target.now.how.why target.now.name text found.0.output.items found.0.status) }
     ensures fails { input_rule.Fails (I.has_failed input.old) (I.has_failed input.new) result }
     ensures taken { TakesAtMost 1048577 (I.left input.old) (I.left input.new) }
 {
-    let text = read_input(alloc, input, INPUT_LIMIT)?;
-    Ok(answer_to(rt, alloc, target, network, statistics, text.as_slice())?)
+    let text = match read_text(alloc, input)? {
+        Ok(text) => text,
+        Err(too_long) => return Ok((too_long, Remarks::None)),
+    };
+    match read_target_code(alloc, target, text.as_slice())? {
+        Ok(checked) => Ok(run_code(rt, alloc, target, network, observer, &checked)?),
+        Err((refused, remarks)) => Ok((answer_of(alloc, &refused)?, remarks)),
+    }
 }
 
-// The answer to a text, which has been read to its end or to one byte more than the limit.
-fn answer_to<R, N: Network>(
+// Runs the code as the target says, and answers what is written of the run that is handed out.
+fn run_code<R: Threads + Wait + Clock + Sync, N: Network, T: RunObserver>(
     rt: &R,
     alloc: Global,
     target: &Target<'_>,
     network: &mut N,
-    statistics: &mut Statistics,
-    text: &[u8],
+    observer: &mut T,
+    checked: &Checked,
 ) -> Result<(Answer, Remarks), AllocError>
-where
-    R: Threads + Wait + Clock + Sync,
-    ensures { IfOk result (λ found. IsRunAnswer target.now.how.why target.now.name text.now found.0.output.items found.0.status) }
+    ensures { IfOk result (λ found. AnswersFor target.now.repeat target.now.how.why checked.now.code
+        found.0.output.items found.0.status) }
 {
-    if text.len() > INPUT_LIMIT {
-        return Ok((too_long(alloc)?, Remarks::None));
+    match target.repeat {
+        Some(repeat) => answer_of_runs(rt, alloc, target, repeat, network, observer, checked),
+        None => {
+            let (played, remarks) = play_code(rt, alloc, target, network, checked)?;
+            observer.add(&played);
+            Ok((answer_of(alloc, &played)?, remarks))
+        }
     }
-    let (played, remarks) = play_text(rt, alloc, target, network, text)?;
-    if target.stats {
-        statistics.add_played(&played);
-    }
-    let output = text_of(alloc, &played)?;
-    let status = status_of(&played);
-    Ok((Answer { output, status }, remarks))
+}
+
+// What is written of a run, or in place of one.
+fn answer_of(alloc: Global, played: &Played) -> Result<Answer, AllocError>
+    ensures { IfOk result (λ answer. (answer.output.items ≡ run_answers.text_of played.now)
+        × (answer.status ≡ run_answers.status_of played.now)) }
+{
+    let output = text_of(alloc, played)?;
+    let status = status_of(played);
+    Ok(Answer { output, status })
 }

@@ -11,12 +11,12 @@ ghost use Rattle.clap.specs.Words.{kind_of};
 ghost use Rattle.std.specs.IoError.{error_kind};
 ghost use Rattle.std.specs.declared.io.ErrorKind.TheVariants as io_kind;
 
-use crate::answer::{Answer, INPUT_LIMIT, OUT_OF_MEMORY, answer_to, generate_answer};
+use crate::answer::{Answer, OUT_OF_MEMORY, answer_to, generate_answer, read_text};
 use crate::arguments::Asked;
 use crate::campaign::Plan;
 use crate::campaigning::write_not_run;
 use crate::file_hint::error_text;
-use crate::input::{InputFault, read_input};
+use crate::input::InputFault;
 use crate::invocation::read_invocation;
 use crate::selftest::write_failed;
 use crate::serve::Service;
@@ -194,8 +194,10 @@ fn read_answer<I: Source>(alloc: Global, asked: Asked, input: &mut I) -> Result<
     ensures fails { input_rule.Fails (I.has_failed input.old) (I.has_failed input.new) result }
     ensures taken { TakesAtMost 1048577 (I.left input.old) (I.left input.new) }
 {
-    let text = read_input(alloc, input, INPUT_LIMIT)?;
-    Ok(answer_to(alloc, asked, text.as_slice())?)
+    match read_text(alloc, input)? {
+        Ok(text) => Ok(answer_to(alloc, asked, text.as_slice())?),
+        Err(too_long) => Ok(too_long),
+    }
 }
 
 /// Writes help and the version to the output, and a fault of the line to the faults; or to the output that memory ran out.

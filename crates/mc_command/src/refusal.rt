@@ -1,8 +1,8 @@
 //! How an input is refused: one line, whatever was asked for.
-ghost use Rattle.std.specs.Prelude.{◌≡◌, ◌++◌, codes, decimal, string_bytes, IfOk};
+ghost use Rattle.std.specs.Prelude.{◌≡◌, ◌++◌, string_bytes, IfOk};
 ghost use Rattle.mc_command.specs.Refusals as refusals;
 
-use mc_protocol::Actor;
+use mc_protocol::{Actor, FaultKind};
 use std::alloc::{AllocError, Global};
 
 /// Where in the input the fault is.
@@ -28,6 +28,20 @@ pub struct Refusal {
     pub number: u32,
     pub name: &'static str,
     pub place: Place,
+}
+
+impl Refusal {
+    /// For a fault of this kind.
+    pub fn of<K: FaultKind>(what: &'static str, kind: K, place: Place) -> Refusal
+        ensures { refusals.text_of result ≡ refusals.refusal_text what.now (K.kind_number kind) (K.kind_name kind) place }
+    {
+        Refusal {
+            what,
+            number: kind.number(),
+            name: kind.name(),
+            place,
+        }
+    }
 }
 
 /// The line that is written for a refusal.

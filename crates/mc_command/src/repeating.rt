@@ -11,13 +11,11 @@ use crate::keeping::{Kept, play_kept};
 use crate::network::Network;
 use crate::repeat::Repeat;
 use crate::run::{Played, Remarks, status_of};
-use crate::run_teller::RunTeller;
-use crate::statistics::Statistics;
+use crate::run_teller::RunObserver;
 use crate::totals::Totals;
 use mc_verify::Checked;
 use std::alloc::{AllocError, Global};
 use std::io;
-use std::io::Eprint;
 use std::rt::Clock;
 use std::sync::Wait;
 use std::thread::Threads;
@@ -68,15 +66,15 @@ impl Runs {
         }
     }
 
-    /// Says what was remarked on the one of two runs that isn't handed out: the next one, with these remarks, where one has failed, and
-    /// else the one that was last.
-    fn tell_lost<R: Eprint + Clock>(&self, next: &Remarks, teller: &mut RunTeller<'_, R>) {
+    /// Tells of the one of two runs that isn't handed out: the next one, with these remarks, where one has failed, and else the one that
+    /// was last.
+    fn pass_over<O: RunObserver>(&self, next: &Remarks, observer: &mut O) {
         let (number, remarks) = if self.has_failed() {
             (self.totals.runs.saturating_add(1), next)
         } else {
             (self.number, &self.remarks)
         };
-        teller.tell_lost(number, remarks);
+        observer.pass_over(number, remarks);
     }
 
     /// There was a run whose status isn't 0.
@@ -96,52 +94,48 @@ impl Runs {
 }
 
 /// Runs the code until there are as many runs as are wanted, or the time is over, or a run's status isn't 0 and `repeat` doesn't go on
-/// after such a one. A run that has begun is not cut off. `teller` says how many there were, and they are counted in the statistics where
-/// the target asks for them. Connections serve more than one run, unless the target says otherwise.
-pub fn repeat_code<R, N: Network>(
+/// after such a one. A run that has begun is not cut off. Connections serve more than one run, unless the target says otherwise.
+pub fn repeat_code<R: Threads + Wait + Clock + Sync, N: Network, T: RunObserver>(
     rt: &R,
     alloc: Global,
     target: &Target<'_>,
     repeat: Repeat,
     checked: &Checked,
     network: &mut N,
-    teller: &mut RunTeller<'_, R>,
-    statistics: &mut Statistics,
+    observer: &mut T,
 ) -> Result<Runs, AllocError>
-where
-    R: Threads + Wait + Clock + Sync + Eprint,
     ensures { IfOk result (λ runs.
         answers.Comes repeat target.now.how.why checked.now.code runs.number runs.played runs.totals) }
 {
     let mut kept = Kept::new();
+    observer.begin(repeat.times);
     let runs = repeat_over(
-        rt, alloc, target, repeat, checked, network, teller, statistics, &mut kept,
-    )?;
+        rt, alloc, target, repeat, checked, network, observer, &mut kept,
+    );
+    observer.end();
+    let runs = runs?;
     kept.quit(network);
     Ok(runs)
 }
 
 // The same over the connections that are kept.
-fn repeat_over<R, N: Network>(
+fn repeat_over<R: Threads + Wait + Clock + Sync, N: Network, T: RunObserver>(
     rt: &R,
     alloc: Global,
     target: &Target<'_>,
     repeat: Repeat,
     checked: &Checked,
     network: &mut N,
-    teller: &mut RunTeller<'_, R>,
-    statistics: &mut Statistics,
+    observer: &mut T,
     kept: &mut Kept<N::Connection>,
 ) -> Result<Runs, AllocError>
-where
-    R: Threads + Wait + Clock + Sync + Eprint,
     ensures { IfOk result (λ runs.
         answers.Comes repeat target.now.how.why checked.now.code runs.number runs.played runs.totals) }
 {
     let begun = Instant::now(rt);
     let most = repeat.times.unwrap_or(u64::MAX);
     let (played, remarks) = play_kept(rt, alloc, target, checked, network, kept)?;
-    count(target, &played, teller, statistics);
+    observer.add(&played);
     let mut runs = Runs::new(played, remarks);
     'runs: for done in 1..most {
         if runs.is_over(repeat.keep_going) {
@@ -151,24 +145,11 @@ where
             return Ok(runs);
         }
         let (played, remarks) = play_kept(rt, alloc, target, checked, network, kept)?;
-        count(target, &played, teller, statistics);
-        runs.tell_lost(&remarks, teller);
+        observer.add(&played);
+        runs.pass_over(&remarks, observer);
         runs = runs.with(played, remarks);
     }
     Ok(runs)
-}
-
-// One run more has ended.
-fn count<R: Eprint + Clock>(
-    target: &Target<'_>,
-    played: &Played,
-    teller: &mut RunTeller<'_, R>,
-    statistics: &mut Statistics,
-) {
-    teller.ended(played);
-    if target.stats {
-        statistics.add_played(played);
-    }
 }
 
 /// The time has passed, if there is one, or the clock can't say that it hasn't.

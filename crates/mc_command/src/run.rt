@@ -140,26 +140,9 @@ pub fn put_code_under(
     }
 }
 
-/// Reads the script, runs it over three connections to the server, and judges what came of it. How its
-/// branches meet is drawn where the target says so. Nothing is connected for a script that is refused. What standard
-/// error is to say comes with the answer. Where the target has a name, the script's keys are put under it first.
-pub fn play_text<R: Threads + Wait + Clock + Sync, N: Network>(
-    rt: &R,
-    alloc: Global,
-    target: &Target<'_>,
-    network: &mut N,
-    text: &[u8],
-) -> Result<(Played, Remarks), AllocError>
-    ensures { IfOk result (λ played. answers.IsRight target.now.how.why target.now.name text.now played.0) }
-{
-    match read_target_code(alloc, target, text)? {
-        Ok(checked) => play_code(rt, alloc, target, network, &checked),
-        Err(refused) => Ok(refused),
-    }
-}
-
-// Runs the code over three new connections to the server, and judges what came of it. What standard error is to say comes with the answer.
-fn play_code<R: Threads + Wait + Clock + Sync, N: Network>(
+/// Runs the code over three new connections to the server, and judges what came of it. How its branches meet is drawn where the target
+/// says so. What standard error is to say comes with the answer.
+pub fn play_code<R: Threads + Wait + Clock + Sync, N: Network>(
     rt: &R,
     alloc: Global,
     target: &Target<'_>,

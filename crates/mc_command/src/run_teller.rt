@@ -1,6 +1,9 @@
-//! What the program says of the runs of a script while they go on.
+//! What is told of the runs of a script while they go on, beside what is written of the one that is handed out.
+ghost use Rattle.std.specs.Prelude.{◌≡◌, is_some};
+
 use crate::progress::{Progress, lead};
 use crate::run::{Played, Remarks};
+use crate::statistics::Statistics;
 use crate::totals::standing_of;
 use mc_campaign::Standing;
 use std::alloc::Global;
@@ -10,50 +13,102 @@ use std::rt::Clock;
 // At most this many remarks are written to standard error on runs that aren't handed out.
 const MOST_REMARKS: u32 = 10;
 
-/// Says on standard error what was remarked on runs that aren't handed out, and on a terminal how many there were.
+/// Who is told of the runs of a script. No answer rests on it.
+pub trait RunObserver {
+    /// Runs begin, where a script is run repeatedly: this many, if that is known.
+    fn begin(&mut self, times: Option<u64>);
+
+    /// One run more has ended.
+    fn add(&mut self, played: &Played);
+
+    /// The run with this number isn't handed out, and this was remarked on it.
+    fn pass_over(&mut self, number: u64, remarks: &Remarks);
+
+    /// No run follows, where a script is run repeatedly.
+    fn end(&mut self);
+}
+
+/// Nobody is told.
+#[derive(Clone, Copy, Debug, Drop)]
+pub struct Unobserved;
+
+impl RunObserver for Unobserved {
+    fn begin(&mut self, _times: Option<u64>) {}
+
+    fn add(&mut self, _played: &Played) {}
+
+    fn pass_over(&mut self, _number: u64, _remarks: &Remarks) {}
+
+    fn end(&mut self) {}
+}
+
+/// Says on standard error what was remarked on runs that aren't handed out, and on a terminal how many there were; and counts what they
+/// came to.
 #[derive(Drop)]
 pub struct RunTeller<'a, R> {
     rt: &'a R,
-    lead: &'static str,
+    alloc: Global,
+    columns: Option<usize>,
     remarks: u32,
     progress: Option<Progress<'a, R>>,
+    /// What the runs came to, where they are counted.
+    pub statistics: Option<Statistics>,
 }
 
 impl<'a, R: Eprint + Clock> RunTeller<'a, R> {
-    /// Of runs that begin now. How many there were stands in a line of `columns` columns, if there are any, and of how many, where that is
-    /// known.
-    pub fn new(rt: &'a R, alloc: Global, columns: Option<usize>, times: Option<u64>) -> Self {
+    /// Of runs that will be. How many there were stands in a line of `columns` columns, if there are any. They are counted where
+    /// `counts` says so.
+    pub fn new(rt: &'a R, alloc: Global, columns: Option<usize>, counts: bool) -> Self
+        ensures { is_some result.statistics ≡ counts }
+    {
+        let statistics = if counts {
+            Some(Statistics::new())
+        } else {
+            None
+        };
         RunTeller {
             rt,
-            lead: lead(columns),
+            alloc,
+            columns,
             remarks: 0,
-            progress: columns.map(|columns| Progress::new(rt, alloc, columns, "runs", times)),
+            progress: None,
+            statistics,
+        }
+    }
+}
+
+impl<'a, R: Eprint + Clock> RunObserver for RunTeller<'a, R> {
+    fn begin(&mut self, times: Option<u64>) {
+        if let Some(columns) = self.columns {
+            let progress = Progress::new(self.rt, self.alloc, columns, "runs", times);
+            self.progress = Some(progress);
         }
     }
 
-    /// One run more has ended.
-    pub fn ended(&mut self, played: &Played) {
+    fn add(&mut self, played: &Played) {
         if let Some(progress) = &mut self.progress {
             progress.add(standing_of(played) == Standing::Unexplained);
         }
+        if let Some(statistics) = &mut self.statistics {
+            statistics.add_played(played);
+        }
     }
 
-    /// Says what the sections of the run with this number received beside their replies. The run isn't handed out.
-    pub fn tell_lost(&mut self, number: u64, remarks: &Remarks) {
+    fn pass_over(&mut self, number: u64, remarks: &Remarks) {
         let Remarks::Evidence(remarks) = remarks else {
             return;
         };
         for remark in remarks {
             if self.remarks < MOST_REMARKS {
                 self.remarks += 1;
+                let lead = lead(self.columns);
                 // There is nowhere else to say that this could not be said.
-                let _ = eprintln!(self.rt; "{}mcrace: run {number}: {remark}", self.lead);
+                let _ = eprintln!(self.rt; "{lead}mcrace: run {number}: {remark}");
             }
         }
     }
 
-    /// Clears the line that says how many runs there were.
-    pub fn clear(&self) {
+    fn end(&mut self) {
         if let Some(progress) = &self.progress {
             progress.clear();
         }

@@ -13,7 +13,7 @@ use crate::dialer::Dialer;
 use crate::failures::Failures;
 use crate::late_calls::LateCalls;
 use crate::program::write_text;
-use crate::run::{Played, play_text};
+use crate::run::{Played, play_code, read_target_code};
 use crate::seconds::Seconds;
 use crate::status::Status;
 use crate::streams::Sink;
@@ -221,8 +221,10 @@ where
         quiet: true,
         spread: 0,
     };
-    let mut network = TcpNetwork { rt };
-    match play_text(rt, alloc, &target, &mut network, TWO_INCREMENTS) {
+    let Ok(Ok(checked)) = read_target_code(alloc, &target, TWO_INCREMENTS) else {
+        return false;
+    };
+    match play_code(rt, alloc, &target, &mut TcpNetwork { rt }, &checked) {
         Ok((played, _)) => is_unexplained(&played),
         Err(_) => false,
     }

@@ -1,7 +1,7 @@
 -- P of sound code deletes each key before it does anything else.
-use Rattle.std.proofs.Common.{◌≡◌, ◌⊎◌, inl, inr, ℕ, ◌+◌, ◌<◌, ◌≤◌, ◌==◌, Bool, true, false, ◌&&◌, Option, Some, None, List}
-use Rattle.std.proofs.Common.{[], ◌∷◌, ◌++◌, length, map, slice_get, refl, ap, sym, subst, ◌∙◌, arith, length-append}
-use Rattle.std.proofs.lemmas.Bool.{cases_lt, and_parts, eqb-true}
+use Rattle.std.proofs.Common.{◌≡◌, ◌⊎◌, inl, inr, ℕ, ◌+◌, ◌<◌, ◌≤◌, ◌==◌, true, ◌&&◌, Option, Some, None, List, [], ◌∷◌, ◌++◌, length, map}
+use Rattle.std.proofs.Common.{slice_get, refl, ap, sym, subst, ◌∙◌, arith, length-append}
+use Rattle.std.proofs.lemmas.Bool.{cases_lt, and_parts, eqb-true, true_from_ne_false}
 use Rattle.std.proofs.lemmas.List.{append-nil, append_assoc, length-map}
 use Rattle.std.proofs.lemmas.Option.{get_or_from_slice_get}
 use Rattle.mc_protocol.specs.Legal.{class_of, is_legal, is_fit_for}
@@ -26,7 +26,7 @@ use Rattle.mc_code.proofs.LookUps.{some_is}
 use Rattle.mc_code.proofs.RunLemmas.{run_sends, ended_at_halt}
 use Rattle.mc_code.proofs.Stopping.{StopsAt, one_stop}
 use Rattle.mc_verify.specs.Faults.{IsSound}
-use Rattle.mc_verify.specs.Structure.{is_delete, is_delete_of, clears_at}
+use Rattle.mc_verify.specs.Clearing.{is_delete, is_delete_of, clears_at}
 use Rattle.mc_verify.specs.declared.refusal.RefusalKind.TheVariants as kind
 
 -- ---- an instruction that clears
@@ -45,57 +45,40 @@ pub record ClearsAt (c : Code) (place : ℕ) : Type 0 where
 
 delete_is : (v : Verb) → is_delete v ≡ true → v ≡ verb.Delete
 delete_is verb.Delete e = refl
-delete_is verb.Set e = absurd (cc)
-delete_is verb.Add e = absurd (cc)
-delete_is verb.Replace e = absurd (cc)
-delete_is verb.Append e = absurd (cc)
-delete_is verb.Prepend e = absurd (cc)
-delete_is verb.Cas e = absurd (cc)
-delete_is verb.Get e = absurd (cc)
-delete_is verb.Gets e = absurd (cc)
-delete_is verb.Incr e = absurd (cc)
-delete_is verb.Decr e = absurd (cc)
-delete_is verb.Touch e = absurd (cc)
+delete_is _ e = absurd (cc)
 
 pub clears_there : (c : Code) (place : ℕ) → IsSound c → place < length c.keys → ClearsAt c place
-clears_there c place sound inside = by_instr (slice_get (instructions_in c actor.P) place) refl
+clears_there c place sound inside =
+    by_instr (slice_get (instructions_in c actor.P) place) refl (true_from_ne_false _ (λ not. sound kind.NotCleared actor.P place (inside, not)))
   where
     by_template : (n : ℕ) (next : List ℕ) (o : Option Template) → slice_get (instructions_in c actor.P) place ≡ Some (instr.Send n next)
         → slice_get c.templates n ≡ o
         → (is_delete_of place o && (entry_of next class.Deleted == place + 1) && (entry_of next class.NotFound == place + 1)) ≡ true
         → ClearsAt c place
-    by_template n next None at named clears =
-        let parts = and_parts (false && (entry_of next class.Deleted == place + 1)) (entry_of next class.NotFound == place + 1) clears in
-        absurd (let clash : false ≡ true = parts.0 in cc)
-    by_template n next (Some t) at named clears =
-        let all = and_parts (is_delete_of place (Some t) && (entry_of next class.Deleted == place + 1)) (entry_of next class.NotFound == place + 1) clears in
-        let two = and_parts (is_delete_of place (Some t)) (entry_of next class.Deleted == place + 1) all.0 in
-        let deletes = and_parts (is_delete t.verb) (t.key == place) two.0 in record {
-          n = n;
-          next = next;
-          t = t;
-          at = at;
-          named = named;
-          verb = delete_is t.verb deletes.0;
-          key = eqb-true t.key place deletes.1;
-          deleted = eqb-true _ _ two.1;
-          not_found = eqb-true _ _ all.1;
-        }
-
-    by_instr : (o : Option Instr) → slice_get (instructions_in c actor.P) place ≡ o → ClearsAt c place
-    by_instr o at = by_test (clears_at c.templates place o) refl
+    by_template n next o at named clears =
+        let all = and_parts (is_delete_of place o && (entry_of next class.Deleted == place + 1)) _ clears in
+        let two = and_parts (is_delete_of place o) _ all.0 in
+        by_test o named two.0 (eqb-true _ _ two.1) (eqb-true _ _ all.1)
       where
-        by_shape : (o : Option Instr) → slice_get (instructions_in c actor.P) place ≡ o → clears_at c.templates place o ≡ true
-            → ClearsAt c place
-        by_shape None at clears = absurd (cc)
-        by_shape (Some (instr.Send n next)) at clears = by_template n next (slice_get c.templates n) at refl clears
-        by_shape (Some (instr.Bind v)) at clears = absurd (cc)
-        by_shape (Some (instr.Goto target)) at clears = absurd (cc)
-        by_shape (Some instr.Halt) at clears = absurd (cc)
+        by_test : (o : Option Template) → slice_get c.templates n ≡ o → is_delete_of place o ≡ true → entry_of next class.Deleted ≡ place + 1
+            → entry_of next class.NotFound ≡ place + 1 → ClearsAt c place
+        by_test None named deletes deleted not_found = absurd (cc)
+        by_test (Some t) named deletes deleted not_found =
+            let parts = and_parts (is_delete t.verb) (t.key == place) deletes in record {
+              n = n;
+              next = next;
+              t = t;
+              at = at;
+              named = named;
+              verb = delete_is t.verb parts.0;
+              key = eqb-true t.key place parts.1;
+              deleted = deleted;
+              not_found = not_found;
+            }
 
-        by_test : (b : Bool) → clears_at c.templates place o ≡ b → ClearsAt c place
-        by_test true clears = by_shape o at clears
-        by_test false clears = absurd (sound kind.NotCleared actor.P place (inside, ap (clears_at c.templates place) at ∙ clears))
+    by_instr : (o : Option Instr) → slice_get (instructions_in c actor.P) place ≡ o → clears_at c.templates place o ≡ true → ClearsAt c place
+    by_instr (Some (instr.Send n next)) at clears = by_template n next (slice_get c.templates n) at refl clears
+    by_instr _ at clears = absurd (cc)
 
 -- ---- where P stands
 
@@ -128,18 +111,7 @@ deletion_leads : (next : List ℕ) (place : ℕ) (x : Class) → entry_of next c
     → is_legal verb.Delete x ≡ true → entry_of next x ≡ place
 deletion_leads next place class.Deleted e f legal = e
 deletion_leads next place class.NotFound e f legal = f
-deletion_leads next place class.Stored e f legal = absurd (cc)
-deletion_leads next place class.NotStored e f legal = absurd (cc)
-deletion_leads next place class.Exists e f legal = absurd (cc)
-deletion_leads next place class.Hit e f legal = absurd (cc)
-deletion_leads next place class.Miss e f legal = absurd (cc)
-deletion_leads next place class.Touched e f legal = absurd (cc)
-deletion_leads next place class.Number e f legal = absurd (cc)
-deletion_leads next place class.NotNumber e f legal = absurd (cc)
-
-legal_of : (a b : Bool) → (a && b) ≡ true → a ≡ true
-legal_of true b e = refl
-legal_of false b e = absurd (cc)
+deletion_leads next place _ e f legal = absurd (cc)
 
 pub calls_in_front : (c : Code) (variables : List Tagged) (before : List Exchange) (made : Call) → IsSound c
     → StandsInFront c variables before → length before < length c.keys → IsCalling c actor.P variables before made
@@ -177,7 +149,7 @@ calls_in_front c variables before made sound stands inside calling = record {
         → (st : State) × StandsAt c actor.P variables (before ++ exchange_of c (made, reply) ∷ []) (place + 1) st
     after reply fit =
         let t = template_of c made in
-        let legal : is_legal t.verb (class_of reply) ≡ true = legal_of _ _ fit in
+        let legal : is_legal t.verb (class_of reply) ≡ true = (and_parts (is_legal t.verb (class_of reply)) _ fit).0 in
         let of_delete : is_legal verb.Delete (class_of reply) ≡ true =
         subst (λ v. is_legal v (class_of reply) ≡ true) (ap (λ (t : Template). t.verb) same_t ∙ there.verb) legal in
         let leads = deletion_leads there.next (place + 1) (class_of reply) there.deleted there.not_found of_delete in

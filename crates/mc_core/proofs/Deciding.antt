@@ -1,6 +1,6 @@
 -- Whether a section has begun is decided in each world of sound code: a section comes to one outcome at last, its end or another.
-use Rattle.std.proofs.Common.{◌≡◌, ◌⊎◌, inl, inr, ℕ, zero, suc, ◌+◌, ◌≤◌, Bool, true, false, Option, Some}
-use Rattle.std.proofs.Common.{None, List, [], length, slice_get, refl, sym, subst, ◌∙◌, arith}
+use Rattle.std.proofs.Common.{◌≡◌, ◌⊎◌, inl, inr, ℕ, zero, suc, ◌+◌, ◌≤◌, Bool, true, false, Option, Some, None, List, [], length, slice_get, refl, sym}
+use Rattle.std.proofs.Common.{subst, ◌∙◌, arith}
 use Rattle.mc_protocol.specs.declared.actor.Actor.{Actor}
 use Rattle.mc_protocol.specs.declared.actor.Actor.TheVariants as actor
 use Rattle.mc_protocol.specs.declared.fault.Fault.{Fault}
@@ -14,13 +14,13 @@ use Rattle.mc_code.specs.Paths.{Slides}
 use Rattle.mc_code.specs.RunLaws.{stops}
 use Rattle.mc_code.specs.Runs.{Exchange, met_by_send, after_slide}
 use Rattle.mc_code.specs.Standing.{StandsAt, ComesTo, IsRightAlong, no_variables}
-use Rattle.mc_code.specs.States.{Tagged, is_number, State, Outcome, call, unbound, wrong_kind, nothing_to_bind, outside, ended}
+use Rattle.mc_code.specs.States.{Tagged, is_number, State, Outcome, nothing_to_bind, outside, ended}
 use Rattle.mc_code.proofs.MadeCalls.{calls_stand}
 use Rattle.mc_code.proofs.RunLemmas.{run_slides}
 use Rattle.mc_code.proofs.Stopping.{stop_once}
 use Rattle.mc_verify.specs.Faults.{IsSound, IsStructured}
 use Rattle.mc_verify.proofs.Right.{sound_right, sound_structured}
-use Rattle.mc_verify.proofs.Structured.{structured_slides, structured_stands}
+use Rattle.mc_flow.proofs.Structured.{structured_slides, structured_stands}
 use Rattle.mc_core.specs.Worlds.{World, exchanges_of, HasEnded, IsBegun, IsDone}
 use Rattle.mc_core.proofs.StepLemmas.{MayBeRight, IsRightIn, begun_is_right}
 
@@ -87,35 +87,25 @@ has_ended c w sound (outcome, st, comes) = by_outcome outcome comes
         not (stop_once c actor.P (no_variables c) xs st end o ended comes there stop refl).1
 
     by_outcome : (o : Outcome) → ComesTo c actor.P (no_variables c) xs st o → HasEnded c w actor.P ⊎ (HasEnded c w actor.P → ⊥)
-    by_outcome (call t number) comes = inr (other (call t number) comes refl (λ e. absurd (cc)))
-    by_outcome (unbound t) comes = inr (other (unbound t) comes refl (λ e. absurd (cc)))
-    by_outcome (wrong_kind t) comes = inr (other (wrong_kind t) comes refl (λ e. absurd (cc)))
     by_outcome (nothing_to_bind v) comes =
         absurd (let wrong = right xs [] st (nothing_to_bind v) (sym (append-nil xs)) comes in cc)
-    by_outcome outside comes = inr (other outside comes refl (λ e. absurd (cc)))
     by_outcome ended comes = inl (no_variables c, st, refl, comes)
+    by_outcome o comes = inr (other o comes refl (λ e. absurd (cc)))
 
 -- P is done, or it isn't
 p_done : (c : Code) (w : World) → IsSound c → MayBeRight c w actor.P → IsDone c w actor.P ⊎ (IsDone c w actor.P → ⊥)
-p_done c w sound right = by_fault w.logs.p.fault refl
+p_done c w sound right =
+    by_log w.logs.p.fault w.logs.p.waiting refl refl (has_ended c w sound (p_begins c w sound (begun_is_right c w actor.P right tt)))
   where
-    by_end : w.logs.p.fault ≡ None → w.logs.p.waiting ≡ None → HasEnded c w actor.P ⊎ (HasEnded c w actor.P → ⊥)
-        → IsDone c w actor.P ⊎ (IsDone c w actor.P → ⊥)
-    by_end faultless idle (inl over) = inl (faultless, idle, over)
-    by_end faultless idle (inr not) = inr (λ done. not done.2)
-
-    by_call : w.logs.p.fault ≡ None → (waiting : Option Call) → w.logs.p.waiting ≡ waiting → IsDone c w actor.P ⊎ (IsDone c w actor.P → ⊥)
-    by_call faultless None idle =
-        by_end faultless idle (has_ended c w sound (p_begins c w sound (begun_is_right c w actor.P right tt)))
-    by_call faultless (Some made) waits = inr (λ done. absurd (let e = sym waits ∙ done.1 in cc))
-
-    by_fault : (fault : Option Fault) → w.logs.p.fault ≡ fault → IsDone c w actor.P ⊎ (IsDone c w actor.P → ⊥)
-    by_fault None faultless = by_call faultless w.logs.p.waiting refl
-    by_fault (Some fault) failed = inr (λ done. absurd (let e = sym failed ∙ done.0 in cc))
+    by_log : (fault : Option Fault) (waiting : Option Call) → w.logs.p.fault ≡ fault → w.logs.p.waiting ≡ waiting
+        → HasEnded c w actor.P ⊎ (HasEnded c w actor.P → ⊥) → IsDone c w actor.P ⊎ (IsDone c w actor.P → ⊥)
+    by_log None None faultless idle (inl over) = inl (faultless, idle, over)
+    by_log None None faultless idle (inr not) = inr (λ done. not done.2)
+    by_log None (Some made) faultless waits over = inr (λ done. absurd (let e = sym waits ∙ done.1 in cc))
+    by_log (Some fault) waiting failed waits over = inr (λ done. absurd (let e = sym failed ∙ done.0 in cc))
 
 -- ---- whether a section has begun
 
 pub begun_or_not : (c : Code) (w : World) (who : Actor) → IsSound c → MayBeRight c w actor.P → IsBegun c w who ⊎ (IsBegun c w who → ⊥)
 begun_or_not c w actor.P sound right = inl tt
-begun_or_not c w actor.A sound right = p_done c w sound right
-begun_or_not c w actor.B sound right = p_done c w sound right
+begun_or_not c w _ sound right = p_done c w sound right

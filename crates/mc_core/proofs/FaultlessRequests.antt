@@ -1,8 +1,8 @@
 -- A call that begins sends a request without a fault: its section's turn, its key, its budget and the number that it names.
-use Rattle.std.proofs.Common.{◌≡◌, ◌⊎◌, inl, inr, ℕ, ◌<◌, ◌≤◌, nat_le, Bool, true, false, not, ◌&&◌, ◌||◌, None, List, [], ◌∷◌, ◌++◌}
-use Rattle.std.proofs.Common.{length, map, slice_index_or, refl, ap, ap₂, sym, subst, ◌∙◌, arith}
+use Rattle.std.proofs.Common.{◌≡◌, ◌⊎◌, inl, inr, ℕ, ◌<◌, ◌≤◌, nat_le, true, false, not, ◌&&◌, ◌||◌, None, List, [], ◌∷◌, ◌++◌, length, map}
+use Rattle.std.proofs.Common.{slice_index_or, refl, ap, ap₂, sym, subst, ◌∙◌, arith}
 use Rattle.std.specs.Option.{option_to_list}
-use Rattle.std.proofs.lemmas.Bool.{cases_lt, and_parts, leb-true}
+use Rattle.std.proofs.lemmas.Bool.{cases_lt, and_parts, leb-true, lt-leb, or_from, or_left, or_right, and_from, and_left, and_right, not_from_true}
 use Rattle.std.proofs.lemmas.List.{append-nil, length-map}
 use Rattle.mc_protocol.specs.declared.actor.Actor.{Actor}
 use Rattle.mc_protocol.specs.declared.actor.Actor.TheVariants as actor
@@ -23,16 +23,14 @@ use Rattle.mc_core.specs.Histories.{sent_of, unanswered, sent_in, sections_of}
 use Rattle.mc_core.specs.Logs.{Log, new_log, request_of, IsRightLog}
 use Rattle.mc_core.specs.Worlds.{World, log_of, exchanges_of, BeginsIn, IsBegun, IsDone}
 use Rattle.mc_core.proofs.Clearing.{front_clears, done_cleared, calls_in_front, stands_in_front}
-use Rattle.mc_core.proofs.NextRequest.{request_words, key_there, few_keys, call_made}
-use Rattle.mc_core.proofs.SeenNumbers.{next_seen}
+use Rattle.mc_core.proofs.NextRequest.{request_words, key_there, few_keys, call_made, next_seen}
 use Rattle.mc_core.proofs.StepLemmas.{IsRightIn, IsRight, begun_is_right, still_new}
 
 -- ---- sections
 
 pub section_is : (c : Code) (w : World) (who : Actor) → section_of (sections_of c w) who ≡ sent_in c (log_of w who)
 section_is c w actor.P = refl
-section_is c w actor.A = refl
-section_is c w actor.B = refl
+section_is c w _ = refl
 
 all_answered : (c : Code) (pairs : List (Call × Reply)) → are_answered (map (sent_of c) pairs ++ []) ≡ true
 all_answered c [] = refl
@@ -40,21 +38,24 @@ all_answered c ((made, reply) ∷ pairs) = all_answered c pairs
 
 -- a section with no call that waits has a reply to each request
 idle_answered : (c : Code) (log : Log) → log.waiting ≡ None → are_answered (sent_in c log) ≡ true
-idle_answered c log idle =
-    ap (λ o. are_answered (map (sent_of c) log.answered ++ map (unanswered c) (option_to_list o))) idle ∙ all_answered c log.answered
+idle_answered c log idle = rw idle (all_answered c log.answered)
 
 none_sent : (c : Code) (log : Log) → log ≡ new_log → is_none_sent (sent_in c log) ≡ true
 none_sent c log new = ap (λ log. is_none_sent (sent_in c log)) new
 
 -- ---- what an accepted begin finds
 
+-- P has the key of the call, or the call is the one of P that deletes it, where few keys are there
+abbrev pub HasItsKey : Code → World → Actor → Call → Type 0
+HasItsKey c w who made =
+    (has_key (request_of c made).key (sent_in c w.logs.p) ≡ true)
+    ⊎ ((who ≡ actor.P) × (is_delete (template_of c made).verb ≡ true) × (key_count (sections_of c w) < KEYS_LIMIT))
+
 -- P is idle, and the section too; and P hasn't begun a call after a branch did
 pub record MayBegin (c : Code) (w : World) (who : Actor) : Type 0 where
   pub turn : next.may_come (sections_of c w) who ≡ true
   pub key : (made : Call) (variables : List Tagged) → BeginsIn c w who variables → IsCalling c who variables (exchanges_of c w who) made
-      → IsSound c → IsCode c
-      → (has_key (request_of c made).key (sent_in c w.logs.p) ≡ true)
-      ⊎ ((who ≡ actor.P) × (is_delete (template_of c made).verb ≡ true) × (key_count (sections_of c w) < KEYS_LIMIT))
+      → IsSound c → IsCode c → HasItsKey c w who made
 
 few_declared : (c : Code) → IsCode c → length c.keys ≤ KEYS_LIMIT
 few_declared c kept = leb-true _ _ (and_parts _ _ (and_parts _ _ kept.keys).0).0
@@ -67,18 +68,16 @@ cleared_key c log variables j sound right all declared =
     (omega arith) (omega (arith, all, declared)) declared
 
 pub idle_length : (c : Code) (log : Log) → log.waiting ≡ None → length (sent_in c log) ≡ length log.answered
-idle_length c log idle =
-    ap (λ o. length (map (sent_of c) log.answered ++ map (unanswered c) (option_to_list o))) idle
-    ∙ ap length (append-nil (map (sent_of c) log.answered)) ∙ length-map log.answered (sent_of c)
+idle_length c log idle = rw idle (ap length (append-nil (map (sent_of c) log.answered)) ∙ length-map log.answered (sent_of c))
 
 p_begins : (c : Code) (w : World) → IsRight c w → (IsDone c w actor.P → ⊥) → w.logs.p.waiting ≡ None → MayBegin c w actor.P
 p_begins c w right goes_on idle = record { turn = turn; key = key }
   where
     new_a : w.logs.a ≡ new_log
-    new_a = still_new c w actor.A (λ d. d) (right actor.A) goes_on
+    new_a = still_new c w actor.A (right actor.A) goes_on
 
     new_b : w.logs.b ≡ new_log
-    new_b = still_new c w actor.B (λ d. d) (right actor.B) goes_on
+    new_b = still_new c w actor.B (right actor.B) goes_on
 
     turn : next.may_come (sections_of c w) actor.P ≡ true
     turn = rw (none_sent c w.logs.a new_a, none_sent c w.logs.b new_b, idle_answered c w.logs.p idle) refl
@@ -95,10 +94,7 @@ p_begins c w right goes_on idle = record { turn = turn; key = key }
         omega (arith, few, same)
 
     key : (made : Call) (variables : List Tagged) → BeginsIn c w actor.P variables
-        → IsCalling c actor.P variables (exchanges_of c w actor.P) made
-        → IsSound c → IsCode c
-        → (has_key (request_of c made).key sents ≡ true)
-        ⊎ ((actor.P ≡ actor.P) × (is_delete (template_of c made).verb ≡ true) × (key_count (sections_of c w) < KEYS_LIMIT))
+        → IsCalling c actor.P variables (exchanges_of c w actor.P) made → IsSound c → IsCode c → HasItsKey c w actor.P made
     key made variables begins calling sound kept = by_order (cases_lt (length w.logs.p.answered) (length c.keys))
       where
         in_p : IsRightIn c w actor.P
@@ -111,8 +107,7 @@ p_begins c w right goes_on idle = record { turn = turn; key = key }
         mapped = length-map w.logs.p.answered (exchange_of c)
 
         by_order : (length w.logs.p.answered < length c.keys) ⊎ (length c.keys ≤ length w.logs.p.answered)
-            → (has_key (request_of c made).key sents ≡ true)
-            ⊎ ((actor.P ≡ actor.P) × (is_delete (template_of c made).verb ≡ true) × (key_count (sections_of c w) < KEYS_LIMIT))
+            → HasItsKey c w actor.P made
         by_order (inl inside) =
             let front = calls_in_front c variables (exchanges_of c w actor.P) made sound
             (stands_in_front c variables w.logs.p.answered sound log_right.makes) (omega (arith, inside, mapped)) calling in
@@ -138,43 +133,29 @@ branch_key c w who right done made variables calling sound kept =
 pub may_begin : (c : Code) (w : World) (who : Actor) → IsRight c w → IsBegun c w who → (IsDone c w who → ⊥) → (log_of w who).waiting ≡ None
     → MayBegin c w who
 may_begin c w actor.P right begun goes_on idle = p_begins c w right goes_on idle
-may_begin c w actor.A right begun goes_on idle = record {
-  turn = rw (idle_answered c w.logs.p begun.1, idle_answered c w.logs.a idle) refl;
-  key = λ made variables begins calling sound kept. inl (branch_key c w actor.A right begun made variables calling sound kept);
-}
-may_begin c w actor.B right begun goes_on idle = record {
-  turn = rw (idle_answered c w.logs.p begun.1, idle_answered c w.logs.b idle) refl;
-  key = λ made variables begins calling sound kept. inl (branch_key c w actor.B right begun made variables calling sound kept);
+may_begin c w who right begun goes_on idle = record {
+  turn = rw (idle_answered c w.logs.p begun.1, idle_answered c (log_of w who) idle) refl;
+  key = λ made variables begins calling sound kept. inl (branch_key c w who right begun made variables calling sound kept);
 }
 
 -- ---- a request without a fault
 
 not_full : (s : Sections) (who : Actor) (sent : Sent) → length (section_of s who) < REQUESTS_LIMIT
     → (has_key sent.request.key s.p ≡ true) ⊎ (key_count s < KEYS_LIMIT) → next.is_full s who sent ≡ false
-not_full s who sent few keys = ap₂ (λ x y. x || y) (above REQUESTS_LIMIT (length (section_of s who)) few) (by_keys keys)
+not_full s who sent few keys = or_from (nat_le REQUESTS_LIMIT (length (section_of s who))) _ (lt-leb _ _ few) (by_keys keys)
   where
-    above : (m n : ℕ) → n < m → nat_le m n ≡ false
-    above m n less = by_test (nat_le m n) refl
-      where
-        by_test : (b : Bool) → nat_le m n ≡ b → nat_le m n ≡ false
-        by_test true e = absurd (let most = leb-true m n e in omega (arith, less, most))
-        by_test false e = e
-
     by_keys : (has_key sent.request.key s.p ≡ true) ⊎ (key_count s < KEYS_LIMIT)
         → (nat_le KEYS_LIMIT (key_count s) && not (has_key sent.request.key s.p)) ≡ false
-    by_keys (inl there) = ap (λ b. nat_le KEYS_LIMIT (key_count s) && not b) there ∙ and_false (nat_le KEYS_LIMIT (key_count s))
-      where
-        and_false : (b : Bool) → (b && false) ≡ false
-        and_false true = refl
-        and_false false = refl
-    by_keys (inr few) = ap (λ b. b && not (has_key sent.request.key s.p)) (above KEYS_LIMIT (key_count s) few)
+    by_keys (inl there) = and_right (nat_le KEYS_LIMIT (key_count s)) _ (not_from_true _ there)
+    by_keys (inr few) = and_left (nat_le KEYS_LIMIT (key_count s)) _ (lt-leb _ _ few)
 
 pub begin_faultless : (c : Code) (w : World) (who : Actor) (made : Call) (variables : List Tagged) → IsSound c → IsCode c
     → is_history (sections_of c w) ≡ true → MayBegin c w who → length (sent_in c (log_of w who)) < REQUESTS_LIMIT
     → BeginsIn c w who variables → IsCalling c who variables (exchanges_of c w who) made
     → fault_at (sections_of c w) who (unanswered c made) ≡ None
 begin_faultless c w who made variables sound kept history may few begins calling =
-    fault_by_tests s who sent history ∙ rw (words, full, may.turn, cleared, seen) refl
+    let by_key = cleared (may.key made variables begins calling sound kept) in
+    fault_by_tests s who sent history ∙ rw (words, not_full s who sent own_few by_key.0, may.turn, by_key.1, seen) refl
   where
     s : Sections
     s = sections_of c w
@@ -185,32 +166,15 @@ begin_faultless c w who made variables sound kept history may few begins calling
     words : has_words sent.request ≡ true
     words = request_words c who variables (exchanges_of c w who) made kept calling
 
-    key : (has_key sent.request.key s.p ≡ true)
-        ⊎ ((who ≡ actor.P) × (is_delete (template_of c made).verb ≡ true) × (key_count s < KEYS_LIMIT))
-    key = may.key made variables begins calling sound kept
+    own_few : length (section_of s who) < REQUESTS_LIMIT
+    own_few = subst (λ l. length l < REQUESTS_LIMIT) (sym (section_is c w who)) few
 
-    room : (has_key sent.request.key s.p ≡ true)
-        ⊎ ((who ≡ actor.P) × (is_delete (template_of c made).verb ≡ true) × (key_count s < KEYS_LIMIT))
-        → (has_key sent.request.key s.p ≡ true) ⊎ (key_count s < KEYS_LIMIT)
-    room (inl there) = inl there
-    room (inr (prefix, deletes, few)) = inr few
-
-    full : next.is_full s who sent ≡ false
-    full = not_full s who sent (subst (λ l. length l < REQUESTS_LIMIT) (sym (section_is c w who)) few) (room key)
-
-    by_key : (has_key sent.request.key s.p ≡ true)
-        ⊎ ((who ≡ actor.P) × (is_delete (template_of c made).verb ≡ true) × (key_count s < KEYS_LIMIT))
-        → next.clears s who sent ≡ true
-    by_key (inl there) = ap (λ b. b || (next.is_prefix who && is_delete sent.request.verb)) there
-    by_key (inr (prefix, deletes, few)) =
-        ap₂ (λ x y. has_key sent.request.key s.p || (next.is_prefix x && y)) prefix deletes ∙ or_true (has_key sent.request.key s.p)
-      where
-        or_true : (b : Bool) → (b || true) ≡ true
-        or_true true = refl
-        or_true false = refl
-
-    cleared : next.clears s who sent ≡ true
-    cleared = by_key key
+    cleared : HasItsKey c w who made
+        → ((has_key sent.request.key s.p ≡ true) ⊎ (key_count s < KEYS_LIMIT)) × (next.clears s who sent ≡ true)
+    cleared (inl there) = (inl there, or_left (has_key sent.request.key s.p) _ there)
+    cleared (inr (prefix, deletes, few)) =
+        let may_delete = and_from (next.is_prefix who) (is_delete sent.request.verb) (ap next.is_prefix prefix) deletes in
+        (inr few, or_right (has_key sent.request.key s.p) _ may_delete)
 
     seen : next.number_is_seen s who sent ≡ true
     seen =

@@ -24,8 +24,7 @@ kept_along c P keeps (skips r refused fold) here = kept_along c P keeps fold her
 
 pub new_is_right : (c : Code) → IsRight c new_world
 new_is_right c actor.P = inl refl
-new_is_right c actor.A = inl refl
-new_is_right c actor.B = inl refl
+new_is_right c _ = inl refl
 
 pub fold_right : (c : Code) {events : List Noted} {w : World} {skipped : ℕ} → IsFold c new_world events w skipped → IsRight c w
 fold_right c fold = kept_along c (IsRight c) (λ w who e next right step. step_right c w who e next right step) fold (new_is_right c)
@@ -115,18 +114,14 @@ all_noted (skips {skipped = others} r refused fold) none = absurd (omega (arith,
 
 pub ends_once : EndsOnce
 ends_once c w who ending.NotBegun ending.NotBegun x y = refl
-ends_once c w who ending.NotBegun ending.Running x y = absurd (x y.0)
-ends_once c w who ending.NotBegun ending.Done x y = absurd (x y.0)
-ends_once c w who ending.NotBegun (ending.Failed fault) x y = absurd (x y.0)
-ends_once c w who ending.Running ending.NotBegun x y = absurd (y x.0)
+ends_once c w who ending.NotBegun _ x y = absurd (x y.0)
+ends_once c w who _ ending.NotBegun x y = absurd (y x.0)
 ends_once c w who ending.Running ending.Running x y = refl
 ends_once c w who ending.Running ending.Done x y = absurd (x.2 y.1)
 ends_once c w who ending.Running (ending.Failed fault) x y = let e = sym x.1 ∙ y.1 in absurd (cc)
-ends_once c w who ending.Done ending.NotBegun x y = absurd (y x.0)
 ends_once c w who ending.Done ending.Running x y = absurd (y.2 x.1)
 ends_once c w who ending.Done ending.Done x y = refl
 ends_once c w who ending.Done (ending.Failed fault) x y = let e = sym x.1.0 ∙ y.1 in absurd (cc)
-ends_once c w who (ending.Failed fault) ending.NotBegun x y = absurd (y x.0)
 ends_once c w who (ending.Failed fault) ending.Running x y = let e = sym x.1 ∙ y.1 in absurd (cc)
 ends_once c w who (ending.Failed fault) ending.Done x y = let e = sym x.1 ∙ y.1.0 in absurd (cc)
 ends_once c w who (ending.Failed fault) (ending.Failed other) x y = let e = sym x.1 ∙ y.1 in cc

@@ -1,21 +1,31 @@
--- Logs: right ones, longer ones, and their events.
-use Rattle.std.proofs.Common.{◌≡◌, true, Option, Some, None, List, [], ◌∷◌, ◌++◌, map, ap, sym, subst, ◌∙◌}
+-- Logs: right ones with their calls, longer ones, their events, and those of a world with one more note.
+use Rattle.std.proofs.Common.{◌≡◌, true, false, Option, Some, None, List, [], ◌∷◌, ◌++◌, All, map, refl, ap, sym, subst, ◌∙◌, ◌<◌, length, slice_get}
 use Rattle.std.specs.List.{flat_map}
 use Rattle.std.specs.Option.{option_to_list}
 use Rattle.std.proofs.lemmas.List.{append-nil, append_assoc}
 use Rattle.std.proofs.lemmas.List.Concat.{flat_map-append}
+use Rattle.std.proofs.lemmas.List.Elements.{All-nil, All-cons}
+use Rattle.std.proofs.lemmas.Option.{get_or_from_slice_get, slice_get_within}
 use Rattle.mc_protocol.specs.Legal.{is_fit_for}
+use Rattle.mc_protocol.specs.Sections.{section_of}
 use Rattle.mc_protocol.specs.declared.actor.Actor.{Actor}
+use Rattle.mc_protocol.specs.declared.actor.Actor.TheVariants as actor
 use Rattle.mc_protocol.specs.declared.fault.Fault.{Fault}
 use Rattle.mc_protocol.specs.declared.reply.Reply.{Reply}
-use Rattle.mc_code.specs.Calls.{IsCalling, MakesAll, exchange_of, template_of}
+use Rattle.mc_protocol.specs.declared.sections.Sections.{Sections}
+use Rattle.mc_code.specs.Calls.{IsCalling, MakesAll, exchange_of, template_of, no_template}
 use Rattle.mc_code.specs.Code.{Code}
-use Rattle.mc_code.specs.Runs.{Exchange}
-use Rattle.mc_code.specs.States.{Tagged}
+use Rattle.mc_code.specs.Runs.{Exchange, met_at, met_by_send}
+use Rattle.mc_code.specs.States.{Tagged, call, send_outcome}
 use Rattle.mc_code.specs.declared.instr.Call.{Call}
+use Rattle.mc_code.proofs.LookUps.{some_is}
+use Rattle.mc_code.proofs.StandingLemmas.{calls_open, template_is}
+use Rattle.mc_model.specs.Notes.{is_same_section}
 use Rattle.mc_history.specs.declared.event.Event.{Event}
 use Rattle.mc_history.specs.declared.event.Event.TheVariants as event
-use Rattle.mc_core.specs.Logs.{Log, new_log, events_of_pair, begin_of, events_in, exchanges_in, with_call, with_reply, with_fault, IsNextCall, IsRightLog}
+use Rattle.mc_core.specs.Logs.{Log, new_log, call_of, calls_in, events_of_pair, begin_of, events_in, exchanges_in, with_call, with_reply, with_fault}
+use Rattle.mc_core.specs.Logs.{IsNextCall, IsRightLog}
+use Rattle.mc_core.specs.Worlds.{World, log_of, with_note, with_section}
 
 -- ---- right logs
 
@@ -54,40 +64,84 @@ pub fault_is_right : (c : Code) (who : Actor) (variables : List Tagged) (log : L
     → IsRightLog c who variables (with_fault log fault)
 fault_is_right c who variables log fault right = record { makes = right.makes; next = right.next }
 
+-- ---- a call that a section makes
+
+-- its template is there
+pub call_inside : (c : Code) (who : Actor) (variables : List Tagged) (exchanges : List Exchange) (made : Call)
+    → IsCalling c who variables exchanges made → made.template < length c.templates
+call_inside c who variables exchanges made calling =
+    let opens = calls_open c who variables exchanges made calling in slice_get_within c.templates made.template opens.1 opens.2
+
+-- and the call is what comes of sending it
+pub call_sent : (c : Code) (who : Actor) (variables : List Tagged) (exchanges : List Exchange) (made : Call)
+    → (calling : IsCalling c who variables exchanges made)
+    → send_outcome (template_of c made) calling.st ≡ call (template_of c made) made.number
+call_sent c who variables exchanges made calling =
+    let meets = ap (λ o. met_at c.templates o calling.st) (sym calling.sends) ∙ calling.meets in
+    let named = template_is (slice_get c.templates made.template) calling.st calling.t made.number meets in
+    let same : template_of c made ≡ calling.t = get_or_from_slice_get c.templates made.template calling.t no_template named in
+    let sent : send_outcome calling.t calling.st ≡ call calling.t made.number =
+    some_is _ _ (ap (λ o. Some (met_by_send o calling.st)) (sym named) ∙ meets) in
+    subst (λ t. send_outcome t calling.st ≡ call t made.number) (sym same) sent
+
+-- ---- the calls of a right log
+
+-- what is so of each call that the section makes after the first of these exchanges is so of all
+pairs_each : (c : Code) (who : Actor) (variables : List Tagged) (P : Call → Type 0) (before : List Exchange) (pairs : List (Call × Reply))
+    (rest : List Call)
+    → ((front back : List Exchange) (made : Call) → front ++ back ≡ before ++ map (exchange_of c) pairs
+    → IsCalling c who variables front made → P made)
+    → MakesAll c who variables before pairs → All P rest → All P (map call_of pairs ++ rest)
+pairs_each c who variables P before [] rest each makes others = others
+pairs_each c who variables P before ((made, reply) ∷ pairs) rest each makes others =
+    let x = exchange_of c (made, reply) in
+    All-cons P made (map call_of pairs ++ rest) (each before (x ∷ map (exchange_of c) pairs) made refl makes.0)
+    (pairs_each c who variables P (before ++ x ∷ []) pairs rest
+    (λ front back made is. each front back made (is ∙ append_assoc before (x ∷ []) (map (exchange_of c) pairs))) makes.2 others)
+
+pub calls_each : (c : Code) (who : Actor) (variables : List Tagged) (P : Call → Type 0) (log : Log)
+    → ((front back : List Exchange) (made : Call) → front ++ back ≡ exchanges_in c log → IsCalling c who variables front made → P made)
+    → IsRightLog c who variables log → All P (calls_in log)
+calls_each c who variables P log each right =
+    pairs_each c who variables P [] log.answered (option_to_list log.waiting) each right.makes (by_waiting log.waiting right.next)
+  where
+    by_waiting : (o : Option Call) → IsNextCall c who variables (exchanges_in c log) o → All P (option_to_list o)
+    by_waiting None next = All-nil P
+    by_waiting (Some made) next =
+        All-cons P made [] (each (exchanges_in c log) [] made (append-nil (exchanges_in c log)) next) (All-nil P)
+
 -- ---- events
-
-abbrev begun_by : Option Call → List Event
-begun_by waiting = map begin_of (option_to_list waiting)
-
-abbrev ended_by : Option Fault → List Event
-ended_by fault = map event.Fail (option_to_list fault)
 
 pub events_with_call : (log : Log) (made : Call) → log.waiting ≡ None → log.fault ≡ None
     → events_in (with_call log made) ≡ events_in log ++ event.Begin ∷ []
 events_with_call log made idle well =
-    let answered = flat_map events_of_pair log.answered in
-    let before : events_in log ≡ answered =
-    ap (λ waiting. answered ++ (begun_by waiting ++ ended_by log.fault)) idle ∙ ap (λ fault. answered ++ ended_by fault) well ∙ append-nil answered in
-    ap (λ fault. answered ++ event.Begin ∷ ended_by fault) well ∙ ap (λ l. l ++ event.Begin ∷ []) (sym before)
+    rw (idle, well) (ap (λ l. l ++ event.Begin ∷ []) (sym (append-nil (flat_map events_of_pair log.answered))))
 
 pub events_with_reply : (log : Log) (made : Call) (reply : Reply) → log.waiting ≡ Some made → log.fault ≡ None
     → events_in (with_reply log made reply) ≡ events_in log ++ event.Reply reply ∷ []
 events_with_reply log made reply waits well =
-    let answered = flat_map events_of_pair log.answered in
-    let before : events_in log ≡ answered ++ event.Begin ∷ [] =
-    ap (λ waiting. answered ++ (begun_by waiting ++ ended_by log.fault)) waits ∙ ap (λ fault. answered ++ event.Begin ∷ ended_by fault) well in
-    let grown : flat_map events_of_pair (log.answered ++ (made, reply) ∷ []) ≡ answered ++ event.Begin ∷ event.Reply reply ∷ [] =
-    flat_map-append events_of_pair log.answered ((made, reply) ∷ []) in
-    let after : events_in (with_reply log made reply) ≡ answered ++ event.Begin ∷ event.Reply reply ∷ [] =
-    ap (λ l. l ++ ended_by log.fault) grown
-    ∙ ap (λ fault. answered ++ event.Begin ∷ event.Reply reply ∷ [] ++ ended_by fault) well
-    ∙ append-nil (answered ++ event.Begin ∷ event.Reply reply ∷ []) in
-    after ∙ sym (append_assoc answered (event.Begin ∷ []) (event.Reply reply ∷ [])) ∙ ap (λ l. l ++ event.Reply reply ∷ []) (sym before)
+    rw (waits, well) (append-nil (flat_map events_of_pair (log.answered ++ (made, reply) ∷ []))
+    ∙ flat_map-append events_of_pair log.answered ((made, reply) ∷ [])
+    ∙ sym (append_assoc (flat_map events_of_pair log.answered) (event.Begin ∷ []) (event.Reply reply ∷ [])))
 
 pub events_with_fault : (log : Log) (fault : Fault) → log.fault ≡ None
     → events_in (with_fault log fault) ≡ events_in log ++ event.Fail fault ∷ []
 events_with_fault log fault well =
     let answered = flat_map events_of_pair log.answered in
-    let before : events_in log ≡ answered ++ begun_by log.waiting =
-    ap (λ fault. answered ++ (begun_by log.waiting ++ ended_by fault)) well ∙ ap (λ l. answered ++ l) (append-nil (begun_by log.waiting)) in
-    sym (append_assoc answered (begun_by log.waiting) (event.Fail fault ∷ [])) ∙ ap (λ l. l ++ event.Fail fault ∷ []) (sym before)
+    let begun = map begin_of (option_to_list log.waiting) in
+    rw well (sym (append_assoc answered begun (event.Fail fault ∷ []))
+    ∙ ap (λ l. (answered ++ l) ++ event.Fail fault ∷ []) (sym (append-nil begun)))
+
+-- ---- the logs of a world with one more note
+
+pub own_log : (w : World) (who : Actor) (e : Event) (log : Log) → log_of (with_note w who e log) who ≡ log
+own_log w actor.P e log = refl
+own_log w _ e log = refl
+
+-- what is so of a section's new value, and of what the others have, is so of each
+pub each_section : {T : Type 0} (P : Actor → T → Type 0) (s : Sections T) (who : Actor) (one : T) → P who one
+    → ((o : Actor) → is_same_section o who ≡ false → P o (section_of s o)) → (o : Actor) → P o (section_of (with_section s who one) o)
+each_section P s actor.P one own others actor.P = own
+each_section P s actor.A one own others actor.A = own
+each_section P s actor.B one own others actor.B = own
+each_section P s _ one own others o = others o refl

@@ -1,43 +1,47 @@
--- The next call of a section of a right world is a request that its history may have.
-use Rattle.std.proofs.Common.{◌≡◌, ◌⊎◌, inl, inr, ℕ, ◌+◌, ◌<◌, ◌≤◌, ◌==◌, nat_le, Bool, true, false, cond, ◌&&◌, ◌||◌, bytes_eq, Some}
-use Rattle.std.proofs.Common.{List, [], ◌∷◌, ◌++◌, length, map, slice_get, slice_index_or, refl, ap, sym, subst, ◌∙◌, arith}
-use Rattle.std.specs.FinSet as set
-use Rattle.std.specs.Ordering.{nat_cmp}
-use Rattle.std.specs.Cmp.Lexicographic.{slice_cmp}
-use Rattle.std.specs.List.{AllPass, list_all, list_any}
-use Rattle.std.proofs.lemmas.Bool.{cases_lt, and_parts, eqb-true, leb-true, le-leb}
+-- The next call of a section of a right world is a request that its history may have: its words, its key, and a number that was shown.
+use Rattle.std.proofs.Common.{◌≡◌, ◌⊎◌, inl, inr, ℕ, ◌+◌, ◌<◌, ◌≤◌, ◌==◌, nat_le, Bool, true, false, cond, ◌&&◌, ◌||◌, bytes_eq, Some, List, [], ◌∷◌, ◌++◌}
+use Rattle.std.proofs.Common.{length, map, slice_get, slice_index_or, refl, ap, sym, subst, ◌∙◌, arith, zero, suc, not, replicate, if◌then◌else◌}
+use Rattle.std.proofs.lemmas.Bool.{cases_lt, and_parts, or_left, or_right, eqb-true, leb-true, le-leb}
 use Rattle.std.proofs.lemmas.Cmp.{nat_list_cmp_total}
 use Rattle.std.proofs.lemmas.List.Sums.{AllPass-from_list_all}
-use Rattle.std.proofs.lemmas.Option.{get_or_from_slice_get, slice_get_within}
 use Rattle.std.proofs.lemmas.Slice.Eq.{bytes_eq-Decides}
+use Rattle.std.specs.Cmp.Lexicographic.{slice_cmp}
+use Rattle.std.specs.FinSet as set
+use Rattle.std.specs.List.{AllPass, list_all, list_any}
+use Rattle.std.specs.Ordering.{nat_cmp}
 use Rattle.mc_protocol.specs.Decimals.{MAX_32}
 use Rattle.mc_protocol.specs.Fields.{fields_of}
 use Rattle.mc_protocol.specs.Names.{is_name, is_key}
-use Rattle.mc_protocol.specs.declared.limits.TheConstants.{KEYS_LIMIT, KEY_BYTES_LIMIT, REPLY_BODY_LIMIT, SCRIPT_BODY_LIMIT}
 use Rattle.mc_protocol.specs.declared.actor.Actor.{Actor}
+use Rattle.mc_protocol.specs.declared.actor.Actor.TheVariants as actor
+use Rattle.mc_protocol.specs.declared.limits.TheConstants.{KEYS_LIMIT, KEY_BYTES_LIMIT, REPLY_BODY_LIMIT, SCRIPT_BODY_LIMIT}
 use Rattle.mc_protocol.specs.declared.reply.Reply.{Reply}
 use Rattle.mc_protocol.specs.declared.request.Fields.{Fields}
 use Rattle.mc_protocol.specs.declared.request.Fields.TheVariants as fields
 use Rattle.mc_protocol.specs.declared.request.Verb.{Verb}
+use Rattle.mc_protocol.specs.declared.request.Verb.TheVariants as verb
 use Rattle.mc_script.specs.ScriptWords.{is_body, are_body_bytes}
 use Rattle.mc_script.specs.Templates.{is_nothing, is_variable, is_amount, has_fields, IsTemplate}
 use Rattle.mc_script.specs.declared.step.Argument.{Argument}
 use Rattle.mc_script.specs.declared.step.Argument.TheVariants as argument
 use Rattle.mc_script.specs.declared.step.Template.{Template}
 use Rattle.mc_code.specs.Calls.{IsCalling, exchange_of, template_of, no_template}
-use Rattle.mc_code.specs.Code.{Code, IsCode}
-use Rattle.mc_code.specs.NumberLaws.{Shows, IsShownIn}
-use Rattle.mc_code.specs.Runs.{Exchange, met_at, met_by_send}
-use Rattle.mc_code.specs.States.{Tagged, call, with_argument, send_outcome}
+use Rattle.mc_code.specs.Code.{Code, IsCode, instructions_in}
+use Rattle.mc_code.specs.NumberLaws.{Shows, IsShownIn, Holds}
+use Rattle.mc_code.specs.Runs.{Exchange}
+use Rattle.mc_code.specs.Standing.{BeginsAfter, Leaves, StandsAt, no_variables}
+use Rattle.mc_code.specs.States.{Tagged, call, with_argument, send_outcome, nothing, State, initial_state, wrong_kind, call_with, wanted_by, is_same}
 use Rattle.mc_code.specs.declared.instr.Call.{Call}
+use Rattle.mc_code.specs.declared.kind.Kind.TheVariants as kind
 use Rattle.mc_code.proofs.LookUps.{some_is}
-use Rattle.mc_code.proofs.StandingLemmas.{template_is}
-use Rattle.mc_model.specs.History.{has_words, lacks_the_others, has_key, shows, shows_number, is_gets}
+use Rattle.mc_code.proofs.Shown.{numbers_were_shown}
+use Rattle.mc_model.specs.History.{has_words, lacks_the_others, has_key, shows, shows_number, is_gets, is_cas, is_seen}
 use Rattle.mc_model.specs.declared.sent.Sent.{Sent}
 use Rattle.mc_model.proofs.Keys.{key_set}
-use Rattle.mc_core.specs.Histories.{sent_of}
-use Rattle.mc_core.specs.Logs.{request_of}
+use Rattle.mc_core.specs.Histories.{sent_of, unanswered, sent_in}
+use Rattle.mc_core.specs.Logs.{request_of, Log, exchanges_in}
 use Rattle.mc_core.proofs.Clearing.{FrontClears}
+use Rattle.mc_core.proofs.LogLemmas.{call_inside, call_sent}
 
 -- ---- words
 
@@ -45,16 +49,6 @@ fields_kept : (f : Fields) (v : Verb) (key : List ℕ) (vars flags number : ℕ)
     → has_fields vars f flags a body ≡ true → (is_nothing a ≡ true → number ≡ 0)
     → (nat_le (length body) REPLY_BODY_LIMIT ≡ true)
     × (lacks_the_others f (record { verb = v; key = key; flags = flags; body = body; number = number }) ≡ true)
-fields_kept fields.KeyAlone v key vars flags number a body e zero_is =
-    let all = and_parts (flags == 0 && is_nothing a) (length body == 0) e in
-    let two = and_parts (flags == 0) (is_nothing a) all.0 in
-    let none = eqb-true (length body) 0 all.1 in
-    (le-leb (length body) REPLY_BODY_LIMIT (omega (arith, none)), rw (two.0, all.1, zero_is two.1) refl)
-fields_kept fields.Expiry v key vars flags number a body e zero_is =
-    let all = and_parts (flags == 0 && is_nothing a) (length body == 0) e in
-    let two = and_parts (flags == 0) (is_nothing a) all.0 in
-    let none = eqb-true (length body) 0 all.1 in
-    (le-leb (length body) REPLY_BODY_LIMIT (omega (arith, none)), rw (two.0, all.1, zero_is two.1) refl)
 fields_kept fields.Item v key vars flags number a body e zero_is =
     let all = and_parts (nat_le flags MAX_32 && is_nothing a) (is_body body) e in
     let two = and_parts (nat_le flags MAX_32) (is_nothing a) all.0 in
@@ -69,6 +63,11 @@ fields_kept fields.Amount v key vars flags number a body e zero_is =
     let two = and_parts (flags == 0) (is_amount vars a) all.0 in
     let none = eqb-true (length body) 0 all.1 in
     (le-leb (length body) REPLY_BODY_LIMIT (omega (arith, none)), rw (two.0, all.1) refl)
+fields_kept _ v key vars flags number a body e zero_is =
+    let all = and_parts (flags == 0 && is_nothing a) (length body == 0) e in
+    let two = and_parts (flags == 0) (is_nothing a) all.0 in
+    let none = eqb-true (length body) 0 all.1 in
+    (le-leb (length body) REPLY_BODY_LIMIT (omega (arith, none)), rw (two.0, all.1, zero_is two.1) refl)
 
 -- the key at an index is one that a text may have
 key_kept : (c : Code) (index : ℕ) → IsCode c → index < length c.keys → is_key (slice_index_or c.keys index []) ≡ true
@@ -83,22 +82,15 @@ key_kept c index kept inside =
 number_zero : (t u : Template) (a : Argument) (variables : List Tagged) (n : ℕ) → with_argument t a variables ≡ call u n
     → is_nothing a ≡ true → n ≡ 0
 number_zero t u argument.Nothing variables n e none = cc
-number_zero t u (argument.Number m) variables n e none = absurd (cc)
-number_zero t u (argument.Variable v) variables n e none = absurd (cc)
+number_zero t u _ variables n e none = absurd (cc)
 
 pub call_made : (c : Code) (who : Actor) (variables : List Tagged) (exchanges : List Exchange) (made : Call) → IsCode c
     → (calling : IsCalling c who variables exchanges made)
     → IsTemplate (length c.keys) c.flags c.vars (template_of c made) × (send_outcome (template_of c made) calling.st ≡ call (template_of c made) made.number)
-call_made c who variables exchanges made kept calling =
-    let meets = ap (λ o. met_at c.templates o calling.st) (sym calling.sends) ∙ calling.meets in
-    let named = template_is (slice_get c.templates made.template) calling.st calling.t made.number meets in
-    let same : template_of c made ≡ calling.t = get_or_from_slice_get c.templates made.template calling.t no_template named in
-    let inside = slice_get_within c.templates made.template calling.t named in
-    let sent : send_outcome calling.t calling.st ≡ call calling.t made.number =
-    some_is _ _ (ap (λ o. Some (met_by_send o calling.st)) (sym named) ∙ meets) in (
-      kept.templates made.template no_template inside,
-      subst (λ t. send_outcome t calling.st ≡ call t made.number) (sym same) sent,
-    )
+call_made c who variables exchanges made kept calling = (
+  kept.templates made.template no_template (call_inside c who variables exchanges made calling),
+  call_sent c who variables exchanges made calling,
+)
 
 pub request_words : (c : Code) (who : Actor) (variables : List Tagged) (exchanges : List Exchange) (made : Call) → IsCode c
     → IsCalling c who variables exchanges made → has_words (request_of c made) ≡ true
@@ -115,10 +107,6 @@ request_words c who variables exchanges made kept calling =
 same_bytes : (x y : List ℕ) → x ≡ y → bytes_eq x y ≡ true
 same_bytes x y e = (bytes_eq-Decides x y).1 e
 
-or_true : (b : Bool) → (b || true) ≡ true
-or_true true = refl
-or_true false = refl
-
 -- the keys that P's calls have deleted
 pub key_there : (c : Code) (k j : ℕ) (pairs : List (Call × Reply)) (more : List Sent) → FrontClears c k pairs → k ≤ j → j < k + length pairs
     → j < length c.keys → has_key (slice_index_or c.keys j []) (map (sent_of c) pairs ++ more) ≡ true
@@ -133,15 +121,12 @@ key_there c k j ((made, reply) ∷ pairs) more front least inside declared =
     rest = has_key key (map (sent_of c) pairs ++ more)
 
     by_place : (k < j) ⊎ (j ≤ k) → (k < j → rest ≡ true) → (bytes_eq (slice_index_or c.keys (template_of c made).key []) key || rest) ≡ true
-    by_place (inl later) in_rest =
-        let there = in_rest later in
-        ap (λ b. bytes_eq (slice_index_or c.keys (template_of c made).key []) key || b) there
-        ∙ or_true (bytes_eq (slice_index_or c.keys (template_of c made).key []) key)
+    by_place (inl later) in_rest = or_right (bytes_eq (slice_index_or c.keys (template_of c made).key []) key) rest (in_rest later)
     by_place (inr here) in_rest =
         let same : k ≡ j = omega (arith, least, here) in
         let clearing = front.0 (omega (arith, same, declared)) in
         let equal = same_bytes (slice_index_or c.keys (template_of c made).key []) key (ap (λ i. slice_index_or c.keys i []) (clearing.key_is ∙ same)) in
-        ap (λ b. b || rest) equal
+        or_left (bytes_eq (slice_index_or c.keys (template_of c made).key []) key) rest equal
 
 pub few_keys : (xs : List Sent) → set.len (key_set xs) ≤ length xs
 few_keys [] = let none = set.len-empty (slice_cmp nat_cmp) in omega (arith, none)
@@ -175,7 +160,120 @@ pub shown_any : (c : Code) (key number : ℕ) (pairs : List (Call × Reply)) (mo
     → list_any (shows (slice_index_or c.keys key []) number) (map (sent_of c) pairs ++ more) ≡ true
 shown_any c key number [] more shown = absurd shown
 shown_any c key number ((made, given) ∷ pairs) more (inl here) =
-    ap (λ b. b || list_any (shows (slice_index_or c.keys key []) number) (map (sent_of c) pairs ++ more)) (gets_shown c key number made given here)
+    or_left (shows (slice_index_or c.keys key []) number (sent_of c (made, given))) _ (gets_shown c key number made given here)
 shown_any c key number ((made, given) ∷ pairs) more (inr later) =
-    ap (λ b. shows (slice_index_or c.keys key []) number (sent_of c (made, given)) || b) (shown_any c key number pairs more later)
-    ∙ or_true (shows (slice_index_or c.keys key []) number (sent_of c (made, given)))
+    or_right (shows (slice_index_or c.keys key []) number (sent_of c (made, given))) _ (shown_any c key number pairs more later)
+
+-- ---- the variable of a cas
+
+unbound_is_no_cas : (key n : ℕ) → nothing ≡ (kind.Cas key, n) → ⊥
+unbound_is_no_cas key n e = let kinds : kind.Unbound ≡ kind.Cas key = ap (λ (x : Tagged). x.0) e in absurd (cc)
+
+there_is : (xs : List Tagged) (v key n : ℕ) → slice_index_or xs v nothing ≡ (kind.Cas key, n) → slice_get xs v ≡ Some (kind.Cas key, n)
+there_is [] v key n e = absurd (unbound_is_no_cas key n e)
+there_is (x ∷ xs) zero key n e = ap Some e
+there_is (x ∷ xs) (suc v) key n e = there_is xs v key n e
+
+number_is : (t : Template) (m n : ℕ) → call t m ≡ call t n → m ≡ n
+number_is t m n e = cc
+
+held_by : (t : Template) (x : Tagged) (n : ℕ) → t.verb ≡ verb.Cas → call_with t x ≡ call t n → x ≡ (kind.Cas t.key, n)
+held_by t (kind.Unbound, m) n cas e = absurd (cc)
+held_by t (kind.Cas key, m) n cas e =
+    by_kind (key == t.key) refl (ap (λ v. if is_same (kind.Cas key) (wanted_by v t.key) then call t m else wrong_kind t) (sym cas) ∙ e)
+  where
+    by_kind : (b : Bool) → (key == t.key) ≡ b → (if b then call t m else wrong_kind t) ≡ call t n
+        → (let x : Tagged = (kind.Cas key, m) in x) ≡ (kind.Cas t.key, n)
+    by_kind true same e =
+        ap (λ k. let x : Tagged = (kind.Cas k, m) in x) (eqb-true key t.key same)
+        ∙ ap (λ n. let x : Tagged = (kind.Cas t.key, n) in x) (number_is t m n e)
+    by_kind false same e = absurd (cc)
+held_by t (kind.Num, m) n cas e =
+    let wrong : wrong_kind t ≡ call t n = ap (λ v. if is_same kind.Num (wanted_by v t.key) then call t m else wrong_kind t) (sym cas) ∙ e in
+    absurd (cc)
+
+cas_fields : (vars flags : ℕ) (a : Argument) (body : List ℕ) → has_fields vars (fields_of verb.Cas) flags a body ≡ true
+    → is_variable vars a ≡ true
+cas_fields vars flags a body e =
+    (and_parts (nat_le flags MAX_32) (is_variable vars a) (and_parts (nat_le flags MAX_32 && is_variable vars a) (is_body body) e).0).1
+
+-- the variable that a cas takes holds its cas unique
+variable_holds : (vars : ℕ) (t : Template) (a : Argument) (st : State) (n : ℕ) → is_variable vars a ≡ true → t.verb ≡ verb.Cas
+    → with_argument t a st.variables ≡ call t n → (v : ℕ) × Holds st v t.key n
+variable_holds vars t (argument.Variable v) st n is cas e =
+    (v, there_is st.variables v t.key n (held_by t (slice_index_or st.variables v nothing) n cas e))
+variable_holds vars t _ st n is cas e = absurd (cc)
+
+-- ---- where it was shown
+
+none_held : (n v key number : ℕ) → slice_get (replicate n nothing) v ≡ Some (kind.Cas key, number) → ⊥
+none_held zero v key number e = absurd (cc)
+none_held (suc n) zero key number e = unbound_is_no_cas key number (some_is _ _ e)
+none_held (suc n) (suc v) key number e = none_held n v key number e
+
+-- shown along the section, or before it
+shown_on : (c : Code) (who : Actor) (variables : List Tagged) (exchanges : List Exchange) (p v key n : ℕ) (st : State)
+    → StandsAt c who variables exchanges p st → Holds st v key n
+    → Holds (initial_state variables) v key n ⊎ IsShownIn key n exchanges
+shown_on c who variables exchanges p v key n st stands holds =
+    by_law (numbers_were_shown c.templates (instructions_in c who) 0 p (initial_state variables) st exchanges v key n stands holds)
+  where
+    by_law : Holds (initial_state variables) v key n ⊎ ((nothing ≡ (kind.Cas key, n)) ⊎ IsShownIn key n exchanges)
+        → Holds (initial_state variables) v key n ⊎ IsShownIn key n exchanges
+    by_law (inl first) = inl first
+    by_law (inr (inl last)) = absurd (unbound_is_no_cas key n last)
+    by_law (inr (inr shown)) = inr shown
+
+-- what P leaves was shown in P
+shown_in_p : (c : Code) (before : List Exchange) (variables : List Tagged) (v key n : ℕ) → Leaves c before variables
+    → Holds (initial_state variables) v key n → IsShownIn key n before
+shown_in_p c before variables v key n (st, (p, stands, met), is) holds =
+    let at_end : Holds st v key n = subst (λ vs. slice_get vs v ≡ Some (kind.Cas key, n)) is holds in
+    by_law (shown_on c actor.P (no_variables c) before p v key n st stands at_end)
+  where
+    by_law : Holds (initial_state (no_variables c)) v key n ⊎ IsShownIn key n before → IsShownIn key n before
+    by_law (inl first) = absurd (none_held c.vars v key n first)
+    by_law (inr shown) = shown
+
+begins_shown : (c : Code) (before : List Exchange) (who : Actor) (variables : List Tagged) (v key n : ℕ)
+    → BeginsAfter c before who variables
+    → Holds (initial_state variables) v key n → IsShownIn key n before
+begins_shown c before actor.P variables v key n begins holds =
+    absurd (none_held c.vars v key n (subst (λ vs. slice_get vs v ≡ Some (kind.Cas key, n)) begins holds))
+begins_shown c before _ variables v key n begins holds = shown_in_p c before variables v key n begins holds
+
+is_cas_verb : (v : Verb) → is_cas v ≡ true → v ≡ verb.Cas
+is_cas_verb verb.Cas e = refl
+is_cas_verb _ e = absurd (cc)
+
+-- the number of the next call was shown in P, or in the section
+pub next_seen : (c : Code) (who : Actor) (of_p log : Log) (variables : List Tagged) (made : Call) → IsCode c
+    → BeginsAfter c (exchanges_in c of_p) who variables → IsCalling c who variables (exchanges_in c log) made
+    → (is_seen (sent_in c of_p) (unanswered c made) || is_seen (sent_in c log) (unanswered c made)) ≡ true
+next_seen c who of_p log variables made kept begins calling = by_verb (is_cas t.verb) refl
+  where
+    t : Template
+    t = template_of c made
+
+    key : List ℕ
+    key = slice_index_or c.keys t.key []
+
+    shown_by : Log → Bool
+    shown_by l = list_any (shows key made.number) (sent_in c l)
+
+    by_verb : (b : Bool) → is_cas t.verb ≡ b → ((not b || shown_by of_p) || (not b || shown_by log)) ≡ true
+    by_verb false other = refl
+    by_verb true cas =
+        let is = call_made c who variables (exchanges_in c log) made kept calling in
+        let verb_is = is_cas_verb t.verb cas in
+        let variable = cas_fields c.vars t.flags t.argument t.body
+        (ap (λ v. has_fields c.vars (fields_of v) t.flags t.argument t.body) (sym verb_is) ∙ is.0.fields) in
+        let holds = variable_holds c.vars t t.argument calling.st made.number variable verb_is is.1 in
+        by_place holds.0 (shown_on c who variables (exchanges_in c log) calling.p holds.0 t.key made.number calling.st calling.stands holds.1)
+      where
+        by_place : (v : ℕ) → Holds (initial_state variables) v t.key made.number ⊎ IsShownIn t.key made.number (exchanges_in c log)
+            → (shown_by of_p || shown_by log) ≡ true
+        by_place v (inl first) =
+            let shown = begins_shown c (exchanges_in c of_p) who variables v t.key made.number begins first in
+            or_left (shown_by of_p) (shown_by log) (shown_any c t.key made.number of_p.answered _ shown)
+        by_place v (inr shown) = or_right (shown_by of_p) (shown_by log) (shown_any c t.key made.number log.answered _ shown)

@@ -1,8 +1,9 @@
 -- A section's notes are the events of its log: so they are few, and none comes after a fault.
-use Rattle.std.proofs.Common.{◌≡◌, ℕ, ◌+◌, ◌*◌, ◌≤◌, Option, Some, None, List, [], ◌∷◌, ◌++◌, length, map, refl, ap, sym, subst, ◌∙◌, arith, length-append}
+use Rattle.std.proofs.Common.{◌≡◌, ℕ, ◌+◌, ◌*◌, ◌≤◌, Option, Some, None, List, [], ◌∷◌, ◌++◌, length, map, refl, ap, ap₂, sym, subst, ◌∙◌, arith}
+use Rattle.std.proofs.Common.{if◌then◌else◌}
 use Rattle.std.specs.List.{flat_map}
 use Rattle.std.specs.Option.{option_to_list}
-use Rattle.std.proofs.lemmas.List.{append-nil, length-map}
+use Rattle.std.proofs.lemmas.List.{append-nil}
 use Rattle.std.proofs.lemmas.List.Concat.{flat_map-append}
 use Rattle.mc_protocol.specs.declared.actor.Actor.{Actor}
 use Rattle.mc_protocol.specs.declared.actor.Actor.TheVariants as actor
@@ -13,11 +14,13 @@ use Rattle.mc_code.specs.Code.{Code}
 use Rattle.mc_code.specs.declared.instr.Call.{Call}
 use Rattle.mc_history.specs.declared.event.Event.{Event}
 use Rattle.mc_history.specs.declared.event.Event.TheVariants as event
+use Rattle.mc_core.specs.Histories.{begin_count}
 use Rattle.mc_core.specs.Logs.{Log, events_of_pair, begin_of, call_of, calls_in, events_in}
 use Rattle.mc_core.specs.Safety.{IsSilentAfterFault}
 use Rattle.mc_core.specs.Steps.{IsStep, IsFold}
 use Rattle.mc_core.specs.Worlds.{World, Noted, new_world, log_of, event_of, events_of, with_note}
 use Rattle.mc_core.proofs.FoldLemmas.{kept_along}
+use Rattle.mc_core.proofs.LogLemmas.{each_section}
 use Rattle.mc_core.proofs.StepLemmas.{step_grows}
 
 -- ---- the events of a log
@@ -25,35 +28,24 @@ use Rattle.mc_core.proofs.StepLemmas.{step_grows}
 abbrev pub AreNoted : World → Type 0
 AreNoted w = (who : Actor) → events_of who w.notes ≡ events_in (log_of w who)
 
-events_push : (who : Actor) (notes : List Noted) (noted : Noted)
+pub events_push : (who : Actor) (notes : List Noted) (noted : Noted)
     → events_of who (notes ++ noted ∷ []) ≡ events_of who notes ++ event_of who noted
 events_push who notes noted =
     flat_map-append (event_of who) notes (noted ∷ []) ∙ ap (λ l. events_of who notes ++ l) (append-nil (event_of who noted))
 
--- one more event of the section
-grown : (who : Actor) (w : World) (e : Event) (log : Log) → event_of who (who, e) ≡ e ∷ [] → AreNoted w
-    → events_in log ≡ events_in (log_of w who) ++ e ∷ []
-    → events_of who (w.notes ++ (who, e) ∷ []) ≡ events_in log
-grown who w e log own noted more =
-    events_push who w.notes (who, e) ∙ ap (λ l. events_of who w.notes ++ l) own ∙ ap (λ l. l ++ e ∷ []) (noted who) ∙ sym more
+pub own_event : (who : Actor) (e : Event) → event_of who (who, e) ≡ e ∷ []
+own_event actor.P e = refl
+own_event _ e = refl
 
--- one of another section
-others : (who other : Actor) (w : World) (e : Event) → event_of who (other, e) ≡ [] → AreNoted w
-    → events_of who (w.notes ++ (other, e) ∷ []) ≡ events_in (log_of w who)
-others who other w e none noted =
-    events_push who w.notes (other, e) ∙ ap (λ l. events_of who w.notes ++ l) none ∙ append-nil (events_of who w.notes) ∙ noted who
-
-noted_more : (w : World) (other : Actor) (e : Event) (log : Log) → AreNoted w → events_in log ≡ events_in (log_of w other) ++ e ∷ []
-    → AreNoted (with_note w other e log)
-noted_more w actor.P e log noted more actor.P = grown actor.P w e log refl noted more
-noted_more w actor.P e log noted more actor.A = others actor.A actor.P w e refl noted
-noted_more w actor.P e log noted more actor.B = others actor.B actor.P w e refl noted
-noted_more w actor.A e log noted more actor.P = others actor.P actor.A w e refl noted
-noted_more w actor.A e log noted more actor.A = grown actor.A w e log refl noted more
-noted_more w actor.A e log noted more actor.B = others actor.B actor.A w e refl noted
-noted_more w actor.B e log noted more actor.P = others actor.P actor.B w e refl noted
-noted_more w actor.B e log noted more actor.A = others actor.A actor.B w e refl noted
-noted_more w actor.B e log noted more actor.B = grown actor.B w e log refl noted more
+noted_more : (w : World) (who : Actor) (e : Event) (log : Log) → AreNoted w → events_in log ≡ events_in (log_of w who) ++ e ∷ []
+    → AreNoted (with_note w who e log)
+noted_more w who e log noted more =
+    each_section (λ o log. events_of o (w.notes ++ (who, e) ∷ []) ≡ events_in log) w.logs who log
+    (events_push who w.notes (who, e) ∙ ap₂ (λ xs ys. xs ++ ys) (noted who) (own_event who e) ∙ sym more)
+    (λ o other.
+    events_push o w.notes (who, e)
+    ∙ ap₂ (λ xs ys. xs ++ ys) (noted o) (ap (λ b. if b then e ∷ [] else []) other)
+    ∙ append-nil (events_in (log_of w o)))
 
 pub noted_step : (c : Code) (w : World) (who : Actor) (e : Event) (next : World) → AreNoted w → IsStep c w who e next → AreNoted next
 noted_step c w who e next noted step =
@@ -62,8 +54,7 @@ noted_step c w who e next noted step =
 
 pub new_is_noted : AreNoted new_world
 new_is_noted actor.P = refl
-new_is_noted actor.A = refl
-new_is_noted actor.B = refl
+new_is_noted _ = refl
 
 pub fold_noted : (c : Code) {events : List Noted} {w : World} {skipped : ℕ} → IsFold c new_world events w skipped → AreNoted w
 fold_noted c fold = kept_along c AreNoted (noted_step c) fold new_is_noted
@@ -77,38 +68,31 @@ count_notes ((actor.P, e) ∷ notes) = let h = count_notes notes in omega (arith
 count_notes ((actor.A, e) ∷ notes) = let h = count_notes notes in omega (arith, h)
 count_notes ((actor.B, e) ∷ notes) = let h = count_notes notes in omega (arith, h)
 
-count_pairs : (pairs : List (Call × Reply)) → length (flat_map events_of_pair pairs) ≡ 2 * length pairs
-count_pairs [] = refl
-count_pairs ((made, reply) ∷ pairs) = let h = count_pairs pairs in omega (arith, h)
+pairs_counted : (pairs : List (Call × Reply)) (waiting : Option Call) (fault : Option Fault)
+    → (begin_count (flat_map events_of_pair pairs ++ (map begin_of (option_to_list waiting) ++ map event.Fail (option_to_list fault)))
+    ≡ length (map call_of pairs ++ option_to_list waiting))
+    × (length (flat_map events_of_pair pairs ++ (map begin_of (option_to_list waiting) ++ map event.Fail (option_to_list fault)))
+    ≤ 2 * length (map call_of pairs ++ option_to_list waiting) + 1)
+pairs_counted [] None None = (refl, omega arith)
+pairs_counted [] None (Some fault) = (refl, omega arith)
+pairs_counted [] (Some made) None = (refl, omega arith)
+pairs_counted [] (Some made) (Some fault) = (refl, omega arith)
+pairs_counted ((made, reply) ∷ pairs) waiting fault =
+    let rest = pairs_counted pairs waiting fault in let begun = rest.0 in let few = rest.1 in (omega (arith, begun), omega (arith, few))
 
-count_open : (waiting : Option Call) (fault : Option Fault)
-    → length (map begin_of (option_to_list waiting) ++ map event.Fail (option_to_list fault)) ≤ 2 * length (option_to_list waiting) + 1
-count_open None None = omega arith
-count_open None (Some fault) = omega arith
-count_open (Some made) None = omega arith
-count_open (Some made) (Some fault) = omega arith
-
-few_events : (log : Log) → length (events_in log) ≤ 2 * length (calls_in log) + 1
-few_events log =
-    let last = count_open log.waiting log.fault in
-    let pairs = count_pairs log.answered in
-    let events = length-append (flat_map events_of_pair log.answered)
-    (map begin_of (option_to_list log.waiting) ++ map event.Fail (option_to_list log.fault)) in
-    let calls = length-append (map call_of log.answered) (option_to_list log.waiting) in
-    let mapped = length-map log.answered call_of in
-    omega (arith, last, pairs, events, calls, mapped)
+-- of a log: each call begins once, and has a reply at most; and there is a fault at most
+pub log_counted : (log : Log)
+    → (begin_count (events_in log) ≡ length (calls_in log)) × (length (events_in log) ≤ 2 * length (calls_in log) + 1)
+log_counted log = pairs_counted log.answered log.waiting log.fault
 
 pub few_notes : (w : World) (most : ℕ) → AreNoted w → ((who : Actor) → length (calls_in (log_of w who)) ≤ most)
     → length w.notes ≤ 3 * (2 * most + 1)
 few_notes w most noted few =
-    let all = count_notes w.notes in
-    let p = few_events (log_of w actor.P) in
-    let a = few_events (log_of w actor.A) in
-    let b = few_events (log_of w actor.B) in
-    let of_p = ap length (noted actor.P) in
-    let of_a = ap length (noted actor.A) in
-    let of_b = ap length (noted actor.B) in
-    omega (arith, all, p, a, b, of_p, of_a, of_b, few actor.P, few actor.A, few actor.B)
+    let all = count_notes w.notes in omega (arith, all, few_own actor.P, few_own actor.A, few_own actor.B)
+  where
+    few_own : (who : Actor) → length (events_of who w.notes) ≤ 2 * most + 1
+    few_own who =
+        let events = (log_counted (log_of w who)).1 in let own = ap length (noted who) in let calls = few who in omega (arith, events, own, calls)
 
 -- ---- after a fault
 
@@ -135,11 +119,6 @@ last_of_all ((made, reply) ∷ pairs) waiting fault (x ∷ y ∷ front) back f e
     let rest = front ++ event.Fail f ∷ back in
     last_of_all pairs waiting fault front back f
     (rest_is (event.Reply reply) y more rest (rest_is event.Begin x (event.Reply reply ∷ more) (y ∷ rest) e))
-
-own_event : (who : Actor) (e : Event) → event_of who (who, e) ≡ e ∷ []
-own_event actor.P e = refl
-own_event actor.A e = refl
-own_event actor.B e = refl
 
 pub silent : (w : World) (who : Actor) → AreNoted w → IsSilentAfterFault w who
 silent w who noted front back fault is =

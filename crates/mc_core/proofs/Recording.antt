@@ -1,79 +1,46 @@
 -- How a world's history is recorded, note by note.
-use Rattle.std.proofs.Common.{◌≡◌, ◌≢◌, ◌⊎◌, inl, inr, ℕ, zero, suc, ◌+◌, ◌<◌, ◌≤◌, ◌^◌, Option, Some, None, List, []}
-use Rattle.std.proofs.Common.{◌∷◌, ◌++◌, length, map, take, drop, slice_index_or, refl, ap, sym, subst, ◌∙◌, arith}
+use Rattle.std.proofs.Common.{◌≡◌, inl, inr, ℕ, ◌+◌, ◌<◌, ◌≤◌, ◌^◌, List, [], ◌∷◌, ◌++◌, All, length, map, take, drop, slice_index_or, refl, ap, sym}
+use Rattle.std.proofs.Common.{subst, ◌∙◌, arith}
 use Rattle.std.specs.List.{zip}
 use Rattle.std.specs.Option.{option_to_list}
 use Rattle.std.proofs.lemmas.List.{append-nil, take-append-drop, drop_more, take_more}
-use Rattle.std.proofs.lemmas.Option.{slice_get_within}
+use Rattle.std.proofs.lemmas.List.Elements.{All-nil}
 use Rattle.mc_protocol.specs.Sections.{section_of}
 use Rattle.mc_protocol.specs.declared.actor.Actor.{Actor}
 use Rattle.mc_protocol.specs.declared.actor.Actor.TheVariants as actor
 use Rattle.mc_protocol.specs.declared.reply.Reply.{Reply}
 use Rattle.mc_protocol.specs.declared.sections.Sections.{Sections}
-use Rattle.mc_code.specs.Calls.{IsCalling, MakesAll, exchange_of}
 use Rattle.mc_code.specs.Code.{Code, IsCode}
-use Rattle.mc_code.specs.Runs.{Exchange}
-use Rattle.mc_code.specs.States.{Tagged}
 use Rattle.mc_code.specs.declared.instr.Call.{Call}
-use Rattle.mc_code.proofs.StandingLemmas.{calls_open}
 use Rattle.mc_model.specs.Notes as recorded
-use Rattle.mc_model.specs.declared.note.Note.{Note}
 use Rattle.mc_model.specs.declared.note.Note.TheVariants as note
-use Rattle.mc_model.specs.declared.rules.HistoryKind.{HistoryKind}
-use Rattle.mc_model.specs.declared.rules.HistoryKind.TheVariants as kinds
 use Rattle.mc_verify.specs.Faults.{IsSound}
 use Rattle.mc_history.specs.declared.event.Event.{Event}
 use Rattle.mc_history.specs.declared.event.Event.TheVariants as event
 use Rattle.mc_core.specs.declared.section.Section.{Section}
 use Rattle.mc_core.specs.Fields.{replies_of, waiting_in, world_in, calls_of, note_in, noted_by, BeginsNamed, HaveRoom, AreBegun, CountsBegin}
 use Rattle.mc_core.specs.Histories.{begin_count, no_call, recorded_after, recorded_from}
-use Rattle.mc_core.specs.Logs.{call_of, calls_in, exchanges_in, request_of, IsNextCall}
+use Rattle.mc_core.specs.Logs.{call_of, calls_in, request_of}
 use Rattle.mc_core.specs.Worlds.{World, Noted, log_of, event_of}
 use Rattle.mc_core.proofs.FoldLemmas.{fold_right}
 use Rattle.mc_core.proofs.HeldWorlds.{Fields}
-use Rattle.mc_core.proofs.NotedEvents.{fold_noted}
-use Rattle.mc_core.proofs.OwnSection.{own_event}
-use Rattle.mc_core.proofs.Recorded.{begun_in, begun_more, begun_first, begun_all, from_append}
+use Rattle.mc_core.proofs.LogLemmas.{call_inside, calls_each}
+use Rattle.mc_core.proofs.NotedEvents.{fold_noted, own_event}
+use Rattle.mc_core.proofs.Recorded.{begun_in, begun_append, begun_more, begun_first, begun_all, from_append}
 use Rattle.mc_core.proofs.Safe.{folds_within_room}
 use Rattle.mc_core.proofs.StepLemmas.{MayBeRight}
 use Rattle.mc_core.proofs.Taking.{logged}
 
 -- ---- templates of calls
 
-abbrev AreNamed : Code → List Call → Type 0
-AreNamed c [] = Unit {0}
-AreNamed c (made ∷ calls) = (made.template < length c.templates) × AreNamed c calls
+abbrev IsNamed : Code → Call → Type 0
+IsNamed c made = made.template < length c.templates
 
-pub calling_named : (c : Code) (who : Actor) (variables : List Tagged) (exchanges : List Exchange) (made : Call)
-    → IsCalling c who variables exchanges made → made.template < length c.templates
-calling_named c who variables exchanges made calling =
-    let opens = calls_open c who variables exchanges made calling in slice_get_within c.templates made.template opens.1 opens.2
-
-waiting_named : (c : Code) (who : Actor) (variables : List Tagged) (exchanges : List Exchange) (waiting : Option Call)
-    → IsNextCall c who variables exchanges waiting → AreNamed c (option_to_list waiting)
-waiting_named c who variables exchanges None next = tt
-waiting_named c who variables exchanges (Some made) next = (calling_named c who variables exchanges made next, tt)
-
-pairs_named : (c : Code) (who : Actor) (variables : List Tagged) (before : List Exchange) (pairs : List (Call × Reply)) (rest : List Call)
-    → MakesAll c who variables before pairs → AreNamed c rest → AreNamed c (map call_of pairs ++ rest)
-pairs_named c who variables before [] rest makes named = named
-pairs_named c who variables before ((made, reply) ∷ pairs) rest makes named = (
-  calling_named c who variables before made makes.0,
-  pairs_named c who variables (before ++ exchange_of c (made, reply) ∷ []) pairs rest makes.2 named,
-)
-
-log_named : (c : Code) (w : World) (who : Actor) → MayBeRight c w who → AreNamed c (calls_in (log_of w who))
-log_named c w who (inl new) = subst (λ log. AreNamed c (calls_in log)) (sym new) tt
+log_named : (c : Code) (w : World) (who : Actor) → MayBeRight c w who → All (IsNamed c) (calls_in (log_of w who))
+log_named c w who (inl new) = subst (λ log. All (IsNamed c) (calls_in log)) (sym new) (All-nil (IsNamed c))
 log_named c w who (inr right) =
-    let log = log_of w who in
-    pairs_named c who right.variables [] log.answered (option_to_list log.waiting) right.right.makes
-    (waiting_named c who right.variables (exchanges_in c log) log.waiting right.right.next)
-
-named_at : (c : Code) (calls : List Call) (n : ℕ) → AreNamed c calls → n < length calls
-    → (slice_index_or calls n no_call).template < length c.templates
-named_at c [] n named inside = absurd (omega (arith, inside))
-named_at c (made ∷ calls) zero named inside = named.0
-named_at c (made ∷ calls) (suc n) named inside = named_at c calls n named.1 (omega (arith, inside))
+    calls_each c who right.variables (IsNamed c) (log_of w who)
+    (λ front back made is calling. call_inside c who right.variables front made calling) right.right
 
 -- ---- the calls of a section's fields
 
@@ -111,14 +78,6 @@ begun_whole who notes n noted at =
     let parts = begun_append who (take n notes) (noted ∷ drop (n + 1) notes) in
     let first = begun_first who noted (drop (n + 1) notes) in
     omega (arith, all, parts, first)
-  where
-    begun_append : (who : Actor) (xs ys : List Noted) → begun_in who (xs ++ ys) ≡ begun_in who xs + begun_in who ys
-    begun_append who [] ys = omega arith
-    begun_append who (x ∷ xs) ys =
-        let first = begun_first who x (xs ++ ys) in
-        let also = begun_first who x xs in
-        let rest = begun_append who xs ys in
-        omega (arith, first, also, rest)
 
 -- ---- one note
 
@@ -135,7 +94,7 @@ begins_named c s notes n who event.Begin fields at =
     let all = few_begun c s notes who fields in
     let inside : begun_in who (take n notes) < length (calls_in (log_of w who)) = omega (arith, most, one, all) in
     subst (λ l. (slice_index_or l (begun_in who (take n notes)) no_call).template < length c.templates) (calls_same c s notes who fields)
-    (named_at c (calls_in (log_of w who)) (begun_in who (take n notes)) (log_named c w who (fold_right c fields.held.fold who)) inside)
+    (log_named c w who (fold_right c fields.held.fold who) (begun_in who (take n notes)) no_call inside)
 begins_named c s notes n who (event.Reply reply) fields at = tt
 begins_named c s notes n who (event.Fail fault) fields at = tt
 
@@ -178,46 +137,3 @@ counts_room c s notes n noted begun fields kept sound at are = (few actor.P (are
         let all = few_begun c s notes who fields in
         let calls = (folds_within_room c notes (world_in s notes) 0 kept sound fields.held.fold).calls who in
         omega (arith, is, most, all, calls)
-
--- ---- want of memory
-
-is_memory : (kind : HistoryKind) → (kind ≡ kinds.OutOfMemory) ⊎ (kind ≢ kinds.OutOfMemory)
-is_memory kinds.Header = inr (λ e. cc)
-is_memory kinds.Line = inr (λ e. cc)
-is_memory kinds.Number = inr (λ e. cc)
-is_memory kinds.Order = inr (λ e. cc)
-is_memory kinds.WrongReply = inr (λ e. cc)
-is_memory kinds.NotCleared = inr (λ e. cc)
-is_memory kinds.UnseenNumber = inr (λ e. cc)
-is_memory kinds.TooMany = inr (λ e. cc)
-is_memory kinds.Unended = inr (λ e. cc)
-is_memory kinds.OutOfMemory = inl refl
-
-pub memory_alone : (kind : HistoryKind) → ((kind ≢ kinds.OutOfMemory) → ⊥) → kind ≡ kinds.OutOfMemory
-memory_alone kind never = by_kind (is_memory kind)
-  where
-    by_kind : (kind ≡ kinds.OutOfMemory) ⊎ (kind ≢ kinds.OutOfMemory) → kind ≡ kinds.OutOfMemory
-    by_kind (inl is) = is
-    by_kind (inr other) = absurd (never other)
-
--- ---- as the code has it
-
-pub begins_named_for : (c d : Code) (s : Sections Section) (notes : List Noted) (n m : ℕ) (who : Actor) (e : Event) (own : Section)
-    → Fields c s notes
-    → IsAt notes n (who, e) → d ≡ c → own ≡ section_of s who → m ≡ begun_in who (take n notes) → BeginsNamed d own m e
-begins_named_for c d s notes n m who e own fields at code same count =
-    subst (λ d. BeginsNamed d own m e) (sym code)
-    (subst (λ (s : Section). BeginsNamed c s m e) (sym same)
-    (subst (λ m. BeginsNamed c (section_of s who) m e) (sym count) (begins_named c s notes n who e fields at)))
-
-pub recorded_next_for : (c d : Code) (s : Sections Section) (notes : List Noted) (n m : ℕ) (who : Actor) (e : Event) (own : Section) (w : World)
-    (before after : List recorded.Noted) (found : Option Note) → Fields c s notes → IsAt notes n (who, e) → d ≡ c → own ≡ section_of s who
-    → m ≡ begun_in who (take n notes) → world_in s notes ≡ w → before ≡ recorded_from c w [] (take n notes)
-    → found ≡ note_in d own m e → after ≡ before ++ noted_by who found → after ≡ recorded_from c w [] (take (n + 1) notes)
-recorded_next_for c d s notes n m who e own w before after found fields at code same count world is finds grown =
-    let found_is : found ≡ note_in c (section_of s who) (begun_in who (take n notes)) e =
-    finds ∙ ap (λ d. note_in d own m e) code ∙ ap (λ (s : Section). note_in c s m e) same ∙ ap (λ m. note_in c (section_of s who) m e) count in
-    grown
-    ∙ ap (λ o. before ++ noted_by who o) found_is
-    ∙ recorded_next c s notes n who e before fields at (is ∙ ap (λ w. recorded_from c w [] (take n notes)) (sym world))
-    ∙ ap (λ w. recorded_from c w [] (take (n + 1) notes)) world

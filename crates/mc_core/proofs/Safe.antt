@@ -1,41 +1,36 @@
 -- A fold in sound code is safe, and within its room.
-use Rattle.std.proofs.Common.{◌≡◌, ◌⊎◌, inl, inr, ◌<◌, ◌≤◌, ◌^◌, Bool, true, false, if◌then◌else◌, Option, Some, None, List}
-use Rattle.std.proofs.Common.{[], ◌∷◌, ◌++◌, length, map, slice_get, slice_index_or, refl, ap, sym, subst, ◌∙◌, arith}
+use Rattle.std.proofs.Common.{◌≡◌, ◌⊎◌, inl, inr, ◌<◌, ◌≤◌, ◌^◌, Bool, true, false, if◌then◌else◌, List, [], ◌∷◌, ◌++◌, All, length, map, slice_index_or}
+use Rattle.std.proofs.Common.{refl, ap, sym, subst, arith}
 use Rattle.std.specs.List.{flat_map}
 use Rattle.std.specs.Option.{option_to_list}
 use Rattle.std.proofs.lemmas.List.Elements.{All-head, All-tail}
-use Rattle.std.proofs.lemmas.Option.{get_or_from_slice_get}
 use Rattle.mc_protocol.specs.declared.actor.Actor.{Actor}
 use Rattle.mc_protocol.specs.declared.actor.Actor.TheVariants as actor
 use Rattle.mc_protocol.specs.declared.limits.TheConstants.{REQUESTS_LIMIT}
 use Rattle.mc_protocol.specs.declared.reply.Reply.{Reply}
-use Rattle.mc_script.specs.declared.step.Template.{Template}
-use Rattle.mc_code.specs.Calls.{IsCalling, MakesAll, exchange_of, template_of, no_template}
+use Rattle.mc_code.specs.Calls.{IsCalling, exchange_of, template_of}
 use Rattle.mc_code.specs.Code.{Code, section_of}
-use Rattle.mc_code.specs.Runs.{Exchange, met_at, met_by_send}
+use Rattle.mc_code.specs.Runs.{Exchange}
 use Rattle.mc_code.specs.Standing.{BeginsAfter, Leaves}
-use Rattle.mc_code.specs.States.{Tagged, nothing, initial_state, call, send_outcome}
+use Rattle.mc_code.specs.States.{Tagged, nothing, initial_state}
 use Rattle.mc_code.specs.declared.instr.Call.{Call}
-use Rattle.mc_code.proofs.LookUps.{some_is}
 use Rattle.mc_code.proofs.MadeCalls.{calls_stand}
-use Rattle.mc_code.proofs.StandingLemmas.{template_is}
 use Rattle.mc_model.specs.Notes.{is_same_section}
-use Rattle.mc_verify.specs.Costs.{cost_along}
+use Rattle.mc_flow.specs.Costs.{cost_along}
 use Rattle.mc_verify.specs.Faults.{IsSound}
-use Rattle.mc_verify.specs.declared.measure.Measure.TheVariants as measure
+use Rattle.mc_flow.specs.declared.measure.Measure.TheVariants as measure
 use Rattle.mc_verify.proofs.Right.{sound_right}
 use Rattle.mc_history.specs.declared.event.Event.{Event}
 use Rattle.mc_history.specs.declared.event.Event.TheVariants as event
 use Rattle.mc_core.specs.Laws.{FoldsAreSafe, FoldsAreWithinRoom}
-use Rattle.mc_core.specs.Logs.{Log, call_of, calls_in, events_of_pair, begin_of, exchanges_in, IsNextCall, IsRightLog}
+use Rattle.mc_core.specs.Logs.{Log, calls_in, events_of_pair, begin_of, exchanges_in, IsRightLog}
 use Rattle.mc_core.specs.Safety.{IsSmallEvent, IsSmallNote, AreSmall, IsRightRun, RanRight, bytes_of_all}
 use Rattle.mc_core.specs.Worlds.{World, Noted, log_of, events_of, exchanges_of, IsBegun}
-use Rattle.mc_core.proofs.Admitting.{admitted}
+use Rattle.mc_core.proofs.Sending.{admitted, log_within}
 use Rattle.mc_core.proofs.Deciding.{begun_or_not}
 use Rattle.mc_core.proofs.FoldLemmas.{fold_right}
-use Rattle.mc_core.proofs.LogLemmas.{new_is_right}
+use Rattle.mc_core.proofs.LogLemmas.{call_sent, calls_each}
 use Rattle.mc_core.proofs.NotedEvents.{AreNoted, fold_noted, few_notes, silent}
-use Rattle.mc_core.proofs.Sending.{log_within}
 use Rattle.mc_core.proofs.SmallNumbers.{IsSmallState, AreSmallExchanges, run_small, initial_small, MayHave, text_within, sent_number}
 use Rattle.mc_core.proofs.StepLemmas.{IsRight, IsRightIn, MayBeRight, begun_is_right}
 
@@ -62,7 +57,7 @@ small_pairs : (c : Code) (pairs : List (Call × Reply)) (rest : List Event) → 
 small_pairs c [] rest small = tt
 small_pairs c ((made, reply) ∷ pairs) rest small = (small.1.0, small_pairs c pairs rest small.1.1)
 
-pub small_exchanges : (c : Code) (w : World) (who : Actor) → AreNoted w → AreSmall w.notes → AreSmallExchanges (exchanges_of c w who)
+small_exchanges : (c : Code) (w : World) (who : Actor) → AreNoted w → AreSmall w.notes → AreSmallExchanges (exchanges_of c w who)
 small_exchanges c w who noted small =
     let log = log_of w who in
     small_pairs c log.answered (map begin_of (option_to_list log.waiting) ++ map event.Fail (option_to_list log.fault))
@@ -76,56 +71,34 @@ small_leaves c before variables small (st, (p, stands, met), is) =
     let end = run_small stands (initial_small c) small in
     record { variables = λ v. subst (λ vs. (slice_index_or vs v nothing).1 < 2 ^ 64) (sym is) (end.variables v); last = omega arith }
 
-pub small_start : (c : Code) (before : List Exchange) (who : Actor) (variables : List Tagged) → AreSmallExchanges before
+small_start : (c : Code) (before : List Exchange) (who : Actor) (variables : List Tagged) → AreSmallExchanges before
     → BeginsAfter c before who variables → IsSmallState (initial_state variables)
 small_start c before actor.P variables small begins = subst (λ vs. IsSmallState (initial_state vs)) (sym begins) (initial_small c)
-small_start c before actor.A variables small begins = small_leaves c before variables small begins
-small_start c before actor.B variables small begins = small_leaves c before variables small begins
+small_start c before _ variables small begins = small_leaves c before variables small begins
 
 -- ---- numbers of calls
 
--- each call has a number that its template allows
-abbrev pub AreFit : Code → List Call → Type 0
-AreFit c [] = Unit {0}
-AreFit c (made ∷ calls) = MayHave (template_of c made).argument made.number × AreFit c calls
+-- the call has a number that its template allows
+abbrev IsFit : Code → Call → Type 0
+IsFit c made = MayHave (template_of c made).argument made.number
 
 calling_fit : (c : Code) (who : Actor) (variables : List Tagged) (exchanges : List Exchange) (made : Call)
     → IsSmallState (initial_state variables) → AreSmallExchanges exchanges → IsCalling c who variables exchanges made
     → MayHave (template_of c made).argument made.number
 calling_fit c who variables exchanges made start small calling =
+    let t = template_of c made in
     let st = run_small calling.stands start small in
-    let meets = ap (λ o. met_at c.templates o calling.st) (sym calling.sends) ∙ calling.meets in
-    let named = template_is (slice_get c.templates made.template) calling.st calling.t made.number meets in
-    let same : template_of c made ≡ calling.t = get_or_from_slice_get c.templates made.template calling.t no_template named in
-    let sent : send_outcome calling.t calling.st ≡ call calling.t made.number =
-    some_is _ _ (ap (λ o. Some (met_by_send o calling.st)) (sym named) ∙ meets) in
-    subst (λ (t : Template). MayHave t.argument made.number) (sym same)
-    (sent_number calling.t calling.t calling.t.argument calling.st.variables made.number st.variables sent)
+    sent_number t t t.argument calling.st.variables made.number st.variables (call_sent c who variables exchanges made calling)
 
-small_more : (xs ys : List Exchange) → AreSmallExchanges xs → AreSmallExchanges ys → AreSmallExchanges (xs ++ ys)
-small_more [] ys small more = more
-small_more (x ∷ xs) ys small more = (small.0, small_more xs ys small.1 more)
+small_front : (xs ys : List Exchange) → AreSmallExchanges (xs ++ ys) → AreSmallExchanges xs
+small_front [] ys small = tt
+small_front (x ∷ xs) ys small = (small.0, small_front xs ys small.1)
 
-pairs_fit : (c : Code) (who : Actor) (variables : List Tagged) (before : List Exchange) (pairs : List (Call × Reply)) (rest : List Call)
-    → IsSmallState (initial_state variables) → AreSmallExchanges before → AreSmallExchanges (map (exchange_of c) pairs)
-    → MakesAll c who variables before pairs → AreFit c rest → AreFit c (map call_of pairs ++ rest)
-pairs_fit c who variables before [] rest start small more makes fit = fit
-pairs_fit c who variables before ((made, reply) ∷ pairs) rest start small more makes fit = (
-  calling_fit c who variables before made start small makes.0,
-  pairs_fit c who variables (before ++ exchange_of c (made, reply) ∷ []) pairs rest start (small_more before _ small (more.0, tt)) more.1 makes.2 fit,
-)
-
-waiting_fit : (c : Code) (who : Actor) (variables : List Tagged) (exchanges : List Exchange) (waiting : Option Call)
-    → IsSmallState (initial_state variables) → AreSmallExchanges exchanges → IsNextCall c who variables exchanges waiting
-    → AreFit c (option_to_list waiting)
-waiting_fit c who variables exchanges None start small next = tt
-waiting_fit c who variables exchanges (Some made) start small next = (calling_fit c who variables exchanges made start small next, tt)
-
-pub calls_fit : (c : Code) (who : Actor) (variables : List Tagged) (log : Log) → IsSmallState (initial_state variables)
-    → AreSmallExchanges (exchanges_in c log) → IsRightLog c who variables log → AreFit c (calls_in log)
+calls_fit : (c : Code) (who : Actor) (variables : List Tagged) (log : Log) → IsSmallState (initial_state variables)
+    → AreSmallExchanges (exchanges_in c log) → IsRightLog c who variables log → All (IsFit c) (calls_in log)
 calls_fit c who variables log start small right =
-    pairs_fit c who variables [] log.answered (option_to_list log.waiting) start tt small right.makes
-    (waiting_fit c who variables (exchanges_in c log) log.waiting start small right.next)
+    calls_each c who variables (IsFit c) log (λ front back made is.
+    calling_fit c who variables front made start (small_front front back (subst AreSmallExchanges (sym is) small))) right
 
 -- ---- budgets
 
@@ -133,21 +106,17 @@ requests_counted : (c : Code) (calls : List Call) → cost_along c measure.Reque
 requests_counted c [] = refl
 requests_counted c (made ∷ calls) = let e = requests_counted c calls in omega (arith, e)
 
-bytes_counted : (c : Code) (calls : List Call) → AreFit c calls
+bytes_counted : (c : Code) (calls : List Call) → All (IsFit c) calls
     → bytes_of_all c calls ≤ cost_along c measure.Bytes (map (template_of c) calls)
 bytes_counted c [] fit = omega arith
 bytes_counted c (made ∷ calls) fit =
-    let here = text_within (template_of c made) (slice_index_or c.keys (template_of c made).key []) made.number fit.0 in
-    let rest = bytes_counted c calls fit.1 in
+    let here = text_within (template_of c made) (slice_index_or c.keys (template_of c made).key []) made.number (All-head (IsFit c) made calls fit) in
+    let rest = bytes_counted c calls (All-tail (IsFit c) made calls fit) in
     omega (arith, here, rest)
 
 pub few_calls : (c : Code) (w : World) (who : Actor) → IsSound c → MayBeRight c w who
     → length (calls_in (log_of w who)) ≤ (section_of c who).budget.requests
-few_calls c w who sound (inl new) =
-    let right = subst (IsRightLog c who []) (sym new) (new_is_right c who []) in
-    let within = log_within c measure.Requests who [] (log_of w who) sound right in
-    let counted = requests_counted c (calls_in (log_of w who)) in
-    omega (arith, within, counted)
+few_calls c w who sound (inl new) = let none = ap (λ log. length (calls_in log)) new in omega (arith, none)
 few_calls c w who sound (inr right) =
     let within = log_within c measure.Requests who right.variables (log_of w who) sound right.right in
     let counted = requests_counted c (calls_in (log_of w who)) in

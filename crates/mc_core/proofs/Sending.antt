@@ -1,28 +1,37 @@
--- What the sections of a right world have sent: calls of paths, within the budgets, which find the flags as they need them.
+-- What the sections of a right world have sent: calls of paths, within the budgets, which find the flags as they need them in every merge.
 use Rattle.std.proofs.Common.{◌≡◌, ◌⊎◌, inl, inr, ℕ, ◌<◌, ◌≤◌, Option, Some, None, List, [], ◌∷◌, ◌++◌, map, refl, ap, sym, subst, ◌∙◌, arith}
-use Rattle.std.specs.Option.{option_to_list}
 use Rattle.std.proofs.lemmas.Bool.{cases_lt}
 use Rattle.std.proofs.lemmas.List.{append-nil, append_assoc, map-append}
 use Rattle.std.proofs.lemmas.Option.{get_or_from_slice_get}
+use Rattle.std.specs.Option.{option_to_list}
+use Rattle.mc_protocol.specs.Merge.{IsMerge}
 use Rattle.mc_protocol.specs.declared.actor.Actor.{Actor}
+use Rattle.mc_protocol.specs.declared.actor.Actor.TheVariants as actor
 use Rattle.mc_protocol.specs.declared.reply.Reply.{Reply}
+use Rattle.mc_protocol.proofs.Merges.{MergeBegins, merge_first}
 use Rattle.mc_script.specs.declared.step.Template.{Template}
 use Rattle.mc_code.specs.Calls.{IsCalling, MakesAll, exchange_of, template_of, no_template, calls_of, Opens}
-use Rattle.mc_code.specs.Code.{Code, section_of}
+use Rattle.mc_code.specs.Code.{Code, section_of, instructions_in}
+use Rattle.mc_code.specs.Paths.{IsComplete}
+use Rattle.mc_code.specs.Paths as path
 use Rattle.mc_code.specs.RunLaws.{edges_of}
 use Rattle.mc_code.specs.Runs.{Exchange}
 use Rattle.mc_code.specs.States.{Tagged}
 use Rattle.mc_code.specs.declared.instr.Call.{Call}
-use Rattle.mc_code.proofs.MadeCalls.{calls_stand}
-use Rattle.mc_code.proofs.RunLemmas.{run_path}
+use Rattle.mc_code.proofs.RunLemmas.{ends_complete}
 use Rattle.mc_code.proofs.StandingLemmas.{calls_open}
-use Rattle.mc_verify.specs.Costs.{cost_along, bound_of}
-use Rattle.mc_verify.specs.Faults.{IsSound}
+use Rattle.mc_flow.specs.Costs.{cost_along, bound_of}
+use Rattle.mc_verify.specs.Faults.{IsSound, MayExceed}
+use Rattle.mc_flow.specs.Flags.{IsAdmitted, all_clear}
 use Rattle.mc_verify.specs.Laws.{MaySend}
-use Rattle.mc_verify.specs.declared.measure.Measure.{Measure}
-use Rattle.mc_verify.specs.declared.measure.Measure.TheVariants as measure
+use Rattle.mc_flow.specs.declared.measure.Measure.{Measure}
+use Rattle.mc_flow.specs.declared.measure.Measure.TheVariants as measure
 use Rattle.mc_verify.specs.declared.refusal.RefusalKind.TheVariants as kind
-use Rattle.mc_core.specs.Logs.{Log, call_of, calls_in, answered_in, exchanges_in, IsNextCall, IsRightLog}
+use Rattle.mc_verify.proofs.Sent.{sent_admitted}
+use Rattle.mc_core.specs.Logs.{Log, call_of, calls_in, answered_in, exchanges_in, IsNextCall, IsRightLog, new_log}
+use Rattle.mc_core.specs.Safety.{AreSentBy, AreAdmitted}
+use Rattle.mc_core.specs.Worlds.{World, log_of, exchanges_of, IsDone}
+use Rattle.mc_core.proofs.StepLemmas.{MayBeRight, IsRight}
 
 -- ---- templates of calls
 
@@ -35,114 +44,138 @@ templates_exchanged c ((made, reply) ∷ pairs) = ap (λ l. template_of c made �
 abbrev pub sent_in : Code → Log → List Template
 sent_in c log = map (template_of c) (calls_in log)
 
-with_waiting : (c : Code) (answered : List (Call × Reply)) (made : Call)
-    → map (template_of c) (map call_of answered ++ made ∷ []) ≡ calls_of (edges_of (map (exchange_of c) answered)) ++ template_of c made ∷ []
-with_waiting c answered made =
-    map-append (template_of c) (map call_of answered) (made ∷ []) ∙ ap (λ l. l ++ template_of c made ∷ []) (templates_exchanged c answered)
-
-without_waiting : (c : Code) (answered : List (Call × Reply))
-    → map (template_of c) (map call_of answered ++ []) ≡ calls_of (edges_of (map (exchange_of c) answered))
-without_waiting c answered = ap (map (template_of c)) (append-nil (map call_of answered)) ∙ templates_exchanged c answered
-
 -- ---- paths
 
--- what is exchanged goes along a path
-pub answered_sent : (c : Code) (who : Actor) (variables : List Tagged) (log : Log) → IsRightLog c who variables log
-    → MaySend c who (map (template_of c) (answered_in log))
-answered_sent c who variables log right =
-    let stands = calls_stand c who variables log.answered right.makes in
-    (stands.0, inl (edges_of (exchanges_in c log), run_path stands.2, templates_exchanged c log.answered))
+-- nothing was sent, or the calls of a path to a send, and its own
+abbrev pub Sends : Code → Actor → List Template → Type 0
+Sends c who calls = (calls ≡ []) ⊎ ((place : ℕ) × Opens c who place calls)
 
--- the template of a call that is made is there
-pub calling_opens : (c : Code) (who : Actor) (variables : List Tagged) (exchanges : List Exchange) (made : Call)
-    → IsCalling c who variables exchanges made
-    → (place : ℕ) × Opens c who place (calls_of (edges_of exchanges) ++ template_of c made ∷ [])
-calling_opens c who variables exchanges made calling =
+pub may_send : (c : Code) (who : Actor) (calls : List Template) → Sends c who calls → MaySend c who calls
+may_send c who calls (inl none) = (0, inl ([], path.stays, none))
+may_send c who calls (inr (place, opens)) = (place, inr opens)
+
+-- with the call that the section is about to make
+calling_sends : (c : Code) (who : Actor) (variables : List Tagged) (exchanges : List Exchange) (made : Call)
+    → IsCalling c who variables exchanges made → Sends c who (calls_of (edges_of exchanges) ++ template_of c made ∷ [])
+calling_sends c who variables exchanges made calling =
     let opens = calls_open c who variables exchanges made calling in
     let same : template_of c made ≡ opens.1 = get_or_from_slice_get c.templates made.template opens.1 no_template opens.2 in
-    (opens.0, subst (λ t. Opens c who opens.0 (calls_of (edges_of exchanges) ++ t ∷ [])) (sym same) opens.3)
+    inr (opens.0, subst (λ t. Opens c who opens.0 (calls_of (edges_of exchanges) ++ t ∷ [])) (sym same) opens.3)
 
-pub all_sent : (c : Code) (who : Actor) (variables : List Tagged) (log : Log) → IsRightLog c who variables log
-    → MaySend c who (sent_in c log)
-all_sent c who variables log right = by_waiting log.waiting refl
-  where
-    by_waiting : (o : Option Call) → log.waiting ≡ o → MaySend c who (sent_in c log)
-    by_waiting None idle =
-        let same : sent_in c log ≡ map (template_of c) (answered_in log) =
-        ap (λ o. map (template_of c) (map call_of log.answered ++ option_to_list o)) idle
-        ∙ ap (map (template_of c)) (append-nil (map call_of log.answered)) in
-        subst (MaySend c who) (sym same) (answered_sent c who variables log right)
-    by_waiting (Some made) waits =
-        let calling = subst (IsNextCall c who variables (exchanges_in c log)) waits right.next in
-        let opens = calling_opens c who variables (exchanges_in c log) made calling in
-        let same : sent_in c log ≡ calls_of (edges_of (exchanges_in c log)) ++ template_of c made ∷ [] =
-        ap (λ o. map (template_of c) (map call_of log.answered ++ option_to_list o)) waits ∙ with_waiting c log.answered made in
-        subst (MaySend c who) (sym same) (opens.0, inr opens.1)
-
--- ---- budgets
-
-open_within : (c : Code) (m : Measure) (who : Actor) (place : ℕ) (calls : List Template) → IsSound c → Opens c who place calls
-    → cost_along c m calls ≤ bound_of m (section_of c who).budget
-open_within c m who place calls sound (edges, t, leads, sends, are) =
-    by_order m (cases_lt (bound_of m (section_of c who).budget) (cost_along c m calls))
-  where
-    by_order : (m : Measure)
-        → (bound_of m (section_of c who).budget < cost_along c m calls) ⊎ (cost_along c m calls ≤ bound_of m (section_of c who).budget)
-        → cost_along c m calls ≤ bound_of m (section_of c who).budget
-    by_order m (inr within) = within
-    by_order measure.Requests (inl exceeds) = absurd (sound kind.TooManyRequests who place (record {
-      edges = edges;
-      t = t;
-      leads = leads;
-      sends = sends;
-      exceeds = subst (λ l. bound_of measure.Requests (section_of c who).budget < cost_along c measure.Requests l) are exceeds;
-    }))
-    by_order measure.Bytes (inl exceeds) = absurd (sound kind.TooManyBytes who place (record {
-      edges = edges;
-      t = t;
-      leads = leads;
-      sends = sends;
-      exceeds = subst (λ l. bound_of measure.Bytes (section_of c who).budget < cost_along c measure.Bytes l) are exceeds;
-    }))
-
-abbrev KeepsBound : Code → Measure → Actor → List Template → Type 0
-KeepsBound c m who calls = cost_along c m calls ≤ bound_of m (section_of c who).budget
-
--- the calls before are within the bound, and so are these after them
-pairs_within : (c : Code) (m : Measure) (who : Actor) (variables : List Tagged) → IsSound c
-    → (before : List Exchange) (pairs : List (Call × Reply)) → MakesAll c who variables before pairs
-    → KeepsBound c m who (calls_of (edges_of before))
-    → KeepsBound c m who (calls_of (edges_of (before ++ map (exchange_of c) pairs)))
-pairs_within c m who variables sound before [] makes within =
-    subst (λ l. KeepsBound c m who (calls_of (edges_of l))) (sym (append-nil before)) within
-pairs_within c m who variables sound before ((made, reply) ∷ pairs) makes within =
+pairs_send : (c : Code) (who : Actor) (variables : List Tagged) (before : List Exchange) (pairs : List (Call × Reply))
+    → MakesAll c who variables before pairs → Sends c who (calls_of (edges_of before))
+    → Sends c who (calls_of (edges_of (before ++ map (exchange_of c) pairs)))
+pairs_send c who variables before [] makes sends = subst (λ l. Sends c who (calls_of (edges_of l))) (sym (append-nil before)) sends
+pairs_send c who variables before ((made, reply) ∷ pairs) makes sends =
     let x = exchange_of c (made, reply) in
-    let opens = calling_opens c who variables before made makes.0 in
-    let here = open_within c m who opens.0 _ sound opens.1 in
-    let grown : calls_of (edges_of (before ++ x ∷ [])) ≡ calls_of (edges_of before) ++ template_of c made ∷ [] = more_calls before in
-    let rest = pairs_within c m who variables sound (before ++ x ∷ []) pairs makes.2 (subst (KeepsBound c m who) (sym grown) here) in
-    subst (λ l. KeepsBound c m who (calls_of (edges_of l))) (append_assoc before (x ∷ []) (map (exchange_of c) pairs)) rest
+    let here = subst (Sends c who) (sym (more_calls before)) (calling_sends c who variables before made makes.0) in
+    subst (λ l. Sends c who (calls_of (edges_of l))) (append_assoc before (x ∷ []) (map (exchange_of c) pairs))
+    (pairs_send c who variables (before ++ x ∷ []) pairs makes.2 here)
   where
     more_calls : (xs : List Exchange)
         → calls_of (edges_of (xs ++ exchange_of c (made, reply) ∷ [])) ≡ calls_of (edges_of xs) ++ template_of c made ∷ []
     more_calls [] = refl
     more_calls ((t, given) ∷ xs) = ap (λ l. t ∷ l) (more_calls xs)
 
-pub log_within : (c : Code) (m : Measure) (who : Actor) (variables : List Tagged) (log : Log) → IsSound c → IsRightLog c who variables log
-    → KeepsBound c m who (sent_in c log)
-log_within c m who variables log sound right = by_waiting log.waiting refl
-  where
-    nothing : (m : Measure) → KeepsBound c m who []
-    nothing m = omega arith
+pub answered_send : (c : Code) (who : Actor) (variables : List Tagged) (log : Log) → IsRightLog c who variables log
+    → Sends c who (map (template_of c) (answered_in log))
+answered_send c who variables log right =
+    subst (Sends c who) (sym (templates_exchanged c log.answered)) (pairs_send c who variables [] log.answered right.makes (inl refl))
 
-    by_waiting : (o : Option Call) → log.waiting ≡ o → KeepsBound c m who (sent_in c log)
+pub log_sends : (c : Code) (who : Actor) (variables : List Tagged) (log : Log) → IsRightLog c who variables log
+    → Sends c who (sent_in c log)
+log_sends c who variables log right = by_waiting log.waiting right.next
+  where
+    by_waiting : (o : Option Call) → IsNextCall c who variables (exchanges_in c log) o
+        → Sends c who (map (template_of c) (map call_of log.answered ++ option_to_list o))
     by_waiting None idle =
-        let same : sent_in c log ≡ calls_of (edges_of (exchanges_in c log)) =
-        ap (λ o. map (template_of c) (map call_of log.answered ++ option_to_list o)) idle ∙ without_waiting c log.answered in
-        subst (KeepsBound c m who) (sym same) (pairs_within c m who variables sound [] log.answered right.makes (nothing m))
-    by_waiting (Some made) waits =
-        let calling = subst (IsNextCall c who variables (exchanges_in c log)) waits right.next in
-        let opens = calling_opens c who variables (exchanges_in c log) made calling in
-        let same : sent_in c log ≡ calls_of (edges_of (exchanges_in c log)) ++ template_of c made ∷ [] =
-        ap (λ o. map (template_of c) (map call_of log.answered ++ option_to_list o)) waits ∙ with_waiting c log.answered made in
-        subst (KeepsBound c m who) (sym same) (open_within c m who opens.0 _ sound opens.1)
+        subst (λ l. Sends c who (map (template_of c) l)) (sym (append-nil (map call_of log.answered))) (answered_send c who variables log right)
+    by_waiting (Some made) calling =
+        let same = map-append (template_of c) (map call_of log.answered) (made ∷ [])
+        ∙ ap (λ l. l ++ template_of c made ∷ []) (templates_exchanged c log.answered) in
+        subst (Sends c who) (sym same) (calling_sends c who variables (exchanges_in c log) made calling)
+
+-- ---- budgets
+
+none_exceeds : (c : Code) (m : Measure) (who : Actor) (place : ℕ) → IsSound c → MayExceed c m who place → ⊥
+none_exceeds c measure.Requests who place sound exceeds = sound kind.TooManyRequests who place exceeds
+none_exceeds c measure.Bytes who place sound exceeds = sound kind.TooManyBytes who place exceeds
+
+pub log_within : (c : Code) (m : Measure) (who : Actor) (variables : List Tagged) (log : Log) → IsSound c → IsRightLog c who variables log
+    → cost_along c m (sent_in c log) ≤ bound_of m (section_of c who).budget
+log_within c m who variables log sound right = by_sends (log_sends c who variables log right)
+  where
+    cost : ℕ
+    cost = cost_along c m (sent_in c log)
+
+    bound : ℕ
+    bound = bound_of m (section_of c who).budget
+
+    by_order : (place : ℕ) → Opens c who place (sent_in c log) → (bound < cost) ⊎ (cost ≤ bound) → cost ≤ bound
+    by_order place opens (inr within) = within
+    by_order place (edges, t, leads, sends, are) (inl exceeds) =
+        let more = subst (λ l. bound < cost_along c m l) are exceeds in
+        absurd (none_exceeds c m who place sound (record { edges = edges; t = t; leads = leads; sends = sends; exceeds = more }))
+
+    by_sends : Sends c who (sent_in c log) → cost ≤ bound
+    by_sends (inl none) = let nothing = ap (cost_along c m) none in omega (arith, nothing)
+    by_sends (inr (place, opens)) = by_order place opens (cases_lt bound cost)
+
+-- a merge of nothing
+empty_merge : {xs ys zs : List Template} → IsMerge xs ys zs → xs ≡ [] → ys ≡ [] → zs ≡ []
+empty_merge {xs} {ys} {zs} m e f = by_first zs (merge_first m)
+  where
+    by_first : (zs : List Template) → MergeBegins xs ys zs → zs ≡ []
+    by_first [] begins = refl
+    by_first (z ∷ zs) (inl (others, is, more)) = let none = sym e ∙ is in absurd (cc)
+    by_first (z ∷ zs) (inr (others, is, more)) = let none = sym f ∙ is in absurd (cc)
+
+none_sent : (c : Code) (w : World) (who : Actor) (calls : List Template) → log_of w who ≡ new_log → AreSentBy c w who calls → calls ≡ []
+none_sent c w who calls new (inl are) = are ∙ ap (sent_in c) new
+none_sent c w who calls new (inr are) = are ∙ ap (λ log. map (template_of c) (answered_in log)) new
+
+-- what a section has sent, begun or not
+sent : (c : Code) (w : World) (who : Actor) (calls : List Template) → MayBeRight c w who → AreSentBy c w who calls → MaySend c who calls
+sent c w who calls right are = may_send c who calls (by_log right are)
+  where
+    by_log : MayBeRight c w who → AreSentBy c w who calls → Sends c who calls
+    by_log (inl new) are = inl (none_sent c w who calls new are)
+    by_log (inr right) (inl are) = subst (Sends c who) (sym are) (log_sends c who right.variables (log_of w who) right.right)
+    by_log (inr right) (inr are) = subst (Sends c who) (sym are) (answered_send c who right.variables (log_of w who) right.right)
+
+-- what P has sent when it is done is a complete path
+done_sent : (c : Code) (w : World) (calls : List Template) → IsDone c w actor.P → AreSentBy c w actor.P calls
+    → calls ≡ calls_of (edges_of (exchanges_of c w actor.P))
+done_sent c w calls done (inl are) =
+    are
+    ∙ ap (λ o. map (template_of c) (map call_of (log_of w actor.P).answered ++ option_to_list o)) done.1
+    ∙ ap (map (template_of c)) (append-nil (map call_of (log_of w actor.P).answered))
+    ∙ templates_exchanged c (log_of w actor.P).answered
+done_sent c w calls done (inr are) = are ∙ templates_exchanged c (log_of w actor.P).answered
+
+done_complete : (c : Code) (w : World) → IsDone c w actor.P
+    → IsComplete c.templates (instructions_in c actor.P) (edges_of (exchanges_of c w actor.P))
+done_complete c w done = let over = done.2 in ends_complete c actor.P over.0 (exchanges_of c w actor.P) over.1 over.3
+
+-- P is done, or nothing has happened in the branches
+abbrev Branches : Code → World → Type 0
+Branches c w = IsDone c w actor.P ⊎ ((log_of w actor.A ≡ new_log) × (log_of w actor.B ≡ new_log))
+
+branches : (c : Code) (w : World) → MayBeRight c w actor.A → MayBeRight c w actor.B → Branches c w
+branches c w (inl new) (inl same) = inr (new, same)
+branches c w (inl new) (inr right) = inl right.begun
+branches c w (inr right) (inl new) = inl right.begun
+branches c w (inr right) (inr also) = inl right.begun
+
+pub admitted : (c : Code) (w : World) → IsSound c → IsRight c w → AreAdmitted c w
+admitted c w sound right of_p of_a of_b merged sent_p sent_a sent_b merge = by_branches (branches c w (right actor.A) (right actor.B))
+  where
+    by_branches : Branches c w → IsAdmitted all_clear (of_p ++ merged)
+    by_branches (inl done) =
+        let all = sent_admitted.after_p c (edges_of (exchanges_of c w actor.P)) of_a of_b merged sound (done_complete c w done)
+        (sent c w actor.A of_a (right actor.A) sent_a) (sent c w actor.B of_b (right actor.B) sent_b) merge in
+        subst (λ l. IsAdmitted all_clear (l ++ merged)) (sym (done_sent c w of_p done sent_p)) all
+    by_branches (inr (new_a, new_b)) =
+        let none = empty_merge merge (none_sent c w actor.A of_a new_a sent_a) (none_sent c w actor.B of_b new_b sent_b) in
+        let all = sent_admitted.in_p c of_p sound (sent c w actor.P of_p (right actor.P) sent_p) in
+        subst (IsAdmitted all_clear) (sym (ap (λ l. of_p ++ l) none ∙ append-nil of_p)) all

@@ -1,6 +1,6 @@
 -- The numbers of calls are as long as their templates allow, where each number that was shown has at most 64 bits.
-use Rattle.std.proofs.Common.{◌≡◌, ℕ, zero, suc, ◌<◌, ◌≤◌, ◌^◌, Bool, true, false, Some, None, List, [], ◌∷◌, length, decimal}
-use Rattle.std.proofs.Common.{replicate, slice_index_or, slice_set, refl, ap, arith, length-append, if◌then◌else◌}
+use Rattle.std.proofs.Common.{◌≡◌, ℕ, zero, suc, ◌<◌, ◌≤◌, ◌^◌, Bool, true, false, Some, List, [], ◌∷◌, length, decimal, replicate, slice_index_or}
+use Rattle.std.proofs.Common.{slice_set, refl, ap, arith, length-append, if◌then◌else◌}
 use Rattle.std.specs.Fmt.{digits}
 use Rattle.std.specs.List.{concat}
 use Rattle.std.proofs.lemmas.Fmt.{length-decimal-le}
@@ -18,12 +18,12 @@ use Rattle.mc_code.specs.Code.{Code}
 use Rattle.mc_code.specs.Requests.{request_with}
 use Rattle.mc_code.specs.Runs.{Exchange, IsRun, rests, slides, sends, after_slide}
 use Rattle.mc_code.specs.Standing.{no_variables}
-use Rattle.mc_code.specs.States.{Tagged, nothing, State, initial_state, is_number, shown_of, after_bind}
-use Rattle.mc_code.specs.States.{call, wrong_kind, call_with, with_argument, wanted_by, is_same}
+use Rattle.mc_code.specs.States.{Tagged, nothing, State, initial_state, is_number, shown_of, after_bind, call, wrong_kind, call_with, with_argument}
+use Rattle.mc_code.specs.States.{wanted_by, is_same}
 use Rattle.mc_code.specs.declared.instr.Instr.{Instr}
 use Rattle.mc_code.specs.declared.instr.Instr.TheVariants as instr
 use Rattle.mc_code.specs.declared.kind.Kind.TheVariants as kind
-use Rattle.mc_verify.specs.Costs.{longest_number}
+use Rattle.mc_flow.specs.Costs.{longest_number}
 use Rattle.mc_core.specs.Safety.{IsSmallReply}
 
 -- ---- states
@@ -45,16 +45,8 @@ AreSmallExchanges (x ∷ xs) = IsSmallExchange x × AreSmallExchanges xs
 
 shown_small : (key : ℕ) (given : Reply) → IsSmallReply given → IsSmall (shown_of key given)
 shown_small key (reply.Hit flags body (Some number)) small = small
-shown_small key (reply.Hit flags body None) small = omega arith
 shown_small key (reply.Number number) small = small
-shown_small key reply.Stored small = omega arith
-shown_small key reply.NotStored small = omega arith
-shown_small key reply.Exists small = omega arith
-shown_small key reply.NotFound small = omega arith
-shown_small key reply.Miss small = omega arith
-shown_small key reply.Deleted small = omega arith
-shown_small key reply.Touched small = omega arith
-shown_small key reply.NotNumber small = omega arith
+shown_small key _ small = omega arith
 
 set_small : (xs : List Tagged) (i : ℕ) (x : Tagged) → ((v : ℕ) → IsSmall (slice_index_or xs v nothing)) → IsSmall x → (v : ℕ)
     → IsSmall (slice_index_or (slice_set xs i x) v nothing)
@@ -73,9 +65,7 @@ bind_small variable st small = by_number (is_number st.last.0)
 
 slide_small : (i : Instr) (st : State) → IsSmallState st → IsSmallState (after_slide i st)
 slide_small (instr.Bind variable) st small = bind_small variable st small
-slide_small (instr.Goto place) st small = small
-slide_small (instr.Send t next) st small = small
-slide_small instr.Halt st small = small
+slide_small _ st small = small
 
 pub run_small : {templates : List Template} {section : List Instr} {p q : ℕ} {st end : State} {xs : List Exchange}
     → IsRun templates section p st xs q end → IsSmallState st → AreSmallExchanges xs → IsSmallState end
@@ -115,11 +105,9 @@ digits_within (argument.Variable v) n small =
 
 fields_within : (f : Fields) (t : Template) (key : List ℕ) (m n : ℕ) → length (decimal m) ≤ length (decimal n)
     → length (concat (after_key f (request_with t key m))) ≤ length (concat (after_key f (request_with t key n)))
-fields_within fields.KeyAlone t key m n less = omega arith
-fields_within fields.Expiry t key m n less = omega arith
-fields_within fields.Item t key m n less = omega arith
 fields_within fields.Swap t key m n less = simp length-append (omega arith)
 fields_within fields.Amount t key m n less = simp length-append (omega arith)
+fields_within _ t key m n less = omega arith
 
 pub text_within : (t : Template) (key : List ℕ) (n : ℕ) → MayHave t.argument n
     → length (request_text (request_with t key n)) ≤ length (request_text (request_with t key (longest_number t.argument)))
@@ -131,9 +119,6 @@ text_within t key n has =
 
 number_is : (t u : Template) (m n : ℕ) → call t m ≡ call u n → n ≡ m
 number_is t u m n e = cc
-
-template_is : (t u : Template) (m n : ℕ) → call t m ≡ call u n → u ≡ t
-template_is t u m n e = cc
 
 -- what a send comes to, if it is a call, has a number that it may have
 pub sent_number : (t u : Template) (a : Argument) (variables : List Tagged) (n : ℕ)

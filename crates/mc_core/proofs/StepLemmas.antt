@@ -1,5 +1,6 @@
 -- Steps keep worlds right, and lead to one world.
-use Rattle.std.proofs.Common.{◌≡◌, ◌⊎◌, inl, inr, Bool, true, false, Option, Some, None, List, [], ◌∷◌, ◌++◌, refl, ap, sym, subst, ◌∙◌}
+use Rattle.std.proofs.Common.{◌≡◌, ◌≢◌, ◌⊎◌, inl, inr, false, Option, Some, None, List, [], ◌∷◌, ◌++◌, refl, ap, sym, subst, ◌∙◌}
+use Rattle.std.proofs.lemmas.Bool.{true_from_ne_false}
 use Rattle.mc_protocol.specs.Legal.{is_fit_for}
 use Rattle.mc_protocol.specs.declared.actor.Actor.{Actor}
 use Rattle.mc_protocol.specs.declared.actor.Actor.TheVariants as actor
@@ -11,6 +12,7 @@ use Rattle.mc_code.specs.States.{Tagged, ended}
 use Rattle.mc_code.specs.declared.instr.Call.{Call}
 use Rattle.mc_code.proofs.LookUps.{some_is}
 use Rattle.mc_code.proofs.StandingLemmas.{leaves_once, calls_once}
+use Rattle.mc_model.specs.Notes.{is_same_section}
 use Rattle.mc_history.specs.declared.event.Event.{Event}
 use Rattle.mc_history.specs.declared.event.Event.TheVariants as event
 use Rattle.mc_core.specs.declared.step_refusal.StepRefusal.{StepRefusal}
@@ -18,7 +20,8 @@ use Rattle.mc_core.specs.declared.step_refusal.StepRefusal.TheVariants as refusa
 use Rattle.mc_core.specs.Logs.{Log, new_log, events_in, with_call, with_reply, with_fault, IsRightLog}
 use Rattle.mc_core.specs.Steps.{IsRefused, IsNext, Follows, IsStep}
 use Rattle.mc_core.specs.Worlds.{World, log_of, with_note, exchanges_of, BeginsIn, IsBegun, IsDone}
-use Rattle.mc_core.proofs.LogLemmas.{new_is_right, call_is_right, reply_is_right, fault_is_right, events_with_call, events_with_reply, events_with_fault}
+use Rattle.mc_core.proofs.LogLemmas.{own_log, each_section, new_is_right, call_is_right, reply_is_right, fault_is_right, events_with_call}
+use Rattle.mc_core.proofs.LogLemmas.{events_with_reply, events_with_fault}
 
 -- ---- variables
 
@@ -26,8 +29,7 @@ use Rattle.mc_core.proofs.LogLemmas.{new_is_right, call_is_right, reply_is_right
 pub begins_once : (c : Code) (before : List Exchange) (who : Actor) (variables others : List Tagged) → BeginsAfter c before who variables
     → BeginsAfter c before who others → variables ≡ others
 begins_once c before actor.P variables others x y = x ∙ sym y
-begins_once c before actor.A variables others x y = leaves_once c before variables others x y
-begins_once c before actor.B variables others x y = leaves_once c before variables others x y
+begins_once c before _ variables others x y = leaves_once c before variables others x y
 
 -- P that is done leaves variables
 pub done_leaves : (c : Code) (w : World) → IsDone c w actor.P → (variables : List Tagged) × Leaves c (exchanges_of c w actor.P) variables
@@ -39,8 +41,7 @@ done_leaves c w done =
 -- each section that has begun has variables
 pub begun_begins : (c : Code) (w : World) (who : Actor) → IsBegun c w who → (variables : List Tagged) × BeginsIn c w who variables
 begun_begins c w actor.P begun = (no_variables c, refl)
-begun_begins c w actor.A begun = done_leaves c w begun
-begun_begins c w actor.B begun = done_leaves c w begun
+begun_begins c w _ begun = done_leaves c w begun
 
 -- ---- right worlds
 
@@ -71,16 +72,12 @@ begun_is_right c w who (inr right) begun = right
 
 -- ---- the log after an event
 
-none_is : {X : Type 0} (o : Option X) → ((x : X) → o ≡ Some x → ⊥) → o ≡ None
+pub none_is : {X : Type 0} (o : Option X) → ((x : X) → o ≡ Some x → ⊥) → o ≡ None
 none_is None not = refl
 none_is (Some x) not = absurd (not x refl)
 
 faultless : (c : Code) (w : World) (who : Actor) (e : Event) (new : World) → IsStep c w who e new → (log_of w who).fault ≡ None
 faultless c w who e new step = none_is (log_of w who).fault (λ fault is. step.free refusal.Over (inl (fault, is)))
-
-is_fit : (b : Bool) → (b ≡ false → ⊥) → b ≡ true
-is_fit true not = refl
-is_fit false not = absurd (not refl)
 
 -- the section's log after the event is right, and has it as its last
 pub record Grows (c : Code) (w : World) (who : Actor) (e : Event) (new : World) : Type 0 where
@@ -108,7 +105,7 @@ step_grows c w who event.Begin new step =
 step_grows c w who (event.Reply reply) new step =
     let follows : Follows c w who (event.Reply reply) new = step.follows in
     let made = follows.0 in
-    let fit = is_fit (is_fit_for (template_of c made).verb reply) (λ wrong. step.free refusal.WrongReply (made, follows.1, wrong)) in record {
+    let fit = true_from_ne_false (is_fit_for (template_of c made).verb reply) (λ wrong. step.free refusal.WrongReply (made, follows.1, wrong)) in record {
       log = with_reply (log_of w who) made reply;
       right = λ variables begins right. reply_is_right c who variables (log_of w who) made reply right follows.1 fit;
       events = events_with_reply (log_of w who) made reply follows.1 (faultless c w who (event.Reply reply) new step);
@@ -123,64 +120,70 @@ step_grows c w who (event.Fail fault) new step = record {
 
 -- ---- the world after an event
 
--- while P goes on nothing has happened in a branch
-pub still_new : (c : Code) (w : World) (who : Actor) → (IsBegun c w who → IsDone c w actor.P) → MayBeRight c w who
-    → (IsDone c w actor.P → ⊥)
-    → log_of w who ≡ new_log
-still_new c w who branch (inl new) goes_on = new
-still_new c w who branch (inr right) goes_on = absurd (goes_on (branch right.begun))
+-- nothing has happened in a section that hasn't begun
+pub still_new : (c : Code) (w : World) (who : Actor) → MayBeRight c w who → (IsBegun c w who → ⊥) → log_of w who ≡ new_log
+still_new c w who (inl new) never = new
+still_new c w who (inr right) never = absurd (never right.begun)
 
-after_p : (c : Code) (w : World) (e : Event) (log : Log) → IsRight c w → (IsDone c w actor.P → ⊥)
-    → IsRightLog c actor.P (no_variables c) log → IsRight c (with_note w actor.P e log)
-after_p c w e log right goes_on grown actor.P = inr (record { begun = tt; variables = no_variables c; begins = refl; right = grown })
-after_p c w e log right goes_on grown actor.A = inl (still_new c w actor.A (λ done. done) (right actor.A) goes_on)
-after_p c w e log right goes_on grown actor.B = inl (still_new c w actor.B (λ done. done) (right actor.B) goes_on)
+-- what holds of a section in one world holds of it in the other
+pub record AsBefore (c : Code) (w v : World) (who : Actor) : Type 0 where
+  pub log_is : log_of v who ≡ log_of w who
+  pub begun : IsBegun c w who → IsBegun c v who
+  pub back : IsBegun c v who → IsBegun c w who
+  pub done : IsDone c w who → IsDone c v who
+  pub not_done : IsDone c v who → IsDone c w who
+  pub begins : (variables : List Tagged) → BeginsIn c w who variables → BeginsIn c v who variables
 
--- what doesn't change stays right
-same_p : (c : Code) (w v : World) → v.logs.p ≡ w.logs.p → MayBeRight c w actor.P → MayBeRight c v actor.P
-same_p c w v same (inl new) = inl (same ∙ new)
-same_p c w v same (inr right) = inr (record {
-  begun = tt;
+-- an event of a branch leaves the other sections as they were
+pub as_before : (c : Code) (w : World) (who : Actor) (e : Event) (log : Log) → who ≢ actor.P → (o : Actor) → is_same_section o who ≡ false
+    → AsBefore c w (with_note w who e log) o
+as_before c w actor.P e log branch o other = absurd (branch refl)
+as_before c w actor.A e log branch actor.A other = absurd (cc)
+as_before c w actor.B e log branch actor.B other = absurd (cc)
+as_before c w _ e log branch _ other =
+    record { log_is = refl; begun = λ b. b; back = λ b. b; done = λ d. d; not_done = λ d. d; begins = λ vs b. b }
+
+-- a section begins as before its own event
+pub begins_still : (c : Code) (w : World) (who : Actor) (e : Event) (log : Log) (variables : List Tagged) → BeginsIn c w who variables
+    → BeginsIn c (with_note w who e log) who variables
+begins_still c w actor.P e log variables begins = begins
+begins_still c w _ e log variables begins = begins
+
+pub begun_still : (c : Code) (w : World) (who : Actor) (e : Event) (log : Log) → IsBegun c w who → IsBegun c (with_note w who e log) who
+begun_still c w actor.P e log begun = begun
+begun_still c w _ e log begun = begun
+
+right_still : (c : Code) (w v : World) (who : Actor) → AsBefore c w v who → MayBeRight c w who → MayBeRight c v who
+right_still c w v who same (inl new) = inl (same.log_is ∙ new)
+right_still c w v who same (inr right) = inr (record {
+  begun = same.begun right.begun;
   variables = right.variables;
-  begins = right.begins;
-  right = subst (IsRightLog c actor.P right.variables) (sym same) right.right;
+  begins = same.begins right.variables right.begins;
+  right = subst (IsRightLog c who right.variables) (sym same.log_is) right.right;
 })
 
-after_a : (c : Code) (w : World) (e : Event) (log : Log) → IsRight c w → (in_a : IsRightIn c w actor.A)
-    → IsRightLog c actor.A in_a.variables log → IsRight c (with_note w actor.A e log)
-after_a c w e log right in_a grown actor.P = same_p c w (with_note w actor.A e log) refl (right actor.P)
-after_a c w e log right in_a grown actor.A = inr (record { begun = in_a.begun; variables = in_a.variables; begins = in_a.begins; right = grown })
-after_a c w e log right in_a grown actor.B = other (right actor.B)
-  where
-    other : MayBeRight c w actor.B → MayBeRight c (with_note w actor.A e log) actor.B
-    other (inl new) = inl new
-    other (inr in_b) = inr (record { begun = in_b.begun; variables = in_b.variables; begins = in_b.begins; right = in_b.right })
-
-after_b : (c : Code) (w : World) (e : Event) (log : Log) → IsRight c w → (in_b : IsRightIn c w actor.B)
-    → IsRightLog c actor.B in_b.variables log → IsRight c (with_note w actor.B e log)
-after_b c w e log right in_b grown actor.P = same_p c w (with_note w actor.B e log) refl (right actor.P)
-after_b c w e log right in_b grown actor.A = other (right actor.A)
-  where
-    other : MayBeRight c w actor.A → MayBeRight c (with_note w actor.B e log) actor.A
-    other (inl new) = inl new
-    other (inr in_a) = inr (record { begun = in_a.begun; variables = in_a.variables; begins = in_a.begins; right = in_a.right })
-after_b c w e log right in_b grown actor.B = inr (record { begun = in_b.begun; variables = in_b.variables; begins = in_b.begins; right = grown })
+others_right : (c : Code) (w : World) (who : Actor) (e : Event) (log : Log) → IsRight c w → (IsDone c w who → ⊥) → (o : Actor)
+    → is_same_section o who ≡ false → MayBeRight c (with_note w who e log) o
+others_right c w actor.P e log right goes_on actor.P other = absurd (cc)
+others_right c w actor.P e log right goes_on o other = inl (still_new c w o (right o) goes_on)
+others_right c w who e log right goes_on o other =
+    right_still c w (with_note w who e log) o (as_before c w who e log (λ e. cc) o other) (right o)
 
 pub step_right : (c : Code) (w : World) (who : Actor) (e : Event) (new : World) → IsRight c w → IsStep c w who e new → IsRight c new
-step_right c w actor.P e new right step =
-    let grows = step_grows c w actor.P e new step in
-    let in_p = begun_is_right c w actor.P (right actor.P) step.begun in
-    let goes_on : IsDone c w actor.P → ⊥ = λ done. step.free refusal.Over (inr done) in
-    let log = subst (λ vs. IsRightLog c actor.P vs (log_of w actor.P)) in_p.begins in_p.right in
-    subst (IsRight c) (sym grows.new_is) (after_p c w e grows.log right goes_on (grows.right (no_variables c) refl log))
-step_right c w actor.A e new right step =
-    let grows = step_grows c w actor.A e new step in
-    let in_a = begun_is_right c w actor.A (right actor.A) step.begun in
-    subst (IsRight c) (sym grows.new_is) (after_a c w e grows.log right in_a (grows.right in_a.variables in_a.begins in_a.right))
-step_right c w actor.B e new right step =
-    let grows = step_grows c w actor.B e new step in
-    let in_b = begun_is_right c w actor.B (right actor.B) step.begun in
-    subst (IsRight c) (sym grows.new_is) (after_b c w e grows.log right in_b (grows.right in_b.variables in_b.begins in_b.right))
+step_right c w who e new right step =
+    let grows = step_grows c w who e new step in
+    let v = with_note w who e grows.log in
+    let before = begun_is_right c w who (right who) step.begun in
+    let own : IsRightIn c v who = record {
+      begun = begun_still c w who e grows.log step.begun;
+      variables = before.variables;
+      begins = begins_still c w who e grows.log before.variables before.begins;
+      right =
+          subst (IsRightLog c who before.variables) (sym (own_log w who e grows.log)) (grows.right before.variables before.begins before.right);
+    } in
+    let goes_on : IsDone c w who → ⊥ = λ done. step.free refusal.Over (inr done) in
+    subst (IsRight c) (sym grows.new_is)
+    (each_section (λ o log. MayBeRight c v o) w.logs who grows.log (inr own) (others_right c w who e grows.log right goes_on))
 
 -- ---- one world
 

@@ -1,86 +1,66 @@
--- What a world's fields must be for an event to be taken, and what they keep.
-use Rattle.std.proofs.Common.{◌≡◌, ◌≢◌, ◌⊎◌, inl, inr, ℕ, ◌<◌, Bool, true, false, Option, Some, None, List, [], ◌∷◌}
-use Rattle.std.proofs.Common.{◌++◌, length, map, slice_get, refl, ap, sym, subst, ◌∙◌, arith, length-append}
+-- What a world's step knows: what its fields must be for an event to be taken, what is against it, and what they keep.
+use Rattle.std.proofs.Common.{◌≡◌, ◌≢◌, ◌⊎◌, inl, inr, ◌<◌, Option, Some, None, List, [], ◌∷◌, ◌++◌, length, map, refl, ap, sym, subst, ◌∙◌, arith}
+use Rattle.std.proofs.Common.{length-append, ℕ, ◌≤◌, IfSome}
+use Rattle.std.proofs.lemmas.Bool.{true_from_ne_false}
+use Rattle.std.proofs.lemmas.List.{append-nil, length-map}
+use Rattle.std.proofs.lemmas.List.Elements.{All-push}
+use Rattle.std.proofs.lemmas.Slice.Zip.{length-zip}
 use Rattle.std.specs.Option.{option_to_list}
 use Rattle.std.specs.Vec.{vec_len, vec_capacity}
-use Rattle.std.proofs.lemmas.List.{append-nil, length-map}
-use Rattle.std.proofs.lemmas.Option.{slice_get_within}
-use Rattle.std.proofs.lemmas.Slice.Zip.{length-zip}
 use Rattle.mc_protocol.specs.Legal.{is_fit_for}
 use Rattle.mc_protocol.specs.Sections.{section_of}
 use Rattle.mc_protocol.specs.declared.actor.Actor.{Actor}
 use Rattle.mc_protocol.specs.declared.actor.Actor.TheVariants as actor
 use Rattle.mc_protocol.specs.declared.reply.Reply.{Reply}
 use Rattle.mc_protocol.specs.declared.sections.Sections.{Sections}
-use Rattle.mc_script.specs.declared.step.Template.{Template}
-use Rattle.mc_code.specs.Calls.{template_of}
+use Rattle.mc_code.specs.Calls.{IsCalling, template_of}
 use Rattle.mc_code.specs.Code.{Code, IsCode}
-use Rattle.mc_code.specs.Standing.{ComesTo, no_variables}
+use Rattle.mc_code.specs.Standing.{ComesTo}
 use Rattle.mc_code.specs.States.{ended}
 use Rattle.mc_code.specs.declared.instr.Call.{Call}
-use Rattle.mc_code.proofs.StandingLemmas.{calls_open}
 use Rattle.mc_machine.specs.Machine.{actor_of, outstanding_of}
 use Rattle.mc_machine.specs.declared.machine.Machine.{Machine}
 use Rattle.mc_verify.specs.Faults.{IsSound}
-use Rattle.mc_core.specs.declared.ending.Ending.{Ending}
-use Rattle.mc_core.specs.declared.ending.Ending.TheVariants as ending
 use Rattle.mc_history.specs.declared.event.Event.{Event}
 use Rattle.mc_history.specs.declared.event.Event.TheVariants as event
-use Rattle.mc_core.specs.declared.section.Section.{Section}
-use Rattle.mc_core.specs.declared.step_refusal.StepRefusal.TheVariants as refusal
-use Rattle.mc_core.specs.Fields.{replies_of, waiting_in, log_in, world_in, IsKept, NamesATemplate, MayTake, Takes}
-use Rattle.mc_core.specs.Fields.{SameCalls, Begins, LeavesNumbers, BranchesBegin, BranchesFollow, AllTake}
-use Rattle.mc_core.specs.Held.{Stands, HasMachine}
+use Rattle.mc_core.specs.Fields.{replies_of, waiting_in, log_in, world_in, IsKept, IsFree, NamesATemplate, MayTake, Takes, SameCalls, LeavesAfter}
+use Rattle.mc_core.specs.Fields.{BranchesBegin, BranchesFollow, AfterOwn, AllTake, held_in, AreKept, refusal_in, MayStep}
+use Rattle.mc_core.specs.Held.{Stands, HasMachine, Held, IsHeldBy}
 use Rattle.mc_core.specs.Logs.{Log, call_of}
-use Rattle.mc_core.specs.Worlds.{World, Noted, new_world, log_of, with_note, exchanges_of, IsEnding}
-use Rattle.mc_core.proofs.BranchStarts.{BranchIn, p_leaves, branch_begins, is_done}
-use Rattle.mc_core.proofs.HeldWorlds.{Fields}
-use Rattle.mc_core.proofs.OwnSection.{HasLog, own_replies, other_replies}
-use Rattle.mc_core.proofs.Refusals.{IsFree}
+use Rattle.mc_core.specs.Safety.{IsSmallEvent, IsSmallNote}
+use Rattle.mc_core.specs.Steps.{IsStep, IsRefused}
+use Rattle.mc_core.specs.Worlds.{World, Noted, log_of, with_note, with_section, exchanges_of, IsEnding}
+use Rattle.mc_core.specs.declared.ending.Ending.{Ending}
+use Rattle.mc_core.specs.declared.ending.Ending.TheVariants as ending
+use Rattle.mc_core.specs.declared.section.Section.{Section}
+use Rattle.mc_core.specs.declared.step_refusal.StepRefusal.{StepRefusal}
+use Rattle.mc_core.specs.declared.step_refusal.StepRefusal.TheVariants as refusal
+use Rattle.mc_core.proofs.HeldSteps.{leaves_numbers, is_done, held_after}
+use Rattle.mc_core.proofs.HeldWorlds.{Fields, Goes, Shows, shown, machine_stands, has_machine}
+use Rattle.mc_core.proofs.LogLemmas.{each_section, call_inside}
+use Rattle.mc_core.proofs.OwnSection.{before_own, own_after, own_replies, other_replies}
+use Rattle.mc_core.proofs.Refusals.{refused_rightly, taken_rightly}
 use Rattle.mc_core.proofs.Safe.{folds_within_room}
-use Rattle.mc_core.proofs.SectionSteps.{Before, machine_stands, has_machine, own_after}
 
 -- ---- templates
-
-names_it : (c : Code) (m : Machine) (o : Option Call) → ((made : Call) → o ≡ Some made → slice_get c.templates made.template ≡ None → ⊥)
-    → NamesATemplate c o
-names_it c m None named = tt
-names_it c m (Some made) named = by_template (slice_get c.templates made.template) refl
-  where
-    by_template : (t : Option Template) → slice_get c.templates made.template ≡ t → made.template < length c.templates
-    by_template None none = absurd (named made refl none)
-    by_template (Some t) at = slice_get_within c.templates made.template t at
 
 -- a call that waits names a template that is there
 pub names_a_template : (c : Code) (w : World) (who : Actor) (x : Ending) (o : Option Machine) → HasMachine c w who x o
     → NamesATemplate c (waiting_in o)
 names_a_template c w who x o (inl (not, none)) = subst (λ o. NamesATemplate c (waiting_in o)) (sym none) tt
 names_a_template c w who x o (inr (m, begun, is, stands)) =
-    subst (λ o. NamesATemplate c (waiting_in o)) (sym is) (names_it c m (outstanding_of m) named)
+    subst (λ o. NamesATemplate c (waiting_in o)) (sym is) (by_call (outstanding_of m) stands.at.outstanding)
   where
-    named : (made : Call) → outstanding_of m ≡ Some made → slice_get c.templates made.template ≡ None → ⊥
-    named made waits none =
-        let opens = calls_open c (actor_of m) stands.variables (exchanges_of c w who) made (stands.at.outstanding made waits) in
-        let clash = sym none ∙ opens.2 in absurd (cc)
+    by_call : (o : Option Call) → ((made : Call) → o ≡ Some made → IsCalling c (actor_of m) stands.variables (exchanges_of c w who) made)
+        → NamesATemplate c o
+    by_call None calling = tt
+    by_call (Some made) calling = call_inside c (actor_of m) stands.variables (exchanges_of c w who) made (calling made refl)
 
 -- ---- what an event asks for
 
 pub logged : (s : Sections Section) (notes : List Noted) (who : Actor) → log_of (world_in s notes) who ≡ log_in notes who (section_of s who)
 logged s notes actor.P = refl
-logged s notes actor.A = refl
-logged s notes actor.B = refl
-
-pub ending_at : (c : Code) (s : Sections Section) (notes : List Noted) (who : Actor) → Fields c s notes
-    → IsEnding c (world_in s notes) who (section_of s who).ending
-ending_at c s notes actor.P fields = fields.held.endings actor.P
-ending_at c s notes actor.A fields = fields.held.endings actor.A
-ending_at c s notes actor.B fields = fields.held.endings actor.B
-
-pub machine_at : (c : Code) (s : Sections Section) (notes : List Noted) (who : Actor) → Fields c s notes
-    → HasMachine c (world_in s notes) who (section_of s who).ending (section_of s who).machine
-machine_at c s notes actor.P fields = fields.held.machines actor.P
-machine_at c s notes actor.A fields = fields.held.machines actor.A
-machine_at c s notes actor.B fields = fields.held.machines actor.B
+logged s notes _ = refl
 
 -- there is room for a call that waits
 room_for_call : (c : Code) (s : Sections Section) (notes : List Noted) (who : Actor) (made : Call) → Fields c s notes → IsCode c → IsSound c
@@ -98,36 +78,35 @@ room_for_call c s notes who made fields kept sound waits =
     let len : vec_len own.answered ≡ length own.answered.items = own.answered.ok.0 in
     omega (arith, few, is_kept.room, as_many, pairs, one, calls, mapped, len)
 
-fit_is : (b : Bool) → (b ≡ false → ⊥) → b ≡ true
-fit_is true not = refl
-fit_is false not = absurd (not refl)
-
-pub may_take : (c : Code) (s : Sections Section) (notes : List Noted) (who : Actor) (e : Event) → Fields c s notes → IsCode c → IsSound c
-    → (section_of s who).ending ≡ ending.Running → IsFree c (world_in s notes) who e → MayTake c (section_of s who) e
-may_take c s notes who e fields kept sound running free = by_event e free
+pub may_take : (c : Code) (s : Sections Section) (notes : List Noted) (who : Actor) (e : Event) → Goes c s notes who e → IsCode c → IsSound c
+    → MayTake c (section_of s who) e
+may_take c s notes who e may kept sound = by_event e may.free
   where
     w : World
     w = world_in s notes
 
+    shows : Shows c w notes who (section_of s who)
+    shows = shown c s notes may.fields who
+
     at : IsEnding c w who ending.Running
-    at = subst (IsEnding c w who) running (ending_at c s notes who fields)
+    at = subst (IsEnding c w who) may.running shows.stands
 
     has : (m : Machine) × ((section_of s who).machine ≡ Some m)
-    has = has_machine c w who (section_of s who).ending (section_of s who).machine (machine_at c s notes who fields) running
+    has = has_machine c w who (section_of s who).ending (section_of s who).machine shows.machine may.running
 
     stands : Stands c w who has.0
-    stands = machine_stands c w who (section_of s who).ending (section_of s who).machine has.0 (machine_at c s notes who fields) running has.1
+    stands = machine_stands c w who (section_of s who).ending (section_of s who).machine has.0 shows.machine has.1
 
     by_waiting : (o : Option Call) → (log_of w who).waiting ≡ o → (reply : Reply) → IsFree c w who (event.Reply reply)
         → MayTake c (section_of s who) (event.Reply reply)
     by_waiting None idle reply free = absurd (free refusal.NotWaiting idle)
     by_waiting (Some made) waits reply free =
-        let fit = fit_is (is_fit_for (template_of c made).verb reply) (λ wrong. free refusal.WrongReply (made, waits, wrong)) in (
+        let fit = true_from_ne_false (is_fit_for (template_of c made).verb reply) (λ wrong. free refusal.WrongReply (made, waits, wrong)) in (
           has.0,
           has.1,
           (stands.variables, exchanges_of c w who, stands.st, stands.at),
           (made, stands.waits ∙ waits, fit),
-          room_for_call c s notes who made fields kept sound waits,
+          room_for_call c s notes who made may.fields kept sound waits,
         )
 
     idle : (o : Option Call) → (log_of w who).waiting ≡ o → IsFree c w who event.Begin → o ≡ None
@@ -187,94 +166,125 @@ own_kept c notes who (event.Fail fault) s t kept (machine, calls, stays) =
     same_kept notes (notes ++ (who, event.Fail fault) ∷ []) who s t kept
     (own_replies who notes (event.Fail fault) ∙ append-nil (replies_of who notes)) calls
 
-unchanged : (s : Section) → SameCalls s s
-unchanged s = (refl, omega arith)
-
 abbrev AllKept : List Noted → Sections Section → Type 0
 AllKept notes s = (who : Actor) → IsKept notes who (section_of s who)
 
-p_kept : (c : Code) (s t : Sections Section) (notes : List Noted) (e : Event) (p : Section) → AllKept notes s → Takes c s.p e p
-    → BranchesFollow c (record s { p = p }) t → AllKept (notes ++ (actor.P, e) ∷ []) t
-p_kept c s t notes e p kept takes (same, begin, stay) = by_end (is_done p.ending)
+-- the branches keep it when they begin
+follow_kept : (c : Code) (s t : Sections Section) (notes : List Noted) → AllKept notes s → BranchesFollow c s t → AllKept notes t
+follow_kept c s t notes kept (same, begin, stay) = by_end (is_done s.p.ending)
   where
-    more : List Noted
-    more = notes ++ (actor.P, e) ∷ []
+    now : BranchesBegin c s t → AllKept notes t
+    now begun actor.P = subst (IsKept notes actor.P) (sym same) (kept actor.P)
+    now begun actor.A = same_kept notes notes actor.A s.a t.a (kept actor.A) refl begun.a.answered
+    now begun actor.B = same_kept notes notes actor.B s.b t.b (kept actor.B) refl begun.b.answered
 
-    own : IsKept more actor.P p
-    own = own_kept c notes actor.P e s.p p (kept actor.P) takes
-
-    still : AllKept more (record s { p = p })
-    still actor.P = own
-    still actor.A = same_kept notes more actor.A s.a s.a (kept actor.A) (other_replies actor.A actor.P notes e refl) (unchanged s.a)
-    still actor.B = same_kept notes more actor.B s.b s.b (kept actor.B) (other_replies actor.B actor.P notes e refl) (unchanged s.b)
-
-    now : BranchesBegin c (record s { p = p }) t → AllKept more t
-    now begun actor.P = subst (IsKept more actor.P) (sym same) own
-    now begun actor.A = same_kept notes more actor.A s.a t.a (kept actor.A) (other_replies actor.A actor.P notes e refl) begun.a.answered
-    now begun actor.B = same_kept notes more actor.B s.b t.b (kept actor.B) (other_replies actor.B actor.P notes e refl) begun.b.answered
-
-    by_end : (p.ending ≡ ending.Done) ⊎ (p.ending ≢ ending.Done) → AllKept more t
+    by_end : (s.p.ending ≡ ending.Done) ⊎ (s.p.ending ≢ ending.Done) → AllKept notes t
     by_end (inl done) = now (begin done)
-    by_end (inr goes_on) = subst (AllKept more) (sym (stay goes_on)) still
+    by_end (inr goes_on) = subst (AllKept notes) (sym (stay goes_on)) kept
 
 pub kept_after : (c : Code) (s t : Sections Section) (notes : List Noted) (who : Actor) (e : Event) → AllKept notes s → AllTake c s who e t
     → AllKept (notes ++ (who, e) ∷ []) t
-kept_after c s t notes actor.P e kept (p, takes, follow) = p_kept c s t notes e p kept takes follow
-kept_after c s t notes actor.A e kept (a, takes, is) = subst (AllKept (notes ++ (actor.A, e) ∷ [])) (sym is) after
+kept_after c s t notes who e kept (own, takes, follow) = by_section who follow still
   where
     more : List Noted
-    more = notes ++ (actor.A, e) ∷ []
+    more = notes ++ (who, e) ∷ []
 
-    after : AllKept more (record s { a = a })
-    after actor.P = same_kept notes more actor.P s.p s.p (kept actor.P) (other_replies actor.P actor.A notes e refl) (unchanged s.p)
-    after actor.A = own_kept c notes actor.A e s.a a (kept actor.A) takes
-    after actor.B = same_kept notes more actor.B s.b s.b (kept actor.B) (other_replies actor.B actor.A notes e refl) (unchanged s.b)
-kept_after c s t notes actor.B e kept (b, takes, is) = subst (AllKept (notes ++ (actor.B, e) ∷ [])) (sym is) after
-  where
-    more : List Noted
-    more = notes ++ (actor.B, e) ∷ []
+    still : AllKept more (with_section s who own)
+    still =
+        each_section (IsKept more) s who own (own_kept c notes who e (section_of s who) own (kept who) takes) (λ o other.
+        same_kept notes more o (section_of s o) (section_of s o) (kept o) (other_replies o who notes e other) (refl, omega arith))
 
-    after : AllKept more (record s { b = b })
-    after actor.P = same_kept notes more actor.P s.p s.p (kept actor.P) (other_replies actor.P actor.B notes e refl) (unchanged s.p)
-    after actor.A = same_kept notes more actor.A s.a s.a (kept actor.A) (other_replies actor.A actor.B notes e refl) (unchanged s.a)
-    after actor.B = own_kept c notes actor.B e s.b b (kept actor.B) takes
+    by_section : (who : Actor) → AfterOwn c who (with_section s who own) t → AllKept more (with_section s who own) → AllKept more t
+    by_section actor.P follow still = follow_kept c (record s { p = own }) t more still follow
+    by_section _ is still = subst (AllKept more) (sym is) still
 
 -- ---- what P leaves
 
-leaves_from : (c : Code) (v : World) (p : Section) → p.ending ≡ ending.Done → IsEnding c v actor.P p.ending
-    → HasMachine c v actor.P p.ending p.machine → LeavesNumbers c p
-leaves_from c v p done stands (inl (not, none)) = let clash = sym done ∙ not in absurd (cc)
-leaves_from c v p done stands (inr (m, begun, is, at)) =
-    let left = p_leaves c v m (subst (IsEnding c v actor.P) done stands).1 at in
-    record { m = m; machine = is; variables = left.variables; to_a = left.to_a; to_b = left.to_b }
+pub leaves_after : (c : Code) (s : Sections Section) (notes : List Noted) (e : Event) → Goes c s notes actor.P e → LeavesAfter c s e
+leaves_after c s notes e may p takes done =
+    let own = own_after c (world_in s notes) actor.P e notes s.p p (before_own c s notes actor.P e may) takes in
+    leaves_numbers c (with_note (world_in s notes) actor.P e own.log) (notes ++ (actor.P, e) ∷ []) p own.shows done
 
-pub leaves_after : (c : Code) (s : Sections Section) (notes : List Noted) (e : Event) (p : Section) → Fields c s notes
-    → s.p.ending ≡ ending.Running
-    → Takes c s.p e p → p.ending ≡ ending.Done → LeavesNumbers c p
-leaves_after c s notes e p fields running takes done =
-    let w = world_in s notes in
-    let before : Before c w actor.P notes s.p = record {
-      logged = refl;
-      running = running;
-      stands = fields.held.endings actor.P;
-      machine = fields.held.machines actor.P;
-      kept = fields.kept actor.P;
-    } in
-    let own = own_after c w actor.P e notes s.p p before takes in
-    let v = with_note w actor.P e own.log in
-    let has_log : HasLog c w actor.P own.log v = record { log_is = refl; begins = λ vs b. b; back = λ vs b. b; begun = tt } in
-    leaves_from c v p done (own.stands v has_log) (own.machine v has_log)
+-- what is known of the fields of a world that the code holds
+pub fields_of : (c : Code) (s : Sections Section) (notes : List Noted) (capacity : ℕ) (h : Held) → IsHeldBy c h → held_in s notes ≡ h
+    → AreKept s notes capacity → Fields c s notes
+fields_of c s notes capacity h held is kept = record { held = subst (IsHeldBy c) (sym is) held; kept = kept.sections }
 
--- ---- the start
+if_some : (c : Code) (o : Option Call) → NamesATemplate c o → IfSome o (λ made. made.template < length c.templates)
+if_some c None there = tt
+if_some c (Some made) there = there
 
--- nothing happened in the section
-pub record IsNew (s : Section) : Type 0 where
-  pub machine : s.machine ≡ None
-  pub answered : s.answered.items ≡ []
-  pub ending : s.ending ≡ ending.NotBegun
+-- the call that waits
+pub waiting_named : (c : Code) (s : Sections Section) (notes : List Noted) (who : Actor) → Fields c s notes
+    → IfSome (waiting_in (section_of s who).machine) (λ made. made.template < length c.templates)
+waiting_named c s notes who fields = if_some c _ (names_a_template c (world_in s notes) who _ _ (shown c s notes fields who).machine)
 
-pub p_begun : (c : Code) (numbers : List ℕ) (s p : Section) → Begins c actor.P numbers s p → BranchIn c new_world actor.P p
-p_begun c numbers s p begins = branch_begins c new_world actor.P numbers (no_variables c) s p begins refl refl tt refl
+-- ---- what is against an event
 
-pub leaves_start : (c : Code) (numbers : List ℕ) (s p : Section) → Begins c actor.P numbers s p → p.ending ≡ ending.Done → LeavesNumbers c p
-leaves_start c numbers s p begins done = let begun = p_begun c numbers s p begins in leaves_from c new_world p done begun.stands begun.machine
+waits_in : (s : Sections Section) (notes : List Noted) (who : Actor)
+    → (log_of (world_in s notes) who).waiting ≡ waiting_in (section_of s who).machine
+waits_in s notes who = ap (λ (log : Log). log.waiting) (logged s notes who)
+
+ends_in : (s : Sections Section) (notes : List Noted) (who : Actor) → section_of (held_in s notes).endings who ≡ (section_of s who).ending
+ends_in s notes actor.P = refl
+ends_in s notes _ = refl
+
+pub refused_by : (c : Code) (s : Sections Section) (notes : List Noted) (who : Actor) (e : Event) (h : Held) (found : Option StepRefusal)
+    → Fields c s notes → held_in s notes ≡ h → found ≡ refusal_in c (section_of s who).ending (waiting_in (section_of s who).machine) e
+    → IfSome found (IsRefused c h.world who e)
+refused_by c s notes who e h None fields is finds = tt
+refused_by c s notes who e h (Some r) fields is finds =
+    subst (λ (h : Held). IsRefused c h.world who e r) is
+    (refused_rightly c (world_in s notes) who e _ _ r (shown c s notes fields who).stands (waits_in s notes who) (sym finds))
+
+pub taken_by : (c : Code) (s : Sections Section) (notes : List Noted) (who : Actor) (e : Event) (h : Held) (found : Option StepRefusal)
+    → Fields c s notes → held_in s notes ≡ h → found ≡ refusal_in c (section_of s who).ending (waiting_in (section_of s who).machine) e
+    → found ≡ None → MayStep c h who e
+taken_by c s notes who e h found fields is finds none =
+    let taken =
+    taken_rightly c (world_in s notes) who e _ _ (shown c s notes fields who).stands (waits_in s notes who) (sym finds ∙ none) in
+    subst (λ h. MayStep c h who e) is (ends_in s notes who ∙ taken.0, taken.1)
+
+-- ---- an event that is taken
+
+pub goes : (c : Code) (s : Sections Section) (notes : List Noted) (capacity : ℕ) (h : Held) (who : Actor) (e : Event) → IsHeldBy c h
+    → held_in s notes ≡ h → AreKept s notes capacity → MayStep c h who e → Goes c s notes who e
+goes c s notes capacity h who e held is kept may =
+    let here = subst (λ h. MayStep c h who e) (sym is) may in
+    record { fields = fields_of c s notes capacity h held is kept; running = sym (ends_in s notes who) ∙ here.0; free = here.1 }
+
+pub step_leaves : (c : Code) (s : Sections Section) (notes : List Noted) (who : Actor) (e : Event) → Goes c s notes who e → who ≡ actor.P
+    → LeavesAfter c s e
+step_leaves c s notes who e may is = leaves_after c s notes e (subst (λ who. Goes c s notes who e) is may)
+
+-- there is room for one more note
+pub step_room : (c : Code) (s t : Sections Section) (notes : List Noted) (who : Actor) (e : Event) (capacity : ℕ) → Goes c s notes who e
+    → AllTake c s who e t → AreKept s notes capacity → IsCode c → IsSound c → length notes < capacity
+step_room c s t notes who e capacity may takes are kept sound =
+    let after = held_after c s t notes who e may takes in
+    let few = (folds_within_room c (notes ++ (who, e) ∷ []) (world_in t (notes ++ (who, e) ∷ [])) 0 kept sound after.held.fold).notes in
+    let one = length-append notes ((who, e) ∷ []) in
+    let room = are.room in
+    omega (arith, few, one, room)
+
+-- and what is kept is kept
+pub step_kept : (c : Code) (s t : Sections Section) (notes more : List Noted) (who : Actor) (e : Event) (capacity new : ℕ)
+    → AllTake c s who e t
+    → AreKept s notes capacity → IsSmallEvent e → more ≡ notes ++ (who, e) ∷ [] → capacity ≤ new → AreKept t more new
+step_kept c s t notes more who e capacity new takes are small is grows =
+    subst (λ more. AreKept t more new) (sym is) (record {
+      sections = kept_after c s t notes who e are.sections takes;
+      room = let room = are.room in omega (arith, room, grows);
+      small = All-push IsSmallNote notes (who, e) are.small small;
+    })
+
+pub step_taken : (c : Code) (s t : Sections Section) (notes more : List Noted) (who : Actor) (e : Event) (h : Held)
+    → Goes c s notes who e
+    → AllTake c s who e t → held_in s notes ≡ h → more ≡ notes ++ (who, e) ∷ []
+    → IsStep c h.world who e (world_in t more) × IsHeldBy c (held_in t more)
+step_taken c s t notes more who e h may takes is grows =
+    let after = held_after c s t notes who e may takes in (
+      subst (λ more. IsStep c h.world who e (world_in t more)) (sym grows)
+          (subst (λ w. IsStep c w who e (world_in t (notes ++ (who, e) ∷ []))) (ap (λ (h : Held). h.world) is) after.step),
+      subst (λ more. IsHeldBy c (held_in t more)) (sym grows) after.held,
+    )

@@ -20,11 +20,9 @@ use Rattle.mc_core.specs.Fields.{GoesOn, IsUpcoming, MayTake, held_in, world_in}
 use Rattle.mc_core.specs.Held.{Held, Stands}
 use Rattle.mc_core.specs.Steps.{IsNext, IsRefused, MayBegin}
 use Rattle.mc_core.specs.Worlds.{World, Noted, exchanges_of, IsEnding}
-use Rattle.mc_core.proofs.Recording.{calling_named}
-use Rattle.mc_core.proofs.SectionSteps.{machine_stands}
+use Rattle.mc_core.proofs.LogLemmas.{call_inside}
+use Rattle.mc_core.proofs.HeldWorlds.{Goes, shown, machine_stands}
 use Rattle.mc_core.proofs.StepLemmas.{next_once}
-use Rattle.mc_core.proofs.Stepping.{MayStep}
-use Rattle.mc_core.proofs.Taking.{ending_at, machine_at}
 
 -- ---- of a machine
 
@@ -53,7 +51,7 @@ stands_to_begin c s m has (n, has_n, idle, goes) =
 
 -- the call of a section that goes on is the one that it may begin
 pub begins_upcoming : (c : Code) (s : Sections Section) (notes : List Noted) (who : Actor) (own : Section) (upcoming : Option Call) (h : Held)
-    → MayStep c s notes who event.Begin → own ≡ section_of s who → IsUpcoming c own upcoming → held_in s notes ≡ h
+    → Goes c s notes who event.Begin → own ≡ section_of s who → IsUpcoming c own upcoming → held_in s notes ≡ h
     → (made : Call) × (upcoming ≡ Some made) × MayBegin c h.world who made
 begins_upcoming c s notes who own upcoming h may same (m, made, has, is, calls) held =
     (made, is, subst (λ (h : Held). MayBegin c h.world who made) held (record { begun = running.0; free = may.free; next = next }))
@@ -62,11 +60,11 @@ begins_upcoming c s notes who own upcoming h may same (m, made, has, is, calls) 
     w = world_in s notes
 
     running : IsEnding c w who ending.Running
-    running = subst (IsEnding c w who) may.running (ending_at c s notes who may.fields)
+    running = subst (IsEnding c w who) may.running (shown c s notes may.fields who).stands
 
     stands : Stands c w who m
     stands =
-        machine_stands c w who (section_of s who).ending (section_of s who).machine m (machine_at c s notes who may.fields) may.running
+        machine_stands c w who (section_of s who).ending (section_of s who).machine m (shown c s notes may.fields who).machine
         (ap (λ (s : Section). s.machine) (sym same) ∙ has)
 
     next : IsNext c w who made
@@ -95,4 +93,4 @@ pub begins_named : (c : Code) (w : World) (who : Actor) (upcoming : Option Call)
     → ((made : Call) × (upcoming ≡ Some made) × MayBegin c w who made) → IfSome upcoming (λ made. made.template < length c.templates)
 begins_named c w who upcoming (made, is, may) =
     subst (λ upcoming. IfSome upcoming (λ made. made.template < length c.templates)) (sym is)
-    (calling_named c who may.next.0 (exchanges_of c w who) made may.next.2)
+    (call_inside c who may.next.0 (exchanges_of c w who) made may.next.2)

@@ -32,14 +32,14 @@ use Rattle.mc_core.specs.Held.{Held}
 use Rattle.mc_core.specs.Histories.{begin_count, no_call}
 use Rattle.mc_core.specs.Logs.{Log, request_of}
 use Rattle.mc_core.specs.Safety.{AreSmall}
-use Rattle.mc_core.specs.Worlds.{World, Noted, event_of, events_of}
+use Rattle.mc_core.specs.Steps.{IsAgainst}
+use Rattle.mc_core.specs.Worlds.{World, Noted, event_of, events_of, with_section}
 
 -- ---- what is seen
 
 abbrev pub reply_in : Event → List Reply
-reply_in event.Begin = []
 reply_in (event.Reply reply) = reply ∷ []
-reply_in (event.Fail fault) = []
+reply_in _ = []
 
 -- the replies that were noted of a section
 abbrev pub replies_of : Actor → List Noted → List Reply
@@ -50,10 +50,8 @@ waiting_in None = None
 waiting_in (Some m) = machines.outstanding_of m
 
 abbrev pub fault_in : Ending → Option Fault
-fault_in ending.NotBegun = None
-fault_in ending.Running = None
-fault_in ending.Done = None
 fault_in (ending.Failed fault) = Some fault
+fault_in _ = None
 
 -- a section's log: the first call that has a reply with the first reply, and so on
 abbrev pub log_in : List Noted → Actor → Section → Log
@@ -112,6 +110,14 @@ refusal_in c ending.NotBegun waiting e = Some refusal.NotYet
 refusal_in c ending.Running waiting e = refusal_of c waiting e
 refusal_in c ending.Done waiting e = Some refusal.Over
 refusal_in c (ending.Failed fault) waiting e = Some refusal.Over
+
+-- nothing is against the event
+abbrev pub IsFree : Code → World → Actor → Event → Type 0
+IsFree c w who e = (r : StepRefusal) → IsAgainst c w who e r → ⊥
+
+-- the section goes on, and nothing is against its event
+abbrev pub MayStep : Code → Held → Actor → Event → Type 0
+MayStep c h who e = (section_of h.endings who ≡ ending.Running) × IsFree c h.world who e
 
 -- a call that waits names a template that is there
 abbrev pub NamesATemplate : Code → Option Call → Type 0
@@ -204,11 +210,14 @@ pub record BranchesBegin (c : Code) (s t : Sections Section) : Type 0 where
 abbrev pub BranchesFollow : Code → Sections Section → Sections Section → Type 0
 BranchesFollow c s t = (t.p ≡ s.p) × ((s.p.ending ≡ ending.Done) → BranchesBegin c s t) × ((s.p.ending ≢ ending.Done) → t ≡ s)
 
+-- where it was an event of P, the branches may begin
+abbrev pub AfterOwn : Code → Actor → Sections Section → Sections Section → Type 0
+AfterOwn c actor.P s t = BranchesFollow c s t
+AfterOwn c _ s t = t ≡ s
+
 -- the sections before and after an event that one of them takes
 abbrev pub AllTake : Code → Sections Section → Actor → Event → Sections Section → Type 0
-AllTake c s actor.P e t = (p : Section) × Takes c s.p e p × BranchesFollow c (record s { p = p }) t
-AllTake c s actor.A e t = (a : Section) × Takes c s.a e a × (t ≡ record s { a = a })
-AllTake c s actor.B e t = (b : Section) × Takes c s.b e b × (t ≡ record s { b = b })
+AllTake c s who e t = (own : Section) × Takes c (section_of s who) e own × AfterOwn c who (with_section s who own) t
 
 -- ---- what is recorded
 
@@ -225,8 +234,7 @@ note_in c s begun (event.Fail fault) = None
 -- a call that an event begins names a template that is there
 abbrev pub BeginsNamed : Code → Section → ℕ → Event → Type 0
 BeginsNamed c s begun event.Begin = (slice_index_or (calls_of s) begun no_call).template < length c.templates
-BeginsNamed c s begun (event.Reply reply) = Unit {0}
-BeginsNamed c s begun (event.Fail fault) = Unit {0}
+BeginsNamed c s begun _ = Unit {0}
 
 abbrev pub noted_by : Actor → Option Note → List recorded.Noted
 noted_by who None = []

@@ -13,7 +13,7 @@ use Rattle.mc_code.specs.Code.{Code, section_of}
 use Rattle.mc_code.specs.Standing.{StandsAt, IsRightAlong}
 use Rattle.mc_code.specs.States.{Tagged, State}
 use Rattle.mc_code.specs.declared.instr.Call.{Call}
-use Rattle.mc_verify.specs.Flags.{IsAdmitted, all_clear}
+use Rattle.mc_flow.specs.Flags.{IsAdmitted, all_clear}
 use Rattle.mc_history.specs.declared.event.Event.{Event}
 use Rattle.mc_history.specs.declared.event.Event.TheVariants as event
 use Rattle.mc_core.specs.Logs.{new_log, calls_in, answered_in, events_in, request_of, IsRightLog}

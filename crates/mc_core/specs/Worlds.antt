@@ -38,14 +38,15 @@ event_of who (other, e) = if is_same_section who other then e ∷ [] else []
 abbrev pub events_of : Actor → List Noted → List Event
 events_of who notes = flat_map (event_of who) notes
 
-abbrev pub with_log : Sections Log → Actor → Log → Sections Log
-with_log logs actor.P log = record logs { p = log }
-with_log logs actor.A log = record logs { a = log }
-with_log logs actor.B log = record logs { b = log }
+-- with this in place of what one section has
+abbrev pub with_section : {T : Type 0} → Sections T → Actor → T → Sections T
+with_section s actor.P own = record s { p = own }
+with_section s actor.A own = record s { a = own }
+with_section s actor.B own = record s { b = own }
 
 -- with one more note, after which the section has this log
 abbrev pub with_note : World → Actor → Event → Log → World
-with_note w who e log = record { logs = with_log w.logs who log; notes = w.notes ++ (who, e) ∷ [] }
+with_note w who e log = record { logs = with_section w.logs who log; notes = w.notes ++ (who, e) ∷ [] }
 
 -- ---- how a section stands
 

@@ -1,5 +1,5 @@
 //! The history of a world.
-ghost use Rattle.std.specs.Prelude.{◌≡◌, ◌++◌, IfOk, OnOk};
+ghost use Rattle.std.specs.Prelude.{◌≡◌, ◌≢◌, ◌++◌, IfOk, OnOk};
 ghost use Rattle.mc_core.specs.Fields as fields;
 ghost use Rattle.mc_core.specs.Histories as histories;
 ghost use Rattle.mc_core.specs.Held.{IsHeldBy};
@@ -92,7 +92,7 @@ fn add_note(
 
 /// A history refuses what is recorded of a world for want of memory alone.
 fn want_of_memory(kind: HistoryKind) -> OutOfMemory
-    requires { kind ≡ HistoryKind.OutOfMemory }
+    requires { (kind ≢ HistoryKind.OutOfMemory) → ⊥ }
 {
     let _kind = kind;
     AllocError

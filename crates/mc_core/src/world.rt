@@ -19,6 +19,7 @@ ghost use Rattle.std.specs.Prelude.{
   vec_capacity,
 };
 ghost use Rattle.mc_code.specs.Code.{Code, IsCode};
+ghost use Rattle.mc_core.specs.Fields as fields;
 ghost use Rattle.mc_core.specs.Held.{IsHeldBy};
 ghost use Rattle.mc_core.specs.Safety.{AreSmall, IsSmallEvent};
 ghost use Rattle.mc_core.specs.Steps.{IsStep, IsRefused, MayBegin};
@@ -97,7 +98,7 @@ impl World {
         ensures small { AreSmall self.new.world.notes }
     {
         know_code(checked);
-        match self.sections.get(actor).refusal(checked.code(), &event) {
+        match self.refusal(checked, actor, &event) {
             Some(refusal) => return Err((refusal, event)),
             None => {}
         }
@@ -133,10 +134,19 @@ impl World {
     {
         know_code(checked);
         let section = self.sections.get(actor);
-        match section.refusal(checked.code(), &Event::Begin) {
+        match self.refusal(checked, actor, &Event::Begin) {
             Some(_) => None,
             None => section.upcoming(checked),
         }
+    }
+
+    /// The first of all that is against an event of the section.
+    fn refusal(&self, checked: &Checked, actor: Actor, event: &Event) -> Option<StepRefusal>
+        requires held { IsHeldBy checked.now.code self.now }
+        ensures refused { IfSome result (IsRefused checked.now.code self.now.world actor event.now) }
+        ensures taken { result ≡ None → fields.MayStep checked.now.code self.now actor event.now }
+    {
+        self.sections.get(actor).refusal(checked.code(), event)
     }
 
     /// What ended the section before its code did.

@@ -25,8 +25,8 @@ use Rattle.mc_code.proofs.StepFacts.{fit_is_legal}
 use Rattle.mc_code.proofs.Stopping.{StopsAt, one_stop}
 use Rattle.mc_verify.specs.Faults.{IsSound}
 use Rattle.mc_verify.proofs.Right.{sound_right, sound_structured}
-use Rattle.mc_verify.proofs.RunKinds.{begins_length, run_keeps_length}
-use Rattle.mc_verify.proofs.Structured.{structured_slides, structured_stands, structured_template, structured_variable}
+use Rattle.mc_flow.proofs.RunKinds.{begins_length, run_keeps_length}
+use Rattle.mc_flow.proofs.Structured.{structured_slides, structured_stands, structured_template, structured_variable}
 use Rattle.mc_machine.specs.declared.machine.Machine.{Machine}
 use Rattle.mc_machine.specs.Machine.{AreNumbersOf, IsAnswered, IsAt, IsOnWay, MayBeAnswered, Stands, waits_at}
 use Rattle.mc_machine.specs.Moves.{Follows, Goes, IsTaken}

@@ -23,9 +23,9 @@ use Rattle.mc_code.proofs.StandingLemmas.{calls_open}
 use Rattle.mc_code.proofs.Stopping.{one_stop}
 use Rattle.mc_verify.specs.Faults.{IsSound}
 use Rattle.mc_script.specs.declared.limits.TheConstants.{VARIABLES_LIMIT}
-use Rattle.mc_verify.proofs.FaultsAt.{variable_declared}
+use Rattle.mc_flow.proofs.TemplateVariables.{variable_declared}
 use Rattle.mc_verify.proofs.Right.{sound_structured}
-use Rattle.mc_verify.proofs.Structured.{structured_template}
+use Rattle.mc_flow.proofs.Structured.{structured_template}
 use Rattle.mc_machine.specs.declared.machine.Machine.{Machine}
 use Rattle.mc_machine.specs.Laws.{EndsStartBranches, OutstandingIsNamed}
 use Rattle.mc_machine.specs.Machine.{AreNumbersOf, IsAt, IsOnWay, StartsFrom, waits_at}

@@ -1,10 +1,9 @@
 //! The rules of a history, as tests of one request and of those before it.
 ghost use Rattle.std.specs.Prelude.{◌≡◌};
 ghost use Rattle.mc_model.specs.History as rule;
-ghost use Rattle.mc_model.specs.Kinds as kinds;
 
 use crate::Sent;
-use mc_protocol::{Fields, REPLY_BODY_LIMIT, Reply, Request, Verb, fits, is_key};
+use mc_protocol::{FaultKind, Fields, REPLY_BODY_LIMIT, Reply, Request, Verb, fits, is_key};
 use std::alloc::{AllocError, AllocFailed};
 use thiserror::Error;
 
@@ -44,11 +43,17 @@ pub enum HistoryKind {
     OutOfMemory,
 }
 
-impl HistoryKind {
-    /// The number of the kind, as a refusal shows it.
-    pub fn number(self) -> u32
-        ensures { result ≡ kinds.kind_number self }
-    {
+impl FaultKind for HistoryKind {
+    ghost use Rattle.mc_model.specs.Kinds as kinds;
+    ghost use Rattle.mc_model.specs.declared.rules.HistoryKind.TheVariants.{OutOfMemory};
+
+    ghost kind_number = { kinds.kind_number };
+
+    ghost kind_name = { kinds.kind_name };
+
+    ghost OutOfMemory = { OutOfMemory };
+
+    fn number(self) -> u32 {
         match self {
             HistoryKind::Header => 1,
             HistoryKind::Line => 2,
@@ -63,10 +68,7 @@ impl HistoryKind {
         }
     }
 
-    /// The name of the kind, as a refusal shows it.
-    pub fn name(self) -> &'static str
-        ensures { result.now ≡ kinds.kind_name self }
-    {
+    fn name(self) -> &'static str {
         match self {
             HistoryKind::Header => "Header",
             HistoryKind::Line => "Line",
@@ -79,6 +81,10 @@ impl HistoryKind {
             HistoryKind::Unended => "Unended",
             HistoryKind::OutOfMemory => "OutOfMemory",
         }
+    }
+
+    fn is_out_of_memory(self) -> bool {
+        self == HistoryKind::OutOfMemory
     }
 }
 

@@ -11,6 +11,7 @@ mod actor;
 mod bytes;
 mod decimal;
 mod fault;
+mod fault_kind;
 mod legal_replies;
 mod limits;
 mod lines;
@@ -26,6 +27,7 @@ pub use actor::Actor;
 pub use bytes::Bytes;
 pub use decimal::{DecimalFault, has_digits_alone, is_digit, read_decimal, value_of_digits};
 pub use fault::Fault;
+pub use fault_kind::{FaultKind, fault_of_input};
 pub use legal_replies::{fits, legal, may_answer, shows_number};
 pub use limits::{
     DIGITS_LIMIT, KEY_BYTES_LIMIT, KEYS_LIMIT, REPLY_BODY_LIMIT, REQUEST_BYTES_LIMIT,

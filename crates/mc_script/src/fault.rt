@@ -1,10 +1,10 @@
 //! Why a text is no script.
 
 ghost use Rattle.std.specs.Prelude.{◌≡◌, None};
-ghost use Rattle.mc_script.specs.Kinds as kinds;
 ghost use Rattle.mc_script.specs.declared.fault.ScriptKind.TheVariants.{OutOfMemory};
 
 use crate::Misread;
+use mc_protocol::FaultKind;
 use std::alloc::{AllocError, AllocFailed};
 use thiserror::Error;
 
@@ -43,11 +43,17 @@ pub enum ScriptKind {
     OutOfMemory,
 }
 
-impl ScriptKind {
-    /// The number of the kind, as a refusal shows it.
-    pub fn number(self) -> u32
-        ensures { result ≡ kinds.kind_number self }
-    {
+impl FaultKind for ScriptKind {
+    ghost use Rattle.mc_script.specs.Kinds as kinds;
+    ghost use Rattle.mc_script.specs.declared.fault.ScriptKind.TheVariants.{OutOfMemory};
+
+    ghost kind_number = { kinds.kind_number };
+
+    ghost kind_name = { kinds.kind_name };
+
+    ghost OutOfMemory = { OutOfMemory };
+
+    fn number(self) -> u32 {
         match self {
             ScriptKind::Header => 1,
             ScriptKind::Line => 2,
@@ -67,10 +73,7 @@ impl ScriptKind {
         }
     }
 
-    /// The name of the kind, as a refusal shows it.
-    pub fn name(self) -> &'static str
-        ensures { result.now ≡ kinds.kind_name self }
-    {
+    fn name(self) -> &'static str {
         match self {
             ScriptKind::Header => "Header",
             ScriptKind::Line => "Line",
@@ -88,6 +91,10 @@ impl ScriptKind {
             ScriptKind::Unended => "Unended",
             ScriptKind::OutOfMemory => "OutOfMemory",
         }
+    }
+
+    fn is_out_of_memory(self) -> bool {
+        self == ScriptKind::OutOfMemory
     }
 }
 

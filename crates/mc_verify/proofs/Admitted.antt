@@ -16,9 +16,9 @@ use Rattle.mc_code.specs.Paths.{Edge, IsPath, Sends}
 use Rattle.mc_code.specs.Paths as path
 use Rattle.mc_code.proofs.PathLemmas.{path_append, path_slides, path_sends, path_first}
 use Rattle.mc_verify.specs.Faults.{IsSound, MayLackFlag}
-use Rattle.mc_verify.specs.Flags.{IsAdmitted, all_clear, flag_along, flag_after, needs}
+use Rattle.mc_flow.specs.Flags.{IsAdmitted, all_clear, flag_along, flag_after, needs}
 use Rattle.mc_verify.specs.Laws.{SoundIsAdmitted, LacksNoFlag, IsAlwaysAdmitted, LackIsNotAdmitted}
-use Rattle.mc_verify.specs.Ways.{Stage, staged, calls_along, LeadsTo, LeadsToBoth}
+use Rattle.mc_flow.specs.Ways.{Stage, staged, calls_along, LeadsTo, LeadsToBoth}
 use Rattle.mc_verify.specs.declared.refusal.RefusalKind.TheVariants as kind
 
 -- ---- one more call
@@ -84,7 +84,7 @@ p_admitted c never (path.sends {p = p} {q = q} {edges = edges} {template = t} {c
 
 -- ---- both branches
 
-along_a : (c : Code) (p q r : ℕ) (way : List Stage) → LeadsToBoth c p q way → IsPath c.templates (instructions_in c actor.A) p [] r
+pub along_a : (c : Code) (p q r : ℕ) (way : List Stage) → LeadsToBoth c p q way → IsPath c.templates (instructions_in c actor.A) p [] r
     → LeadsToBoth c r q way
 along_a c p q r way both there = record {
   before = both.before;
@@ -98,7 +98,7 @@ along_a c p q r way both there = record {
   way_is = both.way_is;
 }
 
-along_b : (c : Code) (p q r : ℕ) (way : List Stage) → LeadsToBoth c p q way → IsPath c.templates (instructions_in c actor.B) q [] r
+pub along_b : (c : Code) (p q r : ℕ) (way : List Stage) → LeadsToBoth c p q way → IsPath c.templates (instructions_in c actor.B) q [] r
     → LeadsToBoth c p r way
 along_b c p q r way both there = record {
   before = both.before;
@@ -112,7 +112,7 @@ along_b c p q r way both there = record {
   way_is = both.way_is;
 }
 
-sent_a : (c : Code) (p q r : ℕ) (way : List Stage) (edge : Edge) (i : Instr) → LeadsToBoth c p q way
+pub sent_a : (c : Code) (p q r : ℕ) (way : List Stage) (edge : Edge) (i : Instr) → LeadsToBoth c p q way
     → slice_get (instructions_in c actor.A) p ≡ Some i
     → Sends c.templates i edge.0 edge.1 r → LeadsToBoth c r q (way ++ (actor.A, edge) ∷ [])
 sent_a c p q r way edge i both at leads = record {
@@ -130,7 +130,7 @@ sent_a c p q r way edge i both at leads = record {
   way_is = ap (λ l. l ++ (actor.A, edge) ∷ []) both.way_is ∙ append_assoc (staged actor.P both.before) both.merged ((actor.A, edge) ∷ []);
 }
 
-sent_b : (c : Code) (p q r : ℕ) (way : List Stage) (edge : Edge) (i : Instr) → LeadsToBoth c p q way
+pub sent_b : (c : Code) (p q r : ℕ) (way : List Stage) (edge : Edge) (i : Instr) → LeadsToBoth c p q way
     → slice_get (instructions_in c actor.B) q ≡ Some i
     → Sends c.templates i edge.0 edge.1 r → LeadsToBoth c p r (way ++ (actor.B, edge) ∷ [])
 sent_b c p q r way edge i both at leads = record {

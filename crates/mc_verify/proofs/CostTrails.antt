@@ -17,14 +17,14 @@ use Rattle.mc_code.specs.Code.{Code, instructions_in}
 use Rattle.mc_code.specs.Code as codes
 use Rattle.mc_code.specs.Paths.{Edge, stays}
 use Rattle.mc_code.specs.declared.instr.Instr.TheVariants as instr
-use Rattle.mc_verify.specs.Costs.{cost_of, cost_along, bound_of}
+use Rattle.mc_flow.specs.Costs.{cost_of, cost_along, bound_of}
 use Rattle.mc_verify.specs.CostTrails.{ShowsExcess, own_cost, cost_in, ExceedsFrom}
 use Rattle.mc_verify.specs.Faults.{IsStructured}
 use Rattle.mc_verify.specs.Shown.{replies_along, front, IsBegun}
 use Rattle.mc_verify.specs.Trails.{RestsAt, IsAnswered, first_places, moved, is_of, is_heard, are_heard, GoesOn, LeadsFrom}
-use Rattle.mc_verify.specs.Ways.{Stage, staged}
+use Rattle.mc_flow.specs.Ways.{Stage, staged}
 use Rattle.mc_verify.specs.declared.cost_trail.CostTrail.{CostTrail}
-use Rattle.mc_verify.specs.declared.measure.Measure.{Measure}
+use Rattle.mc_flow.specs.declared.measure.Measure.{Measure}
 use Rattle.mc_verify.proofs.Settling.{sends_rest_at, sends_once_at, answered_later}
 use Rattle.mc_verify.proofs.WaySteps.{goes_once, way_begins, way_follows}
 use Rattle.mc_verify.proofs.WayEnds.{no_way}

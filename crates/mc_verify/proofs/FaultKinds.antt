@@ -11,7 +11,7 @@ use Rattle.mc_code.specs.States.{Tagged, is_number, is_same, State, Outcome, cal
 use Rattle.mc_code.specs.declared.kind.Kind.{Kind}
 use Rattle.mc_code.specs.declared.kind.Kind.TheVariants as kind
 use Rattle.mc_verify.specs.Faults.{MayComeTo, IsFault}
-use Rattle.mc_verify.specs.Kinds.{kind_index}
+use Rattle.mc_flow.specs.Kinds.{kind_index}
 use Rattle.mc_verify.specs.VariableFaults.{is_outcome, IsOfVariables, is_wrong, is_of_binds}
 use Rattle.mc_verify.specs.declared.refusal.RefusalKind.{RefusalKind}
 use Rattle.mc_verify.specs.declared.refusal.RefusalKind.TheVariants as refusal

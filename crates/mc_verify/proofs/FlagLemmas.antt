@@ -6,7 +6,7 @@ use Rattle.mc_protocol.specs.declared.actor.Actor.TheVariants as actor
 use Rattle.mc_code.specs.Calls.{calls_of}
 use Rattle.mc_code.specs.Code.{Code}
 use Rattle.mc_code.specs.Paths.{Edge}
-use Rattle.mc_verify.specs.Ways.{Stage, staged, calls_along, LeadsToBoth}
+use Rattle.mc_flow.specs.Ways.{Stage, staged, calls_along, LeadsToBoth}
 
 -- ---- the calls of a way
 

@@ -7,11 +7,11 @@ use Rattle.mc_script.specs.declared.limits.TheConstants.{FLAGS_LIMIT}
 use Rattle.mc_code.specs.Calls.{SendsAt}
 use Rattle.mc_code.specs.Code.{Code, IsCode, instructions_in}
 use Rattle.mc_code.specs.declared.instr.Instr.TheVariants as instr
-use Rattle.mc_verify.specs.Flags.{flag_after, flag_along}
-use Rattle.mc_verify.specs.FlagTables.{may_be, MayBecome, MayLack}
+use Rattle.mc_flow.specs.Flags.{flag_after, flag_along}
+use Rattle.mc_flow.specs.FlagTables.{may_be, MayBecome, MayLack}
 use Rattle.mc_verify.specs.FlagTrails.{ShowsLack, LacksFrom}
 use Rattle.mc_verify.specs.Trails.{RestsAt, first_places, GoesOn, LeadsFrom}
-use Rattle.mc_verify.specs.Ways.{calls_along}
+use Rattle.mc_flow.specs.Ways.{calls_along}
 use Rattle.mc_verify.specs.declared.flag_trail.FlagTrail.{FlagTrail}
 use Rattle.mc_verify.proofs.FlagFaults.{needed_below}
 use Rattle.mc_verify.proofs.Settling.{sends_rest_at, sends_once_at}

@@ -19,7 +19,7 @@ use Rattle.mc_code.proofs.Stopping.{StopsAt, one_stop}
 use Rattle.mc_verify.specs.KindTrails.{after_class, section_in, IsReplied, IsEnded, FailsOn, FailsBehind, FailsWhere}
 use Rattle.mc_verify.specs.Shown.{replies_along}
 use Rattle.mc_verify.specs.Trails.{RestsAt, is_branch, is_of}
-use Rattle.mc_verify.specs.Ways.{staged}
+use Rattle.mc_flow.specs.Ways.{staged}
 use Rattle.mc_verify.specs.declared.refusal.RefusalKind.{RefusalKind}
 use Rattle.mc_verify.proofs.KindTrails.{run_first, send_rests, first_of, first_before, fails_next, fails_before, behind_next, behind_before}
 

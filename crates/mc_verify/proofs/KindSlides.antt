@@ -1,15 +1,15 @@
 -- What a section comes to without a further reply, and where a run that shows a fault of variables begins.
-use Rattle.std.proofs.Common.{◌≡◌, ◌↔◌, ⊎_elim, ℕ, Bool, true, not, Some, List, [], ◌∷◌, ◌++◌, slice_get, refl, ap, sym, subst, ◌∙◌}
+use Rattle.std.proofs.Common.{◌≡◌, ◌↔◌, ℕ, Bool, true, not, Some, List, [], ◌∷◌, ◌++◌, slice_get, refl, ap, sym, subst, ◌∙◌}
 use Rattle.mc_protocol.specs.declared.actor.Actor.{Actor}
 use Rattle.mc_protocol.specs.declared.actor.Actor.TheVariants as actor
 use Rattle.mc_protocol.specs.declared.reply.Class.{Class}
 use Rattle.mc_code.specs.Code.{Code, instructions_in}
 use Rattle.mc_code.specs.NumberLaws.{HaveSameKinds}
-use Rattle.mc_code.specs.Paths.{Slides, LeadsForwards}
+use Rattle.mc_code.specs.Paths.{Slides}
 use Rattle.mc_code.specs.RunLaws.{edges_of}
 use Rattle.mc_code.specs.Runs.{Exchange, after_slide, IsRun, met_at}
-use Rattle.mc_code.specs.Standing.{BeginsAfter, no_variables, met_in}
-use Rattle.mc_code.specs.States.{State, Outcome, initial_state, unbound, wrong_kind, nothing_to_bind}
+use Rattle.mc_code.specs.Standing.{BeginsAfter, Leaves, no_variables, met_in}
+use Rattle.mc_code.specs.States.{Tagged, State, Outcome, initial_state, unbound, wrong_kind, nothing_to_bind}
 use Rattle.mc_code.specs.declared.instr.Instr.TheVariants as instr
 use Rattle.mc_code.proofs.LookUps.{some_is}
 use Rattle.mc_code.proofs.RunLemmas.{run_slides, ended_at_halt}
@@ -20,12 +20,12 @@ use Rattle.mc_verify.specs.KindTrails.{IsSlid, FailsAlong, ShowsFail, FailsOn, F
 use Rattle.mc_verify.specs.Shown.{replies_along, front, ComesAlong, IsShownBy}
 use Rattle.mc_verify.specs.Trails.{RestsAt, is_branch}
 use Rattle.mc_verify.specs.VariableFaults.{is_outcome}
-use Rattle.mc_verify.specs.Ways.{Stage, staged}
+use Rattle.mc_flow.specs.Ways.{Stage, staged}
 use Rattle.mc_verify.specs.declared.refusal.RefusalKind.{RefusalKind}
 use Rattle.mc_verify.specs.declared.refusal.RefusalKind.TheVariants as refusal
 use Rattle.mc_verify.proofs.FaultKinds.{some_unbound, some_wrong_kind, some_nothing}
 use Rattle.mc_verify.proofs.KindTrails.{met_alike}
-use Rattle.mc_verify.proofs.Structured.{structured_slides, structured_sends}
+use Rattle.mc_flow.proofs.Structured.{structured_forwards}
 
 -- ---- slides
 
@@ -63,11 +63,6 @@ rests_apart c actor place from st end rests apart run = no_slide c actor place f
 
 -- ---- the fault
 
-structured_forwards : (c : Code) (actor : Actor) → IsStructured c actor → LeadsForwards c.templates (instructions_in c actor)
-structured_forwards c actor structured i p q at leads = ⊎_elim
-    (λ slides. structured_slides c actor structured i p q at slides)
-    (λ (t, class, sends). structured_sends c actor structured i p q t class at sends) leads
-
 no_exchanges : (actor : Actor) (xs : List Exchange) → [] ≡ replies_along (staged actor (edges_of xs)) → xs ≡ []
 no_exchanges actor [] e = refl
 no_exchanges actor (x ∷ xs) e = absurd (cc)
@@ -98,50 +93,42 @@ replies_append : (first second : List Stage) → replies_along (first ++ second)
 replies_append [] second = refl
 replies_append (stage ∷ first) second = ap (λ l. (stage.0, stage.1.1) ∷ l) (replies_append first second)
 
+-- a branch begins after P
+left_before : (c : Code) (named : Actor) (before : List Exchange) (variables : List Tagged) → is_branch named ≡ true
+    → BeginsAfter c before named variables → Leaves c before variables
+left_before c actor.P before variables branch begins = absurd (cc)
+left_before c actor.A before variables branch begins = begins
+left_before c actor.B before variables branch begins = begins
+
+front_of_branch : (named : Actor) (before : List Exchange) → is_branch named ≡ true → staged actor.P (edges_of before) ≡ front named (edges_of before)
+front_of_branch actor.P before branch = absurd (cc)
+front_of_branch actor.A before branch = refl
+front_of_branch actor.B before branch = refl
+
 behind_along : (c : Code) (kind : RefusalKind) (named : Actor) (place : ℕ) (way : List Stage) (shown : List (Actor × Class)) → is_branch named ≡ true
     → shown ≡ replies_along way → FailsAlong c kind named place way → FailsBehind c kind named place 0 (initial_state (no_variables c)) shown
-behind_along c kind actor.P place way shown branch shown_is along = absurd (cc)
-behind_along c kind actor.A place way shown branch shown_is along =
-    let leaves = along.begins in
+behind_along c kind named place way shown branch shown_is along =
+    let leaves = left_before c named along.before along.variables branch along.begins in
     let comes = leaves.1 in
+    let own = staged named (edges_of along.exchanges) in
     record {
       before = along.before;
       halt = comes.0;
       end = leaves.0;
-      rest = replies_along (staged actor.A (edges_of along.exchanges));
+      rest = replies_along own;
       run = comes.1;
       halts = ended_at_halt c.templates (slice_get (instructions_in c actor.P) comes.0) leaves.0 comes.2;
       fails = record {
         exchanges = along.exchanges;
         end = along.st;
-        run = subst (λ variables. IsRun c.templates (instructions_in c actor.A) 0 (initial_state variables) along.exchanges place along.st) leaves.2
+        run = subst (λ variables. IsRun c.templates (instructions_in c named) 0 (initial_state variables) along.exchanges place along.st) leaves.2
             along.stands;
         fails = along.fails;
         shown_is = refl;
       };
       shown_is = shown_is ∙ ap replies_along along.way_is
-          ∙ replies_append (staged actor.P (edges_of along.before)) (staged actor.A (edges_of along.exchanges));
-    }
-behind_along c kind actor.B place way shown branch shown_is along =
-    let leaves = along.begins in
-    let comes = leaves.1 in
-    record {
-      before = along.before;
-      halt = comes.0;
-      end = leaves.0;
-      rest = replies_along (staged actor.B (edges_of along.exchanges));
-      run = comes.1;
-      halts = ended_at_halt c.templates (slice_get (instructions_in c actor.P) comes.0) leaves.0 comes.2;
-      fails = record {
-        exchanges = along.exchanges;
-        end = along.st;
-        run = subst (λ variables. IsRun c.templates (instructions_in c actor.B) 0 (initial_state variables) along.exchanges place along.st) leaves.2
-            along.stands;
-        fails = along.fails;
-        shown_is = refl;
-      };
-      shown_is = shown_is ∙ ap replies_along along.way_is
-          ∙ replies_append (staged actor.P (edges_of along.before)) (staged actor.B (edges_of along.exchanges));
+          ∙ ap (λ prefix. replies_along (prefix ++ own)) (sym (front_of_branch named along.before branch))
+          ∙ replies_append (staged actor.P (edges_of along.before)) own;
     }
 
 -- the branch begins with what P leaves
@@ -151,11 +138,6 @@ begins_behind : (c : Code) (named : Actor) (before : List Exchange) (halt : ℕ)
 begins_behind c actor.P before halt end branch run halts = absurd (cc)
 begins_behind c actor.A before halt end branch run halts = (end, (halt, run, ap (λ o. met_at c.templates o end) halts), refl)
 begins_behind c actor.B before halt end branch run halts = (end, (halt, run, ap (λ o. met_at c.templates o end) halts), refl)
-
-front_of_branch : (named : Actor) (before : List Exchange) → is_branch named ≡ true → staged actor.P (edges_of before) ≡ front named (edges_of before)
-front_of_branch actor.P before branch = absurd (cc)
-front_of_branch actor.A before branch = refl
-front_of_branch actor.B before branch = refl
 
 along_behind : (c : Code) (kind : RefusalKind) (named : Actor) (place : ℕ) (shown : List (Actor × Class)) → is_branch named ≡ true
     → FailsBehind c kind named place 0 (initial_state (no_variables c)) shown → ShowsFail c kind named place shown

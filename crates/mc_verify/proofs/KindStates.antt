@@ -11,7 +11,7 @@ use Rattle.mc_code.specs.Standing.{no_variables}
 use Rattle.mc_code.specs.declared.kind.Kind.{Kind}
 use Rattle.mc_code.specs.declared.kind.Kind.TheVariants as kind
 use Rattle.mc_verify.specs.KindTrails.{number_of, state_of}
-use Rattle.mc_verify.specs.Kinds.{kind_index}
+use Rattle.mc_flow.specs.Kinds.{kind_index}
 use Rattle.mc_verify.specs.VariableFaults.{is_outcome, is_wrong}
 use Rattle.mc_verify.specs.declared.knowledge.Knowledge.{Knowledge}
 use Rattle.mc_verify.specs.declared.refusal.RefusalKind.{RefusalKind}

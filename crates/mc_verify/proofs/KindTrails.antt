@@ -29,15 +29,15 @@ use Rattle.mc_code.proofs.RunLemmas.{reply_with, class_of_reply, reply_fits, sen
 use Rattle.mc_code.proofs.SameKinds.{edges_lead_alike}
 use Rattle.mc_code.proofs.Stopping.{StopsAt, one_stop, slides_or_sends}
 use Rattle.mc_verify.specs.KindTrails.{number_of, after_class, IsReplied, FailsOn, FailsBehind}
-use Rattle.mc_verify.specs.Kinds.{kind_index}
-use Rattle.mc_verify.specs.RunKinds.{shown_by}
+use Rattle.mc_flow.specs.Kinds.{kind_index}
+use Rattle.mc_flow.specs.RunKinds.{shown_by}
 use Rattle.mc_verify.specs.Shown.{replies_along}
 use Rattle.mc_verify.specs.Trails.{is_branch}
 use Rattle.mc_verify.specs.VariableFaults.{is_outcome, is_wrong, is_of_binds}
-use Rattle.mc_verify.specs.Ways.{staged}
+use Rattle.mc_flow.specs.Ways.{staged}
 use Rattle.mc_verify.specs.declared.refusal.RefusalKind.{RefusalKind}
 use Rattle.mc_verify.proofs.FaultKinds.{wrong_number, unshown}
-use Rattle.mc_verify.proofs.RunKinds.{fit_shows}
+use Rattle.mc_flow.proofs.RunKinds.{fit_shows}
 use Rattle.mc_verify.proofs.Settling.{sends_same}
 
 -- ---- states of the same kinds come to the same faults

@@ -86,9 +86,9 @@ none_more c from k kinds in_each = record { none = none }
 -- ---- structure
 
 -- code without a fault of the first kinds is structured
-pub free_structured : (c : Code) (whose : Actor) → IsFreeOf c 1 5 → IsStructured c whose
+pub free_structured : (c : Code) (whose : Actor) → HasNoneFrom c 1 5 → IsStructured c whose
 free_structured c whose free = record {
-  targets = free.none kind.BadTarget whose (omega arith) (omega arith);
-  indices = free.none kind.BadIndex whose (omega arith) (omega arith);
-  halts = free.none kind.NoHalt whose (omega arith) (omega arith);
+  targets = free kind.BadTarget whose (omega arith) (omega arith);
+  indices = free kind.BadIndex whose (omega arith) (omega arith);
+  halts = free kind.NoHalt whose (omega arith) (omega arith);
 }

@@ -1,33 +1,17 @@
-pub mod FlagBits
-pub mod FlagSetLemmas
-pub mod FlagRows
-pub mod FlagPaths
-pub mod FlagMoves
-pub mod FlagGrid
-pub mod FlagUnions
-pub mod FlagWays
 pub mod FlagFaults
-pub mod Structured
 pub mod Right
 pub mod Admitted
 mod CostLemmas
 mod FlagLemmas
 pub mod Sent
-pub mod CallCosts
-pub mod CostPaths
-pub mod SectionCosts
-pub mod KindSets
-pub mod RunKinds
-pub mod KindMoves
-pub mod FilledKinds
-pub mod ExitKinds
+pub mod Exceeding
 mod Leasts
 mod Limits
 pub mod FaultKinds
 pub mod FaultsAt
 pub mod WrongNumbers
-pub mod PathEnds
 pub mod ShownReplies
+pub mod FlowTraces
 pub mod CostTraces
 pub mod PrefixWalks
 pub mod KindTraces

@@ -10,7 +10,7 @@ use Rattle.mc_code.proofs.PathLemmas.{path_slides, path_sends}
 use Rattle.mc_verify.specs.Faults.{IsStructured}
 use Rattle.mc_verify.specs.Traces.{LeadsOnInP}
 use Rattle.mc_verify.proofs.ShownReplies.{front_one_more}
-use Rattle.mc_verify.proofs.Structured.{structured_slides, structured_sends}
+use Rattle.mc_flow.proofs.Structured.{structured_slides, structured_sends}
 
 pub p_slides : (c : Code) → IsStructured c actor.P → (i : Instr) (p q : ℕ) → slice_get (instructions_in c actor.P) p ≡ Some i → Slides i p q
     → LeadsOnInP c p None q

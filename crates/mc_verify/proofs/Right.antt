@@ -18,7 +18,7 @@ use Rattle.mc_code.proofs.LookUps.{some_is}
 use Rattle.mc_verify.specs.Faults.{IsSound, IsStructured, MayComeTo}
 use Rattle.mc_verify.specs.Laws.{SoundIsRight}
 use Rattle.mc_verify.specs.declared.refusal.RefusalKind.TheVariants as kind
-use Rattle.mc_verify.proofs.Structured.{structured_stands, structured_template}
+use Rattle.mc_flow.proofs.Structured.{structured_stands, structured_template}
 
 pub sound_structured : (c : Code) (actor : Actor) → IsSound c → IsStructured c actor
 sound_structured c actor sound =

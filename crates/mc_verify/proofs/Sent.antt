@@ -17,9 +17,9 @@ use Rattle.mc_code.specs.Paths.{Edge, IsComplete, entry_of}
 use Rattle.mc_code.specs.declared.instr.Instr.TheVariants as instr
 use Rattle.mc_code.proofs.PathLemmas.{path_sends}
 use Rattle.mc_verify.specs.Faults.{IsSound}
-use Rattle.mc_verify.specs.Flags.{IsAdmitted, all_clear}
+use Rattle.mc_flow.specs.Flags.{IsAdmitted, all_clear}
 use Rattle.mc_verify.specs.Laws.{MaySend, SentIsAdmitted}
-use Rattle.mc_verify.specs.Ways.{Stage, staged, LeadsToBoth}
+use Rattle.mc_flow.specs.Ways.{Stage, staged, LeadsToBoth}
 use Rattle.mc_verify.proofs.Admitted.{sound_admitted}
 use Rattle.mc_verify.proofs.FlagLemmas.{staged_calls, calls_in_turn}
 

@@ -19,7 +19,7 @@ use Rattle.mc_code.proofs.RunLemmas.{path_run, AreOfRun}
 use Rattle.mc_code.proofs.Stopping.{slides_or_sends, one_stop}
 use Rattle.mc_verify.specs.Faults.{IsStructured}
 use Rattle.mc_verify.specs.Trails.{LeadsBetween, SlidesAt, RestsAt, IsAnswered, Ends}
-use Rattle.mc_verify.proofs.Structured.{structured_slides, structured_sends}
+use Rattle.mc_flow.proofs.Structured.{structured_slides, structured_sends}
 
 -- ---- where a section rests
 

@@ -6,7 +6,7 @@ use Rattle.mc_protocol.specs.declared.reply.Class.{Class}
 use Rattle.mc_script.specs.declared.step.Template.{Template}
 use Rattle.mc_code.specs.Paths.{Edge}
 use Rattle.mc_verify.specs.Shown.{replies_along}
-use Rattle.mc_verify.specs.Ways.{Stage, staged}
+use Rattle.mc_flow.specs.Ways.{Stage, staged}
 
 -- one more edge of the section
 pub staged_one_more : (actor : Actor) (edges : List Edge) (t : Template) (class : Class)

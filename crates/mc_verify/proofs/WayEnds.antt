@@ -11,9 +11,9 @@ use Rattle.mc_code.specs.Paths.{Edge, stays}
 use Rattle.mc_verify.specs.Faults.{IsStructured}
 use Rattle.mc_verify.specs.Shown.{replies_along}
 use Rattle.mc_verify.specs.Trails.{LeadsBetween, RestsAt, AreInside, first_places, moved, Ends, is_branch, LeadsToBothFrom, LeadsFrom}
-use Rattle.mc_verify.specs.Ways.{Stage, staged, LeadsToBoth, LeadsTo}
+use Rattle.mc_flow.specs.Ways.{Stage, staged, LeadsToBoth, LeadsTo}
 use Rattle.mc_verify.proofs.Settling.{rests_once}
-use Rattle.mc_verify.proofs.Structured.{structured_some}
+use Rattle.mc_flow.proofs.Structured.{structured_some}
 
 -- ---- no stage
 

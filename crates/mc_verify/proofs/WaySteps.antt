@@ -13,7 +13,7 @@ use Rattle.mc_code.specs.Code.{Code}
 use Rattle.mc_code.specs.Paths.{Edge}
 use Rattle.mc_verify.specs.Shown.{replies_along}
 use Rattle.mc_verify.specs.Trails.{LeadsBetween, IsAnswered, moved, Ends, is_branch, MayFollow, GoesOn, LeadsToBothFrom, LeadsFrom}
-use Rattle.mc_verify.specs.Ways.{Stage, staged}
+use Rattle.mc_flow.specs.Ways.{Stage, staged}
 use Rattle.mc_verify.proofs.Settling.{answered_once, answered_first, answered_then, ends_alone}
 
 -- ---- one reply leads to one place

@@ -6,13 +6,13 @@ use Rattle.mc_protocol.specs.declared.actor.Actor.TheVariants as actor
 use Rattle.mc_protocol.specs.declared.reply.Class.{Class}
 use Rattle.mc_protocol.specs.declared.sections.Sections.{Sections}
 use Rattle.mc_code.specs.Code.{Code}
-use Rattle.mc_verify.specs.Costs.{IsGreatestCost}
+use Rattle.mc_flow.specs.Costs.{IsGreatestCost}
 use Rattle.mc_verify.specs.Faults.{IsSound}
 use Rattle.mc_verify.specs.Refusals.{Refusal, IsLeastFrom}
 use Rattle.mc_verify.specs.Shown.{IsShownBy}
 use Rattle.mc_verify.specs.declared.code_fault.CodeFault.{CodeFault}
-use Rattle.mc_verify.specs.declared.cost.Cost.{Cost}
-use Rattle.mc_verify.specs.declared.measure.Measure.TheVariants as measure
+use Rattle.mc_flow.specs.declared.cost.Cost.{Cost}
+use Rattle.mc_flow.specs.declared.measure.Measure.TheVariants as measure
 use Rattle.mc_verify.specs.declared.refusal.RefusalKind.{RefusalKind}
 use Rattle.mc_verify.specs.declared.refusal.RefusalKind.TheVariants as kind
 

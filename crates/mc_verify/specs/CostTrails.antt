@@ -5,12 +5,12 @@ use Rattle.mc_protocol.specs.declared.reply.Class.{Class}
 use Rattle.mc_script.specs.declared.step.Template.{Template}
 use Rattle.mc_code.specs.Calls.{SendsAt}
 use Rattle.mc_code.specs.Code.{Code, section_of}
-use Rattle.mc_verify.specs.Costs.{cost_of, bound_of}
+use Rattle.mc_flow.specs.Costs.{cost_of, bound_of}
 use Rattle.mc_verify.specs.Shown.{replies_along, ExceedsAlong}
 use Rattle.mc_verify.specs.Trails.{is_of, LeadsFrom}
-use Rattle.mc_verify.specs.Ways.{Stage}
+use Rattle.mc_flow.specs.Ways.{Stage}
 use Rattle.mc_verify.specs.declared.cost_trail.CostTrail.{CostTrail}
-use Rattle.mc_verify.specs.declared.measure.Measure.{Measure}
+use Rattle.mc_flow.specs.declared.measure.Measure.{Measure}
 
 -- these replies show that the requests up to a send at the place exceed the section's budget
 abbrev pub ShowsExcess : Code → Measure → Actor → ℕ → List (Actor × Class) → Type 0

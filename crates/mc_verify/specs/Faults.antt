@@ -1,5 +1,5 @@
 -- The faults of code, by kind, section and place; and sound code, which has none.
-use Rattle.std.specs.Prelude.{◌≡◌, ℕ, ◌-◌, ◌<◌, Bool, true, false, not, Some, List, [], ◌∷◌, ◌++◌, length, slice_get}
+use Rattle.std.specs.Prelude.{◌≡◌, ℕ, ◌<◌, Bool, true, false, not, Some, List, [], ◌∷◌, ◌++◌, length, slice_get}
 use Rattle.mc_protocol.specs.declared.actor.Actor.{Actor}
 use Rattle.mc_protocol.specs.declared.actor.Actor.TheVariants as actor
 use Rattle.mc_script.specs.declared.step.Template.{Template}
@@ -9,12 +9,14 @@ use Rattle.mc_code.specs.Paths.{Edge}
 use Rattle.mc_code.specs.Runs.{Exchange}
 use Rattle.mc_code.specs.Standing.{StandsAt, met_in, BeginsAfter}
 use Rattle.mc_code.specs.States.{Tagged, State, Outcome, unbound, wrong_kind, nothing_to_bind}
-use Rattle.mc_verify.specs.Costs.{cost_along, bound_of}
-use Rattle.mc_verify.specs.Flags.{needs, flag_along}
-use Rattle.mc_verify.specs.Structure.{has_bad_target, has_bad_index, is_halt, clears_at}
-use Rattle.mc_verify.specs.Ways.{Stage, LeadsTo, calls_along}
-use Rattle.mc_verify.specs.declared.measure.Measure.{Measure}
-use Rattle.mc_verify.specs.declared.measure.Measure.TheVariants as measure
+use Rattle.mc_flow.specs.Costs.{cost_along, bound_of}
+use Rattle.mc_flow.specs.Flags.{needs, flag_along}
+use Rattle.mc_verify.specs.Clearing.{clears_at}
+use Rattle.mc_flow.specs.Structure.{HasBadTarget, HasBadIndex, LacksHalt}
+pub use Rattle.mc_flow.specs.Structure.{IsStructured}
+use Rattle.mc_flow.specs.Ways.{Stage, LeadsTo, calls_along}
+use Rattle.mc_flow.specs.declared.measure.Measure.{Measure}
+use Rattle.mc_flow.specs.declared.measure.Measure.TheVariants as measure
 use Rattle.mc_verify.specs.declared.refusal.RefusalKind.{RefusalKind}
 use Rattle.mc_verify.specs.declared.refusal.RefusalKind.TheVariants as kind
 
@@ -60,11 +62,9 @@ IsNotCleared c actor.B place = ⊥
 
 -- the code has a fault of this kind at this place of the section; want of memory is no fault of code
 abbrev pub IsFault : Code → RefusalKind → Actor → ℕ → Type 0
-IsFault c kind.BadTarget actor place =
-    has_bad_target c.templates (length (instructions_in c actor)) place (slice_get (instructions_in c actor) place) ≡ true
-IsFault c kind.BadIndex actor place = has_bad_index c (slice_get (instructions_in c actor) place) ≡ true
-IsFault c kind.NoHalt actor place =
-    (place ≡ length (instructions_in c actor) - 1) × (is_halt (slice_get (instructions_in c actor) place) ≡ false)
+IsFault c kind.BadTarget actor place = HasBadTarget c actor place
+IsFault c kind.BadIndex actor place = HasBadIndex c actor place
+IsFault c kind.NoHalt actor place = LacksHalt c actor place
 IsFault c kind.NotCleared actor place = IsNotCleared c actor place
 IsFault c kind.Unbound actor place = (t : Template) × MayComeTo c actor place (unbound t)
 IsFault c kind.WrongKind actor place = (t : Template) × MayComeTo c actor place (wrong_kind t)
@@ -82,9 +82,3 @@ HasNone c kind actor = (place : ℕ) → IsFault c kind actor place → ⊥
 -- no fault stands anywhere
 abbrev pub IsSound : Code → Type 0
 IsSound c = (kind : RefusalKind) (actor : Actor) → HasNone c kind actor
-
--- the section leads forwards to its end, and names what is there: what the search for the other faults stands on
-pub record IsStructured (c : Code) (actor : Actor) : Type 0 where
-  pub targets : HasNone c kind.BadTarget actor
-  pub indices : HasNone c kind.BadIndex actor
-  pub halts : HasNone c kind.NoHalt actor

@@ -5,11 +5,11 @@ use Rattle.mc_protocol.specs.declared.reply.Class.{Class}
 use Rattle.mc_script.specs.declared.step.Template.{Template}
 use Rattle.mc_code.specs.Calls.{SendsAt}
 use Rattle.mc_code.specs.Code.{Code}
-use Rattle.mc_verify.specs.Flags.{needs, flag_along}
-use Rattle.mc_verify.specs.FlagTables.{may_be}
+use Rattle.mc_flow.specs.Flags.{needs, flag_along}
+use Rattle.mc_flow.specs.FlagTables.{may_be}
 use Rattle.mc_verify.specs.Shown.{replies_along, LacksAlong}
 use Rattle.mc_verify.specs.Trails.{LeadsFrom}
-use Rattle.mc_verify.specs.Ways.{Stage, calls_along}
+use Rattle.mc_flow.specs.Ways.{Stage, calls_along}
 use Rattle.mc_verify.specs.declared.flag_trail.FlagTrail.{FlagTrail}
 
 -- these replies show that a send at the place may lack a flag that it needs at this value

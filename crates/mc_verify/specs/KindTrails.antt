@@ -13,10 +13,10 @@ use Rattle.mc_code.specs.States.{Tagged, State, initial_state}
 use Rattle.mc_code.specs.declared.instr.Instr.{Instr}
 use Rattle.mc_code.specs.declared.instr.Instr.TheVariants as instr
 use Rattle.mc_code.specs.declared.kind.Kind.{Kind}
-use Rattle.mc_verify.specs.RunKinds.{shown_by}
+use Rattle.mc_flow.specs.RunKinds.{shown_by}
 use Rattle.mc_verify.specs.Shown.{replies_along, front}
 use Rattle.mc_verify.specs.VariableFaults.{is_outcome}
-use Rattle.mc_verify.specs.Ways.{Stage, staged}
+use Rattle.mc_flow.specs.Ways.{Stage, staged}
 use Rattle.mc_verify.specs.declared.kind_trail.KindTrail.{KindTrail}
 use Rattle.mc_verify.specs.declared.knowledge.Knowledge.{Knowledge}
 use Rattle.mc_verify.specs.declared.refusal.RefusalKind.{RefusalKind}

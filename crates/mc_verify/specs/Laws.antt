@@ -10,13 +10,13 @@ use Rattle.mc_code.specs.Paths.{Edge, IsComplete}
 use Rattle.mc_code.specs.Runs.{Exchange}
 use Rattle.mc_code.specs.Standing.{BeginsWith, IsRightAlong}
 use Rattle.mc_code.specs.States.{Tagged}
-use Rattle.mc_verify.specs.Costs.{cost_along}
+use Rattle.mc_flow.specs.Costs.{cost_along}
 use Rattle.mc_verify.specs.Faults.{MayLackFlag, IsFault, HasNone, IsSound}
-use Rattle.mc_verify.specs.Flags.{IsAdmitted, all_clear}
+use Rattle.mc_flow.specs.Flags.{IsAdmitted, all_clear}
 use Rattle.mc_verify.specs.Refusals.{IsLeast}
-use Rattle.mc_verify.specs.Ways.{Stage, LeadsTo, calls_along}
+use Rattle.mc_flow.specs.Ways.{Stage, LeadsTo, calls_along}
 use Rattle.mc_verify.specs.declared.code_fault.CodeFault.{CodeFault}
-use Rattle.mc_verify.specs.declared.measure.Measure.{Measure}
+use Rattle.mc_flow.specs.declared.measure.Measure.{Measure}
 use Rattle.mc_verify.specs.declared.refusal.RefusalKind.{RefusalKind}
 use Rattle.mc_verify.specs.declared.refusal.RefusalKind.TheVariants as kind
 

@@ -1,19 +1,13 @@
 -- What the public contracts cite.
-pub mod Flags
-pub mod Ways
-pub mod Costs
-pub mod Structure
+pub mod Clearing
 pub mod Faults
 pub mod Refusals
 pub mod Checked
 pub mod Shown
 pub mod Laws
 -- What private contracts cite.
-pub mod Entries
-pub mod CostTables
-pub mod Kinds
-pub mod RunKinds
-pub mod FlagTables
+pub mod FlowTraces
+pub mod FaultGroups
 pub mod Lowest
 pub mod VariableFaults
 pub mod Traces

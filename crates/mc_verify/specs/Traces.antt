@@ -7,7 +7,7 @@ use Rattle.mc_code.specs.Calls.{LeadsIn}
 use Rattle.mc_code.specs.Code.{Code, instructions_in}
 use Rattle.mc_code.specs.Paths.{Edge, IsComplete}
 use Rattle.mc_verify.specs.Shown.{replies_along, front, IsBegun}
-use Rattle.mc_verify.specs.Ways.{staged}
+use Rattle.mc_flow.specs.Ways.{staged}
 
 -- the section's reply of this class, if the move has one
 abbrev pub replies_by : Actor → Option Class → List (Actor × Class)

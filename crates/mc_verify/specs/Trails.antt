@@ -15,7 +15,7 @@ use Rattle.mc_code.specs.Code.{Code, instructions_in}
 use Rattle.mc_code.specs.Paths.{Edge, Slides, Sends, IsPath}
 use Rattle.mc_code.specs.declared.instr.Instr.{Instr}
 use Rattle.mc_code.specs.declared.instr.Instr.TheVariants as instr
-use Rattle.mc_verify.specs.Ways.{Stage, staged}
+use Rattle.mc_flow.specs.Ways.{Stage, staged}
 
 -- ---- one section
 

@@ -1,7 +1,7 @@
 //! Code that may run.
 ghost use Rattle.std.specs.Prelude.{◌≡◌};
 ghost use Rattle.mc_protocol.specs.Sections as sections;
-ghost use Rattle.mc_verify.specs.Costs.{IsGreatestCost};
+ghost use Rattle.mc_flow.specs.Costs.{IsGreatestCost};
 ghost use Rattle.mc_verify.specs.Faults.{IsSound};
 
 use crate::{Cost, Measure};

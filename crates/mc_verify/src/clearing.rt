@@ -2,7 +2,8 @@
 ghost use Rattle.std.specs.Prelude.{◌≡◌, ◌<◌, IfNone, IfSome, slice_get};
 ghost use Rattle.mc_verify.specs.Faults as faults;
 ghost use Rattle.mc_verify.specs.Lowest as lowest_faults;
-ghost use Rattle.mc_verify.specs.Structure as structure;
+ghost use Rattle.mc_flow.specs.Structure as structure;
+ghost use Rattle.mc_verify.specs.Clearing.{clears_at, is_delete, is_delete_of};
 
 use crate::RefusalKind;
 use crate::section::key_count;
@@ -39,7 +40,7 @@ fn lowest_key_not_cleared(code: &Code) -> Option<u8>
 /// Whether the instruction at the place deletes the key with the place's number, and goes on to the next place.
 fn clears_at(templates: &[Template], section: &[Instr], place: u8) -> bool
     requires { place < KEYS_LIMIT }
-    ensures { result ≡ structure.clears_at templates.now place (slice_get section.now place) }
+    ensures { result ≡ clears_at templates.now place (slice_get section.now place) }
 {
     match section.get(usize::from(place)) {
         Some(Instr::Send { template, next }) => {
@@ -53,7 +54,7 @@ fn clears_at(templates: &[Template], section: &[Instr], place: u8) -> bool
 
 /// Whether the template with this index is there, and deletes the key.
 fn is_delete_of(templates: &[Template], index: u8, key: u8) -> bool
-    ensures { result ≡ structure.is_delete_of key (slice_get templates.now index) }
+    ensures { result ≡ is_delete_of key (slice_get templates.now index) }
 {
     match templates.get(usize::from(index)) {
         Some(template) => is_delete(template.verb) && template.key == key,
@@ -62,7 +63,7 @@ fn is_delete_of(templates: &[Template], index: u8, key: u8) -> bool
 }
 
 fn is_delete(verb: Verb) -> bool
-    ensures { result ≡ structure.is_delete verb }
+    ensures { result ≡ is_delete verb }
 {
     matches!(verb, Verb::Delete)
 }

@@ -9,10 +9,10 @@ ghost use Rattle.mc_verify.specs.Faults as faults;
 ghost use Rattle.mc_verify.specs.Trails.{AreInside, first_places};
 
 use crate::Measure;
+use crate::budgets::bound;
 use crate::places::{are_heard, go_on, is_of, rests_at};
-use crate::section_costs::bound;
-use crate::weights::call_cost;
 use mc_code::{Code, Instr, TEMPLATES_LIMIT};
+use mc_flow::call_cost;
 use mc_protocol::{Actor, Class, Sections};
 
 /// How far some replies of a run lead.

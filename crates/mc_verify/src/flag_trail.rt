@@ -5,12 +5,12 @@ ghost use Rattle.mc_protocol.specs.declared.reply.Class.{Class as Reply};
 ghost use Rattle.mc_verify.specs.Faults as faults;
 ghost use Rattle.mc_verify.specs.FlagTrails as trails;
 ghost use Rattle.mc_script.specs.declared.limits.TheConstants.{FLAGS_LIMIT};
-ghost use Rattle.mc_verify.specs.FlagTables.{may_be};
+ghost use Rattle.mc_flow.specs.FlagTables.{may_be};
 ghost use Rattle.mc_verify.specs.Trails.{AreInside, first_places};
 
-use crate::flag_sets::FlagSets;
 use crate::places::{go_on, rests_at};
 use mc_code::{Code, Instr, TEMPLATES_LIMIT};
+use mc_flow::FlagSets;
 use mc_protocol::{Actor, Class, Sections};
 
 /// How far some replies of a run lead.

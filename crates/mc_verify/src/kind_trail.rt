@@ -16,10 +16,10 @@ ghost use Rattle.mc_verify.specs.Trails.{RestsAt, is_branch};
 ghost use Rattle.mc_verify.specs.VariableFaults as variables;
 
 use crate::RefusalKind;
-use crate::kind_table::declared_template;
 use crate::knowledge::Knowledge;
 use crate::places::{is_branch, is_of, slide};
 use mc_code::{Code, Instr, TEMPLATES_LIMIT, entry};
+use mc_flow::declared_template;
 use mc_protocol::{Actor, Class, legal};
 
 /// How far some replies of a run lead: of P, and then of the section in which the fault is.

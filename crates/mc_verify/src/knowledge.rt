@@ -9,9 +9,9 @@ ghost use Rattle.mc_verify.specs.VariableFaults.{is_outcome};
 ghost use Rattle.mc_verify.specs.KindTrails.{state_of, after_class};
 
 use crate::RefusalKind;
-use crate::kind_table::shown_by;
 use crate::wrong_number::is_wrong;
 use mc_code::{Instr, Kind};
+use mc_flow::shown_by;
 use mc_protocol::Class;
 use mc_script::{Argument, Template, VARIABLES_LIMIT};
 

@@ -1,10 +1,9 @@
 //! Why code is refused.
 ghost use Rattle.std.specs.Prelude.{◌≡◌};
 ghost use Rattle.mc_verify.specs.Checked as checked;
-ghost use Rattle.mc_verify.specs.Refusals as refusals;
 
 use crate::code_fault::CodeFault;
-use mc_protocol::{Actor, Class};
+use mc_protocol::{Actor, Class, FaultKind};
 use std::alloc::Global;
 use std::marker::Model;
 use thiserror::Error;
@@ -51,11 +50,17 @@ pub enum RefusalKind {
     OutOfMemory,
 }
 
-impl RefusalKind {
-    /// The number of the kind, as a refusal shows it.
-    pub fn number(self) -> u32
-        ensures { result ≡ refusals.kind_number self }
-    {
+impl FaultKind for RefusalKind {
+    ghost use Rattle.mc_verify.specs.Refusals as refusals;
+    ghost use Rattle.mc_verify.specs.declared.refusal.RefusalKind.TheVariants.{OutOfMemory};
+
+    ghost kind_number = { refusals.kind_number };
+
+    ghost kind_name = { refusals.kind_name };
+
+    ghost OutOfMemory = { OutOfMemory };
+
+    fn number(self) -> u32 {
         match self {
             RefusalKind::BadTarget => 1,
             RefusalKind::BadIndex => 2,
@@ -72,10 +77,7 @@ impl RefusalKind {
         }
     }
 
-    /// The name of the kind, as a refusal shows it.
-    pub fn name(self) -> &'static str
-        ensures { result.now ≡ refusals.kind_name self }
-    {
+    fn name(self) -> &'static str {
         match self {
             RefusalKind::BadTarget => "BadTarget",
             RefusalKind::BadIndex => "BadIndex",
@@ -90,6 +92,10 @@ impl RefusalKind {
             RefusalKind::TooManyBytes => "TooManyBytes",
             RefusalKind::OutOfMemory => "OutOfMemory",
         }
+    }
+
+    fn is_out_of_memory(self) -> bool {
+        self == RefusalKind::OutOfMemory
     }
 }
 

@@ -15,6 +15,7 @@ use mc_code::Code;
 /// there. No run shows a fault of structure, or that memory ran out.
 ///
 /// The code must have no fault of structure, as that of any other refusal has none.
+#[tactic(auto, using(crate::proofs::Leasts::free_structured))]
 pub fn shows(code: &Code, refusal: &Refusal) -> bool
     requires { HasNoneFrom code.now 1 5 }
     ensures { (result ≡ true) ↔ IsShownBy code.now refusal.now.kind refusal.now.actor refusal.now.place refusal.now.shown }

@@ -4,7 +4,7 @@ ghost use Rattle.mc_protocol.specs.declared.actor.Actor as actor;
 ghost use Rattle.mc_verify.specs.Faults as faults;
 ghost use Rattle.mc_verify.specs.Lowest as lowest_faults;
 ghost use Rattle.mc_verify.specs.Refusals as refusals;
-ghost use Rattle.mc_verify.specs.Structure as structure;
+ghost use Rattle.mc_flow.specs.Structure as structure;
 
 use crate::RefusalKind;
 use crate::clearing::lowest_not_cleared;

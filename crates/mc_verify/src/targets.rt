@@ -4,7 +4,7 @@ ghost use Rattle.std.specs.List.{list_all};
 ghost use Rattle.mc_protocol.specs.Words.{all_classes};
 ghost use Rattle.mc_verify.specs.Faults as faults;
 ghost use Rattle.mc_verify.specs.Lowest as lowest_faults;
-ghost use Rattle.mc_verify.specs.Structure as structure;
+ghost use Rattle.mc_flow.specs.Structure as structure;
 
 use crate::RefusalKind;
 use crate::section::instructions;

@@ -7,18 +7,17 @@ ghost use Rattle.mc_verify.specs.Checked as checked;
 ghost use Rattle.mc_verify.specs.Faults as faults;
 ghost use Rattle.mc_verify.specs.Lowest as lowest_faults;
 ghost use Rattle.mc_verify.specs.Refusals as refusals;
-ghost use Rattle.mc_verify.specs.RunKinds as runs;
+ghost use Rattle.mc_flow.specs.RunKinds as runs;
 ghost use Rattle.mc_verify.specs.VariableFaults as variables;
 
 use crate::code_fault::CodeFault;
-use crate::kind_table::declared_template;
-use crate::kind_tables::{KindTables, all_kind_tables};
 use crate::lowest::check_kind;
 use crate::section::instructions;
 use crate::variable_run::variable_run;
 use crate::wrong_number::{binds_nothing, sends_wrong_number};
 use crate::{Refusal, RefusalKind};
 use mc_code::{Code, Instr};
+use mc_flow::{KindTables, all_kind_tables, declared_template};
 use mc_protocol::{Actor, OutOfMemory, Sections};
 use std::alloc::Global;
 

@@ -7,7 +7,7 @@ ghost use Rattle.mc_command.specs.Statuses.{status_number};
 ghost use Rattle.mc_command.specs.Streams.{TakesAtMost};
 
 use mc_command::{
-    Asked, CampaignTarget, Invocation, Reader, Remarks, Service, Sink, Source, Statistics, Status,
+    Asked, CampaignTarget, Invocation, Reader, Remarks, RunTeller, Service, Sink, Source, Status,
     Target, TcpNetwork, Told, Unconnected, Writer, answer_offline, explain_fault, input_name,
     read_invocation, run_campaign_at, run_selftest, run_target, serve_connections, unread_line,
 };
@@ -158,18 +158,10 @@ where
     ensures broken_output { O.has_failed output.old ≡ false → O.has_failed output.new ≡ true → result ≡ 4 }
     ensures taken { TakesAtMost 1048577 (I.left input.old) (I.left input.new) }
 {
-    let mut statistics = Statistics::new();
+    let columns = if target.quiet { None } else { columns };
+    let mut teller = RunTeller::new(rt, alloc, columns, target.stats);
     let mut network = TcpNetwork { rt };
-    let (status, remarks) = run_target(
-        rt,
-        alloc,
-        target,
-        columns,
-        &mut network,
-        &mut statistics,
-        input,
-        output,
-    );
+    let (status, remarks) = run_target(rt, alloc, target, &mut network, &mut teller, input, output);
     match remarks {
         Remarks::None => {}
         Remarks::NoConnection(Unconnected { section, error }) => {
@@ -181,7 +173,7 @@ where
         }
         Remarks::Evidence(remarks) => tell_remarks(rt, remarks.as_slice()),
     }
-    if target.stats {
+    if let Some(statistics) = &teller.statistics {
         // There is nowhere else to say that this could not be said.
         let _ = eprint!(rt; "{statistics}");
     }

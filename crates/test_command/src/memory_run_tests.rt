@@ -3,7 +3,8 @@
 use crate::canned::{Answers, CannedNetwork};
 use mc_campaign::Meeting;
 use mc_command::{
-    Reader, Remarks, Repeat, Search, Statistics, Status, Target, Unconnected, Writer, run_target,
+    Reader, Remarks, Repeat, RunTeller, Search, Statistics, Status, Target, Unconnected, Writer,
+    run_target,
 };
 use mc_protocol::Actor;
 use std::alloc::Global;
@@ -104,8 +105,11 @@ fn a_section_without_a_connection_is_named(rt: HostRuntime) -> Result<(), Fail> 
 fn a_run_is_counted(rt: HostRuntime) -> Result<(), Fail> {
     let mut network = CannedNetwork::new([TO_P, &[b"6\r\n"], &[]]);
     let ran = run(&rt, rt.alloc(), &mut network, None, false);
+    let Some(statistics) = ran.statistics else {
+        return Err(Fail::new("the runs are not counted"));
+    };
     assert_eq!(rt;
-        ran.statistics.to_string(rt.alloc())?.as_str(),
+        statistics.to_string(rt.alloc())?.as_str(),
         "mcrace: 1 run, 0 overlapped, A's first reply first in 0 of 0\n\
          mcrace: set: 1 stored\n\
          mcrace: incr: 1 number\n\
@@ -176,7 +180,7 @@ struct Ran {
     status: Status,
     remarks: Remarks,
     output: Vec<u8>,
-    statistics: Statistics,
+    statistics: Option<Statistics>,
 }
 
 // Runs the script over the network.
@@ -209,14 +213,13 @@ where
         stats: true,
     };
     let mut output = Vec::new(alloc);
-    let mut statistics = Statistics::new();
+    let mut teller = RunTeller::new(rt, alloc, None, target.stats);
     let (status, remarks) = run_target(
         rt,
         alloc,
         &target,
-        None,
         network,
-        &mut statistics,
+        &mut teller,
         &mut Reader::new(SCRIPT.as_bytes()),
         &mut Writer::new(&mut output),
     );
@@ -224,7 +227,7 @@ where
         status,
         remarks,
         output,
-        statistics,
+        statistics: teller.statistics,
     }
 }
 

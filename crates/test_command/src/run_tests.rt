@@ -3,10 +3,9 @@
 use crate::driven::SCRIPT;
 use mc_campaign::Meeting;
 use mc_command::{
-    Reader, Repeat, Search, Statistics, Status, Target, TcpNetwork, Writer, run_command, run_target,
+    Reader, Repeat, Search, Status, Target, TcpNetwork, Unobserved, Writer, run_command, run_target,
 };
 use std::alloc::{AllocError, Global};
-use std::io::Eprint;
 use std::net::{Net, TcpStream};
 use std::rt::Clock;
 use std::sync::Wait;
@@ -64,7 +63,7 @@ fn each_run_of_several_needs_a_server(rt: HostRuntime) {
 // What is written of runs at port 0; or nothing where the status isn't 4.
 fn repeated<R>(rt: &R, alloc: Global, repeat: Repeat) -> Vec<u8>
 where
-    R: Net<Stream = TcpStream> + Threads + Wait + Clock + Sync + Eprint,
+    R: Net<Stream = TcpStream> + Threads + Wait + Clock + Sync,
 {
     let target = Target {
         server: "127.0.0.1:0",
@@ -89,9 +88,8 @@ where
         rt,
         alloc,
         &target,
-        None,
         &mut TcpNetwork { rt },
-        &mut Statistics::new(),
+        &mut Unobserved,
         &mut Reader::new(SCRIPT.as_bytes()),
         &mut Writer::new(&mut output),
     );

@@ -1,10 +1,11 @@
 //! Which fault a text has that is no step list: its kind, its line, the word that it is about, and what was expected there.
 
 use crate::steps_tests::text_with;
-use mc_history::StepsKind::{Header, Line, TooMany, Unended};
+use mc_history::StepsKind::{Header, Line, OutOfMemory, TooMany, Unended};
 use mc_history::{Expected, Misread, StepsFault, StepsKind, parse_steps};
 use mc_model::ExpectedWord;
-use std::alloc::Global;
+use mc_protocol::{FaultKind, fault_of_input};
+use std::alloc::{AllocError, Global};
 use std::test::Fail;
 
 // Texts that are none, each with the number of its first line, its fault, the line of the fault, the index there of the word
@@ -276,4 +277,10 @@ fn says_what_is_wrong(rt: HostRuntime) -> Result<(), Fail> {
     assert_eq!(rt; text.as_str(), "line 1002: expected at most 1000 steps");
     assert!(rt; TooMany.number() == 3 && TooMany.name() == "TooMany");
     Ok(())
+}
+
+#[test]
+fn want_of_memory_is_no_fault_of_the_input(rt: HostRuntime) {
+    assert_eq!(rt; fault_of_input(TooMany), Ok(TooMany));
+    assert_eq!(rt; fault_of_input(OutOfMemory), Err(AllocError));
 }

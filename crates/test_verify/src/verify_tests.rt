@@ -3,7 +3,7 @@
 use crate::answer::{Answer, Fault, answer_to, fault_of};
 use crate::short_tables::COUNTER;
 use mc_code::{Code, encode};
-use mc_protocol::{Actor, Class};
+use mc_protocol::{Actor, Class, FaultKind};
 use mc_verify::{Checked, RefusalKind};
 use std::alloc::{AllocError, Global};
 use std::test::Fail;

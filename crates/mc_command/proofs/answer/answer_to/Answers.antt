@@ -1,4 +1,4 @@
-use Rattle.std.proofs.Common.{inl, None}
+use Rattle.std.proofs.Common.{None}
 use Rattle.std.proofs.lemmas.Result.{IfOk-weaker}
 use Rattle.mc_command.proofs.BlockTexts.{nothing_ran}
 use Rattle.mc_command.specs.CampaignAnswers.{Connection}
@@ -7,6 +7,5 @@ use Rattle.mc_command.proofs.answer.answer_to.Goals as goal
 pub returns-in-Campaign : goal.returns-in-Campaign
 returns-in-Campaign c =
     let plan = c.in-Campaign.field-0 in
-    let short = c.if-text-gt-INPUT_LIMIT.false in
     rw c.in-Campaign.is (IfOk-weaker c.not_run.result _ _
-    (λ answer is. inl (short, rw (is.0, is.1) (nothing_ran Connection plan.until plan None))) c.not_run.ensures)
+    (λ answer is. rw (is.0, is.1) (nothing_ran Connection plan.until plan None)) c.not_run.ensures)

@@ -1,5 +1,5 @@
 use Rattle.std.proofs.Common.{None}
-use Rattle.mc_command.proofs.Played.{spells_alone}
+use Rattle.mc_command.proofs.PlayedRuns.{spells_alone}
 use Rattle.mc_command.proofs.run.check_text.Goals as goal
 
 pub returns-in-Ok : goal.returns-in-Ok

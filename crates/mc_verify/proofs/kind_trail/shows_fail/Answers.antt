@@ -4,7 +4,7 @@ use Rattle.mc_verify.specs.KindTrails.{state_of, section_in, FailsFrom}
 use Rattle.mc_verify.specs.Trails.{is_branch}
 use Rattle.mc_verify.proofs.KindSlides.{fails_from_first}
 use Rattle.mc_verify.proofs.KindBegins.{through}
-use Rattle.mc_verify.proofs.Structured.{structured_some}
+use Rattle.mc_flow.proofs.Structured.{structured_some}
 use Rattle.mc_verify.proofs.kind_trail.shows_fail.Goals as goal
 
 unless : (b : Bool) → not b ≡ false → b ≡ true

@@ -2,7 +2,7 @@ use Rattle.std.proofs.Common.{slice_get, ap, sym, ◌∙◌}
 use Rattle.mc_code.specs.Code.{instructions_in}
 use Rattle.mc_code.specs.declared.instr.Instr.TheVariants as instr
 use Rattle.mc_verify.proofs.Settling.{unanswered_at, illegal_at}
-use Rattle.mc_verify.proofs.Structured.{structured_sends}
+use Rattle.mc_flow.proofs.Structured.{structured_sends}
 use Rattle.mc_verify.proofs.places.answer.Goals as goal
 
 pub returns-then-legal-clause-inside : goal.returns-then-legal-clause-inside

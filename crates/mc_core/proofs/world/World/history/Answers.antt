@@ -1,15 +1,13 @@
 use Rattle.std.proofs.Common.{◌≡◌, true, false, sym, ap, ◌∙◌}
 use Rattle.mc_model.specs.Notes.{History, is_record, sections_in}
 use Rattle.mc_core.proofs.HistorySteps.{folds_recorded}
-use Rattle.mc_core.proofs.Recording.{memory_alone}
 use Rattle.mc_core.proofs.world.World.history.Goals as goal
 
 pub want_of_memory-requires : goal.want_of_memory-requires
 want_of_memory-requires c =
     let rules = (folds_recorded c.args.checked.now.code _ c.args.self.now.world 0 c.know_code.ensures.kept c.know_code.ensures.sound
     c.requires.held.fold).rules in
-    memory_alone c.in-Err.fault.0
-    (λ other. let clash : true ≡ false = sym (ap is_record c.in_ok-notes.ensures ∙ rules) ∙ c.in-Err.ensures.none other in absurd (cc))
+    λ other. let clash : true ≡ false = sym (ap is_record c.in_ok-notes.ensures ∙ rules) ∙ c.in-Err.ensures.none other in absurd (cc)
 
 pub returns-in-Ok-clause-sections : goal.returns-in-Ok-clause-sections
 returns-in-Ok-clause-sections c =

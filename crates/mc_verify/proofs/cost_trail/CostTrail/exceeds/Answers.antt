@@ -5,10 +5,10 @@ use Rattle.mc_code.specs.Calls.{no_template}
 use Rattle.mc_code.specs.Code.{instructions_in, section_of}
 use Rattle.mc_code.specs.declared.instr.Instr.TheVariants as instr
 use Rattle.mc_code.proofs.LookUps.{some_is}
-use Rattle.mc_verify.specs.Costs.{bound_of, cost_of}
-use Rattle.mc_verify.proofs.CallCosts.{weight_at}
+use Rattle.mc_flow.specs.Costs.{bound_of, cost_of}
+use Rattle.mc_flow.proofs.CallCosts.{weight_at}
 use Rattle.mc_verify.proofs.CostTrails.{exceeding_there, there_exceeding}
-use Rattle.mc_verify.proofs.Structured.{structured_template}
+use Rattle.mc_flow.proofs.Structured.{structured_template}
 use Rattle.mc_verify.proofs.cost_trail.CostTrail.exceeds.Goals as goal
 
 pub returns-then-not-rests_at : goal.returns-then-not-rests_at

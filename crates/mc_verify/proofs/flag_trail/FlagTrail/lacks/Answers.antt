@@ -3,7 +3,7 @@ use Rattle.mc_code.specs.Code.{instructions_in}
 use Rattle.mc_code.specs.declared.instr.Instr.TheVariants as instr
 use Rattle.mc_code.proofs.LookUps.{some_is}
 use Rattle.mc_verify.proofs.FlagTrails.{lacking_there, there_lacking}
-use Rattle.mc_verify.proofs.Structured.{structured_template}
+use Rattle.mc_flow.proofs.Structured.{structured_template}
 use Rattle.mc_verify.proofs.flag_trail.FlagTrail.lacks.Goals as goal
 
 pub returns-then-not-rests_at : goal.returns-then-not-rests_at

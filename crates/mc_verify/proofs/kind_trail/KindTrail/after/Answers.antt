@@ -3,7 +3,7 @@ use Rattle.mc_protocol.specs.declared.actor.Actor.TheVariants as actor
 use Rattle.mc_code.specs.Code.{instructions_in}
 use Rattle.mc_verify.specs.KindTrails.{state_of, section_in}
 use Rattle.mc_verify.proofs.KindBegins.{begins_left, branch_begins_never, where_behind, through, some_after, none_after}
-use Rattle.mc_verify.proofs.Structured.{structured_some}
+use Rattle.mc_flow.proofs.Structured.{structured_some}
 use Rattle.mc_verify.proofs.kind_trail.KindTrail.after.Goals as goal
 
 pub begin-requires-clause-structured : goal.begin-requires-clause-structured

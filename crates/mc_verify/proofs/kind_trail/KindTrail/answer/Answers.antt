@@ -7,7 +7,7 @@ use Rattle.mc_code.proofs.LookUps.{some_is}
 use Rattle.mc_verify.specs.KindTrails.{state_of}
 use Rattle.mc_verify.proofs.KindBegins.{replied_at}
 use Rattle.mc_verify.proofs.Settling.{no_other_send}
-use Rattle.mc_verify.proofs.Structured.{structured_sends}
+use Rattle.mc_flow.proofs.Structured.{structured_sends}
 use Rattle.mc_verify.proofs.kind_trail.KindTrail.answer.Goals as goal
 
 pub returns-then-legal-clause-inside : goal.returns-then-legal-clause-inside

@@ -3,7 +3,7 @@ use Rattle.mc_protocol.specs.declared.actor.Actor.TheVariants as actor
 use Rattle.mc_code.specs.Code.{instructions_in}
 use Rattle.mc_verify.specs.KindTrails.{state_of}
 use Rattle.mc_verify.proofs.KindBegins.{begins_there, branch_is_never, where_behind, through}
-use Rattle.mc_verify.proofs.Structured.{structured_some}
+use Rattle.mc_flow.proofs.Structured.{structured_some}
 use Rattle.mc_verify.proofs.kind_trail.KindTrail.fails.Goals as goal
 
 pub fails_on-requires-clause-structured : goal.fails_on-requires-clause-structured

@@ -2,7 +2,7 @@ use Rattle.std.proofs.Common.{Some, slice_get, ap, sym, subst, ◌∙◌, arith}
 use Rattle.mc_code.specs.Code.{instructions_in}
 use Rattle.mc_code.specs.Paths.{Slides}
 use Rattle.mc_code.proofs.LookUps.{some_is}
-use Rattle.mc_verify.proofs.Structured.{structured_variable}
+use Rattle.mc_flow.proofs.Structured.{structured_variable}
 use Rattle.mc_verify.proofs.kind_trail.KindTrail.slide.Goals as goal
 
 pub after_slide-requires : goal.after_slide-requires

@@ -1,0 +1,11 @@
+pub mod Flags
+pub mod Ways
+pub mod Costs
+pub mod Structure
+pub mod Entries
+pub mod Flows
+pub mod FlowLaws
+pub mod CostTables
+pub mod Kinds
+pub mod RunKinds
+pub mod FlagTables

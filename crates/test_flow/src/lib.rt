@@ -1,0 +1,5 @@
+//! Tests of `mc_flow`: what its tables have of a script's code.
+#![tactic(auto)]
+
+#[cfg(test)]
+mod table_tests;
