@@ -8,15 +8,18 @@ FILE = "tools/memory-calls"
 # The words of answers that say it: of std, of what ended a connection, and a count in which threads are that weren't made.
 WORDS = {"OutOfMemory", "AllocError", "Memory", "Listened"}
 DECLARED = re.compile(r"^pub (?:enum|struct) (\w+)[^;{]*\{(.*?)^\}", re.S | re.M)
+ALIAS = re.compile(r"^pub type (\w+)[^=]*= ([^;]*);", re.M)
+# What the program does, and the line that it reads: their own allocations are refused on each case and example.
+PROGRAM = {"mc_command", "mc_line"}
 ANSWER = re.compile(r"->\s*(.*?)(?:\b(?:where|ensures|requires)\b|\{|;)")
 TRAIT = re.compile(r"^pub trait (\w+)[^{]*\{\n(.*?)^\}", re.S | re.M)
 METHOD = re.compile(r"^    fn (\w+)(.*?)(?=^    fn |\Z)", re.S | re.M)
 
 
 def libraries(root):
-    """The folders of the libraries below the program's own."""
+    """The folders of the libraries below the program's own two."""
     found = sorted(it.parents[1] for it in root.glob("crates/*/src/lib.rt"))
-    return [it for it in found if it.name != "mc_command" and not it.name.startswith("test_")]
+    return [it for it in found if it.name not in PROGRAM and not it.name.startswith("test_")]
 
 
 def types_that_say_so(folders):
@@ -24,7 +27,8 @@ def types_that_say_so(folders):
     declared = {}
     for folder in folders:
         for path in folder.glob("src/*.rt"):
-            for name, body in DECLARED.findall(path.read_text(encoding="utf-8")):
+            text = path.read_text(encoding="utf-8")
+            for name, body in DECLARED.findall(text) + ALIAS.findall(text):
                 declared[name] = set(re.findall(r"\b[A-Z]\w+", re.sub(r"//.*", "", body)))
     found, size = set(WORDS), 0
     while len(found) > size:

@@ -1,6 +1,6 @@
 -- The lines of `campaign` that are mostly written ask for what they say.
 use Rattle.std.proofs.Common.{Bool, ℕ, suc, ◌+◌, ◌^◌, ◌≤◌}
-use Rattle.std.proofs.Common.{refl, sym, arith, ap, inl, inr, true, false, List, ◌∷◌, ◌≡◌, ◌<◌, ◌∙◌, Option, Some, None, codes}
+use Rattle.std.proofs.Common.{refl, sym, arith, ap, inl, inr, true, false, List, ◌∷◌, ◌≡◌, ◌<◌, ◌∙◌, Option, None, codes}
 use Rattle.std.specs.Prelude.{is_some}
 use Rattle.std.proofs.lemmas.Bool.{false≢true}
 use Rattle.clap.specs.Words.{Text}

@@ -10,7 +10,8 @@ use Rattle.clap.proofs.OnLiterals.{clap_on_literals}
 use Rattle.mc_command.proofs.OptionValue.{IsNoFlag}
 use Rattle.mc_command.proofs.RunLines.{first_fault, first_walked}
 use Rattle.mc_command.specs.Command.{is_set}
-use Rattle.mc_command.specs.CommandLine.{campaign_app, line_command, line_faults, line_value, program_app}
+use Rattle.mc_line.specs.Commands.{campaign_app, program_app}
+use Rattle.mc_command.specs.CommandLine.{line_command, line_faults, line_value}
 
 -- the subcommand, as clap builds it
 unfoldable campaign_shape : Shape

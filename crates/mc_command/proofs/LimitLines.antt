@@ -8,7 +8,8 @@ use Rattle.clap.specs.Simple.{label_of}
 use Rattle.clap.specs.Walk.{Walk, answers_to, finished, nothing_held, settled, walk, walk_from}
 use Rattle.clap.proofs.OnLiterals.{clap_on_literals}
 use Rattle.mc_command.proofs.OptionValue.{IsNoFlag, value_walked, value_has_no_fault}
-use Rattle.mc_command.specs.CommandLine.{drive_app, judge_app, line_command, line_faults, line_limit, line_value, program_app}
+use Rattle.mc_line.specs.Commands.{drive_app, judge_app, program_app}
+use Rattle.mc_command.specs.CommandLine.{line_command, line_faults, line_limit, line_value}
 
 -- ---- what both share
 

@@ -17,7 +17,8 @@ use Rattle.mc_command.specs.declared.campaign.Plan.{Plan}
 use Rattle.mc_command.specs.declared.serve.Service.{Service}
 use Rattle.mc_command.specs.Command.{AreCampaignWords, AreRunWords, AsksFor, IsAskedBy, IsConnections, IsFaultOf, IsJob, IsLimit, IsPlan}
 use Rattle.mc_command.specs.Command.{IsPort, IsSeed, IsShown}
-use Rattle.mc_command.specs.CommandLine.{given_name, given_value, line_command, line_faults, line_value, program_app}
+use Rattle.mc_line.specs.Commands.{program_app}
+use Rattle.mc_command.specs.CommandLine.{given_name, given_value, line_command, line_faults, line_value}
 use Rattle.mc_command.specs.Invocations.{AsksNothing}
 
 -- the faults of the command that the program makes

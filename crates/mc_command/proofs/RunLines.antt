@@ -14,7 +14,8 @@ use Rattle.clap.specs.Walk.{nothing_held, settled, short_or_plain, to_positional
 use Rattle.clap.proofs.OnLiterals.{clap_on_literals}
 use Rattle.mc_command.proofs.LimitLines.{limit_words}
 use Rattle.mc_command.proofs.OptionValue.{IsNoFlag, value_walked, value_has_no_fault}
-use Rattle.mc_command.specs.CommandLine.{line_command, line_faults, line_limit, line_target, line_value, program_app, run_app}
+use Rattle.mc_line.specs.Commands.{program_app, run_app}
+use Rattle.mc_command.specs.CommandLine.{line_command, line_faults, line_limit, line_target, line_value}
 
 -- ---- the words that `run` may take beside its limit
 

@@ -9,7 +9,8 @@ use Rattle.clap.specs.Walk.{Text, Walk, answers_to, finished, nothing_held, sett
 use Rattle.clap.proofs.OnLiterals.{clap_on_literals}
 use Rattle.mc_command.proofs.OptionValue.{IsNoFlag}
 use Rattle.mc_command.proofs.RunLines.{first_fault, first_walked}
-use Rattle.mc_command.specs.CommandLine.{line_command, line_faults, line_value, program_app, serve_app}
+use Rattle.mc_line.specs.Commands.{program_app, serve_app}
+use Rattle.mc_command.specs.CommandLine.{line_command, line_faults, line_value}
 
 -- the subcommand, as clap builds it
 unfoldable serve_shape : Shape

@@ -10,7 +10,7 @@ use Rattle.mc_core.specs.Histories.{history_of}
 use Rattle.mc_history.specs.StepKinds.{kind_name, kind_number}
 use Rattle.mc_history.specs.StepText.{SpellsSteps}
 use Rattle.mc_core.specs.Worlds.{Noted}
-use Rattle.mc_history.specs.declared.steps_fault.StepsFault.{StepsFault}
+use Rattle.mc_history.specs.declared.steps_fault.StepsKind.{StepsKind}
 use Rattle.mc_history.specs.declared.steps_fault.StepsKind.TheVariants as steps_kind
 use Rattle.mc_explain.specs.Verdicts.{IsStated}
 use Rattle.mc_explain.specs.declared.verdict.Verdict.{Verdict}
@@ -56,13 +56,13 @@ abbrev pub line_after : List ℕ → ℕ
 line_after front = min (line_count (lines_of_text Space front) + 1) LAST_NUMBER
 
 -- no step list follows the script; the fault is in a line after those of the script
-pub record LacksSteps (text : List ℕ) (fault : StepsFault) : Type 0 where
+pub record LacksSteps (text : List ℕ) (fault : StepsKind) (line : ℕ) : Type 0 where
   pub code : Code
   pub size : ℕ
   pub begins : BeginsWith text code size
-  pub kind : fault.kind ≢ steps_kind.OutOfMemory
+  pub kind : fault ≢ steps_kind.OutOfMemory
   pub none : (steps : List Noted) → SpellsSteps (drop size text) steps → ⊥
-  pub after : line_after (take size text) ≤ fault.line
+  pub after : line_after (take size text) ≤ line
 
 -- the answer is right for the text
 abbrev pub IsRight : Bool → List ℕ → Driven → Type 0
@@ -70,11 +70,11 @@ IsRight why text (driven.Ended held skipped found reasons) = IsDriven why text h
 IsRight why text (driven.NoCode fault hint) = IsFrontFault text fault × IsHint why hint.items
 IsRight why text (driven.Unsound refusal hint) =
     (code : Code) × (size : ℕ) × IsFrontCode text code size × IsRightRefusal code refusal × IsHint why hint.items
-IsRight why text (driven.NoSteps fault hint) = LacksSteps text fault × IsHint why hint.items
+IsRight why text (driven.NoSteps fault hint) = LacksSteps text fault.kind fault.line × IsHint why hint.items
 
 -- what is written for a text whose script no step list follows
-abbrev pub steps_refusal : StepsFault → List ℕ
-steps_refusal fault = refusal_text (codes "steps") (kind_number fault.kind) (kind_name fault.kind) (place.Line fault.line)
+abbrev pub steps_refusal : StepsKind → ℕ → List ℕ
+steps_refusal fault line = refusal_text (codes "steps") (kind_number fault) (kind_name fault) (place.Line line)
 
 -- what is written for steps: how many were refused and skipped, how the sections ended, the verdict, and why nothing explains the
 -- history, where that is asked
@@ -87,7 +87,7 @@ abbrev pub text_of : Driven → List ℕ
 text_of (driven.Ended held skipped found reasons) = ended_text held skipped found reasons.items
 text_of (driven.NoCode fault hint) = load_refusal fault ++ hint.items
 text_of (driven.Unsound refusal hint) = unsound_text refusal ++ hint.items
-text_of (driven.NoSteps fault hint) = steps_refusal fault ++ hint.items
+text_of (driven.NoSteps fault hint) = steps_refusal fault.kind fault.line ++ hint.items
 
 -- the exit status of an answer
 abbrev pub status_of : Driven → Status

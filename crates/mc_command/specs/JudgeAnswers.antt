@@ -2,8 +2,8 @@
 use Rattle.std.specs.Prelude.{◌≡◌, ◌≢◌, ℕ, Option, Some, None, List, ◌++◌, codes}
 use Rattle.mc_model.specs.Notes.{History}
 use Rattle.mc_model.specs.Kinds.{kind_name, kind_number}
+use Rattle.mc_model.specs.declared.rules.HistoryKind.{HistoryKind}
 use Rattle.mc_model.specs.declared.rules.HistoryKind.TheVariants as kind
-use Rattle.mc_history.specs.declared.fault.HistoryFault.{HistoryFault}
 use Rattle.mc_history.specs.Claim.{Claim}
 use Rattle.mc_history.specs.HistoryText.{SpellsHistory}
 use Rattle.mc_claims.specs.Explains.{Explains}
@@ -35,15 +35,15 @@ IsRight how text (judgement.Refused fault hint) =
     (fault.kind ≢ kind.OutOfMemory) × SpellsNone text × IsHint how.why hint.items
 
 -- what is written for a history that is refused
-abbrev pub history_refusal : HistoryFault → List ℕ
-history_refusal fault = refusal_text (codes "history") (kind_number fault.kind) (kind_name fault.kind) (place.Line fault.line)
+abbrev pub history_refusal : HistoryKind → ℕ → List ℕ
+history_refusal fault line = refusal_text (codes "history") (kind_number fault) (kind_name fault) (place.Line line)
 
 -- what is written for an answer
 abbrev pub text_of : Judgement → List ℕ
 text_of judgement.Confirmed = codes "confirmed\n"
 text_of judgement.NotConfirmed = codes "not confirmed\n"
 text_of (judgement.Judged found turns why) = verdict_text found ++ why.items
-text_of (judgement.Refused fault hint) = history_refusal fault ++ hint.items
+text_of (judgement.Refused fault hint) = history_refusal fault.kind fault.line ++ hint.items
 
 -- the exit status of an answer
 abbrev pub status_of : Judgement → Status

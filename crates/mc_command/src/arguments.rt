@@ -1,8 +1,8 @@
-//! What a line may ask for, the words of `run`, and the program's command.
+//! What a line may ask for, and the words of `run`.
 ghost use Rattle.std.specs.Prelude.{◌≡◌, ◌⊎◌, codes, IfErr, IfOk, IfSome, None};
-ghost use Rattle.clap.specs.Words.{app_of, first_value, found_of, kind_of};
+ghost use Rattle.clap.specs.Words.{first_value, found_of, kind_of};
 ghost use Rattle.mc_command.specs.Command.{AreRunWords, IsSearch, MayBeTime, MayName, NamesMeeting};
-ghost use Rattle.mc_command.specs.CommandLine.{bare_app, program_app, section_server};
+ghost use Rattle.mc_command.specs.CommandLine.{section_server};
 ghost use Rattle.mc_command.specs.Invocations.{IsTarget};
 
 use crate::asking::Search;
@@ -10,30 +10,13 @@ use crate::campaign::Plan;
 use crate::repeat::Repeat;
 use crate::seconds::Seconds;
 use crate::serve::Service;
-use crate::{
-    asking, asm, campaign, check, drive, flag, generate, judge, limit, meeting, namespace, repeat,
-    run_options, seconds, selftest, serve, spread,
-};
+use crate::{asking, flag, limit, meeting, namespace, repeat, seconds, spread};
 use clap::error::ErrorKind;
 use clap::{ArgMatches, Command, Error};
 use mc_campaign::{Meeting, Namespace};
+use mc_line::run_subcommand;
 use mc_protocol::Actor;
-use std::alloc::{AllocError, Global};
-
-const ABOUT: &str = "Tests servers that speak memcached's text protocol";
-
-const VERSION: &str = "0.1.0";
-
-const STATUSES: &str = "Exit status:
-  0  explained, confirmed, accepted or assembled; or help or the version
-  1  unexplained, or not confirmed; or a section failed by BadReply; or the
-     selftest failed
-  2  the command line is wrong
-  3  refused: the input is no history, no script, no image or no step list, a
-     script that is too large, or code with a fault; or has more than 1,048,576
-     bytes
-  4  undecided; a section isn't done; or out of memory; or input or output
-     failed";
+use std::alloc::Global;
 
 /// What a line asks for.
 #[derive(Clone, Copy, Debug, Drop, PartialEq, Eq)]
@@ -145,12 +128,12 @@ pub fn check_run_words(alloc: Global, options: &ArgMatches) -> Result<(), Error>
     ensures fault { IfErr result (λ error. (kind_of error ≡ ErrorKind.OutOfMemory)
         ⊎ ((kind_of error ≡ ErrorKind.ValueValidation) × (AreRunWords (first_value (found_of options.now)) → ⊥))) }
 {
-    check_meeting(alloc, options, run_options::subcommand(alloc)?)?;
+    check_meeting(alloc, options, run_subcommand(alloc)?)?;
     check_name(alloc, options)?;
-    check_time(alloc, options, run_options::subcommand(alloc)?, "timeout")?;
-    check_time(alloc, options, run_options::subcommand(alloc)?, "wait")?;
-    repeat::check(alloc, options, run_options::subcommand(alloc)?)?;
-    spread::check(alloc, options, run_options::subcommand(alloc)?)
+    check_time(alloc, options, run_subcommand(alloc)?, "timeout")?;
+    check_time(alloc, options, run_subcommand(alloc)?, "wait")?;
+    repeat::check(alloc, options, run_subcommand(alloc)?)?;
+    spread::check(alloc, options, run_subcommand(alloc)?)
 }
 
 /// Nothing, or the fault of the subcommand's line whose word is no time.
@@ -180,7 +163,7 @@ fn check_name(alloc: Global, options: &ArgMatches) -> Result<(), Error>
 {
     match namespace::read(options) {
         Ok(_) => Ok(()),
-        Err(word) => Err(namespace::fault(alloc, run_options::subcommand(alloc)?, word)?),
+        Err(word) => Err(namespace::fault(alloc, run_subcommand(alloc)?, word)?),
     }
 }
 
@@ -199,32 +182,4 @@ pub fn check_meeting(
         Ok(_) => Ok(()),
         Err(word) => Err(meeting::fault(alloc, subcommand, word)?),
     }
-}
-
-/// The program's command.
-pub fn program<'a>(alloc: Global) -> Result<Command<'a>, AllocError>
-    ensures { IfOk result (λ command. app_of command ≡ program_app) }
-{
-    bare_program(alloc)
-        .subcommand(judge::subcommand(alloc)?)?
-        .subcommand(check::subcommand(alloc)?)?
-        .subcommand(asm::subcommand(alloc)?)?
-        .subcommand(drive::subcommand(alloc)?)?
-        .subcommand(run_options::subcommand(alloc)?)?
-        .subcommand(generate::subcommand(alloc)?)?
-        .subcommand(serve::subcommand(alloc)?)?
-        .subcommand(campaign::subcommand(alloc)?)?
-        .subcommand(selftest::subcommand(alloc))
-}
-
-// The program without its subcommands.
-fn bare_program<'a>(alloc: Global) -> Command<'a>
-    ensures { app_of result ≡ bare_app }
-{
-    Command::new(alloc, "mcrace")
-        .about(ABOUT)
-        .version(VERSION)
-        .after_help(STATUSES)
-        .subcommand_required(true)
-        .arg_required_else_help(true)
 }

@@ -1,12 +1,10 @@
 //! How a line wants explanations to be searched for: the option `--limit`, of `limit`, and the flag `--why`.
-ghost use Rattle.std.specs.Prelude.{◌≡◌, codes, false};
-ghost use Rattle.clap.specs.Words.{first_value, found_of, rule_of};
+ghost use Rattle.std.specs.Prelude.{◌≡◌, codes};
+ghost use Rattle.clap.specs.Words.{first_value, found_of};
 ghost use Rattle.mc_command.specs.Command.{is_set};
-ghost use Rattle.mc_command.specs.CommandLine.{why_rule};
 
 use crate::flag;
-use clap::{Arg, ArgAction, ArgMatches};
-use std::alloc::Global;
+use clap::ArgMatches;
 
 /// How an explanation is searched for.
 #[derive(Clone, Copy, Debug, Drop, PartialEq, Eq)]
@@ -16,30 +14,6 @@ pub struct Search {
     /// Whether the answer says why nothing explains a history, where that is so; each search for it takes at most `limit` turns. And
     /// whether it shows the word for which a text is refused.
     pub why: bool,
-}
-
-const HELP: &str = "Say why it is unexplained, or which word is refused";
-
-// What help tells of the flag where no explanation is searched for.
-const REFUSED_HELP: &str = "Show the line for which a script is refused";
-
-/// The flag.
-pub fn flag<'a>(alloc: Global) -> Arg<'a>
-    ensures rule { rule_of result ≡ why_rule }
-    ensures local { result.global ≡ false }
-{
-    Arg::new(alloc, "why")
-        .long("why")
-        .action(ArgAction::SetTrue)
-        .help(HELP)
-}
-
-/// The flag, of a subcommand that searches for no explanation.
-pub fn refusal_flag<'a>(alloc: Global) -> Arg<'a>
-    ensures rule { rule_of result ≡ why_rule }
-    ensures local { result.global ≡ false }
-{
-    flag(alloc).help(REFUSED_HELP)
 }
 
 /// Whether the flag is there.

@@ -1,18 +1,13 @@
 //! What a line of `campaign` asks for.
-ghost use Rattle.std.specs.Prelude.{◌≡◌, ◌⊎◌, ◌↔◌, ◌+◌, ◌<◌, ◌≤◌, ◌^◌, ℕ, codes, false, true, IfErr, IfOk, IfSome, None};
-ghost use Rattle.clap.specs.Words.{app_of, first_value, found_of, kind_of, rule_of};
+ghost use Rattle.std.specs.Prelude.{◌≡◌, ◌⊎◌, ◌↔◌, ◌+◌, ◌<◌, ◌≤◌, ◌^◌, ℕ, codes, true, IfErr, IfOk, IfSome, None};
+ghost use Rattle.clap.specs.Words.{first_value, found_of, kind_of};
 ghost use Rattle.mc_command.specs.Command.{IsCount, IsNumber, IsPlan, IsWorkers};
-ghost use Rattle.mc_command.specs.CommandLine.{brief_rule, campaign_app, from_rule, jobs_rule, quiet_rule, tries_rule};
-ghost use Rattle.mc_command.specs.CommandLine.{workers_rule};
 
-use crate::campaign_help::{ABOUT, LONG_ABOUT, STATUSES, USAGE};
 use crate::until::Until;
-use crate::{
-    asking, campaign_name, campaign_show, flag, generate, limit, meeting, namespace, number,
-    run_options, spread, statistics, until,
-};
+use crate::{asking, campaign_name, campaign_show, flag, limit, number, until};
 use clap::error::ErrorKind;
-use clap::{Arg, ArgAction, ArgMatches, Command, Error};
+use clap::{ArgMatches, Error};
+use mc_line::campaign_subcommand;
 use std::alloc::{AllocError, Global};
 
 // The seed, the first job, and how many workers there are, where the line names none.
@@ -70,10 +65,10 @@ pub fn read_or_fault(alloc: Global, options: &ArgMatches) -> Result<Plan, Error>
 {
     let seed = number_or_fault(alloc, options, "seed", DEFAULT_SEED)?;
     let first = number_or_fault(alloc, options, "from", DEFAULT_FIRST)?;
-    let until = until::read_or_fault(alloc, options, subcommand(alloc)?)?;
-    let jobs = until::jobs_or_fault(alloc, options, subcommand(alloc)?, first)?;
+    let until = until::read_or_fault(alloc, options, campaign_subcommand(alloc)?)?;
+    let jobs = until::jobs_or_fault(alloc, options, campaign_subcommand(alloc)?, first)?;
     let workers = workers_or_fault(alloc, options)?;
-    let limit = limit::read_or_fault(alloc, options, subcommand(alloc)?)?;
+    let limit = limit::read_or_fault(alloc, options, campaign_subcommand(alloc)?)?;
     let tries = count_or_fault(alloc, options, "tries", DEFAULT_TRIES, GREATEST_TRIES)?;
     if !has_last(first, jobs) {
         return Err(last_fault(alloc, first, jobs)?);
@@ -106,7 +101,14 @@ fn number_or_fault(
         ⊎ ((kind_of error ≡ ErrorKind.ValueValidation)
         × ((number : ℕ) → IsNumber default 18446744073709551615 (first_value (found_of options.now) name.now) number → ⊥))) }
 {
-    number::read_or_fault(alloc, options, subcommand(alloc)?, name, default, u64::MAX)
+    number::read_or_fault(
+        alloc,
+        options,
+        campaign_subcommand(alloc)?,
+        name,
+        default,
+        u64::MAX,
+    )
 }
 
 // The number from 1 to `greatest` that the option names, or the default; or the fault of the line.
@@ -123,7 +125,14 @@ fn count_or_fault(
         ⊎ ((kind_of error ≡ ErrorKind.ValueValidation)
         × ((number : ℕ) → IsCount default greatest (first_value (found_of options.now) name.now) number → ⊥))) }
 {
-    number::read_count_or_fault(alloc, options, subcommand(alloc)?, name, default, greatest)
+    number::read_count_or_fault(
+        alloc,
+        options,
+        campaign_subcommand(alloc)?,
+        name,
+        default,
+        greatest,
+    )
 }
 
 // How many workers the option names, or the default; or the fault of the line.
@@ -186,113 +195,5 @@ fn last_fault(alloc: Global, first: u64, jobs: u64) -> Result<Error, AllocError>
         "invalid value '{first}' for '--from <N>': the last of {jobs} jobs would have a number above {}",
         u64::MAX
     )?;
-    subcommand(alloc)?.error(ErrorKind::ValueValidation, message.as_str())
-}
-
-const FROM_HELP: &str = "The first job's number [default: 0]";
-
-const BRIEF_HELP: &str = "Write no lines of jobs with which nothing was wrong";
-
-const TRIES_HELP: &str = "Runs of a smaller script, 1 to 1000 [default: 1]";
-
-const QUIET_HELP: &str = "Don't say on a terminal how far the campaign is";
-
-const JOBS_HELP: &str = "How many jobs, 1 to 10000 [default: 100]";
-
-const WORKERS_HELP: &str = "How many run at once, 1 to 16 [default: 4]";
-
-/// The subcommand.
-pub fn subcommand<'a>(alloc: Global) -> Result<Command<'a>, AllocError>
-    ensures { IfOk result (λ command. app_of command ≡ campaign_app) }
-{
-    Command::new(alloc, "campaign")
-        .about(ABOUT)
-        .long_about(LONG_ABOUT)
-        .override_usage(USAGE)
-        .after_help(STATUSES)
-        .arg(run_options::target(alloc))?
-        .arg(generate::seed_option(alloc))?
-        .arg(from(alloc))?
-        .arg(jobs(alloc))?
-        .arg(workers(alloc))?
-        .arg(limit::option(alloc))?
-        .arg(meeting::option(alloc))?
-        .arg(namespace::option(alloc))?
-        .arg(run_options::timeout(alloc))?
-        .arg(run_options::wait(alloc))?
-        .arg(brief(alloc))?
-        .arg(campaign_show::show(alloc))?
-        .arg(campaign_show::why(alloc))?
-        .arg(tries(alloc))?
-        .arg(quiet(alloc))?
-        .arg(spread::option(alloc, spread::HELP_OF_CAMPAIGN))?
-        .arg(statistics::option(alloc))?
-        .arg(until::time(alloc))?
-        .arg(until::stop_after(alloc))
-}
-
-// The option that names how often a smaller script is run.
-fn tries<'a>(alloc: Global) -> Arg<'a>
-    ensures rule { rule_of result ≡ tries_rule }
-    ensures local { result.global ≡ false }
-{
-    Arg::new(alloc, "tries")
-        .long("tries")
-        .value_name("N")
-        .help(TRIES_HELP)
-}
-
-// The option that names the first job.
-fn from<'a>(alloc: Global) -> Arg<'a>
-    ensures rule { rule_of result ≡ from_rule }
-    ensures local { result.global ≡ false }
-{
-    Arg::new(alloc, "from")
-        .long("from")
-        .value_name("N")
-        .help(FROM_HELP)
-}
-
-// The flag that leaves out how far the campaign is.
-fn quiet<'a>(alloc: Global) -> Arg<'a>
-    ensures rule { rule_of result ≡ quiet_rule }
-    ensures local { result.global ≡ false }
-{
-    Arg::new(alloc, "quiet")
-        .long("quiet")
-        .action(ArgAction::SetTrue)
-        .help(QUIET_HELP)
-}
-
-// The flag that leaves lines out.
-fn brief<'a>(alloc: Global) -> Arg<'a>
-    ensures rule { rule_of result ≡ brief_rule }
-    ensures local { result.global ≡ false }
-{
-    Arg::new(alloc, "brief")
-        .long("brief")
-        .action(ArgAction::SetTrue)
-        .help(BRIEF_HELP)
-}
-
-// The option that names how many jobs there are.
-fn jobs<'a>(alloc: Global) -> Arg<'a>
-    ensures rule { rule_of result ≡ jobs_rule }
-    ensures local { result.global ≡ false }
-{
-    Arg::new(alloc, "jobs")
-        .long("jobs")
-        .value_name("N")
-        .help(JOBS_HELP)
-}
-
-// The option that names how many workers there are.
-fn workers<'a>(alloc: Global) -> Arg<'a>
-    ensures rule { rule_of result ≡ workers_rule }
-    ensures local { result.global ≡ false }
-{
-    Arg::new(alloc, "workers")
-        .long("workers")
-        .value_name("N")
-        .help(WORKERS_HELP)
+    campaign_subcommand(alloc)?.error(ErrorKind::ValueValidation, message.as_str())
 }

@@ -11,6 +11,7 @@ use crate::{campaign, flag, meeting, namespace, seconds, spread};
 use clap::error::ErrorKind;
 use clap::{ArgMatches, Error};
 use mc_campaign::{Meeting, Namespace};
+use mc_line::campaign_subcommand;
 use std::alloc::Global;
 
 /// A campaign, and the server that it runs against.
@@ -69,8 +70,8 @@ pub fn check_campaign_words(alloc: Global, options: &ArgMatches) -> Result<(), E
     ensures fault { IfErr result (λ error. (kind_of error ≡ ErrorKind.OutOfMemory)
         ⊎ ((kind_of error ≡ ErrorKind.ValueValidation) × (AreCampaignWords (first_value (found_of options.now)) → ⊥))) }
 {
-    check_meeting(alloc, options, campaign::subcommand(alloc)?)?;
-    spread::check(alloc, options, campaign::subcommand(alloc)?)?;
-    check_time(alloc, options, campaign::subcommand(alloc)?, "timeout")?;
-    check_time(alloc, options, campaign::subcommand(alloc)?, "wait")
+    check_meeting(alloc, options, campaign_subcommand(alloc)?)?;
+    spread::check(alloc, options, campaign_subcommand(alloc)?)?;
+    check_time(alloc, options, campaign_subcommand(alloc)?, "timeout")?;
+    check_time(alloc, options, campaign_subcommand(alloc)?, "wait")
 }

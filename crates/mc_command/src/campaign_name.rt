@@ -4,10 +4,11 @@ ghost use Rattle.clap.specs.Words.{first_value, found_of, kind_of};
 ghost use Rattle.mc_campaign.specs.JobCodes.{KeysFit, NameFits};
 ghost use Rattle.mc_command.specs.Command.{MayName};
 
-use crate::{campaign, namespace};
+use crate::namespace;
 use clap::error::ErrorKind;
 use clap::{ArgMatches, Error};
 use mc_campaign::{Namespace, keys_fit};
+use mc_line::campaign_subcommand;
 use std::alloc::Global;
 
 /// Whether the words of `campaign` give no name, or one under which no key of this many jobs, from the first on, becomes too long.
@@ -37,7 +38,7 @@ pub fn check(alloc: Global, options: &ArgMatches, first: u64, jobs: u64) -> Resu
 {
     let name = match namespace::read(options) {
         Ok(name) => name,
-        Err(word) => return Err(namespace::fault(alloc, campaign::subcommand(alloc)?, word)?),
+        Err(word) => return Err(namespace::fault(alloc, campaign_subcommand(alloc)?, word)?),
     };
     match name {
         Some(name) => check_keys(alloc, &name, first, jobs),
@@ -57,6 +58,6 @@ fn check_keys(alloc: Global, name: &Namespace<'_>, first: u64, jobs: u64) -> Res
     }
     let last = first + jobs.saturating_sub(1);
     let key = format!(in alloc; "r{last}-0")?;
-    let command = campaign::subcommand(alloc)?;
+    let command = campaign_subcommand(alloc)?;
     Err(namespace::long_key_fault(alloc, command, name, key.as_bytes())?)
 }

@@ -1,36 +1,13 @@
 //! What a line of `campaign` asks to be shown of unexplained jobs: the flags `--show` and `--why`.
-ghost use Rattle.std.specs.Prelude.{◌≡◌, ◌⊎◌, ◌↔◌, false, true, IfErr, IfOk};
-ghost use Rattle.clap.specs.Words.{first_value, found_of, kind_of, rule_of};
+ghost use Rattle.std.specs.Prelude.{◌≡◌, ◌⊎◌, ◌↔◌, true, IfErr, IfOk};
+ghost use Rattle.clap.specs.Words.{first_value, found_of, kind_of};
 ghost use Rattle.mc_command.specs.Command.{WhyIsShown};
-ghost use Rattle.mc_command.specs.CommandLine.{show_rule, why_rule};
 
-use crate::{asking, campaign, flag};
+use crate::{asking, flag};
 use clap::error::ErrorKind;
-use clap::{Arg, ArgAction, ArgMatches, Error};
+use clap::{ArgMatches, Error};
+use mc_line::campaign_subcommand;
 use std::alloc::{AllocError, Global};
-
-const SHOW_HELP: &str = "Write the histories of unexplained jobs, ten at most";
-
-const WHY_HELP: &str = "With --show, say why nothing explains each of them";
-
-/// The flag that asks for histories.
-pub fn show<'a>(alloc: Global) -> Arg<'a>
-    ensures rule { rule_of result ≡ show_rule }
-    ensures local { result.global ≡ false }
-{
-    Arg::new(alloc, "show")
-        .long("show")
-        .action(ArgAction::SetTrue)
-        .help(SHOW_HELP)
-}
-
-/// The flag that asks why nothing explains them.
-pub fn why<'a>(alloc: Global) -> Arg<'a>
-    ensures rule { rule_of result ≡ why_rule }
-    ensures local { result.global ≡ false }
-{
-    asking::flag(alloc).help(WHY_HELP)
-}
 
 /// Whether the words of `campaign` don't ask why, or ask for the histories too.
 pub fn fits(options: &ArgMatches) -> bool
@@ -55,5 +32,5 @@ pub fn check_why(alloc: Global, options: &ArgMatches) -> Result<(), Error>
 fn why_fault(alloc: Global) -> Result<Error, AllocError>
     ensures { IfOk result (λ error. kind_of error ≡ ErrorKind.ValueValidation) }
 {
-    campaign::subcommand(alloc)?.error(ErrorKind::ValueValidation, "--why needs --show")
+    campaign_subcommand(alloc)?.error(ErrorKind::ValueValidation, "--why needs --show")
 }

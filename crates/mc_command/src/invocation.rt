@@ -5,13 +5,14 @@ ghost use Rattle.mc_command.specs.Command.{AsksFor, IsAskedBy, IsFaultOf};
 ghost use Rattle.mc_command.specs.CommandLine.{line_value};
 ghost use Rattle.mc_command.specs.Invocations.{Describes, AsksNothing, asked_by};
 
-use crate::arguments::{Asked, Target, check_run_words, program, read_run_options};
+use crate::arguments::{Asked, Target, check_run_words, read_run_options};
 use crate::asking::Search;
 use crate::campaign_line::{CampaignTarget, check_campaign_words, read_campaign_options};
 use crate::serve::Service;
-use crate::{asking, campaign, drive, generate, judge, limit, run_options, serve};
+use crate::{asking, campaign, generate, limit, serve};
 use clap::error::ErrorKind;
 use clap::{ArgMatches, Error};
+use mc_line::{drive_subcommand, judge_subcommand, program, run_subcommand};
 use std::alloc::{AllocError, Global};
 
 /// What a line asks for, with all that its words say of it.
@@ -99,7 +100,7 @@ fn read_judge<'a>(alloc: Global, options: &ArgMatches<'a>) -> Result<Invocation<
     ensures fault { IfErr result (λ error. (kind_of error ≡ ErrorKind.OutOfMemory)
         ⊎ AsksNothing (Some (codes "judge")) (first_value (found_of options.now)) (kind_of error)) }
 {
-    let limit = limit::read_or_fault(alloc, options, judge::subcommand(alloc)?)?;
+    let limit = limit::read_or_fault(alloc, options, judge_subcommand(alloc)?)?;
     let why = asking::asks_why(options);
     Ok(Invocation::Offline(Asked::Judge(Search { limit, why })))
 }
@@ -111,7 +112,7 @@ fn read_drive<'a>(alloc: Global, options: &ArgMatches<'a>) -> Result<Invocation<
     ensures fault { IfErr result (λ error. (kind_of error ≡ ErrorKind.OutOfMemory)
         ⊎ AsksNothing (Some (codes "drive")) (first_value (found_of options.now)) (kind_of error)) }
 {
-    let limit = limit::read_or_fault(alloc, options, drive::subcommand(alloc)?)?;
+    let limit = limit::read_or_fault(alloc, options, drive_subcommand(alloc)?)?;
     let why = asking::asks_why(options);
     Ok(Invocation::Offline(Asked::Drive(Search { limit, why })))
 }
@@ -123,7 +124,7 @@ fn read_run<'a>(alloc: Global, options: &ArgMatches<'a>) -> Result<Invocation<'a
     ensures fault { IfErr result (λ error. (kind_of error ≡ ErrorKind.OutOfMemory)
         ⊎ AsksNothing (Some (codes "run")) (first_value (found_of options.now)) (kind_of error)) }
 {
-    let limit = limit::read_or_fault(alloc, options, run_options::subcommand(alloc)?)?;
+    let limit = limit::read_or_fault(alloc, options, run_subcommand(alloc)?)?;
     check_run_words(alloc, options)?;
     let why = asking::asks_why(options);
     match read_run_options(options) {

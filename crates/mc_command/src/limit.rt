@@ -1,12 +1,11 @@
 //! The option `--limit`: the most turns that a search may take.
-ghost use Rattle.std.specs.Prelude.{◌≡◌, ◌⊎◌, ℕ, false, codes, IfErr, IfOk, MatchResult};
-ghost use Rattle.clap.specs.Words.{first_value, found_of, kind_of, rule_of};
+ghost use Rattle.std.specs.Prelude.{◌≡◌, ◌⊎◌, ℕ, codes, IfErr, IfOk, MatchResult};
+ghost use Rattle.clap.specs.Words.{first_value, found_of, kind_of};
 ghost use Rattle.mc_command.specs.Command.{IsLimit};
-ghost use Rattle.mc_command.specs.CommandLine.{limit_rule};
 
 use crate::number;
 use clap::error::ErrorKind;
-use clap::{Arg, ArgMatches, Command, Error};
+use clap::{ArgMatches, Command, Error};
 use std::alloc::Global;
 
 // The most turns of a search where the line names no limit.
@@ -14,19 +13,6 @@ const DEFAULT_LIMIT: u64 = 1_000_000;
 
 // The most turns that the line may name.
 const GREATEST_LIMIT: u64 = 1_000_000_000;
-
-const HELP: &str = "Search turns, 0 to 1000000000 [default: 1000000]";
-
-/// The option.
-pub fn option<'a>(alloc: Global) -> Arg<'a>
-    ensures rule { rule_of result ≡ limit_rule }
-    ensures local { result.global ≡ false }
-{
-    Arg::new(alloc, "limit")
-        .long("limit")
-        .value_name("N")
-        .help(HELP)
-}
 
 /// The limit that the words of a subcommand name, or the default; or the word that is no limit.
 pub fn read<'a>(options: &ArgMatches<'a>) -> Result<u64, &'a str>

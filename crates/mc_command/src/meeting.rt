@@ -1,36 +1,22 @@
 //! How the branches of a run, or of each job of a campaign, meet: the option `--meet`, and for a run what the lot says.
-ghost use Rattle.std.specs.Prelude.{◌≡◌, ◌<◌, ◌^◌, ℕ, false, codes, IfOk, MatchResult};
-ghost use Rattle.clap.specs.Words.{first_value, found_of, kind_of, rule_of};
+ghost use Rattle.std.specs.Prelude.{◌≡◌, ◌<◌, ◌^◌, ℕ, codes, IfOk, MatchResult};
+ghost use Rattle.clap.specs.Words.{first_value, found_of, kind_of};
 ghost use Rattle.mc_command.specs.Command.{IsMeeting};
-ghost use Rattle.mc_command.specs.CommandLine.{meet_rule};
 ghost use Rattle.mc_command.specs.Drawing.{meet_by};
 
 use clap::error::ErrorKind;
-use clap::{Arg, ArgMatches, Command, Error};
+use clap::{ArgMatches, Command, Error};
 use mc_campaign::Meeting;
 use mc_run::Meet;
 use rand_pcg::Pcg32;
 use std::alloc::{AllocError, Global};
 use std::rt::Clock;
 
-const HELP: &str = "Meeting: drawn, each, first or never [default: drawn]";
-
 // The seed where the clock gives none.
 const FIXED_SEED: u64 = 42;
 
 // Which of its sequences the generator goes along.
 const SEQUENCE: u64 = 54;
-
-/// The option.
-pub fn option<'a>(alloc: Global) -> Arg<'a>
-    ensures rule { rule_of result ≡ meet_rule }
-    ensures local { result.global ≡ false }
-{
-    Arg::new(alloc, "meet")
-        .long("meet")
-        .value_name("WORD")
-        .help(HELP)
-}
 
 /// The meeting that the words of a subcommand name, or the default; or the word that names none.
 pub fn read<'a>(options: &ArgMatches<'a>) -> Result<Meeting, &'a str>

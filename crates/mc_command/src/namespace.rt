@@ -1,27 +1,13 @@
 //! The option `--name`: the name that the keys of a run, or of a campaign's jobs, are put under.
-ghost use Rattle.std.specs.Prelude.{◌≡◌, false, codes, IfOk, MatchResult};
-ghost use Rattle.clap.specs.Words.{first_value, found_of, kind_of, rule_of};
+ghost use Rattle.std.specs.Prelude.{◌≡◌, codes, IfOk, MatchResult};
+ghost use Rattle.clap.specs.Words.{first_value, found_of, kind_of};
 ghost use Rattle.mc_command.specs.Command.{MayName};
-ghost use Rattle.mc_command.specs.CommandLine.{name_rule};
 
 use clap::error::ErrorKind;
-use clap::{Arg, ArgMatches, Command, Error};
+use clap::{ArgMatches, Command, Error};
 use mc_campaign::Namespace;
 use mc_protocol::{Bytes, KEY_BYTES_LIMIT};
 use std::alloc::{AllocError, Global};
-
-const HELP: &str = "Put NAME and a dash before each key";
-
-/// The option.
-pub fn option<'a>(alloc: Global) -> Arg<'a>
-    ensures rule { rule_of result ≡ name_rule }
-    ensures local { result.global ≡ false }
-{
-    Arg::new(alloc, "name")
-        .long("name")
-        .value_name("NAME")
-        .help(HELP)
-}
 
 /// The name that the words of a subcommand give, if they give one; or the word that is no such name.
 pub fn read<'a>(options: &ArgMatches<'a>) -> Result<Option<Namespace<'a>>, &'a str>

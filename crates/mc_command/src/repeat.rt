@@ -1,13 +1,12 @@
 //! The options that say how often a script is run: `--times`, `--for` and `--keep-going`; and `--reconnect` and `--quiet`.
-ghost use Rattle.std.specs.Prelude.{◌≡◌, ◌⊎◌, ◌≤◌, codes, false, IfErr, IfOk, MatchResult, option_and_then};
-ghost use Rattle.clap.specs.Words.{first_value, found_of, kind_of, rule_of};
-ghost use Rattle.mc_command.specs.CommandLine.{for_rule, keep_going_rule, quiet_rule, reconnect_rule, times_rule};
+ghost use Rattle.std.specs.Prelude.{◌≡◌, ◌⊎◌, ◌≤◌, codes, IfErr, IfOk, MatchResult, option_and_then};
+ghost use Rattle.clap.specs.Words.{first_value, found_of, kind_of};
 ghost use Rattle.mc_command.specs.Repeats as spec;
 ghost use Rattle.mc_command.specs.Repeats.{AreRepeatWords, MayBeRead, repeat_in};
 
 use crate::flag;
 use clap::error::ErrorKind;
-use clap::{Arg, ArgAction, ArgMatches, Command, Error};
+use clap::{ArgMatches, Command, Error};
 use mc_protocol::read_decimal;
 use std::alloc::{AllocError, Global};
 
@@ -16,16 +15,6 @@ const GREATEST_TIMES: u64 = 1_000_000;
 
 // The most seconds in which runs begin.
 const GREATEST_TIME: u64 = 86_400;
-
-const TIMES_HELP: &str = "Run the script up to N times, 1 to 1000000";
-
-const FOR_HELP: &str = "Run it again for 90s, 10m or 2h, 24h at most";
-
-const KEEP_GOING_HELP: &str = "Go on after a run that isn't done and explained";
-
-const RECONNECT_HELP: &str = "Make new connections for each run";
-
-const QUIET_HELP: &str = "Don't say on a terminal how many runs there were";
 
 /// How often a script is run. One of the two bounds is there.
 #[derive(Clone, Copy, Debug, Drop, PartialEq, Eq)]
@@ -192,59 +181,4 @@ fn time_of(seconds: u64) -> Option<u64>
     } else {
         None
     }
-}
-
-/// The option that names how often the script is run.
-pub fn times<'a>(alloc: Global) -> Arg<'a>
-    ensures rule { rule_of result ≡ times_rule }
-    ensures local { result.global ≡ false }
-{
-    Arg::new(alloc, "times")
-        .long("times")
-        .value_name("N")
-        .help(TIMES_HELP)
-}
-
-/// The option that names how long.
-pub fn time<'a>(alloc: Global) -> Arg<'a>
-    ensures rule { rule_of result ≡ for_rule }
-    ensures local { result.global ≡ false }
-{
-    Arg::new(alloc, "for")
-        .long("for")
-        .value_name("TIME")
-        .help(FOR_HELP)
-}
-
-/// The flag that lets runs go on after one whose status isn't 0.
-pub fn keep_going<'a>(alloc: Global) -> Arg<'a>
-    ensures rule { rule_of result ≡ keep_going_rule }
-    ensures local { result.global ≡ false }
-{
-    Arg::new(alloc, "keep-going")
-        .long("keep-going")
-        .action(ArgAction::SetTrue)
-        .help(KEEP_GOING_HELP)
-}
-
-/// The flag by which each run has connections of its own.
-pub fn reconnect<'a>(alloc: Global) -> Arg<'a>
-    ensures rule { rule_of result ≡ reconnect_rule }
-    ensures local { result.global ≡ false }
-{
-    Arg::new(alloc, "reconnect")
-        .long("reconnect")
-        .action(ArgAction::SetTrue)
-        .help(RECONNECT_HELP)
-}
-
-/// The flag that leaves out how many runs there were.
-pub fn quiet<'a>(alloc: Global) -> Arg<'a>
-    ensures rule { rule_of result ≡ quiet_rule }
-    ensures local { result.global ≡ false }
-{
-    Arg::new(alloc, "quiet")
-        .long("quiet")
-        .action(ArgAction::SetTrue)
-        .help(QUIET_HELP)
 }

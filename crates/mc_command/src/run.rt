@@ -4,6 +4,7 @@ ghost use Rattle.mc_command.specs.RunAnswers as answers;
 
 use crate::arguments::Target;
 use crate::evidence::evidence_of;
+use crate::loading;
 use crate::loading::{LoadFault, load_script, told_unsound_text, verify_code};
 use crate::meeting::draw_meet;
 use crate::namespace::long_key_text;
@@ -14,12 +15,12 @@ use crate::refusal_hint::{code_hint, unsound_hint};
 use crate::socket::Connections;
 use crate::status::Status;
 use crate::why::{Counted, why_text};
-use crate::{loading, run_options};
 use core::thread::Stack;
 use mc_campaign::{Namespace, PutFault, put_under};
 use mc_core::World;
 use mc_explain::Verdict;
 use mc_history::print_history;
+use mc_line::run_subcommand;
 use mc_model::History;
 use mc_protocol::Actor;
 use mc_run::{FreeGate, Judged, Run, RunError, play};
@@ -130,7 +131,7 @@ pub fn put_code_under(
         Err(PutFault::KeyTooLong(index)) => {
             let text = long_key_text(
                 alloc,
-                run_options::subcommand(alloc)?,
+                run_subcommand(alloc)?,
                 name,
                 &checked.code().keys()[index],
             )?;

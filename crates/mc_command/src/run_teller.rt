@@ -13,7 +13,7 @@ use std::rt::Clock;
 // At most this many remarks are written to standard error on runs that aren't handed out.
 const MOST_REMARKS: u32 = 10;
 
-/// Who is told of the runs of a script. No answer rests on it.
+/// An observer of the runs of a script. No answer rests on what it does.
 pub trait RunObserver {
     /// Runs begin, where a script is run repeatedly: this many, if that is known.
     fn begin(&mut self, times: Option<u64>);
@@ -28,7 +28,7 @@ pub trait RunObserver {
     fn end(&mut self);
 }
 
-/// Nobody is told.
+/// An observer that does nothing.
 #[derive(Clone, Copy, Debug, Drop)]
 pub struct Unobserved;
 

@@ -43,15 +43,26 @@ pub fn shrunk_script<S: Stream + Send, C: Connector<S>, R: Threads + Wait + Sync
         let Some(image) = rounds.asked.take() else {
             return Ok(script);
         };
-        let answer = match read_image(alloc, &image, campaign.name)? {
-            Some(checked) => {
-                becomes_unexplained(rt, alloc, campaign, tries, connector, job, &checked)?
-            }
-            None => false,
-        };
+        let answer = may_stand_for(rt, alloc, campaign, tries, connector, job, &image)?;
         rounds.known.push(answer)?;
     }
     rounds.shrink(alloc, campaign.seed, job)
+}
+
+// Whether the code of an image is sound, and one of this many runs of it in place of the job's code has no explanation.
+fn may_stand_for<S: Stream + Send, C: Connector<S>, R: Threads + Wait + Sync>(
+    rt: &R,
+    alloc: Global,
+    campaign: Campaign<'_>,
+    tries: u64,
+    connector: &C,
+    job: u64,
+    image: &[u8],
+) -> Result<bool, OutOfMemory> {
+    match read_image(alloc, image, campaign.name)? {
+        Some(checked) => becomes_unexplained(rt, alloc, campaign, tries, connector, job, &checked),
+        None => Ok(false),
+    }
 }
 
 // Whether one of this many runs of the code in place of that of the job has no explanation.

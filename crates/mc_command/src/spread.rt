@@ -1,13 +1,12 @@
 //! The option `--spread`: by how much a branch may be late that has met the other one.
-ghost use Rattle.std.specs.Prelude.{◌≡◌, ◌⊎◌, false, codes, IfErr, IfOk, MatchResult};
-ghost use Rattle.clap.specs.Words.{first_value, found_of, kind_of, rule_of};
+ghost use Rattle.std.specs.Prelude.{◌≡◌, ◌⊎◌, codes, IfErr, IfOk, MatchResult};
+ghost use Rattle.clap.specs.Words.{first_value, found_of, kind_of};
 ghost use Rattle.mc_command.specs.Command.{IsSpread, MayBeSpread};
-ghost use Rattle.mc_command.specs.CommandLine.{spread_rule};
 ghost use Rattle.mc_command.specs.Repeats as repeats;
 
 use crate::repeat::Repeat;
 use clap::error::ErrorKind;
-use clap::{Arg, ArgMatches, Command, Error};
+use clap::{ArgMatches, Command, Error};
 use mc_protocol::read_decimal;
 use std::alloc::{AllocError, Global};
 
@@ -19,22 +18,6 @@ pub const DEFAULT_OF_CAMPAIGN: u16 = 64;
 
 // The most microseconds that a line may name.
 const GREATEST: u64 = 10_000;
-
-/// What the help of `run`, and that of `campaign`, says of the option.
-pub const HELP_OF_RUN: &str = "A branch's lateness, 0 to 10000 [default: 0 or 64]";
-
-pub const HELP_OF_CAMPAIGN: &str = "A branch's lateness, 0 to 10000 [default: 64]";
-
-/// The option, with the help of its subcommand.
-pub fn option<'a>(alloc: Global, help: &'static str) -> Arg<'a>
-    ensures rule { rule_of result ≡ spread_rule }
-    ensures local { result.global ≡ false }
-{
-    Arg::new(alloc, "spread")
-        .long("spread")
-        .value_name("MICROS")
-        .help(help)
-}
 
 /// The microseconds of a line of `run` that names none, whose script is run this often.
 pub fn default_of_run(repeat: Option<Repeat>) -> u16

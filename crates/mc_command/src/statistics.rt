@@ -1,7 +1,5 @@
 //! The flag `--stats`, and what it tells of runs: how they overlapped, and how their requests were answered.
 ghost use Rattle.std.specs.Prelude.{◌≡◌, ◌+◌, List, ◌∷◌, [], ◌++◌, ◌&&◌, false, is_some, if◌then◌else◌};
-ghost use Rattle.clap.specs.Words.{rule_of};
-ghost use Rattle.mc_command.specs.CommandLine.{stats_rule};
 ghost use Rattle.mc_command.specs.Replies.{capped};
 ghost use Rattle.mc_command.specs.Statistics as spec;
 ghost use Rattle.mc_command.specs.Statistics.{AreStatistics, Recorded};
@@ -9,14 +7,10 @@ ghost use Rattle.mc_command.specs.Statistics.{AreStatistics, Recorded};
 use crate::overlap::{is_same, overlaps};
 use crate::replies::Replies;
 use crate::run::Played;
-use clap::{Arg, ArgAction};
 use mc_history::Event;
 use mc_model::History;
 use mc_protocol::{Actor, Class, Verb};
-use std::alloc::Global;
 use std::fmt::{Display, Error, Formatter, Write};
-
-const HELP: &str = "Say at the end how requests were answered";
 
 /// What runs that came to a history sent and received, counted. No count is greater than 2^64 - 1.
 #[derive(Clone, Copy, Debug, Drop, PartialEq, Eq)]
@@ -145,15 +139,4 @@ fn is_reply(event: &Event) -> bool
         Event::Reply(_) => true,
         Event::Begin | Event::Fail(_) => false,
     }
-}
-
-/// The flag that asks for them.
-pub fn option<'a>(alloc: Global) -> Arg<'a>
-    ensures rule { rule_of result ≡ stats_rule }
-    ensures local { result.global ≡ false }
-{
-    Arg::new(alloc, "stats")
-        .long("stats")
-        .action(ArgAction::SetTrue)
-        .help(HELP)
 }

@@ -1,8 +1,7 @@
 //! The options that say until when a campaign runs, in blocks of jobs: `--for` and `--stop-after`.
-ghost use Rattle.std.specs.Prelude.{◌≡◌, ◌⊎◌, ℕ, codes, false, IfErr, IfOk, IfSome, None, MatchResult, option_and_then};
-ghost use Rattle.clap.specs.Words.{first_value, found_of, kind_of, rule_of};
+ghost use Rattle.std.specs.Prelude.{◌≡◌, ◌⊎◌, ℕ, codes, IfErr, IfOk, IfSome, None, MatchResult, option_and_then};
+ghost use Rattle.clap.specs.Words.{first_value, found_of, kind_of};
 ghost use Rattle.mc_command.specs.Command.{AreJobs};
-ghost use Rattle.mc_command.specs.CommandLine.{for_rule, stop_after_rule};
 ghost use Rattle.mc_command.specs.Repeats.{MayBeRead};
 ghost use Rattle.mc_command.specs.Untils as spec;
 ghost use Rattle.mc_command.specs.Untils.{AreUntilWords, until_in};
@@ -10,16 +9,12 @@ ghost use Rattle.mc_command.specs.Untils.{AreUntilWords, until_in};
 use crate::campaign::{DEFAULT_JOBS, GREATEST_JOBS};
 use crate::{number, repeat};
 use clap::error::ErrorKind;
-use clap::{Arg, ArgMatches, Command, Error};
+use clap::{ArgMatches, Command, Error};
 use mc_protocol::read_decimal;
 use std::alloc::{AllocError, Global};
 
 // The most unexplained jobs after which a line may say that no block begins.
 const GREATEST_UNEXPLAINED: u64 = 10_000;
-
-const FOR_HELP: &str = "Begin blocks of jobs for 90s, 10m or 2h, 24h at most";
-
-const STOP_AFTER_HELP: &str = "Begin no block when N jobs are unexplained";
 
 /// Until when a campaign begins blocks of jobs. One of the two bounds is there.
 #[derive(Clone, Copy, Debug, Drop, PartialEq, Eq)]
@@ -180,26 +175,4 @@ fn jobs_from(first: u64) -> u64
     ensures jobs { result ≡ spec.jobs_from first }
 {
     (u64::MAX - first).saturating_add(1)
-}
-
-/// The option that names how long blocks begin.
-pub fn time<'a>(alloc: Global) -> Arg<'a>
-    ensures rule { rule_of result ≡ for_rule }
-    ensures local { result.global ≡ false }
-{
-    Arg::new(alloc, "for")
-        .long("for")
-        .value_name("TIME")
-        .help(FOR_HELP)
-}
-
-/// The option that names after how many unexplained jobs none begins.
-pub fn stop_after<'a>(alloc: Global) -> Arg<'a>
-    ensures rule { rule_of result ≡ stop_after_rule }
-    ensures local { result.global ≡ false }
-{
-    Arg::new(alloc, "stop-after")
-        .long("stop-after")
-        .value_name("N")
-        .help(STOP_AFTER_HELP)
 }

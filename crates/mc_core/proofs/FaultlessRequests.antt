@@ -15,6 +15,7 @@ use Rattle.mc_code.specs.States.{Tagged, ended}
 use Rattle.mc_code.specs.declared.instr.Call.{Call}
 use Rattle.mc_model.specs.History.{has_words, has_key, is_delete, are_answered, is_none_sent, is_history, fault_at, is_seen, key_count}
 use Rattle.mc_model.specs.Next as next
+use Rattle.mc_model.specs.Notes.{is_same_section}
 use Rattle.mc_model.specs.Sections.{Sections, section_of}
 use Rattle.mc_model.specs.declared.sent.Sent.{Sent}
 use Rattle.mc_model.proofs.Faults.{fault_by_tests}
@@ -173,7 +174,7 @@ begin_faultless c w who made variables sound kept history may few begins calling
         → ((has_key sent.request.key s.p ≡ true) ⊎ (key_count s < KEYS_LIMIT)) × (next.clears s who sent ≡ true)
     cleared (inl there) = (inl there, or_left (has_key sent.request.key s.p) _ there)
     cleared (inr (prefix, deletes, few)) =
-        let may_delete = and_from (next.is_prefix who) (is_delete sent.request.verb) (ap next.is_prefix prefix) deletes in
+        let may_delete = and_from (is_same_section actor.P who) (is_delete sent.request.verb) (ap (is_same_section actor.P) prefix) deletes in
         (inr few, or_right (has_key sent.request.key s.p) _ may_delete)
 
     seen : next.number_is_seen s who sent ≡ true

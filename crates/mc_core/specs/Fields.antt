@@ -2,18 +2,12 @@
 use Rattle.std.specs.Prelude.{◌≡◌, ◌≢◌, ◌⊎◌, ℕ, ◌+◌, ◌*◌, ◌^◌, ◌<◌, ◌≤◌, Option, Some, None, List, [], ◌∷◌}
 use Rattle.std.specs.Prelude.{◌++◌, length, zip, flat_map, option_to_list, slice_index_or, if◌then◌else◌}
 use Rattle.std.specs.Vec.{vec_capacity, vec_len}
-use Rattle.mc_protocol.specs.Legal.{is_fit_for}
-use Rattle.mc_protocol.specs.Sections.{section_of}
-use Rattle.mc_protocol.specs.declared.actor.Actor.{Actor}
-use Rattle.mc_protocol.specs.declared.actor.Actor.TheVariants as actor
-use Rattle.mc_protocol.specs.declared.fault.Fault.{Fault}
-use Rattle.mc_protocol.specs.declared.limits.TheConstants.{REQUESTS_LIMIT}
-use Rattle.mc_protocol.specs.declared.reply.Reply.{Reply}
+use Rattle.mc_protocol.specs.{Legal.is_fit_for, Sections.section_of}
+use Rattle.mc_protocol.specs.declared.{actor.Actor.Actor, fault.Fault.Fault, limits.TheConstants.REQUESTS_LIMIT, reply.Reply.Reply}
 use Rattle.mc_protocol.specs.declared.sections.Sections.{Sections}
+use Rattle.mc_protocol.specs.declared.actor.Actor.TheVariants as actor
 use Rattle.mc_code.specs.Calls.{IsCalling, template_of}
-use Rattle.mc_code.specs.Code.{Code}
-use Rattle.mc_code.specs.Runs.{Exchange}
-use Rattle.mc_code.specs.Standing.{ComesTo}
+use Rattle.mc_code.specs.{Code.Code, Runs.Exchange, Standing.ComesTo}
 use Rattle.mc_code.specs.States.{Tagged, State, ended}
 use Rattle.mc_code.specs.declared.instr.Call.{Call}
 use Rattle.mc_machine.specs.Machine as machines
@@ -21,18 +15,14 @@ use Rattle.mc_machine.specs.declared.machine.Machine.{Machine}
 use Rattle.mc_model.specs.Notes as recorded
 use Rattle.mc_model.specs.declared.note.Note.{Note}
 use Rattle.mc_model.specs.declared.note.Note.TheVariants as note
-use Rattle.mc_core.specs.declared.ending.Ending.{Ending}
+use Rattle.mc_core.specs.declared.{ending.Ending.Ending, section.Section.Section, step_refusal.StepRefusal.StepRefusal}
 use Rattle.mc_core.specs.declared.ending.Ending.TheVariants as ending
 use Rattle.mc_history.specs.declared.event.Event.{Event}
 use Rattle.mc_history.specs.declared.event.Event.TheVariants as event
-use Rattle.mc_core.specs.declared.section.Section.{Section}
-use Rattle.mc_core.specs.declared.step_refusal.StepRefusal.{StepRefusal}
 use Rattle.mc_core.specs.declared.step_refusal.StepRefusal.TheVariants as refusal
-use Rattle.mc_core.specs.Held.{Held}
+use Rattle.mc_core.specs.{Held.Held, Safety.AreSmall, Steps.IsAgainst}
 use Rattle.mc_core.specs.Histories.{begin_count, no_call}
 use Rattle.mc_core.specs.Logs.{Log, request_of}
-use Rattle.mc_core.specs.Safety.{AreSmall}
-use Rattle.mc_core.specs.Steps.{IsAgainst}
 use Rattle.mc_core.specs.Worlds.{World, Noted, event_of, events_of, with_section}
 
 -- ---- what is seen

@@ -1,8 +1,7 @@
 -- What a world holds beside its logs and its notes: how each section stands, and the machines of the sections that have begun.
 use Rattle.std.specs.Prelude.{◌≡◌, ◌≢◌, ◌⊎◌, Option, Some, None, List}
 use Rattle.mc_protocol.specs.Sections.{section_of}
-use Rattle.mc_protocol.specs.declared.actor.Actor.{Actor}
-use Rattle.mc_protocol.specs.declared.sections.Sections.{Sections}
+use Rattle.mc_protocol.specs.declared.{actor.Actor.Actor, sections.Sections.Sections}
 use Rattle.mc_code.specs.Code.{Code}
 use Rattle.mc_code.specs.States.{Tagged, State}
 use Rattle.mc_machine.specs.Machine.{IsAt, actor_of, outstanding_of}

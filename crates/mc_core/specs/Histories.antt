@@ -1,7 +1,6 @@
 -- The history of a world: its calls and their replies, in the order in which they were noted. A fault leaves no note in it.
 use Rattle.std.specs.Prelude.{ℕ, ◌+◌, Some, None, List, [], ◌∷◌, ◌++◌, map, option_to_list, slice_index_or}
-use Rattle.mc_protocol.specs.declared.actor.Actor.{Actor}
-use Rattle.mc_protocol.specs.declared.reply.Reply.{Reply}
+use Rattle.mc_protocol.specs.declared.{actor.Actor.Actor, reply.Reply.Reply}
 use Rattle.mc_code.specs.Code.{Code}
 use Rattle.mc_code.specs.declared.instr.Call.{Call}
 use Rattle.mc_model.specs.Notes as recorded

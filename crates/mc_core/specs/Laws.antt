@@ -1,7 +1,6 @@
 -- Laws of folds, whatever the code and the events are.
 use Rattle.std.specs.Prelude.{◌≡◌, ℕ, ◌+◌, ◌*◌, ◌≤◌, true, List, length}
-use Rattle.mc_protocol.specs.declared.actor.Actor.{Actor}
-use Rattle.mc_protocol.specs.declared.limits.TheConstants.{REQUESTS_LIMIT}
+use Rattle.mc_protocol.specs.declared.{actor.Actor.Actor, limits.TheConstants.REQUESTS_LIMIT}
 use Rattle.mc_code.specs.Code.{Code, IsCode}
 use Rattle.mc_model.specs.Notes.{is_record, sections_in}
 use Rattle.mc_verify.specs.Faults.{IsSound}

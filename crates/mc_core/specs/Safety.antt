@@ -1,11 +1,8 @@
 -- What holds of every world of sound code, whatever its events are.
 use Rattle.std.specs.Prelude.{◌≡◌, ◌⊎◌, ℕ, ◌+◌, ◌<◌, ◌≤◌, ◌^◌, Option, Some, None, List, [], ◌∷◌, ◌++◌, length, map, All}
-use Rattle.mc_protocol.specs.Merge.{IsMerge}
-use Rattle.mc_protocol.specs.Texts.{request_text}
-use Rattle.mc_protocol.specs.declared.actor.Actor.{Actor}
+use Rattle.mc_protocol.specs.{Merge.IsMerge, Texts.request_text}
+use Rattle.mc_protocol.specs.declared.{actor.Actor.Actor, fault.Fault.Fault, reply.Reply.Reply}
 use Rattle.mc_protocol.specs.declared.actor.Actor.TheVariants as actor
-use Rattle.mc_protocol.specs.declared.fault.Fault.{Fault}
-use Rattle.mc_protocol.specs.declared.reply.Reply.{Reply}
 use Rattle.mc_protocol.specs.declared.reply.Reply.TheVariants as reply
 use Rattle.mc_script.specs.declared.step.Template.{Template}
 use Rattle.mc_code.specs.Calls.{template_of}

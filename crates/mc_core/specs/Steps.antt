@@ -1,11 +1,9 @@
 -- Steps of a world: which events it takes, and what each does; and the fold of a list of events.
 use Rattle.std.specs.Prelude.{◌≡◌, ◌⊎◌, ℕ, ◌+◌, ◌<◌, false, Some, None, List, [], ◌∷◌}
 use Rattle.mc_protocol.specs.Legal.{is_fit_for}
-use Rattle.mc_protocol.specs.declared.actor.Actor.{Actor}
-use Rattle.mc_protocol.specs.declared.fault.Fault.{Fault}
+use Rattle.mc_protocol.specs.declared.{actor.Actor.Actor, fault.Fault.Fault}
 use Rattle.mc_code.specs.Calls.{IsCalling, template_of}
-use Rattle.mc_code.specs.Code.{Code}
-use Rattle.mc_code.specs.States.{Tagged}
+use Rattle.mc_code.specs.{Code.Code, States.Tagged}
 use Rattle.mc_code.specs.declared.instr.Call.{Call}
 use Rattle.mc_history.specs.declared.event.Event.{Event}
 use Rattle.mc_history.specs.declared.event.Event.TheVariants as event

@@ -1,11 +1,9 @@
 -- Worlds: what happened in three sections of code, and how each of them stands.
 use Rattle.std.specs.Prelude.{◌≡◌, Some, None, List, [], ◌∷◌, ◌++◌, flat_map, if◌then◌else◌}
-use Rattle.mc_protocol.specs.declared.actor.Actor.{Actor}
+use Rattle.mc_protocol.specs.declared.{actor.Actor.Actor, sections.Sections.Sections}
 use Rattle.mc_protocol.specs.declared.actor.Actor.TheVariants as actor
-use Rattle.mc_protocol.specs.declared.sections.Sections.{Sections}
 use Rattle.mc_protocol.specs.Sections.{section_of}
-use Rattle.mc_code.specs.Code.{Code}
-use Rattle.mc_code.specs.Runs.{Exchange}
+use Rattle.mc_code.specs.{Code.Code, Runs.Exchange}
 use Rattle.mc_code.specs.Standing.{BeginsAfter, ComesTo}
 use Rattle.mc_code.specs.States.{Tagged, State, ended}
 use Rattle.mc_model.specs.Notes.{is_same_section}

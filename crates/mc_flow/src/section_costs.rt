@@ -1,4 +1,4 @@
-//! What the requests of a section cost at most, and the lowest request that exceeds the section's budget.
+//! What the requests of a section cost at most.
 ghost use Rattle.std.specs.Prelude.{◌≡◌, ◌⊎◌, ◌↔◌, ℕ, ◌<◌, ◌≤◌, IfOk, None, length, slice_index_or};
 ghost use Rattle.mc_protocol.specs.Sections as sections;
 ghost use Rattle.mc_protocol.specs.declared.actor.Actor.{Actor as Section};
@@ -13,7 +13,6 @@ use crate::flow::flow_table;
 use crate::weights::Weights;
 use mc_code::{Code, Instr};
 use mc_protocol::{Actor, OutOfMemory, Sections};
-use mc_script::Budget;
 use std::alloc::Global;
 
 /// What the paths to each place of a code's sections cost at most; nothing where no path leads.

@@ -1,37 +1,29 @@
 -- Lines of a step list: each spells at most one step, and the line `end` none.
-use Rattle.std.proofs.Common.{◌≡◌, ℕ, ◌==◌, if◌then◌else◌, [], ◌∷◌, get_or, codes, refl, sym, ap, subst, ◌∙◌, arith}
+use Rattle.std.proofs.Common.{◌≡◌, ℕ, ◌==◌, if◌then◌else◌, [], ◌∷◌, codes, refl, sym, ap, subst, ◌∙◌}
 use Rattle.std.specs.Str.Parse.{digits_value}
 use Rattle.mc_protocol.specs.declared.actor.Actor.{Actor}
 use Rattle.mc_protocol.specs.declared.fault.Fault.{Fault}
 use Rattle.mc_protocol.specs.declared.fault.Fault.TheVariants as fault
 use Rattle.mc_protocol.specs.Faults.{fault_number}
 use Rattle.mc_protocol.specs.Lines.{Words}
-use Rattle.mc_protocol.specs.Words.{actor_word}
-use Rattle.mc_protocol.proofs.ActorWords.{actor_is_not_end, one_actor}
+use Rattle.mc_protocol.proofs.ActorWords.{actor_is_not_end}
 use Rattle.mc_protocol.proofs.FirstItems.{head_is, rest_is}
 use Rattle.mc_model.specs.Words.{SpellsReply}
 use Rattle.mc_model.proofs.ReplyWords.{one_reply}
 use Rattle.mc_history.specs.declared.event.Event.{Event}
 use Rattle.mc_history.specs.declared.event.Event.TheVariants as event
-use Rattle.mc_history.specs.StepText.{SpellsEvent, SpellsStep, end_line}
+use Rattle.mc_history.specs.HistoryText.{end_line}
+use Rattle.mc_history.specs.StepText.{SpellsEvent, SpellsStep}
 use Rattle.mc_history.specs.StepReading.{SpellsFault}
+use Rattle.mc_history.proofs.LineLemmas.{begin_is_not_reply}
 
 -- ---- first words
 
-pub begin_is_not_reply : (xs ys : Words) → codes "begin" ∷ xs ≡ codes "reply" ∷ ys → ⊥
-begin_is_not_reply xs ys e =
-    let same : 98 ≡ 114 = ap (λ w. get_or w 0 0) (head_is (codes "begin") (codes "reply") xs ys e) in
-    absurd (omega (arith, same))
+begin_is_not_fail : (xs ys : Words) → codes "begin" ∷ xs ≡ codes "fail" ∷ ys → ⊥
+begin_is_not_fail xs ys e = cc
 
-pub begin_is_not_fail : (xs ys : Words) → codes "begin" ∷ xs ≡ codes "fail" ∷ ys → ⊥
-begin_is_not_fail xs ys e =
-    let same : 98 ≡ 102 = ap (λ w. get_or w 0 0) (head_is (codes "begin") (codes "fail") xs ys e) in
-    absurd (omega (arith, same))
-
-pub reply_is_not_fail : (xs ys : Words) → codes "reply" ∷ xs ≡ codes "fail" ∷ ys → ⊥
-reply_is_not_fail xs ys e =
-    let same : 114 ≡ 102 = ap (λ w. get_or w 0 0) (head_is (codes "reply") (codes "fail") xs ys e) in
-    absurd (omega (arith, same))
+reply_is_not_fail : (xs ys : Words) → codes "reply" ∷ xs ≡ codes "fail" ∷ ys → ⊥
+reply_is_not_fail xs ys e = cc
 
 -- ---- faults
 
@@ -59,30 +51,19 @@ one_fault f g e = sym (fault_in-fault_number f) ∙ ap fault_in e ∙ fault_in-f
 -- ---- steps
 
 -- words spell at most one event
-one_event : (words : Words) (x y : Event) → SpellsEvent words x → SpellsEvent words y → x ≡ y
+pub one_event : (words : Words) (x y : Event) → SpellsEvent words x → SpellsEvent words y → x ≡ y
 one_event words event.Begin event.Begin f g = refl
 one_event words event.Begin (event.Reply s) f (w, d, g) = absurd (begin_is_not_reply [] w (sym f ∙ d))
 one_event words event.Begin (event.Fail y) f (w, d, g) = absurd (begin_is_not_fail [] (w ∷ []) (sym f ∙ d))
 one_event words (event.Reply r) event.Begin (v, e, f) g = absurd (begin_is_not_reply [] v (sym g ∙ e))
 one_event words (event.Reply r) (event.Reply s) (v, e, f) (w, d, g) =
-    let same = rest_is (codes "reply") (codes "reply") v w (sym e ∙ d) in
-    ap (λ z. event.Reply z) (one_reply v r s f (let P : Words → Type 0 = λ z. SpellsReply z s in subst P (sym same) g))
+    ap (λ z. event.Reply z) (one_reply v r s f (subst (λ z. SpellsReply z s) (sym (rest_is _ _ v w (sym e ∙ d))) g))
 one_event words (event.Reply r) (event.Fail y) (v, e, f) (w, d, g) = absurd (reply_is_not_fail v (w ∷ []) (sym e ∙ d))
 one_event words (event.Fail x) event.Begin (v, e, f) g = absurd (begin_is_not_fail [] (v ∷ []) (sym g ∙ e))
 one_event words (event.Fail x) (event.Reply s) (v, e, f) (w, d, g) = absurd (reply_is_not_fail w (v ∷ []) (sym d ∙ e))
 one_event words (event.Fail x) (event.Fail y) (v, e, f) (w, d, g) =
     let same = head_is v w [] [] (rest_is (codes "fail") (codes "fail") (v ∷ []) (w ∷ []) (sym e ∙ d)) in
     ap (λ z. event.Fail z) (one_fault x y (sym f.value ∙ ap (λ z. digits_value 10 z) same ∙ g.value))
-
--- a line spells at most one step
-pub one_step : (line : Words) (x y : Actor × Event) → SpellsStep line x → SpellsStep line y → x ≡ y
-one_step line x y (v, e, f) (w, d, g) =
-    let actors = one_actor x.0 y.0 (head_is (actor_word x.0) (actor_word y.0) v w (sym e ∙ d)) in
-    let same = rest_is (actor_word x.0) (actor_word y.0) v w (sym e ∙ d) in
-    let events = one_event v x.1 y.1 f (let P : Words → Type 0 = λ z. SpellsEvent z y.1 in subst P (sym same) g) in
-    let first : Actor → Actor × Event = λ a. (a, x.1) in
-    let second : Event → Actor × Event = λ z. (y.0, z) in
-    ap first actors ∙ ap second events
 
 -- the line of a step is not `end`
 pub step_is_not_end : (line : Words) (x : Actor × Event) → SpellsStep line x → line ≡ end_line → ⊥

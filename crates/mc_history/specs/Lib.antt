@@ -14,9 +14,11 @@ pub mod Turns
 pub mod HistoryText
 pub mod PrintedHistory
 pub mod StepKinds
+pub mod WordKinds
 pub mod StepText
 -- What private contracts cite.
 pub mod Refuses
+pub mod Series
 pub mod Parts
 pub mod PrintedParts
 pub mod StepReading

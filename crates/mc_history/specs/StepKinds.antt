@@ -1,7 +1,5 @@
 -- The number and the name of each kind of fault of a step list, as a refusal shows them.
 use Rattle.std.specs.Prelude.{ℕ, List, codes}
-use Rattle.mc_model.specs.declared.words_fault.WordsKind.{WordsKind}
-use Rattle.mc_model.specs.declared.words_fault.WordsKind.TheVariants as words
 use Rattle.mc_history.specs.declared.steps_fault.StepsKind.{StepsKind}
 use Rattle.mc_history.specs.declared.steps_fault.StepsKind.TheVariants as kind
 
@@ -18,9 +16,3 @@ kind_name kind.Line = codes "Line"
 kind_name kind.TooMany = codes "TooMany"
 kind_name kind.Unended = codes "Unended"
 kind_name kind.OutOfMemory = codes "OutOfMemory"
-
--- the kind of a line's fault in words
-abbrev pub kind_of_words : WordsKind → StepsKind
-kind_of_words words.Form = kind.Line
-kind_of_words words.Number = kind.Line
-kind_of_words words.OutOfMemory = kind.OutOfMemory

@@ -1,16 +1,13 @@
 -- The text of a step list.
 use Rattle.std.specs.Prelude.{◌≡◌, ℕ, ◌≤◌, List, [], ◌∷◌, ◌++◌, length, codes}
-use Rattle.mc_protocol.specs.declared.actor.Actor.{Actor}
-use Rattle.mc_protocol.specs.declared.lines.Separator.TheVariants.{Space}
+use Rattle.mc_protocol.specs.declared.{actor.Actor.Actor, lines.Separator.TheVariants.Space}
 use Rattle.mc_protocol.specs.Decimals.{SpellsNumber, MAX_64}
-use Rattle.mc_protocol.specs.Faults.{fault_number}
+use Rattle.mc_protocol.specs.{Faults.fault_number, Spelling.SpellEach}
 use Rattle.mc_protocol.specs.Lines.{words_of_text, Word, Words}
-use Rattle.mc_protocol.specs.Spelling.{SpellEach}
-use Rattle.mc_protocol.specs.Words.{actor_word}
 use Rattle.mc_model.specs.Words.{SpellsReply}
-use Rattle.mc_history.specs.declared.event.Event.{Event}
+use Rattle.mc_history.specs.declared.{event.Event.Event, step_text.TheConstants.STEP_LIST_LIMIT}
 use Rattle.mc_history.specs.declared.event.Event.TheVariants as event
-use Rattle.mc_history.specs.declared.step_text.TheConstants.{STEP_LIST_LIMIT}
+use Rattle.mc_history.specs.HistoryText.{SpellsLine, end_line}
 
 -- `begin`; or `reply`, and the words of the reply; or `fail`, and the number of the fault
 abbrev pub SpellsEvent : Words → Event → Type 0
@@ -21,13 +18,10 @@ SpellsEvent words (event.Fail fault) =
 
 -- a step: the section, and what happens in it
 abbrev pub SpellsStep : Words → Actor × Event → Type 0
-SpellsStep line step = (others : Words) × (line ≡ actor_word step.0 ∷ others) × SpellsEvent others step.1
+SpellsStep line step = SpellsLine SpellsEvent line step
 
 abbrev pub steps_line : Words
 steps_line = codes "steps" ∷ []
-
-abbrev pub end_line : Words
-end_line = codes "end" ∷ []
 
 -- the text is the line `steps`, a line for each step, and the line `end`; it has at most 1,000 steps
 pub record SpellsSteps (text : List ℕ) (steps : List (Actor × Event)) : Type 0 where

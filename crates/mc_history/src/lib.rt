@@ -28,7 +28,7 @@ mod text_laws;
 
 pub use event::Event;
 pub use explanation::{Explanation, Move};
-pub use fault::HistoryFault;
+pub use fault::{HistoryFault, TextFault, TextKind};
 pub use misread::{Expected, Misread};
 pub use print::{print_explanation, print_history};
 pub use print_laws::{

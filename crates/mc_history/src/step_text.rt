@@ -3,12 +3,14 @@ ghost use Rattle.std.specs.Prelude.{◌≡◌, ◌≢◌, ◌≤◌, ◌↔◌, 
 ghost use Rattle.mc_protocol.specs.declared.actor.Actor.{Actor};
 ghost use Rattle.mc_protocol.specs.Lines.{Words};
 ghost use Rattle.mc_history.specs.StepText.{SpellsSteps, steps_line};
-ghost use Rattle.mc_history.specs.StepReading.{Refuses, SpellsOnward};
+ghost use Rattle.mc_history.specs.Refuses.{Refuses};
+ghost use Rattle.mc_history.specs.StepReading.{SpellsOnward};
 ghost use Rattle.mc_history.specs.declared.event.Event.{Event};
 
+use crate::lines::{finish, next_due};
 use crate::step_lines::read_step;
 use crate::{Event, Expected, StepsFault, StepsKind};
-use mc_protocol::{Actor, Separator, WordLine, WordLines};
+use mc_protocol::{Actor, Separator, WordLines};
 use std::alloc::Global;
 
 /// The most steps of a step list.
@@ -70,12 +72,12 @@ fn take_header(alloc: Global, lines: &mut WordLines) -> Result<(), StepsFault>
 // Reads the lines of the steps, and takes the line `end` after them.
 fn read_steps(alloc: Global, lines: &mut WordLines) -> Result<Vec<(Actor, Event)>, StepsFault>
     ensures exact { IfOk result (λ steps. (all : List (Actor × Event))
-        → SpellsOnward [] lines.old.words all ↔ ((all ≡ steps.items) × (lines.new.words ≡ []))) }
-    ensures none { IfErr result (Refuses (SpellsOnward [] lines.old.words)) }
+        → SpellsOnward lines.old.words all ↔ ((all ≡ steps.items) × (lines.new.words ≡ []))) }
+    ensures none { IfErr result (Refuses (SpellsOnward lines.old.words)) }
 {
     let mut steps = Vec::new(alloc);
     'steps: loop {
-        let line = next_due(alloc, lines)?;
+        let line = next_due(alloc, lines, StepsKind::Unended)?;
         if line.is_only(b"end") {
             return Ok(steps);
         }
@@ -84,32 +86,5 @@ fn read_steps(alloc: Global, lines: &mut WordLines) -> Result<Vec<(Actor, Event)
             return Err(StepsFault::at(StepsKind::TooMany, line.number(), 0, Expected::RoomForStep));
         }
         steps.push(step)?;
-    }
-}
-
-// Takes the next line, where the text may not end yet.
-fn next_due<'a>(alloc: Global, lines: &mut WordLines<'a>) -> Result<WordLine<'a>, StepsFault>
-    ensures line { IfOk result (λ line. lines.old.words ≡ line.words ∷ lines.new.words) }
-    ensures end { IfErr result (λ fault. fault.kind ≢ StepsKind.OutOfMemory → lines.old.words ≡ []) }
-{
-    match lines.next(alloc)? {
-        Some(line) => Ok(line),
-        None => Err(StepsFault::at(
-            StepsKind::Unended,
-            lines.number().saturating_add(1),
-            0,
-            Expected::EndLine,
-        )),
-    }
-}
-
-// Sees that no line is left.
-fn finish(alloc: Global, lines: &mut WordLines) -> Result<(), StepsFault>
-    ensures end { OnOk result (lines.old.words ≡ []) }
-    ensures none { IfErr result (λ fault. fault.kind ≢ StepsKind.OutOfMemory → lines.old.words ≢ []) }
-{
-    match lines.next(alloc)? {
-        Some(line) => Err(StepsFault::in_line(&line, 0, Expected::EndOfText)),
-        None => Ok(()),
     }
 }

@@ -3,15 +3,10 @@ use Rattle.std.proofs.Common.{◌≡◌, ℕ, ◌+◌, ◌≤◌, true, false, l
 use Rattle.std.specs.FinMap as finite_map
 use Rattle.std.proofs.lemmas.Bool.{leb-true, le-leb, both_ways}
 use Rattle.mc_protocol.specs.Legal.{class_of, is_fit}
-use Rattle.mc_protocol.specs.declared.request.Request.{Request}
+use Rattle.mc_model.specs.Types.{Request, REPLY_BODY_LIMIT, Item, Is, Choice}
 use Rattle.mc_protocol.specs.declared.request.Verb.TheVariants as verb
 use Rattle.mc_protocol.specs.declared.reply.Reply.TheVariants as reply
-use Rattle.mc_protocol.specs.declared.limits.TheConstants.{REPLY_BODY_LIMIT}
-use Rattle.mc_model.specs.declared.cache.Item.{Item}
-use Rattle.mc_model.specs.declared.numeral.Numeral.TheVariants.{Is}
-use Rattle.mc_model.specs.declared.act.Choice.{Choice}
-use Rattle.mc_model.specs.Contents.{Contents}
-use Rattle.mc_model.specs.Numeral.{numeral_of}
+use Rattle.mc_model.specs.{Contents.Contents, Numeral.numeral_of}
 use Rattle.mc_model.specs.Act.{Puts, Effect, effect_by, effect_of, item_after, act}
 use Rattle.mc_model.specs.ActLaws.{OtherKeysStay, RepliesFit, BodiesStayShort, JoinedBodiesAddUp, DeletedIsGone, ReportedVersionIsMade}
 use Rattle.mc_model.specs.ActLaws.{MadeVersionIsReported, AnsweredNumberIsThere, is_short, body_length, joins, reports_version}
@@ -39,9 +34,7 @@ other_keys_stay contents request choice number key differ = get_other contents r
 -- each answer of an effect is one that fits
 fits : (request : Request) (number : ℕ) (found : Option Item) (effect : Effect) → Does request number found effect → is_short found ≡ true
     → is_fit request effect.reply ≡ true
-fits request number found effect (answering r told fit) short = fit short
-fits request number found effect (removing fit) short = fit
-fits request number found effect (putting item r numbered told fit says new) short = fit
+fits request number found effect does short = grind arith
 
 -- and so is the request's
 pub replies_fit : RepliesFit
@@ -65,9 +58,7 @@ new_short request found body (counting _ alone few) not_joined given short = no_
 stays_short : (request : Request) (number : ℕ) (found : Option Item) (effect : Effect) → Does request number found effect → joins request.verb ≡ false
     → leb (length request.body) REPLY_BODY_LIMIT ≡ true → is_short found ≡ true
     → is_short (item_after effect.change found) ≡ true
-stays_short request number found effect (answering r told fit) alone given short = short
-stays_short request number found effect (removing fit) alone given short = refl
-stays_short request number found effect (putting item r numbered told fit says new) alone given short = new_short request found item.body new alone given short
+stays_short request number found effect does alone given short = grind (arith, new_short)
 
 -- or after the request
 pub bodies_stay_short : BodiesStayShort
@@ -85,9 +76,7 @@ new_adds_up request found body (counting _ alone few) both = absurd (both_ways (
 -- so what is at the key grows by the request's body at most
 adds_up : (request : Request) (number : ℕ) (found : Option Item) (effect : Effect) → Does request number found effect → joins request.verb ≡ true
     → body_length (item_after effect.change found) ≤ body_length found + length request.body
-adds_up request number found effect (answering r told fit) both = omega arith
-adds_up request number found effect (removing fit) both = omega arith
-adds_up request number found effect (putting item r numbered told fit says new) both = new_adds_up request found item.body new both
+adds_up request number found effect does both = grind (arith, new_adds_up)
 
 -- under the request
 pub joined_bodies_add_up : JoinedBodiesAddUp
@@ -135,9 +124,7 @@ reported_version_is_made contents request choice number told =
 -- an effect that makes a version reports it
 told : (request : Request) (number : ℕ) (found : Option Item) (effect : Effect) (item : Item) → Does request number found effect → effect.change ≡ Puts item
     → reports_version (class_of effect.reply) ≡ true
-told request number found effect item (answering r untold fit) is = absurd cc
-told request number found effect item (removing fit) is = absurd cc
-told request number found effect item (putting _ r numbered told_of fit says new) is = told_of
+told request number found effect item does is = grind arith
 
 -- and so does the request's
 pub made_version_is_reported : MadeVersionIsReported

@@ -2,28 +2,22 @@
 use Rattle.std.proofs.Common.{◌≡◌, ◌⊎◌, inl, inr, ℕ, ◌-◌, ◌<◌, Bool, true, false, not, ◌&&◌, ◌||◌, if◌then◌else◌}
 use Rattle.std.proofs.Common.{Option, Some, None, is_some, Result, Ok, Err, OnOk, IfOk, OnErr, List, [], ◌∷◌, ◌++◌}
 use Rattle.std.proofs.Common.{length, slice_get, slice_index_or, arith, refl, sym, ap, ◌∙◌, length-append}
-use Rattle.std.specs.Ordering.{nat_cmp}
-use Rattle.std.specs.Cmp.Lexicographic.{slice_cmp}
+use Rattle.std.specs.{Option.option_or, Ordering.nat_cmp, Cmp.Lexicographic.slice_cmp}
 use Rattle.std.specs.FinSet as set
 use Rattle.std.proofs.Math.ListN.{set}
 use Rattle.std.proofs.Math.Seq.{set-append_seam}
-use Rattle.std.proofs.lemmas.Bool.{cases_Bool}
+use Rattle.std.proofs.lemmas.{Bool.false_from_ne_true, List.Folds.list_all-append}
 use Rattle.std.proofs.lemmas.List.{get_or_at, length_push, map-append}
 use Rattle.std.proofs.lemmas.Option.{slice_get-get_or, same_Some}
 use Rattle.mc_protocol.specs.Legal.{is_fit}
-use Rattle.mc_protocol.specs.declared.actor.Actor.{Actor}
+use Rattle.mc_model.specs.Types.{Actor, Request, Reply, Sent, HistoryKind}
 use Rattle.mc_protocol.specs.declared.actor.Actor.TheVariants as actor
-use Rattle.mc_protocol.specs.declared.request.Request.{Request}
-use Rattle.mc_protocol.specs.declared.reply.Reply.{Reply}
-use Rattle.mc_model.specs.declared.sent.Sent.{Sent}
-use Rattle.mc_model.specs.declared.rules.HistoryKind.{HistoryKind}
 use Rattle.mc_model.specs.declared.rules.HistoryKind.TheVariants as kind
 use Rattle.mc_model.specs.Sections.{Sections, section_of, with_sent}
-use Rattle.mc_model.specs.History.{are_answered, has_words, has_no_branch, keys_of, key_count, is_history, fault_at, comes_late}
-use Rattle.mc_model.specs.Next.{is_full, may_come, clears, number_is_seen, last_of, reply_fault, with_last_reply, after_reply}
+use Rattle.mc_model.specs.History.{are_answered, is_open_at_the_end, has_words, has_no_branch, keys_of, key_count, is_history, fault_at, comes_late}
+use Rattle.mc_model.specs.Next.{is_full, may_come, clears, number_is_seen, with_section, last_of, reply_fault, with_last_reply, after_reply}
 use Rattle.mc_model.proofs.Faults.{first_failed, fault_by_tests, no_fault, no_fault_of, rules_of}
-use Rattle.mc_model.proofs.Prefixes.{history_before}
-use Rattle.mc_model.proofs.Turns.{turn_parts}
+use Rattle.mc_model.proofs.Prefixes.{history_before, added_last, late_with, same_section}
 
 -- ---- the last request
 
@@ -59,16 +53,13 @@ pub set_last : (xs : List Sent) (n : ℕ) (sent : Sent) (reply : Reply) → n �
     → set xs (n - 1) (record { request = sent.request; reply = Some reply }) ≡ with_last_reply xs reply
 set_last xs n sent reply len is =
     elim (ends xs) [
-      | inl e ↦ absurd (nothing (sym (ap last_of e) ∙ is))
+      | inl e ↦ let none : None ≡ Some sent = sym (ap last_of e) ∙ is in absurd cc
       | inr (front, last, e) ↦
           let same : last ≡ sent = same_Some last sent (sym (last_of-push front last) ∙ sym (ap last_of e) ∙ is) in
           let place : n - 1 ≡ length front = ap (λ m. m - 1) (len ∙ ap length e ∙ length_push front last) ∙ omega arith in
           rw (place, e, ← same) (set-append_seam front last [] (record { request = last.request; reply = Some reply })
           ∙ sym (with_last_reply-push front last reply))
     ]
-  where
-    nothing : None ≡ Some sent → ⊥
-    nothing e = cc
 
 -- a reply changes no key
 keys-answered : (xs : List Sent) (reply : Reply) → keys_of (with_last_reply xs reply) ≡ keys_of xs
@@ -84,25 +75,25 @@ pub key_count-after_reply : (s : Sections) (who : Actor) (reply : Reply) → key
 key_count-after_reply s who reply = ap (λ keys. set.len (set.from_list {R = slice_cmp nat_cmp} keys)) (same who)
   where
     same : (who : Actor) → keys_of ((after_reply s who reply).p ++ (after_reply s who reply).a ++ (after_reply s who reply).b) ≡ keys_of (s.p ++ s.a ++ s.b)
-    same actor.P = keys_in_all (with_last_reply s.p reply) s.a s.b ∙ ap (λ l. l ++ keys_of s.a ++ keys_of s.b) (keys-answered s.p reply)
-        ∙ sym (keys_in_all s.p s.a s.b)
-    same actor.A = keys_in_all s.p (with_last_reply s.a reply) s.b ∙ ap (λ l. keys_of s.p ++ l ++ keys_of s.b) (keys-answered s.a reply)
-        ∙ sym (keys_in_all s.p s.a s.b)
-    same actor.B = keys_in_all s.p s.a (with_last_reply s.b reply) ∙ ap (λ l. keys_of s.p ++ keys_of s.a ++ l) (keys-answered s.b reply)
-        ∙ sym (keys_in_all s.p s.a s.b)
+    same actor.P = rw (keys_in_all (with_last_reply s.p reply) s.a s.b, keys_in_all s.p s.a s.b, keys-answered s.p reply) refl
+    same actor.A = rw (keys_in_all s.p (with_last_reply s.a reply) s.b, keys_in_all s.p s.a s.b, keys-answered s.a reply) refl
+    same actor.B = rw (keys_in_all s.p s.a (with_last_reply s.b reply), keys_in_all s.p s.a s.b, keys-answered s.b reply) refl
 
 -- ---- the reply
 
--- where the request without a reply has no fault, it has one with a reply only if that doesn't fit
-replied : (words full turn cleared seen fits : Bool) → first_failed words full turn cleared seen true ≡ None
-    → first_failed words full turn cleared seen fits ≡ (if fits then None else Some kind.WrongReply)
-replied false full turn cleared seen fits e = cc
-replied true true turn cleared seen fits e = cc
-replied true false false cleared seen fits e = cc
-replied true false true false seen fits e = cc
-replied true false true true false fits e = cc
-replied true false true true true true e = refl
-replied true false true true true false e = refl
+replied : (words full turn cleared seen fits : Bool) → first_failed words full turn cleared seen fits
+    ≡ option_or (first_failed words full turn cleared seen true) (if fits then None else Some kind.WrongReply)
+replied words full turn cleared seen fits = grind arith
+
+-- a request with a reply has the fault that it has without one, or else that of its reply
+replied_fault : (s : Sections) (who : Actor) (request : Request) (reply : Reply) → is_history s ≡ true
+    → fault_at s who (record { request = request; reply = Some reply })
+    ≡ option_or (fault_at s who (record { request = request; reply = None })) (if is_fit request reply then None else Some kind.WrongReply)
+replied_fault s who request reply h =
+    let open_one : Sent = record { request = request; reply = None } in
+    fault_by_tests s who (record { request = request; reply = Some reply }) h
+    ∙ replied (has_words request) (is_full s who open_one) (may_come s who) (clears s who open_one) (number_is_seen s who open_one) (is_fit request reply)
+    ∙ ap (λ o. option_or o (if is_fit request reply then None else Some kind.WrongReply)) (sym (fault_by_tests s who open_one h))
 
 -- a request that waits, and the same with a reply: the reply is what may be wrong
 pub fault_with_reply : (s : Sections) (who : Actor) (request : Request) (reply : Reply) → comes_late s who ≡ false
@@ -110,11 +101,20 @@ pub fault_with_reply : (s : Sections) (who : Actor) (request : Request) (reply :
     → fault_at s who (record { request = request; reply = Some reply }) ≡ (if is_fit request reply then None else Some kind.WrongReply)
 fault_with_reply s who request reply late h =
     let open_one : Sent = record { request = request; reply = None } in
-    let before = history_before s who open_one late h in
-    let none : first_failed (has_words request) (is_full s who open_one) (may_come s who) (clears s who open_one) (number_is_seen s who open_one) true ≡ None =
-    sym (fault_by_tests s who open_one before) ∙ no_fault_of s who open_one late h in
-    fault_by_tests s who (record { request = request; reply = Some reply }) before
-    ∙ replied (has_words request) (is_full s who open_one) (may_come s who) (clears s who open_one) (number_is_seen s who open_one) (is_fit request reply) none
+    replied_fault s who request reply (history_before s who open_one late h)
+    ∙ ap (λ o. option_or o (if is_fit request reply then None else Some kind.WrongReply)) (no_fault_of s who open_one late h)
+
+-- what is a history with the reply is one without it
+pub unanswered_history : (s : Sections) (who : Actor) (request : Request) (reply : Reply) → comes_late s who ≡ false
+    → is_history (with_sent s who (record { request = request; reply = Some reply })) ≡ true
+    → is_history (with_sent s who (record { request = request; reply = None })) ≡ true
+unanswered_history s who request reply late h =
+    let whole : Sent = record { request = request; reply = Some reply } in
+    let none = sym (replied_fault s who request reply (history_before s who whole late h)) ∙ no_fault_of s who whole late h in
+    (no_fault s who (record { request = request; reply = None }) (first (fault_at s who (record { request = request; reply = None })) none)).1
+  where
+    first : (o : Option HistoryKind) → option_or o (if is_fit request reply then None else Some kind.WrongReply) ≡ None → o ≡ None
+    first o e = grind arith
 
 -- sections whose last request of one section waits: what stands before it, with it
 pub record IsWaiting (s : Sections) (who : Actor) (request : Request) (reply : Reply) : Type 0 where
@@ -126,57 +126,34 @@ pub record IsWaiting (s : Sections) (who : Actor) (request : Request) (reply : R
 -- ---- whether a section waits
 
 pub answered_push : (front : List Sent) (sent : Sent) → are_answered (front ++ sent ∷ []) ≡ true → is_some sent.reply ≡ true
-answered_push [] sent all = (and_first (is_some sent.reply) all)
+answered_push front sent all =
+    last (are_answered front) (is_some sent.reply) (sym (list_all-append (λ (x : Sent). is_some x.reply) front (sent ∷ [])) ∙ all)
   where
-    and_first : (b : Bool) → (b && true) ≡ true → b ≡ true
-    and_first true e = refl
-    and_first false e = e
-answered_push (x ∷ front) sent all = answered_push front sent (second (is_some x.reply) (are_answered (front ++ sent ∷ [])) all)
-  where
-    second : (a b : Bool) → (a && b) ≡ true → b ≡ true
-    second true b e = e
-    second false b e = cc
+    last : (a b : Bool) → (a && (b && true)) ≡ true → b ≡ true
+    last a b e = grind arith
 
 unanswered : (front : List Sent) (sent : Sent) → sent.reply ≡ None → are_answered (front ++ sent ∷ []) ≡ false
-unanswered front sent none =
-    elim (cases_Bool (are_answered (front ++ sent ∷ []))) [
-      | inl all ↦ let some = answered_push front sent all in let no : is_some sent.reply ≡ false = ap is_some none in cc
-      | inr e ↦ e
-    ]
+unanswered front sent none = false_from_ne_true (are_answered (front ++ sent ∷ []))
+    (λ all. let some = answered_push front sent all in let no : is_some sent.reply ≡ false = ap is_some none in cc)
 
 -- where P waits, no branch has begun
 pub not_late : (s : Sections) → is_history s ≡ true → are_answered s.p ≡ false → comes_late s actor.P ≡ false
 not_late s h open_p =
-    let parts = turn_parts s (rules_of s h).turn in
-    ap not (by (are_answered s.p) (has_no_branch s) open_p parts.3)
+    by (is_open_at_the_end s.p && is_open_at_the_end s.a && is_open_at_the_end s.b) (are_answered s.p) (has_no_branch s) open_p (rules_of s h).turn
   where
-    by : (p none : Bool) → p ≡ false → (p || none) ≡ true → none ≡ true
-    by true none e f = cc
-    by false none e f = f
+    by : (x p none : Bool) → p ≡ false → (x && (p || none)) ≡ true → not none ≡ false
+    by x p none e f = grind arith
 
 -- sections whose last request of one section has no reply, and where no request of it would be late
 pub waits : (s : Sections) (who : Actor) (front : List Sent) (request : Request) (reply : Reply) → comes_late s who ≡ false
     → section_of s who ≡ front ++ record { request = request; reply = None } ∷ [] → IsWaiting s who request reply
-waits s actor.P front request reply late at = record {
-  earlier = record s { p = front };
-  is = ap (λ l. record s { p = l }) at;
-  late = late;
-  with_reply = ap (λ l. record s { p = l })
-      (ap (λ l. with_last_reply l reply) at ∙ with_last_reply-push front (record { request = request; reply = None }) reply);
-}
-waits s actor.A front request reply late at = record {
-  earlier = record s { a = front };
-  is = ap (λ l. record s { a = l }) at;
-  late = refl;
-  with_reply = ap (λ l. record s { a = l })
-      (ap (λ l. with_last_reply l reply) at ∙ with_last_reply-push front (record { request = request; reply = None }) reply);
-}
-waits s actor.B front request reply late at = record {
-  earlier = record s { b = front };
-  is = ap (λ l. record s { b = l }) at;
-  late = refl;
-  with_reply = ap (λ l. record s { b = l })
-      (ap (λ l. with_last_reply l reply) at ∙ with_last_reply-push front (record { request = request; reply = None }) reply);
+waits s who front request reply late at = record {
+  earlier = with_section s who front;
+  is = sym (same_section s who) ∙ ap (with_section s who) at ∙ added_last s who front (record { request = request; reply = None });
+  late = late_with s who front ∙ late;
+  with_reply = ap (λ l. with_section s who (with_last_reply l reply)) at
+      ∙ ap (with_section s who) (with_last_reply-push front (record { request = request; reply = None }) reply)
+      ∙ added_last s who front (record { request = request; reply = Some reply });
 }
 
 -- no late reply is awaited
@@ -190,55 +167,18 @@ pub waits_for : (s : Sections) (who : Actor) (reply : Reply) → is_history s �
     → (request : Request) × IsWaiting s who request reply × (is_fit request reply ≡ true)
 waits_for s who reply h none =
     elim (ends (section_of s who)) [
-      | inl e ↦ absurd (nothing (sym (ap (λ l. reply_fault (last_of l) reply) e) ∙ none))
+      | inl e ↦ let wrong : Some kind.Order ≡ None = sym (ap (λ l. reply_fault (last_of l) reply) e) ∙ none in absurd cc
       | inr (front, sent, e) ↦
-          by front sent e sent.reply refl (sym (ap (λ l. reply_fault (last_of l) reply) e ∙ ap (λ o. reply_fault o reply) (last_of-push front sent)) ∙ none)
+          let last = ap (λ l. reply_fault (last_of l) reply) e ∙ ap (λ o. reply_fault o reply) (last_of-push front sent) in
+          let free = faultless sent.reply (is_fit sent.request reply) (sym last ∙ none) in
+          let at : section_of s who ≡ front ++ record { request = sent.request; reply = None } ∷ [] =
+          e ∙ ap (λ r. front ++ record { request = sent.request; reply = r } ∷ []) free.0 in
+          (sent.request, waits s who front sent.request reply (awaited_in_time s who h (ap are_answered e ∙ unanswered front sent free.0)) at, free.1)
     ]
   where
-    nothing : Some kind.Order ≡ None → ⊥
-    nothing e = cc
-
-    fits : (b : Bool) → (if b then None else Some kind.WrongReply) ≡ None → b ≡ true
-    fits true e = refl
-    fits false e = cc
-
-    by : (front : List Sent) (sent : Sent) → section_of s who ≡ front ++ sent ∷ [] → (o : Option Reply) → sent.reply ≡ o → reply_fault (Some sent) reply ≡ None
-        → (request : Request) × IsWaiting s who request reply × (is_fit request reply ≡ true)
-    by front sent e (Some other) o f =
-        let same : reply_fault (Some sent) reply ≡ Some kind.Order =
-        ap (λ r. if is_some r then Some kind.Order else (if is_fit sent.request reply then None else Some kind.WrongReply)) o in
-        absurd (nothing (sym same ∙ f))
-    by front sent e None o f =
-        let same : reply_fault (Some sent) reply ≡ (if is_fit sent.request reply then None else Some kind.WrongReply) =
-        ap (λ r. if is_some r then Some kind.Order else (if is_fit sent.request reply then None else Some kind.WrongReply)) o in
-        let last : section_of s who ≡ front ++ record { request = sent.request; reply = None } ∷ [] =
-        e ∙ ap (λ r. front ++ record { request = sent.request; reply = r } ∷ []) o in
-        let open_end = ap are_answered e ∙ unanswered front sent o in
-        (sent.request, waits s who front sent.request reply (awaited_in_time s who h open_end) last, fits (is_fit sent.request reply) (sym same ∙ f))
-
--- what is a history with the reply is one without it
-pub unanswered_history : (s : Sections) (who : Actor) (request : Request) (reply : Reply) → comes_late s who ≡ false
-    → is_history (with_sent s who (record { request = request; reply = Some reply })) ≡ true
-    → is_history (with_sent s who (record { request = request; reply = None })) ≡ true
-unanswered_history s who request reply late h =
-    let open_one : Sent = record { request = request; reply = None } in
-    let whole : Sent = record { request = request; reply = Some reply } in
-    let before = history_before s who whole late h in
-    let none : first_failed (has_words request) (is_full s who open_one) (may_come s who) (clears s who open_one) (number_is_seen s who open_one)
-    (is_fit request reply) ≡ None =
-    sym (fault_by_tests s who whole before) ∙ no_fault_of s who whole late h in
-    (no_fault s who open_one (fault_by_tests s who open_one before
-    ∙ without (has_words request) (is_full s who open_one) (may_come s who) (clears s who open_one) (number_is_seen s who open_one)
-    (is_fit request reply) none)).1
-  where
-    without : (words full turn cleared seen fits : Bool) → first_failed words full turn cleared seen fits ≡ None
-        → first_failed words full turn cleared seen true ≡ None
-    without false full turn cleared seen fits e = cc
-    without true true turn cleared seen fits e = cc
-    without true false false cleared seen fits e = cc
-    without true false true false seen fits e = cc
-    without true false true true false fits e = cc
-    without true false true true true fits e = refl
+    faultless : (o : Option Reply) (fits : Bool) → (if is_some o then Some kind.Order else (if fits then None else Some kind.WrongReply)) ≡ None
+        → (o ≡ None) × (fits ≡ true)
+    faultless o fits e = grind arith
 
 -- a history stays one when a reply comes that has no fault
 pub answered_history : (s : Sections) (who : Actor) (reply : Reply) → is_history s ≡ true → reply_fault (last_of (section_of s who)) reply ≡ None
@@ -250,14 +190,10 @@ answered_history s who reply h none =
     ap is_history w.with_reply ∙ (no_fault w.earlier who (record { request = request; reply = Some reply }) fault).1
 
 -- a history with another list in the place of one section: the same list, or the list with the reply
-pub kept : {X : Type 0} (result : Result X HistoryKind) (s : Sections) (who : Actor) (with_list : List Sent → Sections) (old new : List Sent)
-    (reply : Reply) (keys : ℕ)
-    → is_history s ≡ true → keys ≡ key_count s → with_list old ≡ s → with_list (with_last_reply old reply) ≡ after_reply s who reply
-    → OnOk result (new ≡ with_last_reply old reply) → IfOk result (λ _. reply_fault (last_of (section_of s who)) reply ≡ None) → OnErr result (new ≡ old)
-    → (is_history (with_list new) ≡ true) × (keys ≡ key_count (with_list new))
-kept (Ok x) s who with_list old new reply keys h counted same replied_is ok none err =
-    let whole : with_list new ≡ after_reply s who reply = ap with_list ok ∙ replied_is in
-    (ap is_history whole ∙ answered_history s who reply h none, counted ∙ sym (key_count-after_reply s who reply) ∙ sym (ap key_count whole))
-kept (Err e) s who with_list old new reply keys h counted same replied_is ok none err =
-    let whole : with_list new ≡ s = ap with_list err ∙ same in
-    (ap is_history whole ∙ h, counted ∙ sym (ap key_count whole))
+pub kept : {X : Type 0} (result : Result X HistoryKind) (s : Sections) (who : Actor) (new : List Sent) (reply : Reply) (keys : ℕ)
+    → (is_history s ≡ true) × (keys ≡ key_count s) → OnOk result (new ≡ with_last_reply (section_of s who) reply)
+    → IfOk result (λ _. reply_fault (last_of (section_of s who)) reply ≡ None) → OnErr result (new ≡ section_of s who)
+    → (is_history (with_section s who new) ≡ true) × (keys ≡ key_count (with_section s who new))
+kept (Ok x) s who new reply keys (h, counted) ok none err =
+    rw ok (answered_history s who reply h none, counted ∙ sym (key_count-after_reply s who reply))
+kept (Err e) s who new reply keys (h, counted) ok none err = rw (err, same_section s who) (h, counted)

@@ -1,15 +1,12 @@
 -- A word is read as a body exactly where it spells it.
-use Rattle.std.proofs.Common.{◌≡◌, ◌≢◌, ℕ, ◌+◌, ◌*◌, ◌==◌, nat_le, Bool, true, false, not, ◌&&◌, cond, Option, Some}
-use Rattle.std.proofs.Common.{None, Result, Ok, Err, List, [], ◌∷◌, length, refl, sym, ap, ◌∙◌, inl, inr}
-use Rattle.std.specs.Result.{IfErr}
+use Rattle.std.proofs.Common.{◌≡◌, ℕ, ◌+◌, ◌*◌, ◌==◌, nat_le, Bool, true, false, cond, Option, Some}
+use Rattle.std.proofs.Common.{None, Result, Ok, Err, List, [], ◌∷◌, length, refl, sym, ap, ◌∙◌, inl, inr, arith}
 use Rattle.std.proofs.lemmas.Bool.{eqb-true, leb-true, le-leb}
-use Rattle.mc_protocol.specs.declared.limits.TheConstants.{REPLY_BODY_LIMIT}
-use Rattle.mc_protocol.specs.Lines.{Word}
-use Rattle.mc_model.specs.declared.words_fault.WordsKind.{WordsKind}
+use Rattle.mc_model.specs.Types.{REPLY_BODY_LIMIT, Word, WordsKind}
 use Rattle.mc_model.specs.declared.words_fault.WordsKind.TheVariants as kind
 use Rattle.mc_model.specs.Words.{SpellsByte, SpellsBytes, SpellsBody, is_plain, hex_value}
-use Rattle.mc_model.specs.Reading.{◌>>=◌, first_byte_in, bytes_in, body_in, in_front, plain_before, hex_before, if_plain, if_hex, within_limit}
-use Rattle.mc_model.proofs.Outcomes.{then-ok, steps-ok, ok-same}
+use Rattle.mc_model.specs.Reading.{◌>>=◌, first_byte_in, bytes_in, body_in, in_front, hex_before, if_plain, if_hex, within_limit}
+use Rattle.mc_model.proofs.Readings.{then-ok, steps-ok, ok-same}
 use Rattle.mc_model.proofs.Escaped.{read_on, bytes_in-first}
 
 -- ---- one byte: what is read is spelled
@@ -52,14 +49,8 @@ first-spelled (a ∷ b ∷ c ∷ xs) byte rest h = either-spelled (a == 37) a b 
 
 -- ---- one byte: what is spelled is read
 
-last-holds : (a b c : Bool) → (a && b && not c) ≡ true → c ≡ false
-last-holds true true true h = absurd (cc)
-last-holds true true false h = refl
-last-holds true false c h = absurd (cc)
-last-holds false b c h = absurd (cc)
-
 not-percent : (byte : ℕ) → is_plain byte ≡ true → (byte == 37) ≡ false
-not-percent byte h = last-holds (nat_le 33 byte) (nat_le byte 126) (byte == 37) h
+not-percent byte h = grind arith
 
 plain-read : (byte : ℕ) (rest : List ℕ) → is_plain byte ≡ true → first_byte_in (byte ∷ rest) ≡ Ok (Some (byte, rest))
 plain-read byte [] h = rw h refl
@@ -76,10 +67,6 @@ in_front-ok : (x y : ℕ) (ys : List ℕ) (read : Result (List ℕ) WordsKind) �
 in_front-ok x y ys (Ok bytes) h = (cc, cc)
 in_front-ok x y ys (Err e) h = absurd (cc)
 
-in_front-some : (x : ℕ) (read : Result (List ℕ) WordsKind) → in_front x read ≡ Ok [] → ⊥
-in_front-some x (Ok bytes) h = cc
-in_front-some x (Err e) h = cc
-
 -- the first byte of bytes that were read
 read_on-ok : (first : FirstByte) (byte : ℕ) (bytes : List ℕ) → read_on first ≡ Ok (byte ∷ bytes)
     → (rest : List ℕ) × (first ≡ Ok (Some (byte, rest))) × (bytes_in rest ≡ Ok bytes)
@@ -89,25 +76,16 @@ read_on-ok (Ok (Some p)) byte bytes h =
     let k = in_front-ok p.0 byte bytes (bytes_in p.1) h in
     (p.1, ap (λ x. Ok (Some (x, p.1))) k.0, k.1)
 
-plain-some : (a : ℕ) (read : Result (List ℕ) WordsKind) → plain_before a read ≡ Ok [] → ⊥
-plain-some a read h = in_front-some a read (then-ok (is_plain a) (in_front a read) kind.Form [] h).1
-
-hex-some : (high low : Option ℕ) (read : Result (List ℕ) WordsKind) → hex_before high low read ≡ Ok [] → ⊥
-hex-some (Some h) (Some l) read e = in_front-some (h * 16 + l) read e
-hex-some (Some h) None read e = cc
-hex-some None low read e = cc
-
-either-some : (percent : Bool) (high low : Option ℕ) (read other : Result (List ℕ) WordsKind) (a : ℕ)
-    → cond percent (hex_before high low read) (plain_before a other) ≡ Ok [] → ⊥
-either-some true high low read other a h = hex-some high low read h
-either-some false high low read other a h = plain-some a other h
+some-either : (percent plain : Bool) (high low : Option ℕ) (a : ℕ) (read other : Result (List ℕ) WordsKind)
+    → cond percent (hex_before high low read) (cond plain (in_front a other) (Err kind.Form)) ≡ Ok [] → ⊥
+some-either percent plain high low a read other h = grind arith
 
 -- only the empty text stands for no byte
 bytes-end : (text : List ℕ) → bytes_in text ≡ Ok [] → text ≡ []
 bytes-end [] h = refl
-bytes-end (a ∷ []) h = absurd (plain-some a (Ok []) h)
-bytes-end (a ∷ b ∷ []) h = absurd (plain-some a (bytes_in (b ∷ [])) h)
-bytes-end (a ∷ b ∷ c ∷ xs) h = absurd (either-some (a == 37) (hex_value b) (hex_value c) (bytes_in xs) (bytes_in (b ∷ c ∷ xs)) a h)
+bytes-end (a ∷ []) h = absurd (grind arith)
+bytes-end (a ∷ b ∷ []) h = absurd (grind arith)
+bytes-end (a ∷ b ∷ c ∷ xs) h = absurd (some-either (a == 37) (is_plain a) (hex_value b) (hex_value c) a (bytes_in xs) (bytes_in (b ∷ c ∷ xs)) h)
 
 bytes-spelled : (text bytes : List ℕ) → bytes_in text ≡ Ok bytes → SpellsBytes text bytes
 bytes-spelled text [] h = bytes-end text h
@@ -139,48 +117,3 @@ body-read word body (text, e, spelled, small) = rw (e, bytes-read text body spel
 -- a word spells one body
 pub one_body : (word : Word) (a b : List ℕ) → SpellsBody word a → SpellsBody word b → a ≡ b
 one_body word a b s t = ok-same a b (sym (body-read word a s) ∙ body-read word b t)
-
--- ---- the fault is never that of a number
-
-abbrev IsNoNumber : Result (List ℕ) WordsKind → Type 0
-IsNoNumber read = IfErr read (λ e. e ≢ kind.Number)
-
-form-apart : kind.Form ≢ kind.Number
-form-apart e = cc
-
-form-front : (byte : ℕ) (read : Result (List ℕ) WordsKind) → IsNoNumber read → IsNoNumber (in_front byte read)
-form-front byte (Ok bytes) h = tt
-form-front byte (Err e) h = h
-
-form-then : (b : Bool) (read : Result (List ℕ) WordsKind) → IsNoNumber read → IsNoNumber (cond b read (Err kind.Form))
-form-then true read h = h
-form-then false read h = form-apart
-
-form-plain : (a : ℕ) (read : Result (List ℕ) WordsKind) → IsNoNumber read → IsNoNumber (plain_before a read)
-form-plain a read h = form-then (is_plain a) (in_front a read) (form-front a read h)
-
-form-hex : (high low : Option ℕ) (read : Result (List ℕ) WordsKind) → IsNoNumber read → IsNoNumber (hex_before high low read)
-form-hex (Some h) (Some l) read k = form-front (h * 16 + l) read k
-form-hex (Some h) None read k = form-apart
-form-hex None low read k = form-apart
-
-form-either : (percent : Bool) (high low : Option ℕ) (read other : Result (List ℕ) WordsKind) (a : ℕ) → IsNoNumber read → IsNoNumber other
-    → IsNoNumber (cond percent (hex_before high low read) (plain_before a other))
-form-either true high low read other a h k = form-hex high low read h
-form-either false high low read other a h k = form-plain a other k
-
-form-bytes : (text : List ℕ) → IsNoNumber (bytes_in text)
-form-bytes [] = tt
-form-bytes (a ∷ []) = form-plain a (Ok []) tt
-form-bytes (a ∷ b ∷ []) = form-plain a (bytes_in (b ∷ [])) (form-bytes (b ∷ []))
-form-bytes (a ∷ b ∷ c ∷ xs) = form-either (a == 37) (hex_value b) (hex_value c) (bytes_in xs) (bytes_in (b ∷ c ∷ xs)) a (form-bytes xs)
-    (form-bytes (b ∷ c ∷ xs))
-
-form-limit : (read : Result (List ℕ) WordsKind) → IsNoNumber read → IsNoNumber (read >>= within_limit)
-form-limit (Ok bytes) h = form-then (nat_le (length bytes) REPLY_BODY_LIMIT) (Ok bytes) tt
-form-limit (Err e) h = h
-
-pub body-form : (word : Word) → IsNoNumber (body_in word)
-unfolding body_in
-body-form [] = form-apart
-body-form (first ∷ text) = form-then (first == 61) (bytes_in text >>= within_limit) (form-limit (bytes_in text) (form-bytes text))

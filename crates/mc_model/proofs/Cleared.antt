@@ -1,85 +1,44 @@
 -- Keys that are cleared: a request in P is on them, and the first is a delete.
-use Rattle.std.proofs.Common.{◌≡◌, ℕ, Bool, true, false, cond, ◌&&◌, ◌||◌, inl, inr, Option, Some, None}
-use Rattle.std.proofs.Common.{List, [], ◌∷◌, ◌++◌, append_assoc, refl, sym, ap, subst, ◌∙◌}
-use Rattle.std.specs.List.{list_all, list_any, find}
-use Rattle.std.specs.Option.{option_or}
-use Rattle.std.proofs.lemmas.Bool.{cases_Bool, and_parts, and_from, false≢true}
-use Rattle.std.proofs.lemmas.List.Folds.{find-append, list_all-append, list_any-append}
+use Rattle.std.proofs.Common.{◌≡◌, ℕ, Bool, true, false, cond, ◌&&◌, ◌||◌, inl, inr, Some}
+use Rattle.std.proofs.Common.{List, [], ◌∷◌, ◌++◌, append_assoc, append-nil, refl, sym, ap, ap₂, subst, ◌∙◌, arith}
+use Rattle.std.specs.List.{list_all, find}
+use Rattle.std.proofs.lemmas.Bool.{cases_Bool, and_parts, both_ways, false_from_ne_true}
+use Rattle.std.proofs.lemmas.List.Folds.{list_all-append, list_any-append}
 use Rattle.std.proofs.lemmas.Slice.Eq.{bytes_eq-Decides}
-use Rattle.mc_protocol.specs.declared.actor.Actor.{Actor}
+use Rattle.mc_model.specs.Types.{Actor, Sent}
 use Rattle.mc_protocol.specs.declared.actor.Actor.TheVariants as actor
-use Rattle.mc_model.specs.declared.sent.Sent.{Sent}
 use Rattle.mc_model.specs.Sections.{Sections, with_sent}
-use Rattle.mc_model.specs.History.{is_on, has_key, is_delete, is_a_delete, clears, is_cleared}
+use Rattle.mc_model.specs.History.{is_on, has_key, is_delete, is_a_delete, clears, is_cleared, comes_late}
 use Rattle.mc_model.specs.Next as next
-use Rattle.mc_model.proofs.Added.{every_added}
+use Rattle.mc_model.proofs.{Added.every_added, Turns.no_branch}
 
--- what is found is there
-found_any : (test : Sent → Bool) (xs : List Sent) → is_a_delete (find test xs) ≡ true → list_any test xs ≡ true
-found_any test [] found = found
-found_any test (x ∷ xs) found =
-    elim (test x) as (λ b. is_a_delete (cond b (Some x) (find test xs)) ≡ true → (b || list_any test xs) ≡ true) [
-      | true ↦ λ _. refl
-      | false ↦ λ found. found_any test xs found
-    ] found
-
--- where nothing passes, nothing is found
-found_none : (test : Sent → Bool) (xs : List Sent) → list_any test xs ≡ false → find test xs ≡ None
-found_none test [] none = refl
-found_none test (x ∷ xs) none =
-    elim (test x) as (λ b. (b || list_any test xs) ≡ false → (cond b (Some x) (find test xs)) ≡ None) [
-      | true ↦ λ none. cc
-      | false ↦ λ none. found_none test xs none
-    ] none
+-- the first request on a key is that of the front, if the front has one
+clears-append : (p more : List Sent) (key : List ℕ) → clears (p ++ more) key ≡ cond (has_key key p) (clears p key) (clears more key)
+clears-append [] more key = refl
+clears-append (x ∷ p) more key =
+    elim (is_on key x) as (λ b. is_a_delete (cond b (Some x) (find (is_on key) (p ++ more)))
+    ≡ cond (b || has_key key p) (is_a_delete (cond b (Some x) (find (is_on key) p))) (clears more key)) [
+      | true ↦ refl
+      | false ↦ clears-append p more key
+    ]
 
 -- what clears a key has a request on it
 pub has_key-clears : (p : List Sent) (key : List ℕ) → clears p key ≡ true → has_key key p ≡ true
-has_key-clears p key cleared = found_any (is_on key) p cleared
-
--- a delete that was found stays the first when requests are added
-pub clears-append : (p more : List Sent) (key : List ℕ) → clears p key ≡ true → clears (p ++ more) key ≡ true
-clears-append p more key cleared =
-    rw (find-append (is_on key) p more)
-    (elim (find (is_on key) p) as (λ o. is_a_delete o ≡ true → is_a_delete (option_or o (find (is_on key) more)) ≡ true) [
-      | Some x ↦ λ e. e
-      | None ↦ λ e. absurd (false≢true e)
-    ] cleared)
+has_key-clears p key cleared = first (has_key key p) (sym (ap (λ l. clears l key) (append-nil p)) ∙ clears-append p [] key) cleared
+  where
+    first : (b : Bool) → clears p key ≡ cond b (clears p key) false → clears p key ≡ true → b ≡ true
+    first b e f = grind arith
 
 -- a request of a list where each one's key is cleared, on a key: the key is cleared
-pub clears-of : (p : List Sent) (key : List ℕ) (xs : List Sent) → list_all (λ sent. clears p sent.request.key) xs ≡ true → has_key key xs ≡ true
+clears-of : (p : List Sent) (key : List ℕ) (xs : List Sent) → list_all (λ sent. clears p sent.request.key) xs ≡ true → has_key key xs ≡ true
     → clears p key ≡ true
-clears-of p key [] all one = absurd (false≢true one)
+clears-of p key [] all one = cc
 clears-of p key (x ∷ xs) all one =
     let parts = and_parts (clears p x.request.key) (list_all (λ sent. clears p sent.request.key) xs) all in
     elim (cases_Bool (is_on key x)) [
       | inl e ↦ subst (λ k. clears p k ≡ true) ((bytes_eq-Decides x.request.key key).0 e) parts.0
       | inr e ↦ clears-of p key xs parts.1 (sym (ap (λ b. b || has_key key xs) e) ∙ one)
     ]
-
--- where no request is on the key, the first of more requests is the first
-clears-none : (p more : List Sent) (key : List ℕ) → has_key key p ≡ false → clears (p ++ more) key ≡ clears more key
-clears-none p more key none = rw (find-append (is_on key) p more, found_none (is_on key) p none) refl
-
--- a request is on its own key
-is_on-itself : (sent : Sent) → is_on sent.request.key sent ≡ true
-is_on-itself sent = (bytes_eq-Decides sent.request.key sent.request.key).1 refl
-
--- where each key of P is cleared, a key is cleared exactly if P has it
-clears-has_key : (p : List Sent) (key : List ℕ) → list_all (λ sent. clears p sent.request.key) p ≡ true → clears p key ≡ has_key key p
-clears-has_key p key all =
-    elim (cases_Bool (has_key key p)) [
-      | inl e ↦ clears-of p key p all e ∙ sym e
-      | inr e ↦ ap is_a_delete (found_none (is_on key) p e) ∙ sym e
-    ]
-
--- what was cleared stays so when P has more requests
-cleared-append : (p more xs : List Sent) → list_all (λ sent. clears p sent.request.key) xs ≡ true
-    → list_all (λ sent. clears (p ++ more) sent.request.key) xs ≡ true
-cleared-append p more [] all = refl
-cleared-append p more (x ∷ xs) all =
-    let parts = and_parts (clears p x.request.key) (list_all (λ sent. clears p sent.request.key) xs) all in
-    and_from (clears (p ++ more) x.request.key) (list_all (λ sent. clears (p ++ more) sent.request.key) xs) (clears-append p more x.request.key parts.0)
-    (cleared-append p more xs parts.1)
 
 -- the three sections, each of whose keys is cleared
 pub cleared_parts : (s : Sections) → is_cleared s ≡ true
@@ -91,103 +50,79 @@ cleared_parts s all =
     let first = and_parts (passes s.p) (passes s.a) both.0 in
     (first.0, first.1, both.1)
 
--- what would make a false test true is false
-not-of : (x y : Bool) → y ≡ false → (x ≡ true → y ≡ true) → x ≡ false
-not-of true y e f = sym (f refl) ∙ e
-not-of false y e f = refl
+absorbed : (x y z : Bool) → (y ≡ true → x ≡ true) → (z ≡ true → x ≡ true) → (x || y || z) ≡ x
+absorbed x y z f g = grind arith
 
 -- in a history P has each key
 pub keys_in_prefix : (s : Sections) (key : List ℕ) → is_cleared s ≡ true → has_key key (s.p ++ s.a ++ s.b) ≡ has_key key s.p
 keys_in_prefix s key all =
     let parts = cleared_parts s all in
     rw (list_any-append (is_on key) (s.p ++ s.a) s.b, list_any-append (is_on key) s.p s.a)
-    (elim (cases_Bool (has_key key s.p)) [
-      | inl e ↦ rw e refl
-      | inr e ↦
-          let in_p : clears s.p key ≡ true → has_key key s.p ≡ true = has_key-clears s.p key in
-          let in_a : has_key key s.a ≡ false = not-of (has_key key s.a) (has_key key s.p) e (λ f. in_p (clears-of s.p key s.a parts.1 f)) in
-          let in_b : has_key key s.b ≡ false = not-of (has_key key s.b) (has_key key s.p) e (λ f. in_p (clears-of s.p key s.b parts.2 f)) in
-          rw (e, in_a, in_b) refl
-    ])
+    (absorbed (has_key key s.p) (has_key key s.a) (has_key key s.b) (λ e. has_key-clears s.p key (clears-of s.p key s.a parts.1 e))
+    (λ e. has_key-clears s.p key (clears-of s.p key s.b parts.2 e)))
 
--- the request that comes clears its key in P, or its key is cleared
-cleared_next : (p : List Sent) (sent : Sent) → list_all (λ sent. clears p sent.request.key) p ≡ true
-    → clears (p ++ sent ∷ []) sent.request.key ≡ (has_key sent.request.key p || is_delete sent.request.verb)
-cleared_next p sent all =
-    elim (cases_Bool (has_key sent.request.key p)) [
-      | inl e ↦ clears-append p (sent ∷ []) sent.request.key (clears-of p sent.request.key p all e) ∙ rw e refl
-      | inr e ↦ clears-none p (sent ∷ []) sent.request.key e ∙ rw (is_on-itself sent, e) refl
+-- where each key of P is cleared, a key is cleared exactly if P has it
+clears-has_key : (p : List Sent) (key : List ℕ) → list_all (λ sent. clears p sent.request.key) p ≡ true → clears p key ≡ has_key key p
+clears-has_key p key all =
+    elim (cases_Bool (has_key key p)) [
+      | inl e ↦ clears-of p key p all e ∙ sym e
+      | inr e ↦ false_from_ne_true (clears p key) (λ c. both_ways (has_key key p) e (has_key-clears p key c)) ∙ sym e
     ]
 
+-- a request is on its own key
+is_on-itself : (sent : Sent) → is_on sent.request.key sent ≡ true
+is_on-itself sent = (bytes_eq-Decides sent.request.key sent.request.key).1 refl
+
 or-true : (x : Bool) → (x || true) ≡ true
-or-true true = refl
-or-true false = refl
+or-true x = grind arith
 
-or-false : (x : Bool) → (x || false) ≡ x
-or-false true = refl
-or-false false = refl
-
-thrice : (x : Bool) → ((x && true) && true && true) ≡ x
-thrice true = refl
-thrice false = refl
-
--- with one more request each key is cleared exactly if that one's is
-pub cleared_added : (s : Sections) (who : Actor) (sent : Sent) → is_cleared s ≡ true → is_cleared (with_sent s who sent) ≡ next.clears s who sent
-cleared_added s actor.P sent all =
-    let more = s.p ++ sent ∷ [] in
-    let parts = cleared_parts s all in
-    rw (
-      list_all-append (λ x. clears more x.request.key) s.p (sent ∷ []),
-      cleared-append s.p (sent ∷ []) s.p parts.0,
-      cleared-append s.p (sent ∷ []) s.a
-          parts.1,
-      cleared-append s.p (sent ∷ []) s.b parts.2,
-      cleared_next s.p sent parts.0,
-    )
-    (thrice (has_key sent.request.key s.p || is_delete sent.request.verb))
-cleared_added s actor.A sent all =
-    every_added (λ x. clears s.p x.request.key) s actor.A sent
-    ∙ rw all (clears-has_key s.p sent.request.key (cleared_parts s all).0 ∙ sym (or-false (has_key sent.request.key s.p)))
-cleared_added s actor.B sent all =
-    every_added (λ x. clears s.p x.request.key) s actor.B sent
-    ∙ rw all (clears-has_key s.p sent.request.key (cleared_parts s all).0 ∙ sym (or-false (has_key sent.request.key s.p)))
-
--- the first that passes is before more
-found_front : (test : Sent → Bool) (xs : List Sent) (more : Option Sent) → list_any test xs ≡ true → option_or (find test xs) more ≡ find test xs
-found_front test [] more one = absurd (false≢true one)
-found_front test (x ∷ xs) more one =
-    elim (test x) as (λ b. (b || list_any test xs) ≡ true → option_or (cond b (Some x) (find test xs)) more ≡ cond b (Some x) (find test xs)) [
-      | true ↦ λ _. refl
-      | false ↦ λ one. found_front test xs more one
-    ] one
-
--- each request of a list has its key there
-keys_within : (front xs : List Sent) → list_all (λ x. has_key x.request.key (front ++ xs)) xs ≡ true
-keys_within front [] = refl
-keys_within front (x ∷ xs) =
-    let here : has_key x.request.key (front ++ x ∷ xs) ≡ true =
+-- more requests of P clear no key that it has
+cleared-append : (front xs more : List Sent)
+    → list_all (λ x. clears (front ++ xs ++ more) x.request.key) xs ≡ list_all (λ x. clears (front ++ xs) x.request.key) xs
+cleared-append front [] more = refl
+cleared-append front (x ∷ xs) more =
+    let has : has_key x.request.key (front ++ x ∷ xs) ≡ true =
     rw (list_any-append (is_on x.request.key) front (x ∷ xs), is_on-itself x) (or-true (has_key x.request.key front)) in
-    let others : list_all (λ y. has_key y.request.key (front ++ x ∷ xs)) xs ≡ true =
-    subst (λ all. list_all (λ y. has_key y.request.key all) xs ≡ true) (append_assoc front (x ∷ []) xs) (keys_within (front ++ x ∷ []) xs) in
-    and_from (has_key x.request.key (front ++ x ∷ xs)) (list_all (λ y. has_key y.request.key (front ++ x ∷ xs)) xs) here others
+    ap₂ (λ a b. a && b)
+    (clears-append (front ++ x ∷ xs) more x.request.key
+    ∙ ap (λ b. cond b (clears (front ++ x ∷ xs) x.request.key) (clears more x.request.key)) has)
+    (subst (λ l. list_all (λ y. clears (l ++ more) y.request.key) xs ≡ list_all (λ y. clears l y.request.key) xs) (append_assoc front (x ∷ []) xs)
+    (cleared-append (front ++ x ∷ []) xs more))
 
--- what is cleared with more requests in P, and has its keys in P, is cleared
-cleared_front : (p more xs : List Sent) → list_all (λ x. has_key x.request.key p) xs ≡ true → list_all (λ x. clears (p ++ more) x.request.key) xs ≡ true
-    → list_all (λ x. clears p x.request.key) xs ≡ true
-cleared_front p more [] there all = refl
-cleared_front p more (x ∷ xs) there all =
-    let here = and_parts (has_key x.request.key p) (list_all (λ y. has_key y.request.key p) xs) there in
-    let parts = and_parts (clears (p ++ more) x.request.key) (list_all (λ y. clears (p ++ more) y.request.key) xs) all in
-    let same : clears (p ++ more) x.request.key ≡ clears p x.request.key =
-    ap is_a_delete (find-append (is_on x.request.key) p more ∙ found_front (is_on x.request.key) p (find (is_on x.request.key) more) here.0) in
-    and_from (clears p x.request.key) (list_all (λ y. clears p y.request.key) xs) (sym same ∙ parts.0) (cleared_front p more xs here.1 parts.1)
+-- with one more request of P each key is cleared exactly if those before it are and that one's is
+prefix_cleared : (p : List Sent) (sent : Sent) → list_all (λ x. clears (p ++ sent ∷ []) x.request.key) (p ++ sent ∷ [])
+    ≡ (list_all (λ x. clears p x.request.key) p && (has_key sent.request.key p || is_delete sent.request.verb))
+prefix_cleared p sent =
+    rw (
+      list_all-append (λ x. clears (p ++ sent ∷ []) x.request.key) p (sent ∷ []),
+      cleared-append [] p (sent ∷ []),
+      clears-append p (sent ∷ []) sent.request.key,
+      is_on-itself sent,
+    )
+    (by (list_all (λ x. clears p x.request.key) p) (clears p sent.request.key) (has_key sent.request.key p) (is_delete sent.request.verb)
+    (clears-has_key p sent.request.key))
+  where
+    by : (all c h d : Bool) → (all ≡ true → c ≡ h) → (all && (cond h c d && true)) ≡ (all && (h || d))
+    by all c h d e = grind arith
 
--- where P's keys are cleared with one more request of P, they are cleared
-pub cleared_before : (p : List Sent) (sent : Sent) → list_all (λ x. clears (p ++ sent ∷ []) x.request.key) (p ++ sent ∷ []) ≡ true
-    → list_all (λ x. clears p x.request.key) p ≡ true
-cleared_before p sent all =
-    let more = p ++ sent ∷ [] in
-    let both : (list_all (λ x. clears more x.request.key) p && list_all (λ x. clears more x.request.key) (sent ∷ [])) ≡ true =
-    sym (list_all-append (λ x. clears more x.request.key) p (sent ∷ [])) ∙ all in
-    cleared_front p (sent ∷ []) p (keys_within [] p)
-    (and_parts (list_all (λ x. clears more x.request.key) p) (list_all (λ x. clears more x.request.key) (sent ∷ [])) both).0
+branch_cleared : (all c h : Bool) → (all ≡ true → c ≡ h) → (all && c) ≡ (all && (h || false))
+branch_cleared all c h e = grind arith
+
+alone : (x y : Bool) → (x && y && true && true) ≡ ((x && true && true) && y)
+alone x y = grind arith
+
+-- with one more request each key is cleared exactly if those before it are and that one's is
+pub cleared_added : (s : Sections) (who : Actor) (sent : Sent) → comes_late s who ≡ false
+    → is_cleared (with_sent s who sent) ≡ (is_cleared s && next.clears s who sent)
+cleared_added s actor.P sent late =
+    let none = no_branch s late in
+    rw (none.0, none.1, prefix_cleared s.p sent)
+    (alone (list_all (λ x. clears s.p x.request.key) s.p) (has_key sent.request.key s.p || is_delete sent.request.verb))
+cleared_added s actor.A sent late =
+    every_added (λ x. clears s.p x.request.key) s actor.A sent
+    ∙ branch_cleared (is_cleared s) (clears s.p sent.request.key) (has_key sent.request.key s.p)
+    (λ all. clears-has_key s.p sent.request.key (cleared_parts s all).0)
+cleared_added s actor.B sent late =
+    every_added (λ x. clears s.p x.request.key) s actor.B sent
+    ∙ branch_cleared (is_cleared s) (clears s.p sent.request.key) (has_key sent.request.key s.p)
+    (λ all. clears-has_key s.p sent.request.key (cleared_parts s all).0)

@@ -3,17 +3,11 @@ use Rattle.std.proofs.Common.{◌≡◌, ℕ, ◌+◌, ◌-◌, ◌^◌, ◌<◌
 use Rattle.std.proofs.Common.{Some, None, List, ◌++◌, length, replicate, max, refl, sym, ap, ◌∙◌, arith}
 use Rattle.std.specs.Fmt.{decimal}
 use Rattle.std.proofs.lemmas.List.{append-nil, length-append, length-replicate}
-use Rattle.std.proofs.lemmas.Nat.{mod_below}
-use Rattle.std.proofs.lemmas.Fmt.{length-decimal-le}
+use Rattle.std.proofs.lemmas.{Nat.mod_below, Fmt.length-decimal-le}
 use Rattle.mc_protocol.specs.Legal.{class_of, is_fit}
-use Rattle.mc_protocol.specs.declared.request.Request.{Request}
-use Rattle.mc_protocol.specs.declared.request.Verb.{Verb}
+use Rattle.mc_model.specs.Types.{Request, Verb, Reply, Item, Is, Choice}
 use Rattle.mc_protocol.specs.declared.request.Verb.TheVariants as verb
-use Rattle.mc_protocol.specs.declared.reply.Reply.{Reply}
 use Rattle.mc_protocol.specs.declared.reply.Reply.TheVariants as reply
-use Rattle.mc_model.specs.declared.cache.Item.{Item}
-use Rattle.mc_model.specs.declared.numeral.Numeral.TheVariants.{Is}
-use Rattle.mc_model.specs.declared.act.Choice.{Choice}
 use Rattle.mc_model.specs.Numeral.{numeral_of, read_as}
 use Rattle.mc_model.specs.Act.{Removes, Effect, answers, puts, store, count, count_from, count_to, counted_body, increment, decrement, effect_by, version}
 use Rattle.mc_model.specs.ActLaws.{is_short, body_length, joins, reports_version}
@@ -62,8 +56,7 @@ said_by false n spaces small = ap numeral_of (sym (append-nil (decimal n))) ∙ 
 
 -- either is at most as long as the longer of 20 bytes and the old body
 long : (b : Bool) (n old : ℕ) → length (decimal n) ≤ 20 → length (cond b (decimal n ++ replicate (old - length (decimal n)) 32) (decimal n)) ≤ max 20 old
-long true n old few = simp (length-append, length-replicate) (omega arith)
-long false n old few = omega arith
+long b n old few = grind (arith, length-append, length-replicate)
 
 -- a request whose verb counts
 record CountsAs (request : Request) : Type 0 where

@@ -1,16 +1,13 @@
 -- What a list of keys and items holds: where it is searched, filtered and added to.
-use Rattle.std.proofs.Common.{◌≡◌, ℕ, Bool, true, false, cond, not, Option, Some, None, List, [], ◌∷◌, ◌++◌, Bor, refl, sym, ap, ◌∙◌}
+use Rattle.std.proofs.Common.{◌≡◌, ℕ, Bool, true, false, cond, not, Option, Some, None, List, [], ◌∷◌, ◌++◌, Bor, refl, sym, ap, ◌∙◌, arith}
 use Rattle.std.specs.Ordering.{nat_cmp, eq_by_cmp}
-use Rattle.std.specs.Cmp.{eq_by_cmp_equiv}
+use Rattle.std.specs.{Cmp.eq_by_cmp_equiv, Option.option_map, Str.bytes_eq, FinMap.Entries.find-where_key}
 use Rattle.std.specs.Cmp.Lexicographic.{slice_cmp, nat_list_cmp_total, texts_ties}
 use Rattle.std.specs.List.{find, filter}
-use Rattle.std.specs.Option.{option_map}
-use Rattle.std.specs.Str.{bytes_eq}
 use Rattle.std.specs.FinMap as finite_map
 use Rattle.std.specs.FinMap.{FinMap, IsAntisymmetric, nat_cmp-IsAntisymmetric, slice_cmp-IsAntisymmetric}
 use Rattle.std.specs.FinMap.{same_map, from_entries_push, get-from_entries, get-insert, get-remove}
 use Rattle.std.specs.FinMap.Entries as entries
-use Rattle.std.specs.FinMap.Entries.{find-where_key}
 
 -- keys that compare alike are equal
 pub same_keys : IsAntisymmetric (slice_cmp nat_cmp)
@@ -21,12 +18,10 @@ bytes_tie : (xs ys : List ℕ) → bytes_eq xs ys ≡ eq_by_cmp (slice_cmp nat_c
 bytes_tie xs ys = texts_ties xs ys ∙ (eq_by_cmp_equiv nat_list_cmp_total).symm xs ys
 
 unless : {X : Type 0} (b : Bool) (x y : X) → cond (not b) x y ≡ cond b y x
-unless true x y = refl
-unless false x y = refl
+unless b x y = grind arith
 
 again : {X : Type 0} (b : Bool) (x y z : X) → cond b x (cond b y z) ≡ cond b x z
-again true x y z = refl
-again false x y z = refl
+again b x y z = grind arith
 
 module _ {X : Type 0} where
   -- the value of the first entry with the key

@@ -1,13 +1,12 @@
 -- The bytes that a text stands for, from its first byte on.
-use Rattle.std.proofs.Common.{◌≡◌, ℕ, ◌<◌, ◌==◌, Bool, true, false, cond, List, [], ◌∷◌, ◌++◌, length}
+use Rattle.std.proofs.Common.{◌≡◌, ℕ, ◌<◌, ◌==◌, Bool, cond, List, [], ◌∷◌, ◌++◌, length}
 use Rattle.std.proofs.Common.{Option, Some, None, Result, Ok, Err, refl, sym, ap, ◌∙◌, subst, arith}
-use Rattle.std.specs.Result.{IfOk}
-use Rattle.std.specs.Option.{IfSome}
+use Rattle.std.specs.{Result.IfOk, Option.IfSome}
 use Rattle.std.proofs.lemmas.List.{append_assoc}
 use Rattle.mc_model.specs.declared.words_fault.WordsKind.{WordsKind}
 use Rattle.mc_model.specs.declared.words_fault.WordsKind.TheVariants as kind
 use Rattle.mc_model.specs.Words.{is_plain, hex_value}
-use Rattle.mc_model.specs.Reading.{Fails, first_byte_in, bytes_in, in_front, plain_before, hex_before, if_plain, if_hex}
+use Rattle.mc_model.specs.Reading.{Fails, first_byte_in, bytes_in, in_front, hex_before, if_hex}
 
 -- bytes before those that are read, if they are
 abbrev pub onto : List ℕ → Result (List ℕ) WordsKind → Result (List ℕ) WordsKind
@@ -20,27 +19,17 @@ read_on (Err e) = Err e
 read_on (Ok None) = Ok []
 read_on (Ok (Some p)) = in_front p.0 (bytes_in p.1)
 
-read_on-plain : (plain : Bool) (a : ℕ) (xs : List ℕ)
-    → cond plain (in_front a (bytes_in xs)) (Err kind.Form) ≡ read_on (cond plain (Ok (Some (a, xs))) (Err kind.Form))
-read_on-plain true a xs = refl
-read_on-plain false a xs = refl
-
-read_on-hex : (high low : Option ℕ) (xs : List ℕ) → hex_before high low (bytes_in xs) ≡ read_on (if_hex high low xs)
-read_on-hex (Some h) (Some l) xs = refl
-read_on-hex (Some h) None xs = refl
-read_on-hex None low xs = refl
-
-read_on-either : (percent : Bool) (high low : Option ℕ) (xs : List ℕ) (a : ℕ) (ys : List ℕ)
-    → cond percent (hex_before high low (bytes_in xs)) (plain_before a (bytes_in ys)) ≡ read_on (cond percent (if_hex high low xs) (if_plain a ys))
-read_on-either true high low xs a ys = read_on-hex high low xs
-read_on-either false high low xs a ys = read_on-plain (is_plain a) a ys
+read_on-either : (percent plain : Bool) (high low : Option ℕ) (a : ℕ) (xs ys : List ℕ)
+    → cond percent (hex_before high low (bytes_in xs)) (cond plain (in_front a (bytes_in ys)) (Err kind.Form))
+    ≡ read_on (cond percent (if_hex high low xs) (cond plain (Ok (Some (a, ys))) (Err kind.Form)))
+read_on-either percent plain high low a xs ys = grind arith
 
 -- a text is read byte by byte
 pub bytes_in-first : (text : List ℕ) → bytes_in text ≡ read_on (first_byte_in text)
 bytes_in-first [] = refl
-bytes_in-first (a ∷ []) = read_on-plain (is_plain a) a []
-bytes_in-first (a ∷ b ∷ []) = read_on-plain (is_plain a) a (b ∷ [])
-bytes_in-first (a ∷ b ∷ c ∷ xs) = read_on-either (a == 37) (hex_value b) (hex_value c) xs a (b ∷ c ∷ xs)
+bytes_in-first (a ∷ []) = grind arith
+bytes_in-first (a ∷ b ∷ []) = grind arith
+bytes_in-first (a ∷ b ∷ c ∷ xs) = read_on-either (a == 37) (is_plain a) (hex_value b) (hex_value c) a xs (b ∷ c ∷ xs)
 
 onto-in_front : (front : List ℕ) (byte : ℕ) (read : Result (List ℕ) WordsKind) → onto (front ++ (byte ∷ [])) read ≡ onto front (in_front byte read)
 onto-in_front front byte (Ok bytes) = ap Ok (append_assoc front (byte ∷ []) bytes)
@@ -55,25 +44,15 @@ onto-byte front rest after byte all h e = onto-in_front front byte (bytes_in aft
 abbrev IsShorter : ℕ → Result (Option (ℕ × List ℕ)) WordsKind → Type 0
 IsShorter n r = IfOk r (λ o. IfSome o (λ p. length p.1 < n))
 
-shorter-plain : (n : ℕ) (plain : Bool) (a : ℕ) (xs : List ℕ) → length xs < n → IsShorter n (cond plain (Ok (Some (a, xs))) (Err kind.Form))
-shorter-plain n true a xs h = h
-shorter-plain n false a xs h = tt
-
-shorter-hex : (n : ℕ) (high low : Option ℕ) (xs : List ℕ) → length xs < n → IsShorter n (if_hex high low xs)
-shorter-hex n (Some h) (Some l) xs k = k
-shorter-hex n (Some h) None xs k = tt
-shorter-hex n None low xs k = tt
-
-shorter-either : (n : ℕ) (percent : Bool) (high low : Option ℕ) (xs : List ℕ) (a : ℕ) (ys : List ℕ) → length xs < n → length ys < n
-    → IsShorter n (cond percent (if_hex high low xs) (if_plain a ys))
-shorter-either n true high low xs a ys h k = shorter-hex n high low xs h
-shorter-either n false high low xs a ys h k = shorter-plain n (is_plain a) a ys k
+shorter-either : (n : ℕ) (percent plain : Bool) (high low : Option ℕ) (a : ℕ) (xs ys : List ℕ) → length xs < n → length ys < n
+    → IsShorter n (cond percent (if_hex high low xs) (cond plain (Ok (Some (a, ys))) (Err kind.Form)))
+shorter-either n percent plain high low a xs ys h k = grind arith
 
 first_byte_in-shorter : (text : List ℕ) → IsShorter (length text) (first_byte_in text)
 first_byte_in-shorter [] = tt
-first_byte_in-shorter (a ∷ []) = shorter-plain _ (is_plain a) a [] (omega arith)
-first_byte_in-shorter (a ∷ b ∷ []) = shorter-plain _ (is_plain a) a (b ∷ []) (omega arith)
-first_byte_in-shorter (a ∷ b ∷ c ∷ xs) = shorter-either _ (a == 37) (hex_value b) (hex_value c) xs a (b ∷ c ∷ xs) (omega arith) (omega arith)
+first_byte_in-shorter (a ∷ []) = grind arith
+first_byte_in-shorter (a ∷ b ∷ []) = grind arith
+first_byte_in-shorter (a ∷ b ∷ c ∷ xs) = shorter-either _ (a == 37) (is_plain a) (hex_value b) (hex_value c) a xs (b ∷ c ∷ xs) (omega arith) (omega arith)
 
 -- a byte takes some of the text
 pub shorter-byte : (rest after : List ℕ) (byte : ℕ) → first_byte_in rest ≡ Ok (Some (byte, after)) → length after < length rest

@@ -1,24 +1,17 @@
 -- The fault of a request that comes next, by the tests of that request alone.
-use Rattle.std.proofs.Common.{◌≡◌, ◌+◌, ◌≤◌, Bool, true, false, cond, not, ◌&&◌, ◌||◌, if◌then◌else◌, Option, Some, None, refl, ap, ◌∙◌}
-use Rattle.std.specs.Ordering.{nat_cmp}
-use Rattle.std.specs.Cmp.Lexicographic.{slice_cmp}
+use Rattle.std.proofs.Common.{◌≡◌, ◌+◌, ◌≤◌, Bool, true, false, cond, not, ◌&&◌, ◌||◌, if◌then◌else◌, Option, Some, None, refl, ap, ◌∙◌, arith}
+use Rattle.std.specs.{Ordering.nat_cmp, Cmp.Lexicographic.slice_cmp}
 use Rattle.std.specs.FinSet as set
-use Rattle.std.proofs.lemmas.Bool.{and_parts, leb-true}
-use Rattle.mc_protocol.specs.declared.actor.Actor.{Actor}
-use Rattle.mc_protocol.specs.declared.limits.TheConstants.{KEYS_LIMIT}
-use Rattle.mc_model.specs.declared.sent.Sent.{Sent}
-use Rattle.mc_model.specs.declared.rules.HistoryKind.{HistoryKind}
+use Rattle.std.proofs.lemmas.Bool.{leb-true}
+use Rattle.mc_model.specs.Types.{Actor, KEYS_LIMIT, Sent, HistoryKind}
 use Rattle.mc_model.specs.declared.rules.HistoryKind.TheVariants as kind
 use Rattle.mc_model.specs.Sections.{Sections, no_sections, with_sent}
 use Rattle.mc_model.specs.History.{has_words, all_have_words, has_few_requests, has_few_keys, is_within_limits, is_in_turn, is_cleared, numbers_are_seen}
 use Rattle.mc_model.specs.History.{is_answered_rightly, are_answered_rightly, is_history, fault_at, comes_late, key_count}
 use Rattle.mc_model.specs.Next.{is_full, may_come, clears, number_is_seen, keys_with}
-use Rattle.mc_model.proofs.Added.{every_added}
-use Rattle.mc_model.proofs.Limits.{limits_added}
-use Rattle.mc_model.proofs.Turns.{turn_added}
-use Rattle.mc_model.proofs.Keys.{key_count_added}
+use Rattle.mc_model.proofs.{Added.every_added, Turns.turn_added, Keys.key_count_added, Seen.numbers_added}
+use Rattle.mc_model.proofs.Limits.{requests_added, keys_added}
 use Rattle.mc_model.proofs.Cleared.{cleared_added, keys_in_prefix}
-use Rattle.mc_model.proofs.Seen.{numbers_added}
 
 -- the rules of a history, one by one
 pub record Rules (s : Sections) : Type 0 where
@@ -30,17 +23,16 @@ pub record Rules (s : Sections) : Type 0 where
   pub numbers : numbers_are_seen s ≡ true
   pub replies : are_answered_rightly s ≡ true
 
+seven : (a b c d e f g : Bool) → (a && (b && c) && d && e && f && g) ≡ true
+    → (a ≡ true) × (b ≡ true) × (c ≡ true) × (d ≡ true) × (e ≡ true) × (f ≡ true) × (g ≡ true)
+seven a b c d e f g h = grind arith
+
 -- a history keeps each rule
 pub rules_of : (s : Sections) → is_history s ≡ true → Rules s
 unfolding is_history
 rules_of s h =
-    let six = and_parts (all_have_words s && is_within_limits s && is_in_turn s && is_cleared s && numbers_are_seen s) (are_answered_rightly s) h in
-    let five = and_parts (all_have_words s && is_within_limits s && is_in_turn s && is_cleared s) (numbers_are_seen s) six.0 in
-    let four = and_parts (all_have_words s && is_within_limits s && is_in_turn s) (is_cleared s) five.0 in
-    let three = and_parts (all_have_words s && is_within_limits s) (is_in_turn s) four.0 in
-    let two = and_parts (all_have_words s) (is_within_limits s) three.0 in
-    let limits = and_parts (has_few_requests s) (has_few_keys s) two.1 in
-    record { words = two.0; few = limits.0; few_keys = limits.1; turn = three.1; cleared = four.1; numbers = five.1; replies = six.1 }
+    let p = seven (all_have_words s) (has_few_requests s) (has_few_keys s) (is_in_turn s) (is_cleared s) (numbers_are_seen s) (are_answered_rightly s) h in
+    record { words = p.0; few = p.1; few_keys = p.2; turn = p.3; cleared = p.4; numbers = p.5; replies = p.6 }
 
 -- what keeps each rule is a history
 pub history_of : (s : Sections) → Rules s → is_history s ≡ true
@@ -58,9 +50,18 @@ first_failed words full turn cleared seen rightly =
     else (if not rightly then Some kind.WrongReply
     else None)))))
 
-not_twice : (x : Bool) → not (not x) ≡ x
-not_twice true = refl
-not_twice false = refl
+neither : (x y : Bool) → (not x && not y) ≡ not (x || y)
+neither x y = grind arith
+
+-- the tests of a request that comes late, or whose turn it is not, end there
+in_turn : (words full late turn may cleared clears seen shown rightly fits : Bool) → (late || not turn) ≡ not may
+    → (late ≡ false → cleared ≡ clears) → (late ≡ false → seen ≡ shown) → rightly ≡ fits
+    → (if not words then Some kind.Line
+    else (if not (not full) then Some kind.TooMany
+    else (if late || not turn then Some kind.Order
+    else (if not cleared then Some kind.NotCleared else (if not seen then Some kind.UnseenNumber else (if not rightly then Some kind.WrongReply else None))))))
+    ≡ first_failed words full may clears shown fits
+in_turn words full late turn may cleared clears seen shown rightly fits by c n r = grind arith
 
 -- what is wrong with the request that comes next is the first test that it fails
 pub fault_by_tests : (s : Sections) (who : Actor) (sent : Sent) → is_history s ≡ true
@@ -69,19 +70,14 @@ pub fault_by_tests : (s : Sections) (who : Actor) (sent : Sent) → is_history s
 unfolding fault_at
 fault_by_tests s who sent h =
     let r = rules_of s h in
-    let words : all_have_words (with_sent s who sent) ≡ has_words sent.request = every_added (λ x. has_words x.request) s who sent ∙ rw (r.words) refl in
-    let replies : are_answered_rightly (with_sent s who sent) ≡ is_answered_rightly sent = every_added is_answered_rightly s who sent ∙ rw (r.replies) refl in
-    let limits = limits_added s who sent r.few r.few_keys r.cleared in
-    rw (
-      words,
-      limits,
-      turn_added s who sent r.turn,
-      cleared_added s who sent r.cleared,
-      numbers_added s who sent r.numbers,
-      replies,
-      not_twice
-          (is_full s who sent),
-    ) refl
+    let t = with_sent s who sent in
+    let words : all_have_words t ≡ has_words sent.request = every_added (λ x. has_words x.request) s who sent ∙ rw r.words refl in
+    let limits : is_within_limits t ≡ not (is_full s who sent) =
+    rw (requests_added s who sent, keys_added s who sent, r.few, r.few_keys, keys_in_prefix s sent.request.key r.cleared) (neither _ _) in
+    rw (words, limits) (in_turn (has_words sent.request) (is_full s who sent) (comes_late s who) (is_in_turn t) (may_come s who) (is_cleared t)
+    (clears s who sent) (numbers_are_seen t) (number_is_seen s who sent) (are_answered_rightly t) (is_answered_rightly sent)
+    (turn_added s who sent ∙ rw r.turn refl) (λ late. cleared_added s who sent late ∙ rw r.cleared refl)
+    (λ late. numbers_added s who sent late ∙ rw r.numbers refl) (every_added is_answered_rightly s who sent ∙ rw r.replies refl))
 
 -- all rules are kept where none is broken
 pub none_failed : (words limits late turn cleared seen replies : Bool)
@@ -90,14 +86,7 @@ pub none_failed : (words limits late turn cleared seen replies : Bool)
     else (if late || not turn then Some kind.Order
     else (if not cleared then Some kind.NotCleared else (if not seen then Some kind.UnseenNumber else (if not replies then Some kind.WrongReply else None))))))
     ≡ None → (late ≡ false) × ((words && limits && turn && cleared && seen && replies) ≡ true)
-none_failed false limits late turn cleared seen replies e = cc
-none_failed true false late turn cleared seen replies e = cc
-none_failed true true true turn cleared seen replies e = cc
-none_failed true true false false cleared seen replies e = cc
-none_failed true true false true false seen replies e = cc
-none_failed true true false true true false replies e = cc
-none_failed true true false true true true false e = cc
-none_failed true true false true true true true e = (refl, refl)
+none_failed words limits late turn cleared seen replies e = grind arith
 
 -- where nothing is wrong with the request that comes next, it is not late, and the sections with it are a history
 pub no_fault : (s : Sections) (who : Actor) (sent : Sent) → fault_at s who sent ≡ None → (comes_late s who ≡ false) × (is_history (with_sent s who sent) ≡ true)

@@ -1,13 +1,27 @@
 -- The words that requests and replies share are read exactly where they spell a number, or flags and a body.
-use Rattle.std.proofs.Common.{◌≡◌, ℕ, Ok, Err, List, [], ◌∷◌, refl, ap, subst}
+use Rattle.std.proofs.Common.{◌≡◌, ℕ, Result, Ok, Err, List, [], ◌∷◌, refl, ap, subst}
 use Rattle.mc_protocol.specs.Lines.{Word}
-use Rattle.mc_protocol.specs.Decimals.{SpellsNumber, MAX_32, MAX_64}
+use Rattle.mc_protocol.specs.Decimals.{SpellsNumber, MAX_32, MAX_64, decimal_in}
+use Rattle.mc_protocol.specs.declared.decimal.DecimalFault.{DecimalFault}
+use Rattle.mc_protocol.specs.declared.decimal.DecimalFault.TheVariants as decimal
+use Rattle.mc_protocol.proofs.Decimals.{decimal-spelled, decimal-read}
 use Rattle.mc_model.specs.declared.words_fault.WordsKind.TheVariants as kind
 use Rattle.mc_model.specs.Words.{SpellsBody}
-use Rattle.mc_model.specs.Reading.{◌>>=◌, at_end, number_in, flags_in, body_in, last_number_in, flags_and_body_in}
-use Rattle.mc_model.proofs.Outcomes.{steps-ok, ok-same}
-use Rattle.mc_model.proofs.NumberWords.{number-spelled}
+use Rattle.mc_model.specs.Reading.{◌>>=◌, at_end, number_or_fault, number_in, body_in, last_number_in, flags_and_body_in}
+use Rattle.mc_model.proofs.Readings.{steps-ok, ok-same}
 use Rattle.mc_model.proofs.BodyWords.{body-spelled}
+
+-- a reading that gave a number
+read-number : (r : Result ℕ DecimalFault) (n : ℕ) → number_or_fault r ≡ Ok n → r ≡ Ok n
+read-number (Ok m) n h = ap Ok (ok-same m n h)
+read-number (Err decimal.NotDigits) n h = absurd (cc)
+read-number (Err decimal.TooLarge) n h = absurd (cc)
+
+pub number-spelled : (greatest : ℕ) (word : Word) (n : ℕ) → number_in greatest word ≡ Ok n → SpellsNumber greatest word n
+number-spelled greatest word n h = decimal-spelled greatest word n (read-number (decimal_in greatest word) n h)
+
+pub number-read : (greatest : ℕ) (word : Word) (n : ℕ) → SpellsNumber greatest word n → number_in greatest word ≡ Ok n
+number-read greatest word n s = ap number_or_fault (decimal-read greatest word n s)
 
 -- what was read is the value, and no word follows
 pub at_end-ok : {A : Type 0} (x : A) (words : List Word) (y : A) → at_end x words ≡ Ok y → (words ≡ []) × (x ≡ y)
@@ -31,9 +45,9 @@ pub record FlagsAndBody (words : List Word) (read : ℕ × List ℕ × List Word
 
 pub flags_and_body-spelled : (words : List Word) (read : ℕ × List ℕ × List Word) → flags_and_body_in words ≡ Ok read → FlagsAndBody words read
 flags_and_body-spelled [] read h = absurd (cc)
-flags_and_body-spelled (flags ∷ []) read h = absurd (let p = steps-ok (flags_in flags) (λ f. Err kind.Form) read h in cc)
+flags_and_body-spelled (flags ∷ []) read h = absurd (let p = steps-ok (number_in MAX_32 flags) (λ f. Err kind.Form) read h in cc)
 flags_and_body-spelled (flags ∷ body ∷ others) read h =
-    let p = steps-ok (flags_in flags) (λ f. body_in body >>= λ b. Ok (f, b, others)) read h in
+    let p = steps-ok (number_in MAX_32 flags) (λ f. body_in body >>= λ b. Ok (f, b, others)) read h in
     let q = steps-ok (body_in body) (λ b. Ok (p.0, b, others)) read p.2 in
     let e = ok-same (p.0, q.0, others) read q.2 in
     subst (FlagsAndBody (flags ∷ body ∷ others)) e (record {

@@ -4,10 +4,8 @@ use Rattle.std.proofs.Common.{append_assoc, append-nil, length-take, length-appe
 use Rattle.std.proofs.lemmas.Bool.{both_ways, cases_order}
 use Rattle.std.proofs.lemmas.List.{take_at, get_or_at, get_or-take}
 use Rattle.std.proofs.lemmas.Option.{slice_get_within, slice_get-get_or, get_or_from_slice_get, same_Some}
-use Rattle.mc_protocol.specs.declared.actor.Actor.{Actor}
+use Rattle.mc_model.specs.Types.{Actor, Sent, HistoryKind}
 use Rattle.mc_protocol.specs.declared.actor.Actor.TheVariants as actor
-use Rattle.mc_model.specs.declared.sent.Sent.{Sent}
-use Rattle.mc_model.specs.declared.rules.HistoryKind.{HistoryKind}
 use Rattle.mc_model.specs.Sections.{Sections, no_sections, before}
 use Rattle.mc_model.specs.History.{is_history, comes_late, fault_at, IsFirstFault}
 use Rattle.mc_model.specs.Next.{with_section, FailsAt}

@@ -4,15 +4,12 @@ pub mod Effects
 pub mod Acts
 pub mod Choices
 pub mod Escaped
-pub mod Outcomes
 pub mod Readings
-pub mod NumberWords
 pub mod BodyWords
 pub mod FieldWords
 pub mod RequestWords
 pub mod ReplyWords
 pub mod PrintedWords
-pub mod SpelledValues
 pub mod WholeWords
 pub mod Added
 pub mod Keys

@@ -2,17 +2,11 @@
 use Rattle.std.proofs.Common.{◌≡◌, ◌≢◌, inl, inr, ℕ, Bool, true, false, not, ◌&&◌, ◌||◌, if◌then◌else◌, Some, None}
 use Rattle.std.proofs.Common.{Result, Ok, Err, is_err, OnOk, IfOk, IfErr, List, [], ◌∷◌, ◌++◌, ◌+◌, take, drop, append-nil}
 use Rattle.std.proofs.Common.{append_assoc, take-append-drop, subst, refl, sym, ap, ap₂, ◌∙◌, arith}
-use Rattle.std.proofs.lemmas.Bool.{cases_Bool, and_parts, and_from, false_from_ne_true}
-use Rattle.std.proofs.lemmas.List.{take_more}
-use Rattle.std.proofs.lemmas.Option.{slice_get_within, get_or_from_slice_get}
+use Rattle.std.proofs.lemmas.Bool.{cases_Bool, and_parts, and_from, false_from_ne_true, not-true}
 use Rattle.mc_protocol.specs.Legal.{is_fit}
-use Rattle.mc_protocol.specs.declared.actor.Actor.{Actor}
+use Rattle.mc_model.specs.Types.{Actor, Request, Reply, Sent, HistoryKind}
 use Rattle.mc_protocol.specs.declared.actor.Actor.TheVariants as actor
-use Rattle.mc_protocol.specs.declared.request.Request.{Request}
-use Rattle.mc_protocol.specs.declared.reply.Reply.{Reply}
-use Rattle.mc_model.specs.declared.sent.Sent.{Sent}
 use Rattle.mc_model.specs.declared.note.Note.TheVariants as note
-use Rattle.mc_model.specs.declared.rules.HistoryKind.{HistoryKind}
 use Rattle.mc_model.specs.declared.rules.HistoryKind.TheVariants as kind
 use Rattle.mc_model.specs.Sections.{Sections, section_of, with_sent}
 use Rattle.mc_model.specs.History.{all_have_words, is_within_limits, is_in_turn, is_cleared, numbers_are_seen, are_answered_rightly}
@@ -22,7 +16,8 @@ use Rattle.mc_model.specs.Notes.{Noted, requests_in, replies_in, sections_in, is
 use Rattle.mc_model.specs.Notes.{are_in_order, is_record, fault_of, IsFirstFaultOfNotes}
 use Rattle.mc_model.proofs.Faults.{rules_of, none_failed, nothing_sent}
 use Rattle.mc_model.proofs.Turns.{turn_added}
-use Rattle.mc_model.proofs.Prefixes.{history_before}
+use Rattle.mc_model.proofs.Seen.{and_once, and_assoc}
+use Rattle.mc_model.proofs.Prefixes.{history_before, next_of}
 use Rattle.mc_model.proofs.Answering.{ends, last_of-push, answered_push, awaited_in_time, waits, fault_with_reply, unanswered_history}
 use Rattle.mc_model.proofs.Noting.{IsBalanced, section_in, balanced_along, waiting_last, waits_for_one, sections-begin}
 use Rattle.mc_model.proofs.Noting.{sections-reply, sections-no_reply, no_more_requests}
@@ -38,48 +33,25 @@ unfolding is_record
 record_of notes in_order h = and_from (are_in_order [] notes) (is_history (sections_in notes)) in_order h
 
 pub balanced_in_order : (notes : List Noted) (who : Actor) → are_in_order [] notes ≡ true → IsBalanced notes who
-balanced_in_order notes who in_order = balanced_along who [] notes (none who) in_order
-  where
-    none : (who : Actor) → IsBalanced [] who
-    none actor.P = (omega arith, omega arith)
-    none actor.A = (omega arith, omega arith)
-    none actor.B = (omega arith, omega arith)
+balanced_in_order notes who in_order = balanced_along who [] notes (omega arith, omega arith) in_order
 
 pub balanced : (notes : List Noted) (who : Actor) → is_record notes ≡ true → IsBalanced notes who
 balanced notes who r = balanced_in_order notes who (record_parts notes r).0
-
-not-true : (b : Bool) → not b ≡ true → b ≡ false
-not-true true e = cc
-not-true false e = refl
 
 -- ---- a request
 
 -- the order counts with what the sections' own order says
 first_broken-order : (x y : Bool) (s : Sections) → (x || not (is_in_turn s)) ≡ (y || not (is_in_turn s)) → first_broken x s ≡ first_broken y s
-first_broken-order x y s e =
-    ap (λ order. if not (all_have_words s) then Some kind.Line
-    else (if not (is_within_limits s) then Some kind.TooMany
-    else (if order then Some kind.Order
-    else (if not (is_cleared s) then Some kind.NotCleared
-    else (if not (numbers_are_seen s) then Some kind.UnseenNumber else (if not (are_answered_rightly s) then Some kind.WrongReply else None)))))) e
+first_broken-order x y s e = rw e refl
 
 or_moved : (x late turn may : Bool) → (late || turn) ≡ not may → (x || not may) ≡ not may → ((x || late) || turn) ≡ (late || turn)
-or_moved true late turn true e f = cc
-or_moved true true turn false e f = refl
-or_moved true false turn false e f = sym e
-or_moved false late turn may e f = refl
+or_moved x late turn may e f = grind arith
 
 prefix_waits : (y p : Bool) → ((not p || not p) || not (y && p)) ≡ not (y && p)
-prefix_waits true true = refl
-prefix_waits true false = refl
-prefix_waits false true = refl
-prefix_waits false false = refl
+prefix_waits y p = grind arith
 
 branch_waits : (p own : Bool) → ((not own || not p) || not (p && own)) ≡ not (p && own)
-branch_waits true true = refl
-branch_waits true false = refl
-branch_waits false true = refl
-branch_waits false false = refl
+branch_waits p own = grind arith
 
 none_may_come : (s : Sections) (who : Actor) → ((is_waiting s who || is_waiting s actor.P) || not (may_come s who)) ≡ not (may_come s who)
 none_may_come s actor.P = prefix_waits (is_none_sent s.a && is_none_sent s.b) (are_answered s.p)
@@ -92,9 +64,9 @@ unfolding fault_of fault_at
 begin_fault notes who request r =
     let s = sections_in notes in
     let open_one : Sent = record { request = request; reply = None } in
-    let h = (record_parts notes r).1 in
+    let turn = (rules_of s (record_parts notes r).1).turn in
     let order = or_moved (is_waiting s who || is_waiting s actor.P) (comes_late s who) (not (is_in_turn (with_sent s who open_one))) (may_come s who)
-    (turn_added s who open_one (rules_of s h).turn) (none_may_come s who) in
+    (turn_added s who open_one ∙ rw turn refl) (none_may_come s who) in
     ap (first_broken (is_out_of_order s (who, note.Begin request))) (sections-begin notes who request (balanced notes who r))
     ∙ first_broken-order (is_out_of_order s (who, note.Begin request)) (comes_late s who) (with_sent s who open_one) order
 
@@ -168,14 +140,6 @@ sections_noted notes (who, note.Reply reply) r none =
 
 -- ---- one more note
 
-and_once : (x : Bool) → (x && true) ≡ x
-and_once true = refl
-and_once false = refl
-
-and_assoc : (x y z : Bool) → (x && (y && z)) ≡ (x && y && z)
-and_assoc true y z = refl
-and_assoc false y z = refl
-
 -- one more note is in order where the others are and it is
 pub order-push : (earlier notes : List Noted) (next : Noted)
     → are_in_order earlier (notes ++ next ∷ []) ≡ (are_in_order earlier notes && not (is_out_of_order (sections_in (earlier ++ notes)) next))
@@ -242,8 +206,7 @@ history_before_note notes (who, note.Begin request) in_order free h =
     (sym (ap is_history (sections-begin notes who request (balanced_in_order notes who in_order))) ∙ h)
   where
     last : (x y : Bool) → (x || y) ≡ false → y ≡ false
-    last true y e = cc
-    last false y e = e
+    last x y e = grind arith
 history_before_note notes (who, note.Reply reply) in_order free h =
     let s = sections_in notes in
     let parts = waiting (are_answered (section_of s who)) (comes_late s who) free in
@@ -254,8 +217,7 @@ history_before_note notes (who, note.Reply reply) in_order free h =
     ∙ unanswered_history w.earlier who request reply w.late (sym (ap is_history (sections-reply notes who reply one ∙ w.with_reply)) ∙ h)
   where
     waiting : (a late : Bool) → (not (not a) || late) ≡ false → (a ≡ false) × (late ≡ false)
-    waiting true late e = cc
-    waiting false late e = (refl, e)
+    waiting a late e = grind arith
 
 -- notes that make a history do so without the last
 pub record_front : (notes : List Noted) (next : Noted) → is_record (notes ++ next ∷ []) ≡ true → is_record notes ≡ true
@@ -280,8 +242,7 @@ no_record notes k who place f =
     false_from_ne_true (is_record notes)
     (λ r.
     let next : take (place + 1) notes ≡ take place notes ++ (who, f.note) ∷ [] =
-    take_more notes place (who, f.note) (slice_get_within notes place (who, f.note) f.noted)
-    ∙ ap (λ x. take place notes ++ x ∷ []) (get_or_from_slice_get notes place (who, f.note) (who, f.note) f.noted) in
+    next_of notes place (who, f.note) f.noted in
     let front = record_shorter (take (place + 1) notes) (drop (place + 1) notes)
     (subst (λ l. is_record l ≡ true) (sym (take-append-drop (place + 1) notes)) r) in
     let none = no_fault_within (take place notes) (who, f.note) (sym (ap is_record next) ∙ front) in

@@ -1,32 +1,23 @@
 -- What a body says as a number, by the digits that it begins with.
-use Rattle.std.proofs.Common.{◌≡◌, ℕ, ◌<◌, ◌≤◌, ◌^◌, Bool, true, false, not, cond, eqb, ltb, leb, Some, ◌&&◌, List}
+use Rattle.std.proofs.Common.{◌≡◌, ℕ, ◌<◌, ◌≤◌, ◌^◌, Bool, true, false, not, cond, leb, Some, List}
 use Rattle.std.proofs.Common.{[], ◌∷◌, ◌++◌, length, take, drop, replicate, refl, sym, ap, ◌∙◌, arith, zero, suc}
 use Rattle.std.specs.List.{list_all, take_while}
-use Rattle.std.specs.Str.Parse.{digits_value}
-use Rattle.std.specs.Fmt.{decimal}
+use Rattle.std.specs.{Str.Parse.digits_value, Fmt.decimal}
 use Rattle.std.proofs.Math.Seq.{drop-append_seam}
-use Rattle.std.proofs.lemmas.List.{take-append-drop}
-use Rattle.std.proofs.lemmas.List.Sums.{take_while-cons}
-use Rattle.std.proofs.lemmas.List.Folds.{length-prefix_len}
-use Rattle.std.proofs.lemmas.Bool.{ltb-true, leb-true, eqb-true, eqb-false, not-true, and_parts, and_from, not_from_false, ne_eqb, lt-ltb, le-leb}
+use Rattle.std.proofs.lemmas.{List.take-append-drop, List.Sums.take_while-cons, List.Folds.length-prefix_len, Bool.Decides.nat_tests}
+use Rattle.std.proofs.lemmas.Bool.{leb-true, eqb-true, and_parts, and_from, le-leb}
 use Rattle.std.proofs.lemmas.Fmt.{digits_decimal, digits_value-decimal, length-decimal-le, decimal_nonempty}
 use Rattle.mc_protocol.specs.Decimals.{are_digits, is_digit}
 use Rattle.mc_protocol.proofs.Digits.{digits as own}
-use Rattle.mc_model.specs.declared.numeral.Numeral.{Numeral}
-use Rattle.mc_model.specs.declared.numeral.Numeral.TheVariants.{NoNumber, Is, MayBe}
+use Rattle.mc_model.specs.Types.{Numeral, NoNumber, Is, MayBe}
 use Rattle.mc_model.specs.Numeral.{numeral_of, numeral_of_parts, leading_digits, after_digits, ends_or_has_space}
-use Rattle.mc_model.specs.Numeral.{are_spaces, is_space, is_readable, is_plain_numeral, read_as}
+use Rattle.mc_model.specs.Numeral.{are_spaces, is_readable, is_plain_numeral, read_as}
 use Rattle.mc_model.specs.NumeralLaws.{BeginsWithNumber, IsPlainNumber, WillingReads, StrictReads}
-
--- one more element before those that pass, where it passes
-passing-cons : {X : Type 0} (p : X → Bool) (x : X) (xs : List X) (b : Bool) → p x ≡ b → list_all p xs ≡ true → list_all p (cond b (x ∷ xs) []) ≡ true
-passing-cons p x xs true e all = rw e all
-passing-cons p x xs false e all = refl
 
 -- what is taken while a test passes does pass
 passing : {X : Type 0} (p : X → Bool) (xs : List X) → list_all p (take_while p xs) ≡ true
 passing p [] = refl
-passing p (x ∷ xs) = ap (list_all p) (take_while-cons p x xs) ∙ passing-cons p x (take_while p xs) (p x) refl (passing p xs)
+passing p (x ∷ xs) = grind (arith, take_while-cons p x xs, passing p xs)
 
 -- a body's front of that many bytes is the digits that lead it
 leading_front : (body : List ℕ) → take (length (leading_digits body)) body ≡ leading_digits body
@@ -46,9 +37,7 @@ leading_of : (digits rest : List ℕ) → are_digits digits ≡ true → ends_or
 leading_of [] rest are ends = no_leading rest ends
 leading_of (d ∷ ds) rest are ends =
     let parts = and_parts (is_digit d) (are_digits ds) are in
-    take_while-cons is_digit d (ds ++ rest)
-    ∙ ap (λ b. cond b (d ∷ leading_digits (ds ++ rest)) []) parts.0
-    ∙ ap (λ xs. d ∷ xs) (leading_of ds rest parts.1 ends)
+    rw (take_while-cons is_digit d (ds ++ rest), parts.0, leading_of ds rest parts.1 ends) refl
 
 -- what is said, by whether the digits are readable and plain
 abbrev said : Bool → Bool → ℕ → Numeral
@@ -56,11 +45,7 @@ said readable plain value = cond (not readable) NoNumber (cond plain (Is value) 
 
 -- digits that are there, small, and not followed by a letter are readable
 readable : (digits rest : List ℕ) → 0 < length digits → ends_or_has_space rest ≡ true → digits_value 10 digits < 2 ^ 64 → is_readable digits rest ≡ true
-readable digits rest some ends small =
-    and_from (not (eqb (length digits) 0) && ends_or_has_space rest) (ltb (digits_value 10 digits) (2 ^ 64))
-    (and_from (not (eqb (length digits) 0)) (ends_or_has_space rest)
-    (not_from_false (eqb (length digits) 0) (ne_eqb (length digits) 0 (λ e. omega arith))) ends)
-    (lt-ltb (digits_value 10 digits) (2 ^ 64) small)
+readable digits rest some ends small = grind (arith, nat_tests)
 
 -- a body that begins with a number says that number, plainly or not
 says : (digits rest : List ℕ) → are_digits digits ≡ true → 0 < length digits → ends_or_has_space rest ≡ true → digits_value 10 digits < 2 ^ 64
@@ -81,13 +66,6 @@ spaces_end : (k : ℕ) → ends_or_has_space (replicate k 32) ≡ true
 spaces_end zero = refl
 spaces_end (suc k) = refl
 
--- bytes that are all spaces are as many spaces as there are bytes
-are_replicated : (rest : List ℕ) → are_spaces rest ≡ true → rest ≡ replicate (length rest) 32
-are_replicated [] are = refl
-are_replicated (byte ∷ bytes) are =
-    let parts = and_parts (is_space byte) (are_spaces bytes) are in
-    ap (λ b. b ∷ bytes) (eqb-true byte 32 parts.0) ∙ ap (λ bs. 32 ∷ bs) (are_replicated bytes parts.1)
-
 -- up to 20 digits and spaces say their number plainly
 plainly : (digits : List ℕ) (spaces : ℕ) → are_digits digits ≡ true → 0 < length digits → length digits ≤ 20 → digits_value 10 digits < 2 ^ 64
     → numeral_of (digits ++ replicate spaces 32) ≡ Is (digits_value 10 digits)
@@ -106,20 +84,15 @@ decimal_says n spaces small =
 
 -- what a willing server reads is readable
 willing : (is plain : Bool) (value n : ℕ) → read_as true (said is plain value) ≡ Some n → (is ≡ true) × (value ≡ n)
-willing true true value n e = (refl, cc)
-willing true false value n e = (refl, cc)
-willing false plain value n e = absurd cc
+willing is plain value n e = grind arith
 
 -- what a strict server reads is plain too
 strict : (is plain : Bool) (value n : ℕ) → read_as false (said is plain value) ≡ Some n → (is ≡ true) × (plain ≡ true) × (value ≡ n)
-strict true true value n e = (refl, refl, cc)
-strict true false value n e = absurd cc
-strict false plain value n e = absurd cc
+strict is plain value n e = grind arith
 
 -- a willing server reads what is readable
 willing_from : (plain : Bool) (value : ℕ) → read_as true (said true plain value) ≡ Some value
-willing_from true value = refl
-willing_from false value = refl
+willing_from plain value = grind arith
 
 -- what readable digits are
 record Readable (digits rest : List ℕ) : Type 0 where
@@ -130,17 +103,12 @@ record Readable (digits rest : List ℕ) : Type 0 where
 -- what readable digits keep
 readable_parts : (digits rest : List ℕ) → is_readable digits rest ≡ true → Readable digits rest
 readable_parts digits rest is =
-    let parts = and_parts (not (eqb (length digits) 0) && ends_or_has_space rest) (ltb (digits_value 10 digits) (2 ^ 64)) is in
-    let front = and_parts (not (eqb (length digits) 0)) (ends_or_has_space rest) parts.0 in
-    let some = eqb-false (length digits) 0 (not-true (eqb (length digits) 0) front.0) in
-    record {
-      some = omega (arith, some);
-      ends = front.1;
-      small = ltb-true (digits_value 10 digits) (2 ^ 64) parts.1;
-    }
+    let some : 0 < length digits = grind (arith, nat_tests) in
+    let ends : ends_or_has_space rest ≡ true = grind (arith, nat_tests) in
+    record { some = some; ends = ends; small = grind (arith, nat_tests) }
 
 -- a body with readable digits begins with a number
-begins : (body : List ℕ) (n : ℕ) → is_readable (leading_digits body) (after_digits body) ≡ true → digits_value 10 (leading_digits body) ≡ n
+abbrev begins : (body : List ℕ) (n : ℕ) → is_readable (leading_digits body) (after_digits body) ≡ true → digits_value 10 (leading_digits body) ≡ n
     → BeginsWithNumber body n
 begins body n is value =
     let parts = readable_parts (leading_digits body) (after_digits body) is in
@@ -176,27 +144,20 @@ willing_reads body n = (
 -- a strict server reads a plain number
 read_strictly : (body : List ℕ) (n : ℕ) → IsPlainNumber body n → read_as false (numeral_of body) ≡ Some n
 read_strictly body n p =
-    ap (λ body. read_as false (numeral_of body)) p.whole
-    ∙ ap (read_as false) (plainly p.digits p.spaces p.are p.some p.few (rw p.value p.small))
-    ∙ ap Some p.value
+    let b = p.number in
+    ap (λ body. read_as false (numeral_of body)) b.whole
+    ∙ ap (read_as false) (says b.digits b.rest b.are b.some b.ends (rw b.value b.small))
+    ∙ ap (λ plain. read_as false (said true plain (digits_value 10 b.digits)))
+    (and_from (leb (length b.digits) 20) (are_spaces b.rest) (le-leb (length b.digits) 20 p.few) p.spaces)
+    ∙ ap Some b.value
 
 -- a body with readable and plain digits is a plain number
 plain_parts : (body : List ℕ) (n : ℕ) → is_readable (leading_digits body) (after_digits body) ≡ true
     → is_plain_numeral (leading_digits body) (after_digits body) ≡ true
     → digits_value 10 (leading_digits body) ≡ n → IsPlainNumber body n
 plain_parts body n is is_plain value =
-    let parts = readable_parts (leading_digits body) (after_digits body) is in
     let limits = and_parts (leb (length (leading_digits body)) 20) (are_spaces (after_digits body)) is_plain in
-    record {
-      digits = leading_digits body;
-      spaces = length (after_digits body);
-      whole = sym (front_and_rest body) ∙ ap (λ rest. leading_digits body ++ rest) (are_replicated (after_digits body) limits.1);
-      are = passing is_digit body;
-      some = parts.some;
-      few = leb-true (length (leading_digits body)) 20 limits.0;
-      value = value;
-      small = rw (← value) parts.small;
-    }
+    record { number = begins body n is value; few = leb-true (length (leading_digits body)) 20 limits.0; spaces = limits.1 }
 
 -- and a strict server reads no other
 pub strict_reads : StrictReads
@@ -210,10 +171,7 @@ strict_reads body n = (
 
 -- a readable number that is read has 64 bits
 small_said : (is plain read : Bool) (value n : ℕ) → (is ≡ true → value < 2 ^ 64) → read_as read (said is plain value) ≡ Some n → n < 2 ^ 64
-small_said true true read value n small e = let same : value ≡ n = cc in rw (← same) (small refl)
-small_said true false true value n small e = let same : value ≡ n = cc in rw (← same) (small refl)
-small_said true false false value n small e = absurd cc
-small_said false plain read value n small e = absurd cc
+small_said is plain read value n small e = grind arith
 
 -- a number that is read has 64 bits
 pub small_numeral : (read : Bool) (body : List ℕ) (n : ℕ) → read_as read (numeral_of body) ≡ Some n → n < 2 ^ 64

@@ -1,45 +1,37 @@
 -- What stands before a request of a history is a history.
-use Rattle.std.proofs.Common.{◌≡◌, ℕ, ◌+◌, Bool, true, false, Some, None, List, [], ◌∷◌, ◌++◌, take, drop, slice_get}
-use Rattle.std.proofs.Common.{append_assoc, append-nil, take-append-drop, refl, sym, ap, subst, ◌∙◌}
+use Rattle.std.proofs.Common.{◌≡◌, ℕ, ◌+◌, Bool, true, false, not, ◌&&◌, ◌||◌, Some, None, List, [], ◌∷◌, ◌++◌, take, drop, slice_get}
+use Rattle.std.proofs.Common.{append_assoc, append-nil, take-append-drop, refl, sym, ap, subst, ◌∙◌, arith}
 use Rattle.std.proofs.lemmas.Bool.{and_parts, false_from_ne_true}
 use Rattle.std.proofs.lemmas.List.{take_more}
 use Rattle.std.proofs.lemmas.Option.{slice_get_within, get_or_from_slice_get}
-use Rattle.mc_protocol.specs.declared.actor.Actor.{Actor}
+use Rattle.mc_model.specs.Types.{Actor, Sent, HistoryKind}
 use Rattle.mc_protocol.specs.declared.actor.Actor.TheVariants as actor
-use Rattle.mc_model.specs.declared.sent.Sent.{Sent}
-use Rattle.mc_model.specs.declared.rules.HistoryKind.{HistoryKind}
 use Rattle.mc_model.specs.Sections.{Sections, with_sent, before, section_of}
-use Rattle.mc_model.specs.History.{every, has_words, is_answered_rightly, clears, is_cleared, is_none_sent, is_history, comes_late, IsFirstFault}
-use Rattle.mc_model.specs.Next.{with_section}
-use Rattle.mc_model.proofs.Added.{every_added}
-use Rattle.mc_model.proofs.Limits.{requests_before, keys_before}
-use Rattle.mc_model.proofs.Turns.{turn_before, no_branch, none_sent}
-use Rattle.mc_model.proofs.Cleared.{cleared_parts, cleared_before}
-use Rattle.mc_model.proofs.Seen.{numbers_before}
+use Rattle.mc_model.specs.History.{has_words, all_have_words, has_few_requests, has_few_keys, is_in_turn, is_cleared, numbers_are_seen}
+use Rattle.mc_model.specs.History.{is_answered_rightly, are_answered_rightly, is_history, comes_late, IsFirstFault}
+use Rattle.mc_model.specs.Next.{may_come, with_section}
+use Rattle.mc_model.proofs.{Added.every_added, Turns.turn_added, Cleared.cleared_added, Seen.numbers_added}
+use Rattle.mc_model.proofs.Limits.{requests_added, keys_added}
 use Rattle.mc_model.proofs.Faults.{rules_of, history_of, no_fault_of}
 
-every_before : (test : Sent → Bool) (s : Sections) (who : Actor) (sent : Sent) → every test (with_sent s who sent) ≡ true → every test s ≡ true
-every_before test s who sent all = (and_parts (every test s) (test sent) (sym (every_added test s who sent) ∙ all)).0
+first : (x y : Bool) (z : Bool) → z ≡ (x && y) → z ≡ true → x ≡ true
+first x y z e all = (and_parts x y (sym e ∙ all)).0
 
-keys_cleared_before : (s : Sections) (who : Actor) (sent : Sent) → comes_late s who ≡ false → is_cleared (with_sent s who sent) ≡ true → is_cleared s ≡ true
-keys_cleared_before s actor.P sent late all =
-    let none = and_parts (is_none_sent s.a) (is_none_sent s.b) (no_branch s late) in
-    rw (none_sent s.a none.0, none_sent s.b none.1, cleared_before s.p sent (cleared_parts (with_sent s actor.P sent) all).0) refl
-keys_cleared_before s actor.A sent late all = every_before (λ x. clears s.p x.request.key) s actor.A sent all
-keys_cleared_before s actor.B sent late all = every_before (λ x. clears s.p x.request.key) s actor.B sent all
+turn_before : (late next turn may : Bool) → (late || not next) ≡ not (turn && may) → late ≡ false → next ≡ true → turn ≡ true
+turn_before late next turn may e f g = grind arith
 
 -- what stands before the last request of a history is a history
 pub history_before : (s : Sections) (who : Actor) (sent : Sent) → comes_late s who ≡ false → is_history (with_sent s who sent) ≡ true → is_history s ≡ true
 history_before s who sent late h =
     let r = rules_of (with_sent s who sent) h in
     history_of s (record {
-      words = every_before (λ x. has_words x.request) s who sent r.words;
-      few = requests_before s who sent r.few;
-      few_keys = keys_before s who sent r.few_keys;
-      turn = turn_before s who sent late r.turn;
-      cleared = keys_cleared_before s who sent late r.cleared;
-      numbers = numbers_before s who sent late r.numbers;
-      replies = every_before is_answered_rightly s who sent r.replies;
+      words = first (all_have_words s) _ _ (every_added (λ x. has_words x.request) s who sent) r.words;
+      few = first (has_few_requests s) _ _ (requests_added s who sent) r.few;
+      few_keys = first (has_few_keys s) _ _ (keys_added s who sent) r.few_keys;
+      turn = turn_before _ _ (is_in_turn s) (may_come s who) (turn_added s who sent) late r.turn;
+      cleared = first (is_cleared s) _ _ (cleared_added s who sent late) r.cleared;
+      numbers = first (numbers_are_seen s) _ _ (numbers_added s who sent late) r.numbers;
+      replies = first (are_answered_rightly s) _ _ (every_added is_answered_rightly s who sent) r.replies;
     })
 
 -- one more request at the end of a section
@@ -48,8 +40,14 @@ added_last s actor.P xs x = refl
 added_last s actor.A xs x = refl
 added_last s actor.B xs x = refl
 
+-- a section in its own place
+pub same_section : (s : Sections) (who : Actor) → with_section s who (section_of s who) ≡ s
+same_section s actor.P = refl
+same_section s actor.A = refl
+same_section s actor.B = refl
+
 -- whether a request is late doesn't lie at its own section
-late_with : (s : Sections) (who : Actor) (xs : List Sent) → comes_late (with_section s who xs) who ≡ comes_late s who
+pub late_with : (s : Sections) (who : Actor) (xs : List Sent) → comes_late (with_section s who xs) who ≡ comes_late s who
 late_with s actor.P xs = refl
 late_with s actor.A xs = refl
 late_with s actor.B xs = refl
@@ -81,8 +79,9 @@ history_before_place s actor.P n h =
     let alone : Sections = record { p = s.p; a = []; b = [] } in
     first_of_section alone actor.P n s.p refl (shorter without_b actor.A [] s.a refl (shorter s actor.B [] s.b refl h))
 
-next_of : (xs : List Sent) (n : ℕ) (sent : Sent) → slice_get xs n ≡ Some sent → take (n + 1) xs ≡ take n xs ++ sent ∷ []
-next_of xs n sent at = take_more xs n sent (slice_get_within xs n sent at) ∙ ap (λ x. take n xs ++ x ∷ []) (get_or_from_slice_get xs n sent sent at)
+-- an element at a place comes after those before it
+pub next_of : {X : Type 0} → (xs : List X) (n : ℕ) (x : X) → slice_get xs n ≡ Some x → take (n + 1) xs ≡ take n xs ++ x ∷ []
+next_of xs n x at = take_more xs n x (slice_get_within xs n x at) ∙ ap (λ y. take n xs ++ y ∷ []) (get_or_from_slice_get xs n x x at)
 
 -- the request at a place, after those before it
 before_next : (s : Sections) (who : Actor) (n : ℕ) (sent : Sent) → slice_get (section_of s who) n ≡ Some sent

@@ -1,11 +1,22 @@
--- What a reader's answer says, where what it read is a value exactly where words spell it.
-use Rattle.std.proofs.Common.{◌≡◌, ◌≢◌, Result, Ok, Err, refl}
+-- What a reading that succeeded went through, and what a reader's answer says where words spell what is read.
+use Rattle.std.proofs.Common.{◌≡◌, ◌≢◌, Bool, true, false, cond, Result, Ok, Err, refl}
 use Rattle.std.specs.Result.{IfOk, IfErr}
-use Rattle.std.proofs.lemmas.Result.{IfErr-at_err}
-use Rattle.mc_model.specs.declared.words_fault.WordsFault.{WordsFault}
-use Rattle.mc_model.specs.declared.words_fault.WordsKind.{WordsKind}
+use Rattle.mc_model.specs.Types.{WordsFault, WordsKind}
 use Rattle.mc_model.specs.declared.words_fault.WordsKind.TheVariants as kind
-use Rattle.mc_model.specs.Reading.{Gives, Fails}
+use Rattle.mc_model.specs.Reading.{◌>>=◌, Gives, Fails}
+
+-- a test that let a reading through held
+pub then-ok : {A E : Type 0} (b : Bool) (r : Result A E) (e : E) (x : A) → cond b r (Err e) ≡ Ok x → (b ≡ true) × (r ≡ Ok x)
+then-ok true r e x h = (refl, h)
+then-ok false r e x h = absurd (cc)
+
+-- both steps succeeded
+pub steps-ok : {A B : Type 0} (r : Result A WordsKind) (f : A → Result B WordsKind) (y : B) → (r >>= f) ≡ Ok y → (x : A) × (r ≡ Ok x) × (f x ≡ Ok y)
+steps-ok (Ok x) f y h = (x, refl, h)
+steps-ok (Err e) f y h = absurd (cc)
+
+pub ok-same : {A E : Type 0} (x y : A) → ◌≡◌ {A = Result A E} (Ok x) (Ok y) → x ≡ y
+ok-same x y h = cc
 
 -- what was read is spelled
 pub IfOk-from_gives : {V : Type 0} (Spells : V → Type 0) (read : Result V WordsKind) (result : Result V WordsFault) → ((v : V) → read ≡ Ok v → Spells v)
@@ -23,20 +34,3 @@ pub IfErr-from_gives : {V : Type 0} (Spells : V → Type 0) (read : Result V Wor
     → Gives (λ v. v) result read → IfErr result (λ e. e.kind ≢ kind.OutOfMemory → (v : V) → Spells v → ⊥)
 IfErr-from_gives Spells read (Ok v) spells g = tt
 IfErr-from_gives Spells read (Err e) spells g = λ apart v s. fails-apart read v e.kind g (spells v s) apart
-
-memory-apart : kind.OutOfMemory ≢ kind.Number
-memory-apart e = cc
-
-form-apart : kind.Form ≢ kind.Number
-form-apart e = cc
-
-no-number : {V : Type 0} (read : Result V WordsKind) (e : WordsKind) → IfErr read (λ f. f ≢ kind.Number) → Fails e read → e ≢ kind.Number
-no-number read kind.OutOfMemory h f = memory-apart
-no-number read kind.Form h f = form-apart
-no-number read kind.Number h f = IfErr-at_err (λ f. f ≢ kind.Number) f h
-
--- where no number is read, none is too large
-pub no_number-from_gives : {V : Type 0} (read : Result V WordsKind) (result : Result V WordsFault) → IfErr read (λ f. f ≢ kind.Number)
-    → Gives (λ v. v) result read → IfErr result (λ e. e.kind ≢ kind.Number)
-no_number-from_gives read (Ok v) h g = tt
-no_number-from_gives read (Err e) h g = no-number read e.kind h g

@@ -2,21 +2,18 @@
 use Rattle.std.proofs.Common.{◌≡◌, ℕ, Option, Some, None, Ok, List, [], ◌∷◌, refl, sym, ap, ◌∙◌, subst}
 use Rattle.std.specs.Str.{bytes_eq}
 use Rattle.std.proofs.lemmas.Slice.Eq.{bytes_eq-Decides}
-use Rattle.mc_protocol.specs.declared.reply.Reply.{Reply}
+use Rattle.mc_protocol.specs.{Legal.class_of, Words.all_classes}
+use Rattle.mc_model.specs.Types.{Reply, Class, Word}
 use Rattle.mc_protocol.specs.declared.reply.Reply.TheVariants as reply
-use Rattle.mc_protocol.specs.declared.reply.Class.{Class}
 use Rattle.mc_protocol.specs.declared.reply.Class.TheVariants as class
-use Rattle.mc_protocol.specs.Lines.{Word}
-use Rattle.mc_protocol.specs.Decimals.{SpellsNumber, MAX_32, MAX_64}
-use Rattle.mc_protocol.specs.Words.{all_classes}
+use Rattle.mc_protocol.specs.Decimals.{MAX_32, MAX_64}
 use Rattle.mc_protocol.proofs.Found.{find-passes}
 use Rattle.mc_model.specs.Words.{SpellsShown, SpellsReply, class_word}
-use Rattle.mc_model.specs.Reading.{◌>>=◌, at_end, last_number_in, flags_and_body_in, class_of_word, flags_in}
-use Rattle.mc_model.specs.Reading.{body_in, shown_number_in, hit_in, count_in, after_class, reply_in}
-use Rattle.mc_model.proofs.Outcomes.{steps-ok, ok-same}
-use Rattle.mc_model.proofs.NumberWords.{number-read}
+use Rattle.mc_model.specs.Reading.{◌>>=◌, at_end, last_number_in, flags_and_body_in, class_of_word}
+use Rattle.mc_model.specs.Reading.{shown_number_in, hit_in, after_class, reply_in}
+use Rattle.mc_model.proofs.Readings.{steps-ok, ok-same}
 use Rattle.mc_model.proofs.BodyWords.{body-read}
-use Rattle.mc_model.proofs.FieldWords.{at_end-ok, last_number-spelled, flags_and_body-spelled}
+use Rattle.mc_model.proofs.FieldWords.{number-read, at_end-ok, last_number-spelled, flags_and_body-spelled}
 
 -- ---- classes
 
@@ -24,15 +21,7 @@ use Rattle.mc_model.proofs.FieldWords.{at_end-ok, last_number-spelled, flags_and
 pub class_of-word : (c : Class) → class_of_word (class_word c) ≡ Some c
 unfolding class_of_word
 class_of-word class.Stored = refl
-class_of-word class.NotStored = refl
-class_of-word class.Exists = refl
-class_of-word class.NotFound = refl
-class_of-word class.Hit = refl
-class_of-word class.Miss = refl
-class_of-word class.Deleted = refl
-class_of-word class.Touched = refl
-class_of-word class.Number = refl
-class_of-word class.NotNumber = refl
+class_of-word _ = refl
 
 pub word-of_class : (word : Word) (c : Class) → class_of_word word ≡ Some c → class_word c ≡ word
 unfolding class_of_word
@@ -41,10 +30,10 @@ word-of_class word c h = (bytes_eq-Decides (class_word c) word).0 (find-passes (
 -- ---- replies with nothing after their word
 
 bare-spelled : (c : Class) (made : Reply) → ((words : List Word) → words ≡ class_word c ∷ [] → SpellsReply words made)
-    → (word : Word) (words : List Word) (r : Reply) → class_word c ≡ word → at_end made words ≡ Ok r → SpellsReply (word ∷ words) r
-bare-spelled c made spells word words r w h =
-    let e = at_end-ok made words r h in
-    subst (SpellsReply (word ∷ words)) e.1 (spells (word ∷ words) (rw (w, e.0) refl))
+    → (word : Word) (words : List Word) (r : Reply) → class_of_word word ≡ Some c → at_end made words ≡ Ok r → SpellsReply (word ∷ words) r
+bare-spelled c made spells word words r e h =
+    let i = at_end-ok made words r h in
+    subst (SpellsReply (word ∷ words)) i.1 (spells (word ∷ words) (rw (word-of_class word c e, i.0) refl))
 
 -- ---- hits
 
@@ -66,39 +55,30 @@ hit-spelled word words r w h =
     subst (SpellsReply (word ∷ words)) (ok-same (reply.Hit p.0.0 p.0.1 s.0) r s.2)
     (i.flags, i.body, p.0.2, ap (λ x. x ∷ words) (sym w) ∙ ap (λ o. class_word class.Hit ∷ o) i.split, i.number, i.bytes, shown-spelled p.0.2 s.0 s.1)
 
-hit-read : (f b : Word) (shown : List Word) (flags : ℕ) (body : List ℕ) (cas : Option ℕ) → flags_in f ≡ Ok flags → body_in b ≡ Ok body
-    → shown_number_in shown ≡ Ok cas → hit_in (f ∷ b ∷ shown) ≡ Ok (reply.Hit flags body cas)
-hit-read f b shown flags body cas p q s = rw (p, q, s) refl
-
 -- ---- numbers that were counted
 
-count-spelled : (word : Word) (words : List Word) (r : Reply) → class_word class.Number ≡ word → count_in words ≡ Ok r → SpellsReply (word ∷ words) r
+count-spelled : (word : Word) (words : List Word) (r : Reply) → class_word class.Number ≡ word
+    → (last_number_in words >>= λ n. Ok (reply.Number n)) ≡ Ok r → SpellsReply (word ∷ words) r
 count-spelled word words r w h =
     let p = steps-ok (last_number_in words) (λ n. Ok (reply.Number n)) r h in
     let n = last_number-spelled words p.0 p.1 in
     subst (SpellsReply (word ∷ words)) (ok-same (reply.Number p.0) r p.2) (n.0, ap (λ x. x ∷ words) (sym w) ∙ ap (λ o. class_word class.Number ∷ o) n.1, n.2)
-
-count-read : (word : Word) (n : ℕ) → SpellsNumber MAX_64 word n → count_in (word ∷ []) ≡ Ok (reply.Number n)
-count-read word n s = rw (number-read MAX_64 word n s) refl
 
 -- ---- replies
 
 after-spelled : (word : Word) (c : Option Class) (words : List Word) (r : Reply) → class_of_word word ≡ c → after_class c words ≡ Ok r
     → SpellsReply (word ∷ words) r
 after-spelled word None words r e h = absurd (cc)
-after-spelled word (Some class.Stored) words r e h = bare-spelled class.Stored reply.Stored (λ _ p. p) word words r (word-of_class word class.Stored e) h
-after-spelled word (Some class.NotStored) words r e h =
-    bare-spelled class.NotStored reply.NotStored (λ _ p. p) word words r (word-of_class word class.NotStored e) h
-after-spelled word (Some class.Exists) words r e h = bare-spelled class.Exists reply.Exists (λ _ p. p) word words r (word-of_class word class.Exists e) h
-after-spelled word (Some class.NotFound) words r e h =
-    bare-spelled class.NotFound reply.NotFound (λ _ p. p) word words r (word-of_class word class.NotFound e) h
+after-spelled word (Some class.Stored) words r e h = bare-spelled class.Stored reply.Stored (λ _ p. p) word words r e h
+after-spelled word (Some class.NotStored) words r e h = bare-spelled class.NotStored reply.NotStored (λ _ p. p) word words r e h
+after-spelled word (Some class.Exists) words r e h = bare-spelled class.Exists reply.Exists (λ _ p. p) word words r e h
+after-spelled word (Some class.NotFound) words r e h = bare-spelled class.NotFound reply.NotFound (λ _ p. p) word words r e h
 after-spelled word (Some class.Hit) words r e h = hit-spelled word words r (word-of_class word class.Hit e) h
-after-spelled word (Some class.Miss) words r e h = bare-spelled class.Miss reply.Miss (λ _ p. p) word words r (word-of_class word class.Miss e) h
-after-spelled word (Some class.Deleted) words r e h = bare-spelled class.Deleted reply.Deleted (λ _ p. p) word words r (word-of_class word class.Deleted e) h
-after-spelled word (Some class.Touched) words r e h = bare-spelled class.Touched reply.Touched (λ _ p. p) word words r (word-of_class word class.Touched e) h
+after-spelled word (Some class.Miss) words r e h = bare-spelled class.Miss reply.Miss (λ _ p. p) word words r e h
+after-spelled word (Some class.Deleted) words r e h = bare-spelled class.Deleted reply.Deleted (λ _ p. p) word words r e h
+after-spelled word (Some class.Touched) words r e h = bare-spelled class.Touched reply.Touched (λ _ p. p) word words r e h
 after-spelled word (Some class.Number) words r e h = count-spelled word words r (word-of_class word class.Number e) h
-after-spelled word (Some class.NotNumber) words r e h =
-    bare-spelled class.NotNumber reply.NotNumber (λ _ p. p) word words r (word-of_class word class.NotNumber e) h
+after-spelled word (Some class.NotNumber) words r e h = bare-spelled class.NotNumber reply.NotNumber (λ _ p. p) word words r e h
 
 pub reply-spelled : (words : List Word) (r : Reply) → reply_in words ≡ Ok r → SpellsReply words r
 unfolding reply_in
@@ -111,18 +91,11 @@ unfolding reply_in
 class-read c words others r e h = rw (e, class_of-word c) h
 
 pub reply-read : (words : List Word) (r : Reply) → SpellsReply words r → reply_in words ≡ Ok r
-reply-read words reply.Stored e = class-read class.Stored words [] reply.Stored e refl
-reply-read words reply.NotStored e = class-read class.NotStored words [] reply.NotStored e refl
-reply-read words reply.Exists e = class-read class.Exists words [] reply.Exists e refl
-reply-read words reply.NotFound e = class-read class.NotFound words [] reply.NotFound e refl
 reply-read words (reply.Hit flags body cas) (f, b, shown, e, p, q, s) =
     class-read class.Hit words (f ∷ b ∷ shown) (reply.Hit flags body cas) e
-    (hit-read f b shown flags body cas (number-read MAX_32 f flags p) (body-read b body q) (shown-read shown cas s))
-reply-read words reply.Miss e = class-read class.Miss words [] reply.Miss e refl
-reply-read words reply.Deleted e = class-read class.Deleted words [] reply.Deleted e refl
-reply-read words reply.Touched e = class-read class.Touched words [] reply.Touched e refl
-reply-read words (reply.Number n) (word, e, number) = class-read class.Number words (word ∷ []) (reply.Number n) e (count-read word n number)
-reply-read words reply.NotNumber e = class-read class.NotNumber words [] reply.NotNumber e refl
+    (rw (number-read MAX_32 f flags p, body-read b body q, shown-read shown cas s) refl)
+reply-read words (reply.Number n) (word, e, number) = class-read class.Number words (word ∷ []) (reply.Number n) e (rw (number-read MAX_64 word n number) refl)
+reply-read words r e = class-read (class_of r) words [] r e refl
 
 -- words spell one reply
 pub one_reply : (words : List Word) (r s : Reply) → SpellsReply words r → SpellsReply words s → r ≡ s

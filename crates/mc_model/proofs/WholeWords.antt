@@ -1,25 +1,19 @@
 -- Words that spell something are whole, and whole words that were joined fall apart again.
-use Rattle.std.proofs.Common.{◌≡◌, ℕ, ◌==◌, nat_le, Bool, true, false, not, ◌&&◌, ◌||◌, cond, Option, Some}
+use Rattle.std.proofs.Common.{◌≡◌, ℕ, ◌==◌, nat_le, Bool, true, false, not, ◌&&◌, Option, Some}
 use Rattle.std.proofs.Common.{None, List, [], ◌∷◌, length, filter, refl, ap, ◌∙◌, inl, inr, arith}
 use Rattle.std.specs.List.{All, list_all, slice_split}
 use Rattle.std.proofs.lemmas.Bool.{and_parts, and_from}
-use Rattle.std.proofs.lemmas.Bool.Decides.{nat_tests}
-use Rattle.std.proofs.lemmas.List.Elements.{All-weaker}
-use Rattle.std.proofs.lemmas.List.Folds.{list_all-append}
+use Rattle.std.proofs.lemmas.{Bool.Decides.nat_tests, List.Elements.All-weaker, List.Folds.list_all-append}
 use Rattle.std.proofs.lemmas.List.Splits.{slice_split_none, slice_split_at}
 use Rattle.std.proofs.lemmas.List.Sums.{AllPass-from_list_all, list_all-from_AllPass}
-use Rattle.mc_protocol.specs.Words.{verb_word}
-use Rattle.mc_protocol.specs.Fields.{fields_of}
+use Rattle.mc_protocol.specs.{Words.verb_word, Fields.fields_of}
 use Rattle.mc_protocol.specs.Lines.{separates, Word}
-use Rattle.mc_protocol.specs.declared.lines.Separator.{Separator}
+use Rattle.mc_protocol.specs.declared.{lines.Separator.Separator, limits.TheConstants.KEY_BYTES_LIMIT}
 use Rattle.mc_protocol.specs.declared.lines.Separator.TheVariants as separator
-use Rattle.mc_protocol.specs.declared.request.Verb.{Verb}
-use Rattle.mc_protocol.specs.declared.request.Verb.TheVariants.{Set, Add, Replace, Append, Prepend, Cas, Get, Gets, Incr, Decr, Delete, Touch}
-use Rattle.mc_protocol.specs.declared.request.Fields.{Fields}
+use Rattle.mc_model.specs.Types.{Verb, Fields, Request}
+use Rattle.mc_protocol.specs.declared.request.Verb.TheVariants as verb
 use Rattle.mc_protocol.specs.declared.request.Fields.TheVariants as fields
-use Rattle.mc_protocol.specs.declared.request.Request.{Request}
 use Rattle.mc_protocol.specs.declared.reply.Reply.TheVariants as reply
-use Rattle.mc_protocol.specs.declared.limits.TheConstants.{KEY_BYTES_LIMIT}
 use Rattle.mc_protocol.specs.Decimals.{SpellsNumber, is_digit, MAX_32, MAX_64}
 use Rattle.mc_protocol.specs.Names.{is_key, is_name_byte, are_name_bytes}
 use Rattle.mc_model.specs.Words.{SpellsBytes, SpellsBody, SpellsFields, SpellsRequest, SpellsShown, SpellsReply, is_plain, hex_value, join_words}
@@ -40,16 +34,8 @@ key-visible byte h = grind (arith, nat_tests)
 plain-visible : (byte : ℕ) → is_plain byte ≡ true → is_visible byte ≡ true
 plain-visible byte h = (and_parts (is_visible byte) (not (byte == 37)) h).0
 
-some-passes : (a b c : Bool) (x y z h : ℕ) → cond a (Some x) (cond b (Some y) (cond c (Some z) None)) ≡ Some h → (a || b || c) ≡ true
-some-passes true b c x y z h e = refl
-some-passes false true c x y z h e = refl
-some-passes false false true x y z h e = refl
-some-passes false false false x y z h e = absurd (cc)
-
 hex-visible : (byte h : ℕ) → hex_value byte ≡ Some h → is_visible byte ≡ true
-hex-visible byte h e =
-    let k = some-passes (nat_le 48 byte && nat_le byte 57) (nat_le 97 byte && nat_le byte 102) (nat_le 65 byte && nat_le byte 70) _ _ _ h e in
-    grind (arith, nat_tests)
+hex-visible byte h e = grind (arith, nat_tests)
 
 -- ---- words
 
@@ -86,28 +72,17 @@ more_whole word words one others = and_from (is_whole word) (are_whole words) on
 -- ---- requests
 
 verb-whole : (verb : Verb) → is_whole (verb_word verb) ≡ true
-verb-whole Set = refl
-verb-whole Add = refl
-verb-whole Replace = refl
-verb-whole Append = refl
-verb-whole Prepend = refl
-verb-whole Cas = refl
-verb-whole Get = refl
-verb-whole Gets = refl
-verb-whole Incr = refl
-verb-whole Decr = refl
-verb-whole Delete = refl
-verb-whole Touch = refl
+verb-whole verb.Set = refl
+verb-whole _ = refl
 
 fields-whole : (shape : Fields) (words : List Word) (r : Request) → SpellsFields shape words r → are_whole words ≡ true
-fields-whole fields.KeyAlone words r (e, f, b, n) = rw e refl
-fields-whole fields.Expiry words r (e, f, b, n) = rw e refl
 fields-whole fields.Item words r (flags, body, e, f, b, n) =
     rw e (more_whole flags (body ∷ []) (number-whole MAX_32 flags r.flags f) (more_whole body [] (body-whole body r.body b) refl))
 fields-whole fields.Swap words r (flags, body, number, e, f, b, n) =
     let behind = more_whole body (number ∷ []) (body-whole body r.body b) (more_whole number [] (number-whole MAX_64 number r.number n) refl) in
     rw e (more_whole flags (body ∷ number ∷ []) (number-whole MAX_32 flags r.flags f) behind)
 fields-whole fields.Amount words r (number, e, f, b, n) = rw e (more_whole number [] (number-whole MAX_64 number r.number n) refl)
+fields-whole _ words r s = rw s.0 refl
 
 pub request-whole : SpellingWordsAreWhole SpellsRequest
 request-whole words r (others, e, key, spelled) =
@@ -121,17 +96,10 @@ shown-whole words None e = rw e refl
 shown-whole words (Some n) (word, e, number) = rw e (more_whole word [] (number-whole MAX_64 word n number) refl)
 
 pub reply-whole : SpellingWordsAreWhole SpellsReply
-reply-whole words reply.Stored e = rw e refl
-reply-whole words reply.NotStored e = rw e refl
-reply-whole words reply.Exists e = rw e refl
-reply-whole words reply.NotFound e = rw e refl
 reply-whole words (reply.Hit flags body cas) (f, b, shown, e, p, q, s) =
     rw e (more_whole f (b ∷ shown) (number-whole MAX_32 f flags p) (more_whole b shown (body-whole b body q) (shown-whole shown cas s)))
-reply-whole words reply.Miss e = rw e refl
-reply-whole words reply.Deleted e = rw e refl
-reply-whole words reply.Touched e = rw e refl
 reply-whole words (reply.Number n) (word, e, number) = rw e (more_whole word [] (number-whole MAX_64 word n number) refl)
-reply-whole words reply.NotNumber e = rw e refl
+reply-whole words _ e = rw e refl
 
 -- ---- joined
 

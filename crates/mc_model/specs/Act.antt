@@ -2,13 +2,9 @@
 use Rattle.std.specs.Prelude.{ℕ, ◌+◌, ◌-◌, ◌%◌, ◌^◌, ◌==◌, nat_lt, Bool, ◌&&◌, Option, Some}
 use Rattle.std.specs.Prelude.{None, List, ◌++◌, length, decimal, replicate, if◌then◌else◌}
 use Rattle.std.specs.FinMap as finite_map
-use Rattle.mc_protocol.specs.declared.request.Request.{Request}
-use Rattle.mc_protocol.specs.declared.request.Verb.{Verb}
+use Rattle.mc_model.specs.Types.{Request, Verb, Reply, Item, Choice}
 use Rattle.mc_protocol.specs.declared.request.Verb.TheVariants as verb
-use Rattle.mc_protocol.specs.declared.reply.Reply.{Reply}
 use Rattle.mc_protocol.specs.declared.reply.Reply.TheVariants as reply
-use Rattle.mc_model.specs.declared.cache.Item.{Item}
-use Rattle.mc_model.specs.declared.act.Choice.{Choice}
 use Rattle.mc_model.specs.Contents.{Contents}
 use Rattle.mc_model.specs.Numeral.{numeral_of, read_as}
 
@@ -39,28 +35,9 @@ version request number = record { flags = request.flags; body = request.body; nu
 abbrev pub store : Request → ℕ → Effect
 store request number = puts (version request number) reply.Stored
 
--- add: stored where nothing is there
-abbrev pub add : Request → ℕ → Option Item → Effect
-add request number None = store request number
-add request number (Some item) = answers reply.NotStored
-
--- replace: stored where something is there
-abbrev pub replace : Request → ℕ → Option Item → Effect
-replace request number None = answers reply.NotStored
-replace request number (Some item) = store request number
-
--- ---- joining: the old flags, and the request's body after or before the old one
-
+-- the version with the old flags and another body
 abbrev pub join : Item → List ℕ → ℕ → Effect
 join item body number = puts (record { flags = item.flags; body = body; number = number }) reply.Stored
-
-abbrev pub append : Request → ℕ → Option Item → Effect
-append request number None = answers reply.NotStored
-append request number (Some item) = join item (item.body ++ request.body) number
-
-abbrev pub prepend : Request → ℕ → Option Item → Effect
-prepend request number None = answers reply.NotStored
-prepend request number (Some item) = join item (request.body ++ item.body) number
 
 -- ---- cas: stored where the item that is there has this number
 
@@ -108,34 +85,38 @@ count new request choice number None = answers reply.NotFound
 count new request choice number (Some item) =
     count_from new request choice number item (read_as choice.read (numeral_of item.body))
 
--- ---- deletion and touch
+-- ---- deletion
 
 -- delete: the item that is there is gone
 abbrev pub delete : Option Item → Effect
 delete None = answers reply.NotFound
 delete (Some item) = record { change = Removes; reply = reply.Deleted }
 
--- touch: nothing changes, since the time of expiry is 0
-abbrev pub touch : Option Item → Effect
-touch None = answers reply.NotFound
-touch (Some item) = answers reply.Touched
-
 -- ---- every verb
 
 -- the effect of a verb on what is at the request's key
 abbrev pub effect_by : Verb → Request → Choice → ℕ → Option Item → Effect
 effect_by verb.Set request choice number found = store request number
-effect_by verb.Add request choice number found = add request number found
-effect_by verb.Replace request choice number found = replace request number found
-effect_by verb.Append request choice number found = append request number found
-effect_by verb.Prepend request choice number found = prepend request number found
+-- add: stored where nothing is there
+effect_by verb.Add request choice number None = store request number
+effect_by verb.Add request choice number (Some item) = answers reply.NotStored
+-- replace: stored where something is there
+effect_by verb.Replace request choice number None = answers reply.NotStored
+effect_by verb.Replace request choice number (Some item) = store request number
+-- append and prepend: the old flags, and the request's body after or before the old one
+effect_by verb.Append request choice number None = answers reply.NotStored
+effect_by verb.Append request choice number (Some item) = join item (item.body ++ request.body) number
+effect_by verb.Prepend request choice number None = answers reply.NotStored
+effect_by verb.Prepend request choice number (Some item) = join item (request.body ++ item.body) number
 effect_by verb.Cas request choice number found = swap request number found
 effect_by verb.Get request choice number found = read found
 effect_by verb.Gets request choice number found = read_with_number found
 effect_by verb.Incr request choice number found = count increment request choice number found
 effect_by verb.Decr request choice number found = count decrement request choice number found
 effect_by verb.Delete request choice number found = delete found
-effect_by verb.Touch request choice number found = touch found
+-- touch: nothing changes, since the time of expiry is 0
+effect_by verb.Touch request choice number None = answers reply.NotFound
+effect_by verb.Touch request choice number (Some item) = answers reply.Touched
 
 -- what is at the key after the change
 abbrev pub item_after : Change → Option Item → Option Item

@@ -2,19 +2,11 @@
 use Rattle.std.specs.Prelude.{◌≡◌, ◌≢◌, ℕ, ◌+◌, ◌≤◌, Bool, true, false, nat_le, Option, Some, None, List, length}
 use Rattle.std.specs.FinMap as finite_map
 use Rattle.mc_protocol.specs.Legal.{class_of, is_fit}
-use Rattle.mc_protocol.specs.declared.request.Request.{Request}
-use Rattle.mc_protocol.specs.declared.request.Verb.{Verb}
+use Rattle.mc_model.specs.Types.{Request, Verb, Class, REPLY_BODY_LIMIT, Item, Numeral, NoNumber, Is, MayBe, Choice}
 use Rattle.mc_protocol.specs.declared.request.Verb.TheVariants as verb
-use Rattle.mc_protocol.specs.declared.reply.Class.{Class}
 use Rattle.mc_protocol.specs.declared.reply.Class.TheVariants as class
 use Rattle.mc_protocol.specs.declared.reply.Reply.TheVariants as reply
-use Rattle.mc_protocol.specs.declared.limits.TheConstants.{REPLY_BODY_LIMIT}
-use Rattle.mc_model.specs.declared.cache.Item.{Item}
-use Rattle.mc_model.specs.declared.numeral.Numeral.{Numeral}
-use Rattle.mc_model.specs.declared.numeral.Numeral.TheVariants.{NoNumber, Is, MayBe}
-use Rattle.mc_model.specs.declared.act.Choice.{Choice}
-use Rattle.mc_model.specs.Contents.{Contents}
-use Rattle.mc_model.specs.Numeral.{numeral_of}
+use Rattle.mc_model.specs.{Contents.Contents, Numeral.numeral_of}
 use Rattle.mc_model.specs.Act.{act, effect_of, Puts}
 
 -- a request leaves what is at every other key

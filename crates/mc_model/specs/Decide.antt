@@ -1,20 +1,11 @@
 -- What a decision does: what becomes of the item at a request's key, and what is answered.
 use Rattle.std.specs.Prelude.{◌≡◌, ℕ, ◌==◌, Bool, true, Option, Some, None, List, ◌++◌}
 use Rattle.std.specs.Option.{option_map}
-use Rattle.mc_protocol.specs.declared.request.Request.{Request}
-use Rattle.mc_protocol.specs.declared.request.Verb.{Verb}
-use Rattle.mc_protocol.specs.declared.reply.Reply.{Reply}
-use Rattle.mc_model.specs.declared.cache.Item.{Item}
-use Rattle.mc_model.specs.declared.act.Choice.{Choice}
-use Rattle.mc_model.specs.declared.deciding.Found.{Found}
-use Rattle.mc_model.specs.declared.deciding.Change.{Change}
+use Rattle.mc_model.specs.Types.{Request, Verb, Reply, Item, Choice}
+use Rattle.mc_model.specs.declared.{deciding.Found.Found, deciding.Change.Change, deciding.Answer.Answer, deciding.Decision.Decision}
 use Rattle.mc_model.specs.declared.deciding.Change.TheVariants as change
-use Rattle.mc_model.specs.declared.deciding.Answer.{Answer}
 use Rattle.mc_model.specs.declared.deciding.Answer.TheVariants as answer
-use Rattle.mc_model.specs.declared.deciding.Decision.{Decision}
-use Rattle.mc_model.specs.Numeral.{numeral_of}
-use Rattle.mc_model.specs.ActLaws.{counts}
-use Rattle.mc_model.specs.History.{is_cas}
+use Rattle.mc_model.specs.{Numeral.numeral_of, ActLaws.counts, History.is_cas}
 use Rattle.mc_model.specs.Act as act
 
 -- what is known of an item where a cas has this number

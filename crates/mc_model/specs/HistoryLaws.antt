@@ -1,8 +1,6 @@
 -- What follows from the rules of a history.
 use Rattle.std.specs.Prelude.{◌≡◌, ◌↔◌, ℕ, true, false, None}
-use Rattle.mc_protocol.specs.declared.actor.Actor.{Actor}
-use Rattle.mc_model.specs.declared.sent.Sent.{Sent}
-use Rattle.mc_model.specs.declared.rules.HistoryKind.{HistoryKind}
+use Rattle.mc_model.specs.Types.{Actor, Sent, HistoryKind}
 use Rattle.mc_model.specs.Sections.{Sections, with_sent, before}
 use Rattle.mc_model.specs.History.{is_history, comes_late, fault_at, IsFirstFault}
 

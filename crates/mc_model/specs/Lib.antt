@@ -5,6 +5,7 @@ pub use Rattle.mc_protocol.specs.Legal
 pub use Rattle.mc_protocol.specs.Lines
 pub use Rattle.mc_protocol.specs.Names
 pub use Rattle.mc_protocol.specs.Words as VerbWords
+pub mod Types
 pub mod Contents
 pub mod Numeral
 pub mod Act

@@ -1,18 +1,14 @@
 -- What is tested of a request that comes next. No public contract cites these: they say of one request what the rules
 -- of `History.antt` say of all.
-use Rattle.std.specs.Prelude.{◌≡◌, ℕ, ◌+◌, nat_le, ◌-◌, Bool, true, false, not, ◌&&◌, ◌||◌, Option, Some}
+use Rattle.std.specs.Prelude.{◌≡◌, ℕ, ◌+◌, nat_le, ◌-◌, Bool, true, not, ◌&&◌, ◌||◌, Option, Some}
 use Rattle.std.specs.Prelude.{None, is_some, List, [], ◌∷◌, length, take, if◌then◌else◌, slice_get}
-use Rattle.mc_protocol.specs.declared.actor.Actor.{Actor}
+use Rattle.mc_model.specs.Types.{Actor, KEYS_LIMIT, REQUESTS_LIMIT, Sent, HistoryKind, Reply}
 use Rattle.mc_protocol.specs.declared.actor.Actor.TheVariants as actor
-use Rattle.mc_protocol.specs.declared.limits.TheConstants.{KEYS_LIMIT, REQUESTS_LIMIT}
-use Rattle.mc_model.specs.declared.sent.Sent.{Sent}
 use Rattle.mc_model.specs.Sections.{Sections, section_of, with_sent}
-use Rattle.mc_model.specs.Notes.{Noted}
+use Rattle.mc_model.specs.Notes.{Noted, is_same_section}
 use Rattle.mc_model.specs.declared.note.Note.TheVariants as note
-use Rattle.mc_model.specs.declared.rules.HistoryKind.{HistoryKind}
 use Rattle.mc_model.specs.declared.rules.HistoryKind.TheVariants as kind
 use Rattle.mc_protocol.specs.Legal.{is_fit}
-use Rattle.mc_protocol.specs.declared.reply.Reply.{Reply}
 use Rattle.mc_model.specs.History.{is_history, fault_at, key_count, has_key, are_answered, is_none_sent, is_delete, is_seen}
 
 abbrev pub is_full : Sections → Actor → Sent → Bool
@@ -29,12 +25,8 @@ may_come s actor.P = is_none_sent s.a && is_none_sent s.b && are_answered s.p
 may_come s actor.A = are_answered s.p && are_answered s.a
 may_come s actor.B = are_answered s.p && are_answered s.b
 
-abbrev pub is_prefix : Actor → Bool
-is_prefix actor.P = true
-is_prefix _ = false
-
 abbrev pub clears : Sections → Actor → Sent → Bool
-clears s actor sent = has_key sent.request.key s.p || (is_prefix actor && is_delete sent.request.verb)
+clears s who sent = has_key sent.request.key s.p || (is_same_section actor.P who && is_delete sent.request.verb)
 
 -- P or the section shows the request's number
 abbrev pub number_is_seen : Sections → Actor → Sent → Bool

@@ -1,11 +1,9 @@
 -- What a body says as a number: what incr and decr make of it.
 use Rattle.std.specs.Prelude.{ℕ, ◌==◌, ◌^◌, nat_le, nat_lt, Bool, true, false, not, ◌&&◌, Option, Some}
 use Rattle.std.specs.Prelude.{None, List, [], ◌∷◌, length, drop, take_while, if◌then◌else◌}
-use Rattle.std.specs.List.{list_all}
-use Rattle.std.specs.Str.Parse.{digits_value}
+use Rattle.std.specs.{List.list_all, Str.Parse.digits_value}
 use Rattle.mc_protocol.specs.Decimals.{is_digit}
-use Rattle.mc_model.specs.declared.numeral.Numeral.{Numeral}
-use Rattle.mc_model.specs.declared.numeral.Numeral.TheVariants.{NoNumber, Is, MayBe}
+use Rattle.mc_model.specs.Types.{Numeral, NoNumber, Is, MayBe}
 
 abbrev pub leading_digits : List ℕ → List ℕ
 leading_digits body = take_while is_digit body

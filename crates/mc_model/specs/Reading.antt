@@ -1,26 +1,16 @@
 -- What the readers of words answer, kind by kind of their faults. Of the public contracts only those of `read_number` and
 -- `read_body` cite it, to say which kind comes. `Words.antt` says what words spell, and the proofs join the two.
 use Rattle.std.specs.Prelude.{◌≡◌, ℕ, ◌+◌, ◌*◌, ◌==◌, nat_le, Option, Some, None, Result, Ok, Err, List, [], ◌∷◌, length, if◌then◌else◌}
-use Rattle.std.specs.List.{find}
-use Rattle.std.specs.Str.{bytes_eq}
+use Rattle.std.specs.{List.find, Str.bytes_eq}
 use Rattle.mc_protocol.specs.Words.{verb_of, all_classes}
-use Rattle.mc_protocol.specs.Fields.{fields_of}
-use Rattle.mc_protocol.specs.declared.request.Verb.{Verb}
-use Rattle.mc_protocol.specs.declared.request.Fields.{Fields}
+use Rattle.mc_protocol.specs.{Fields.fields_of, Names.is_key}
+use Rattle.mc_model.specs.Types.{Verb, Fields, Request, Reply, Class, REPLY_BODY_LIMIT, Word, WordsFault, WordsKind}
 use Rattle.mc_protocol.specs.declared.request.Fields.TheVariants as fields
-use Rattle.mc_protocol.specs.declared.request.Request.{Request}
-use Rattle.mc_protocol.specs.declared.reply.Reply.{Reply}
 use Rattle.mc_protocol.specs.declared.reply.Reply.TheVariants as reply
-use Rattle.mc_protocol.specs.declared.reply.Class.{Class}
 use Rattle.mc_protocol.specs.declared.reply.Class.TheVariants as class
-use Rattle.mc_protocol.specs.declared.limits.TheConstants.{REPLY_BODY_LIMIT}
 use Rattle.mc_protocol.specs.declared.decimal.DecimalFault.{DecimalFault}
 use Rattle.mc_protocol.specs.declared.decimal.DecimalFault.TheVariants as decimal
 use Rattle.mc_protocol.specs.Decimals.{decimal_in, MAX_32, MAX_64}
-use Rattle.mc_protocol.specs.Lines.{Word}
-use Rattle.mc_protocol.specs.Names.{is_key}
-use Rattle.mc_model.specs.declared.words_fault.WordsFault.{WordsFault}
-use Rattle.mc_model.specs.declared.words_fault.WordsKind.{WordsKind}
 use Rattle.mc_model.specs.declared.words_fault.WordsKind.TheVariants as kind
 use Rattle.mc_model.specs.Words.{is_plain, hex_value, class_word}
 
@@ -39,11 +29,6 @@ abbrev pub Gives : {X Y : Type 0} → (X → Y) → Result X WordsFault → Resu
 Gives view (Ok x) read = read ≡ Ok (view x)
 Gives view (Err e) read = Fails e.kind read
 
--- what was returned, with the kind of a fault alone
-abbrev pub by_kind : {X : Type 0} → Result X WordsFault → Result X WordsKind
-by_kind (Ok x) = Ok x
-by_kind (Err e) = Err e.kind
-
 -- a number, or why a word is none
 abbrev pub number_or_fault : Result ℕ DecimalFault → Result ℕ WordsKind
 number_or_fault (Ok n) = Ok n
@@ -52,9 +37,6 @@ number_or_fault (Err decimal.TooLarge) = Err kind.Number
 
 abbrev pub number_in : ℕ → Word → Result ℕ WordsKind
 number_in greatest word = number_or_fault (decimal_in greatest word)
-
-abbrev pub flags_in : Word → Result ℕ WordsKind
-flags_in word = number_in MAX_32 word
 
 abbrev pub if_plain : ℕ → List ℕ → Result (Option (ℕ × List ℕ)) WordsKind
 if_plain byte rest = if is_plain byte then Ok (Some (byte, rest)) else Err kind.Form
@@ -110,34 +92,26 @@ last_number_in (number ∷ others) = number_in MAX_64 number >>= λ n. at_end n 
 -- flags and a body, and the words that follow
 abbrev pub flags_and_body_in : List Word → Result (ℕ × List ℕ × List Word) WordsKind
 flags_and_body_in [] = Err kind.Form
-flags_and_body_in (flags ∷ []) = flags_in flags >>= λ f. Err kind.Form
-flags_and_body_in (flags ∷ body ∷ others) = flags_in flags >>= λ f. body_in body >>= λ b. Ok (f, b, others)
+flags_and_body_in (flags ∷ []) = number_in MAX_32 flags >>= λ f. Err kind.Form
+flags_and_body_in (flags ∷ body ∷ others) = number_in MAX_32 flags >>= λ f. body_in body >>= λ b. Ok (f, b, others)
 
-abbrev pub key_alone_in : Verb → List ℕ → List Word → Result Request WordsKind
-key_alone_in verb key words = at_end (record { verb = verb; key = key; flags = 0; body = []; number = 0 }) words
+-- flags, a body and a number, by what the verb has after its key
+abbrev pub fields_in : Fields → List Word → Result (ℕ × List ℕ × ℕ) WordsKind
+fields_in fields.KeyAlone words = at_end (0, [], 0) words
+fields_in fields.Expiry words = at_end (0, [], 0) words
+fields_in fields.Item words = flags_and_body_in words >>= λ x. at_end (x.0, x.1, 0) x.2
+fields_in fields.Swap words = flags_and_body_in words >>= λ x. last_number_in x.2 >>= λ n. Ok (x.0, x.1, n)
+fields_in fields.Amount words = last_number_in words >>= λ n. Ok (0, [], n)
 
-abbrev pub item_in : Verb → List ℕ → List Word → Result Request WordsKind
-item_in verb key words =
-    flags_and_body_in words >>= λ x. at_end (record { verb = verb; key = key; flags = x.0; body = x.1; number = 0 }) x.2
-
-abbrev pub swap_in : Verb → List ℕ → List Word → Result Request WordsKind
-swap_in verb key words =
-    flags_and_body_in words >>= λ x. last_number_in x.2 >>= λ n. Ok (record { verb = verb; key = key; flags = x.0; body = x.1; number = n })
-
-abbrev pub amount_in : Verb → List ℕ → List Word → Result Request WordsKind
-amount_in verb key words = last_number_in words >>= λ n. Ok (record { verb = verb; key = key; flags = 0; body = []; number = n })
-
-abbrev pub fields_in : Fields → Verb → List ℕ → List Word → Result Request WordsKind
-fields_in fields.KeyAlone verb key words = key_alone_in verb key words
-fields_in fields.Expiry verb key words = key_alone_in verb key words
-fields_in fields.Item verb key words = item_in verb key words
-fields_in fields.Swap verb key words = swap_in verb key words
-fields_in fields.Amount verb key words = amount_in verb key words
+-- a request with these
+abbrev pub request_of : Verb → List ℕ → ℕ × List ℕ × ℕ → Request
+request_of verb key x = record { verb = verb; key = key; flags = x.0; body = x.1; number = x.2 }
 
 abbrev pub after_verb : Option Verb → List Word → Result Request WordsKind
 after_verb None words = Err kind.Form
 after_verb (Some verb) [] = Err kind.Form
-after_verb (Some verb) (key ∷ others) = if is_key key then fields_in (fields_of verb) verb key others else Err kind.Form
+after_verb (Some verb) (key ∷ others) =
+    if is_key key then (fields_in (fields_of verb) others >>= λ x. Ok (request_of verb key x)) else Err kind.Form
 
 unfoldable pub request_in : List Word → Result Request WordsKind
 request_in [] = Err kind.Form
@@ -153,9 +127,6 @@ shown_number_in (number ∷ others) = last_number_in (number ∷ others) >>= λ 
 abbrev pub hit_in : List Word → Result Reply WordsKind
 hit_in words = flags_and_body_in words >>= λ x. shown_number_in x.2 >>= λ n. Ok (reply.Hit x.0 x.1 n)
 
-abbrev pub count_in : List Word → Result Reply WordsKind
-count_in words = last_number_in words >>= λ n. Ok (reply.Number n)
-
 abbrev pub after_class : Option Class → List Word → Result Reply WordsKind
 after_class None words = Err kind.Form
 after_class (Some class.Stored) words = at_end reply.Stored words
@@ -166,7 +137,7 @@ after_class (Some class.Hit) words = hit_in words
 after_class (Some class.Miss) words = at_end reply.Miss words
 after_class (Some class.Deleted) words = at_end reply.Deleted words
 after_class (Some class.Touched) words = at_end reply.Touched words
-after_class (Some class.Number) words = count_in words
+after_class (Some class.Number) words = last_number_in words >>= λ n. Ok (reply.Number n)
 after_class (Some class.NotNumber) words = at_end reply.NotNumber words
 
 unfoldable pub reply_in : List Word → Result Reply WordsKind

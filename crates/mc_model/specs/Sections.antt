@@ -1,9 +1,8 @@
 -- The requests of three sections, with their replies.
 use Rattle.std.specs.Prelude.{ℕ, List, [], ◌∷◌, ◌++◌, take}
-use Rattle.mc_protocol.specs.declared.actor.Actor.{Actor}
+use Rattle.mc_model.specs.Types.{Actor, Sent}
 use Rattle.mc_protocol.specs.declared.actor.Actor.TheVariants as actor
 use Rattle.mc_protocol.specs.declared.sections.Sections as each
-use Rattle.mc_model.specs.declared.sent.Sent.{Sent}
 pub use Rattle.mc_protocol.specs.Sections.{section_of}
 
 -- what each section sent and received, in order

@@ -3,9 +3,7 @@ use Rattle.std.specs.Prelude.{◌≡◌, ℕ, ◌<◌, ◌≤◌, ◌==◌, nat_
 use Rattle.std.specs.List.{All, list_all}
 use Rattle.mc_protocol.specs.Lines.{words_of, Word}
 use Rattle.mc_protocol.specs.declared.lines.Separator.{Separator}
-use Rattle.mc_protocol.specs.declared.limits.TheConstants.{REPLY_BODY_LIMIT}
-use Rattle.mc_protocol.specs.declared.request.Request.{Request}
-use Rattle.mc_protocol.specs.declared.reply.Reply.{Reply}
+use Rattle.mc_model.specs.Types.{REPLY_BODY_LIMIT, Request, Reply}
 use Rattle.mc_protocol.specs.declared.reply.Reply.TheVariants as reply
 use Rattle.mc_protocol.specs.Decimals.{MAX_32, MAX_64}
 use Rattle.mc_model.specs.Words.{SpellsRequest, SpellsReply, request_words, reply_words, join_words}

@@ -3,19 +3,12 @@ use Rattle.std.specs.Prelude.{◌≡◌, ℕ, ◌+◌, ◌-◌, ◌*◌, ◌≤�
 use Rattle.std.specs.Prelude.{None, List, [], ◌∷◌, length, codes, if◌then◌else◌, ◌/◌, ◌%◌, false, decimal}
 use Rattle.std.specs.List.{flat_map, join_with_byte}
 use Rattle.std.specs.Fmt.{digit_glyph}
-use Rattle.mc_protocol.specs.Lines.{Word}
-use Rattle.mc_protocol.specs.Names.{is_key}
+use Rattle.mc_model.specs.Types.{Word, Fields, Request, Reply, Class, REPLY_BODY_LIMIT}
+use Rattle.mc_protocol.specs.{Names.is_key, Words.verb_word, Fields.fields_of, Legal.class_of}
 use Rattle.mc_protocol.specs.Decimals.{SpellsNumber, MAX_32, MAX_64}
-use Rattle.mc_protocol.specs.Words.{verb_word}
-use Rattle.mc_protocol.specs.Fields.{fields_of}
-use Rattle.mc_protocol.specs.declared.request.Fields.{Fields}
 use Rattle.mc_protocol.specs.declared.request.Fields.TheVariants as fields
-use Rattle.mc_protocol.specs.declared.request.Request.{Request}
-use Rattle.mc_protocol.specs.declared.reply.Reply.{Reply}
 use Rattle.mc_protocol.specs.declared.reply.Reply.TheVariants as reply
-use Rattle.mc_protocol.specs.declared.reply.Class.{Class}
 use Rattle.mc_protocol.specs.declared.reply.Class.TheVariants as class
-use Rattle.mc_protocol.specs.declared.limits.TheConstants.{REPLY_BODY_LIMIT}
 
 -- ---- bodies
 
@@ -92,15 +85,8 @@ abbrev pub SpellsReply : List Word → Reply → Type 0
 SpellsReply words (reply.Hit flags body cas) =
     (f : Word) × (b : Word) × (shown : List Word) × (words ≡ class_word class.Hit ∷ f ∷ b ∷ shown)
     × SpellsNumber MAX_32 f flags × SpellsBody b body × SpellsShown shown cas
-SpellsReply words reply.Stored = words ≡ class_word class.Stored ∷ []
-SpellsReply words reply.NotStored = words ≡ class_word class.NotStored ∷ []
-SpellsReply words reply.Exists = words ≡ class_word class.Exists ∷ []
-SpellsReply words reply.NotFound = words ≡ class_word class.NotFound ∷ []
-SpellsReply words reply.Miss = words ≡ class_word class.Miss ∷ []
-SpellsReply words reply.Deleted = words ≡ class_word class.Deleted ∷ []
-SpellsReply words reply.Touched = words ≡ class_word class.Touched ∷ []
 SpellsReply words (reply.Number n) = (word : Word) × (words ≡ class_word class.Number ∷ word ∷ []) × SpellsNumber MAX_64 word n
-SpellsReply words reply.NotNumber = words ≡ class_word class.NotNumber ∷ []
+SpellsReply words r = words ≡ class_word (class_of r) ∷ []
 
 -- ---- words spell at most one value
 
@@ -136,16 +122,9 @@ shown_words None = []
 shown_words (Some n) = decimal n ∷ []
 
 abbrev pub reply_words : Reply → List Word
-reply_words reply.Stored = class_word class.Stored ∷ []
-reply_words reply.NotStored = class_word class.NotStored ∷ []
-reply_words reply.Exists = class_word class.Exists ∷ []
-reply_words reply.NotFound = class_word class.NotFound ∷ []
 reply_words (reply.Hit flags body cas) = class_word class.Hit ∷ decimal flags ∷ body_word body ∷ shown_words cas
-reply_words reply.Miss = class_word class.Miss ∷ []
-reply_words reply.Deleted = class_word class.Deleted ∷ []
-reply_words reply.Touched = class_word class.Touched ∷ []
 reply_words (reply.Number n) = class_word class.Number ∷ decimal n ∷ []
-reply_words reply.NotNumber = class_word class.NotNumber ∷ []
+reply_words r = class_word (class_of r) ∷ []
 
 -- the words, with one space between them
 abbrev pub join_words : List Word → List ℕ

@@ -29,6 +29,7 @@ pub fn read_body(alloc: Global, word: &[u8]) -> Result<Bytes, WordsFault>
 #[tactic(auto, unfolding(crate::specs::Reading::body_in))]
 fn body_in(alloc: Global, word: &[u8]) -> Result<Bytes, WordsFault>
     ensures exact { reading.Gives (λ b. b) result (reading.body_in word.now) }
+    ensures form { IfErr result (λ fault. fault.kind ≢ WordsKind.Number) }
     ensures word { IfErr result (IsWithin 0) }
 {
     let [first, text @ ..] = word else {
@@ -55,6 +56,7 @@ fn misread(expected: ExpectedWord) -> WordsFault
 /// The bytes that an escaped text stands for.
 fn unescape(alloc: Global, text: &[u8]) -> Result<Vec<u8>, WordsFault>
     ensures exact { reading.Gives (λ v. v.items) result (reading.bytes_in text.now) }
+    ensures form { IfErr result (λ fault. fault.kind ≢ WordsKind.Number) }
     ensures word { IfErr result (IsWithin 0) }
 {
     let mut bytes = Vec::new(alloc);
@@ -69,7 +71,7 @@ fn unescape(alloc: Global, text: &[u8]) -> Result<Vec<u8>, WordsFault>
 /// The first byte that the text stands for, and what follows it. An empty text has none.
 fn first_byte(text: &[u8]) -> Result<Option<(u8, &[u8])>, WordsFault>
     ensures exact { reading.Gives (λ o. option_map (λ x. (x.0, x.1.now)) o) result (reading.first_byte_in text.now) }
-    ensures memory { IfErr result (λ fault. fault.kind ≢ WordsKind.OutOfMemory) }
+    ensures form { IfErr result (λ fault. fault.kind ≡ WordsKind.Form) }
     ensures word { IfErr result (IsWithin 0) }
 {
     match text {

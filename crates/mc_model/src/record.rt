@@ -1,5 +1,5 @@
 //! What was noted of three sections, and how many requests were answered before another one began.
-ghost use Rattle.std.specs.Prelude.{◌≡◌, Some, IfOk};
+ghost use Rattle.std.specs.Prelude.{◌≡◌, Some, IfOk, length, if◌then◌else◌};
 ghost use Rattle.mc_model.specs.Notes as recorded;
 
 use crate::Note;
@@ -84,24 +84,32 @@ fn answered_before_each(
     let mut counts = Vec::new(alloc);
     let mut answered = 0;
     'counting: for (actor, note) in notes {
-        match note {
-            Note::Begin(_) => {
-                if is_same_section(section, *actor) {
-                    counts.push(answered)?;
-                }
-            }
-            Note::Reply(_) => {
-                if is_same_section(other, *actor) {
-                    answered += 1;
-                }
-            }
+        if begins(section, *actor, note) {
+            counts.push(answered)?;
+        }
+        if replies(other, *actor, note) {
+            answered += 1;
         }
     }
     Ok(counts)
 }
 
-fn is_same_section(section: Actor, other: Actor) -> bool
-    ensures { result ≡ recorded.is_same_section section other }
+/// Whether a request of the section begins.
+fn begins(section: Actor, actor: Actor, note: &Note) -> bool
+    ensures { result ≡ recorded.begins section (actor, note.now) }
 {
-    section == other
+    match note {
+        Note::Begin(_) => section == actor,
+        Note::Reply(_) => false,
+    }
+}
+
+/// Whether a reply to the section comes.
+fn replies(section: Actor, actor: Actor, note: &Note) -> bool
+    ensures { (if result then 1 else 0) ≡ length (recorded.replied_by section (actor, note.now)) }
+{
+    match note {
+        Note::Begin(_) => false,
+        Note::Reply(_) => section == actor,
+    }
 }

@@ -1,5 +1,6 @@
 //! How the words of requests and replies are read.
 ghost use Rattle.std.specs.Prelude.{◌≡◌, ◌≢◌, ◌+◌, ◌≤◌, map, length, IfOk, IfErr};
+ghost use Rattle.mc_protocol.specs.Decimals.{MAX_32};
 ghost use Rattle.mc_model.specs.Words as spec;
 ghost use Rattle.mc_model.specs.Reading as reading;
 ghost use Rattle.mc_model.specs.Misreadings.{IsWithin};
@@ -38,79 +39,50 @@ fn request_in(alloc: Global, words: &[&[u8]]) -> Result<Request, WordsFault>
         return Err(WordsFault::form(1, ExpectedWord::Key));
     }
     let key = Bytes::new(Vec::from_slice(alloc, key)?);
-    match verb.fields() {
-        Fields::KeyAlone | Fields::Expiry => key_alone(alloc, verb, key, fields),
-        Fields::Item => item(alloc, verb, key, fields),
-        Fields::Swap => swap(alloc, verb, key, fields),
-        Fields::Amount => amount(alloc, verb, key, fields),
-    }
-}
-
-/// A request with nothing after its key.
-fn key_alone(alloc: Global, verb: Verb, key: Bytes, fields: &[&[u8]]) -> Result<Request, WordsFault>
-    ensures exact { reading.Gives (λ r. r) result (reading.key_alone_in verb key (map (λ w. w.now) fields.now)) }
-    ensures word { IfErr result (IsWithin (2 + length fields.now)) }
-{
-    end_of(fields, 2, ExpectedWord::EndAfterKey)?;
-    Ok(Request {
-        verb,
-        key,
-        flags: 0,
-        body: Bytes::new(Vec::new(alloc)),
-        number: 0,
-    })
-}
-
-/// A request with flags and a body after its key.
-fn item(alloc: Global, verb: Verb, key: Bytes, fields: &[&[u8]]) -> Result<Request, WordsFault>
-    ensures exact { reading.Gives (λ r. r) result (reading.item_in verb key (map (λ w. w.now) fields.now)) }
-    ensures word { IfErr result (IsWithin (2 + length fields.now)) }
-{
-    let (flags, body, others) = read_flags_and_body(alloc, fields, 2)?;
-    end_of(others, 4, ExpectedWord::EndAfterBody)?;
+    let (flags, body, number) = read_fields(alloc, verb.fields(), fields)?;
     Ok(Request {
         verb,
         key,
         flags,
         body,
-        number: 0,
-    })
-}
-
-/// A request with flags, a body and a cas unique after its key.
-fn swap(alloc: Global, verb: Verb, key: Bytes, fields: &[&[u8]]) -> Result<Request, WordsFault>
-    ensures exact { reading.Gives (λ r. r) result (reading.swap_in verb key (map (λ w. w.now) fields.now)) }
-    ensures word { IfErr result (IsWithin (2 + length fields.now)) }
-{
-    let (flags, body, others) = read_flags_and_body(alloc, fields, 2)?;
-    let cas = read_last_number(others, 4, ExpectedWord::Unique)?;
-    Ok(Request {
-        verb,
-        key,
-        flags,
-        body,
-        number: cas,
-    })
-}
-
-/// A request with an amount after its key.
-fn amount(alloc: Global, verb: Verb, key: Bytes, fields: &[&[u8]]) -> Result<Request, WordsFault>
-    ensures exact { reading.Gives (λ r. r) result (reading.amount_in verb key (map (λ w. w.now) fields.now)) }
-    ensures word { IfErr result (IsWithin (2 + length fields.now)) }
-{
-    let number = read_last_number(fields, 2, ExpectedWord::Amount)?;
-    Ok(Request {
-        verb,
-        key,
-        flags: 0,
-        body: Bytes::new(Vec::new(alloc)),
         number,
     })
 }
 
+/// Reads what a request has after its key: flags, a body and a number. What a verb lacks of these is 0 or empty.
+fn read_fields(
+    alloc: Global,
+    shape: Fields,
+    words: &[&[u8]],
+) -> Result<(u32, Bytes, u64), WordsFault>
+    ensures exact { reading.Gives (λ x. x) result (reading.fields_in shape (map (λ w. w.now) words.now)) }
+    ensures word { IfErr result (IsWithin (2 + length words.now)) }
+{
+    match shape {
+        Fields::KeyAlone | Fields::Expiry => {
+            end_of(words, 2, ExpectedWord::EndAfterKey)?;
+            Ok((0, Bytes::new(Vec::new(alloc)), 0))
+        }
+        Fields::Item => {
+            let (flags, body, others) = read_flags_and_body(alloc, words, 2)?;
+            end_of(others, 4, ExpectedWord::EndAfterBody)?;
+            Ok((flags, body, 0))
+        }
+        Fields::Swap => {
+            let (flags, body, others) = read_flags_and_body(alloc, words, 2)?;
+            let cas = read_last_number(others, 4, ExpectedWord::Unique)?;
+            Ok((flags, body, cas))
+        }
+        Fields::Amount => {
+            let amount = read_last_number(words, 2, ExpectedWord::Amount)?;
+            Ok((0, Bytes::new(Vec::new(alloc)), amount))
+        }
+    }
+}
+
 /// Sees that no word is left. `first` is the index of the first of these words.
 fn end_of(words: &[&[u8]], first: usize, expected: ExpectedWord) -> Result<(), WordsFault>
-    ensures exact { reading.by_kind result ≡ reading.at_end tt (map (λ w. w.now) words.now) }
+    ensures exact { reading.Gives (λ x. x) result (reading.at_end tt (map (λ w. w.now) words.now)) }
     ensures word { IfErr result (IsWithin (first + length words.now)) }
 {
     if words.is_empty() {
@@ -127,7 +99,7 @@ fn read_last_number(
     expected: ExpectedWord,
 ) -> Result<u64, WordsFault>
     requires { first ≤ 4 }
-    ensures exact { reading.by_kind result ≡ reading.last_number_in (map (λ w. w.now) words.now) }
+    ensures exact { reading.Gives (λ x. x) result (reading.last_number_in (map (λ w. w.now) words.now)) }
     ensures word { IfErr result (IsWithin (first + length words.now)) }
 {
     let [number, others @ ..] = words else {
@@ -171,7 +143,7 @@ fn read_flags_and_body<'w, 'a>(
 
 /// Reads the flags, a number of 32 bits. `index` is that of the word.
 fn read_flags(word: &[u8], index: usize) -> Result<u32, WordsFault>
-    ensures exact { reading.by_kind result ≡ reading.flags_in word.now }
+    ensures exact { reading.Gives (λ x. x) result (reading.number_in MAX_32 word.now) }
     ensures word { IfErr result (IsWithin index) }
 {
     match read_number(u64::from(u32::MAX), word) {
@@ -244,27 +216,21 @@ fn reply_in(alloc: Global, words: &[&[u8]]) -> Result<Reply, WordsFault>
         Class::Miss => bare(Reply::Miss, fields),
         Class::Deleted => bare(Reply::Deleted, fields),
         Class::Touched => bare(Reply::Touched, fields),
-        Class::Number => count(fields),
+        Class::Number => {
+            let number = read_last_number(fields, 1, ExpectedWord::NewValue)?;
+            Ok(Reply::Number(number))
+        }
         Class::NotNumber => bare(Reply::NotNumber, fields),
     }
 }
 
 /// A reply with nothing after its word.
 fn bare(reply: Reply, fields: &[&[u8]]) -> Result<Reply, WordsFault>
-    ensures exact { reading.by_kind result ≡ reading.at_end reply (map (λ w. w.now) fields.now) }
+    ensures exact { reading.Gives (λ x. x) result (reading.at_end reply (map (λ w. w.now) fields.now)) }
     ensures word { IfErr result (IsWithin (1 + length fields.now)) }
 {
     end_of(fields, 1, ExpectedWord::EndAfterReply)?;
     Ok(reply)
-}
-
-/// The new value of `incr` or `decr`.
-fn count(fields: &[&[u8]]) -> Result<Reply, WordsFault>
-    ensures exact { reading.by_kind result ≡ reading.count_in (map (λ w. w.now) fields.now) }
-    ensures word { IfErr result (IsWithin (1 + length fields.now)) }
-{
-    let number = read_last_number(fields, 1, ExpectedWord::NewValue)?;
-    Ok(Reply::Number(number))
 }
 
 /// A hit: flags, a body, and the cas number if one is shown.
@@ -280,7 +246,7 @@ fn hit(alloc: Global, fields: &[&[u8]]) -> Result<Reply, WordsFault>
 /// The cas number that the last word shows, if there is one. `first` is the index of the first of these words.
 fn read_shown_number(words: &[&[u8]], first: usize) -> Result<Option<u64>, WordsFault>
     requires { first ≤ 4 }
-    ensures exact { reading.by_kind result ≡ reading.shown_number_in (map (λ w. w.now) words.now) }
+    ensures exact { reading.Gives (λ x. x) result (reading.shown_number_in (map (λ w. w.now) words.now)) }
     ensures word { IfErr result (IsWithin (first + length words.now)) }
 {
     if words.is_empty() {

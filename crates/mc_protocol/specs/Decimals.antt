@@ -1,11 +1,9 @@
 -- Decimals, as every text writes its numbers.
 use Rattle.std.specs.Prelude.{◌≡◌, ℕ, ◌≤◌, ◌==◌, nat_le, Bool, true, not, ◌&&◌, Result, Ok, Err, length, if◌then◌else◌}
-use Rattle.std.specs.List.{list_all}
-use Rattle.std.specs.Str.Parse.{digits_value}
+use Rattle.std.specs.{List.list_all, Str.Parse.digits_value}
 use Rattle.mc_protocol.specs.Lines.{Word}
-use Rattle.mc_protocol.specs.declared.decimal.DecimalFault.{DecimalFault}
+use Rattle.mc_protocol.specs.declared.{decimal.DecimalFault.DecimalFault, limits.TheConstants.DIGITS_LIMIT}
 use Rattle.mc_protocol.specs.declared.decimal.DecimalFault.TheVariants.{NotDigits, TooLarge}
-use Rattle.mc_protocol.specs.declared.limits.TheConstants.{DIGITS_LIMIT}
 
 -- the greatest numbers of 32 and of 64 bits
 abbrev pub MAX_32 : ℕ

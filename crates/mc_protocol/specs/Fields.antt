@@ -1,8 +1,7 @@
 -- Which fields a request has.
-use Rattle.mc_protocol.specs.declared.request.Verb.{Verb}
+use Rattle.mc_protocol.specs.declared.{request.Verb.Verb, request.Fields.Fields}
 use Rattle.mc_protocol.specs.declared.request.Verb.TheVariants.{Set, Add, Replace, Append, Prepend, Cas}
 use Rattle.mc_protocol.specs.declared.request.Verb.TheVariants.{Get, Gets, Incr, Decr, Delete, Touch}
-use Rattle.mc_protocol.specs.declared.request.Fields.{Fields}
 use Rattle.mc_protocol.specs.declared.request.Fields.TheVariants.{KeyAlone, Expiry, Item, Swap, Amount}
 
 -- what a verb has after its key (protocol.txt)

@@ -1,14 +1,11 @@
 -- Which replies a request may have (protocol.txt).
 use Rattle.std.specs.Prelude.{Bool, true, false, not, ◌&&◌, is_some, length, nat_le}
-use Rattle.mc_protocol.specs.declared.request.Verb.{Verb}
+use Rattle.mc_protocol.specs.declared.{request.Verb.Verb, request.Request.Request, reply.Class.Class, reply.Reply.Reply}
+use Rattle.mc_protocol.specs.declared.limits.TheConstants.{REPLY_BODY_LIMIT}
 use Rattle.mc_protocol.specs.declared.request.Verb.TheVariants.{Set, Add, Replace, Append, Prepend, Cas}
 use Rattle.mc_protocol.specs.declared.request.Verb.TheVariants.{Get, Gets, Incr, Decr, Delete, Touch}
-use Rattle.mc_protocol.specs.declared.request.Request.{Request}
-use Rattle.mc_protocol.specs.declared.reply.Class.{Class}
 use Rattle.mc_protocol.specs.declared.reply.Class.TheVariants as class
-use Rattle.mc_protocol.specs.declared.reply.Reply.{Reply}
 use Rattle.mc_protocol.specs.declared.reply.Reply.TheVariants as reply
-use Rattle.mc_protocol.specs.declared.limits.TheConstants.{REPLY_BODY_LIMIT}
 
 -- a reply without what it carries
 abbrev pub class_of : Reply → Class

@@ -1,5 +1,5 @@
 //! What the kinds of faults have in common: those of texts, of images and of code.
-ghost use Rattle.std.specs.Prelude.{◌≡◌, ◌≢◌, IfOk};
+ghost use Rattle.std.specs.Prelude.{◌≡◌, ◌≢◌, IfErr, IfOk};
 
 use crate::OutOfMemory;
 use std::alloc::AllocError;
@@ -33,6 +33,7 @@ pub trait FaultKind: Copy {
 pub fn fault_of_input<K: FaultKind>(kind: K) -> Result<K, OutOfMemory>
     ensures same { IfOk result (λ found. found ≡ kind) }
     ensures fault { IfOk result (λ found. found ≢ K.OutOfMemory) }
+    ensures memory { IfErr result (λ _. kind ≡ K.OutOfMemory) }
 {
     if kind.is_out_of_memory() {
         return Err(AllocError);

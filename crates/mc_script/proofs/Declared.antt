@@ -1,21 +1,16 @@
 -- Names that were read may be declared.
-use Rattle.std.proofs.Common.{◌≡◌, ℕ, ◌≤◌, ◌==◌, nat_le, Bool, cond, ◌&&◌, true, false, not, Some, List, [], ◌∷◌, length, drop, codes, refl, ap, subst, arith}
+use Rattle.std.proofs.Common.{◌≡◌, ℕ, ◌≤◌, ◌==◌, nat_le, Bool, cond, true, false, not, Some, List, [], ◌∷◌, length, drop, codes, refl, ap, subst, arith}
 use Rattle.std.specs.List.{list_all}
-use Rattle.std.proofs.lemmas.Bool.{and_parts, and_from, leb-true, le-leb}
-use Rattle.std.proofs.lemmas.Bool.Decides.{nat_tests}
+use Rattle.std.proofs.lemmas.Bool.{and_parts, leb-true, le-leb}
 use Rattle.mc_protocol.specs.Names.{is_name, are_distinct}
-use Rattle.mc_protocol.specs.declared.limits.TheConstants.{KEYS_LIMIT, KEY_BYTES_LIMIT}
-use Rattle.mc_protocol.specs.Lines.{Word, Words, begins_with}
-use Rattle.mc_script.specs.declared.limits.TheConstants.{NAME_BYTES_LIMIT, FLAGS_LIMIT, STEPS_LIMIT}
-use Rattle.mc_script.specs.declared.version.Version.{Version}
-use Rattle.mc_script.specs.declared.version.Version.TheVariants as version
+use Rattle.mc_script.specs.Values.{KEYS_LIMIT, KEY_BYTES_LIMIT, Word, Words, NAME_BYTES_LIMIT, FLAGS_LIMIT, STEPS_LIMIT, Version}
+use Rattle.mc_script.specs.Values.version
+use Rattle.mc_protocol.specs.Lines.{begins_with}
 use Rattle.mc_script.specs.Versions.{flags_limit, steps_limit, has_room, least_version}
 use Rattle.mc_script.specs.Script.{may_be_declared}
-use Rattle.mc_script.specs.Reading.{names_in, keys_in, optional_in, then_line}
+use Rattle.mc_script.specs.Reading.{names_in, keys_in, line_in, optional_in}
+use Rattle.mc_script.proofs.Lists.{three, some-first}
 use Rattle.mc_script.proofs.Outcomes.{then-some, cond-some, some-same, only-then}
-
-some-word : (word : Word) (words : List Word) → not (length (word ∷ words) == 0) ≡ true
-some-word word words = grind (arith, nat_tests)
 
 pub names-declared : (limit bytes : ℕ) (words names : List Word) → names_in limit bytes words ≡ Some names
     → (not (length names == 0) ≡ true) × (may_be_declared limit bytes names ≡ true) × (words ≡ names)
@@ -26,23 +21,19 @@ names-declared limit bytes (word ∷ words) names h =
     let e = some-same (word ∷ words) names p.1 in
     let P : List Word → Type 0 = λ ns. not (length ns == 0) ≡ true in
     let Q : List Word → Type 0 = λ ns. may_be_declared limit bytes ns ≡ true in
-    (subst P e (some-word word words), subst Q e p.0, e)
+    (subst P e (some-first word words), subst Q e p.0, e)
 
 pub keys-declared : (lines : List Words) (keys : List Word) (rest : List Words) → keys_in lines ≡ Some (keys, rest)
     → (not (length keys == 0) ≡ true) × (may_be_declared KEYS_LIMIT KEY_BYTES_LIMIT keys ≡ true)
 keys-declared [] keys rest h = absurd (cc)
 keys-declared (line ∷ lines) keys rest h =
     let p = only-then (begins_with (codes "keys") line) _ (keys, rest) h in
-    let q = then-some (names_in KEYS_LIMIT KEY_BYTES_LIMIT (drop 1 line)) (λ names. Some (names, lines)) (keys, rest) p.1 in
+    let q = then-some (names_in KEYS_LIMIT KEY_BYTES_LIMIT (drop 1 line)) _ _ p.1 in
     let d = names-declared KEYS_LIMIT KEY_BYTES_LIMIT (drop 1 line) q.0 q.1 in
     let e : q.0 ≡ keys = ap (λ x. x.0) (some-same (q.0, lines) (keys, rest) q.2) in
     let P : List Word → Type 0 = λ ns. not (length ns == 0) ≡ true in
     let Q : List Word → Type 0 = λ ns. may_be_declared KEYS_LIMIT KEY_BYTES_LIMIT ns ≡ true in
     (subst P e d.0, subst Q e d.1)
-
-behind : {A : Type 0} (x y : A) (lines : List Words) (next : Words) (rest : List Words) → then_line x lines ≡ Some (y, next, rest) → x ≡ y
-behind x y [] next rest h = absurd (cc)
-behind x y (line ∷ lines) next rest h = ap (λ t. t.0) (some-same (x, line, lines) (y, next, rest) h)
 
 pub optional-declared : (word : Word) (limit : ℕ) (line : Words) (lines : List Words) (names : List Word) (next : Words) (rest : List Words)
     → may_be_declared limit NAME_BYTES_LIMIT [] ≡ true → optional_in word limit line lines ≡ Some (names, next, rest)
@@ -51,25 +42,23 @@ optional-declared word limit line lines names next rest none h =
     let Q : List Word → Type 0 = λ ns. may_be_declared limit NAME_BYTES_LIMIT ns ≡ true in
     cond-some (begins_with word line) _ _ (names, next, rest) (may_be_declared limit NAME_BYTES_LIMIT names ≡ true) h
     (λ g.
-    let q = then-some (names_in limit NAME_BYTES_LIMIT (drop 1 line)) (λ ns. then_line ns lines) (names, next, rest) g in
-    subst Q (behind q.0 names lines next rest q.2) (names-declared limit NAME_BYTES_LIMIT (drop 1 line) q.0 q.1).1)
+    let q = then-some (names_in limit NAME_BYTES_LIMIT (drop 1 line)) _ _ g in
+    let l = then-some (line_in lines) _ _ q.2 in
+    subst Q (ap (λ t. t.0) (some-same (q.0, l.0.0, l.0.1) (names, next, rest) l.2)) (names-declared limit NAME_BYTES_LIMIT (drop 1 line) q.0 q.1).1)
     (λ g. subst Q (ap (λ t. t.0) (some-same ([], line, lines) (names, next, rest) g)) none)
 
 -- ---- limits
 
 pub declared-few : (limit bytes : ℕ) (names : List Word) → may_be_declared limit bytes names ≡ true → length names ≤ limit
 declared-few limit bytes names h =
-    leb-true (length names) limit (and_parts (nat_le (length names) limit) (list_all (is_name bytes) names)
-    (and_parts (nat_le (length names) limit && list_all (is_name bytes) names) (are_distinct names) h).0).0
+    leb-true (length names) limit (three (nat_le (length names) limit) (list_all (is_name bytes) names) (are_distinct names) h).0
 
 -- declared within one limit, and so within another one that their number keeps
 pub declared-within : (limit other bytes : ℕ) (names : List Word) → length names ≤ limit → may_be_declared other bytes names ≡ true
     → may_be_declared limit bytes names ≡ true
 declared-within limit other bytes names few h =
-    let p = and_parts (nat_le (length names) other && list_all (is_name bytes) names) (are_distinct names) h in
-    let q = and_parts (nat_le (length names) other) (list_all (is_name bytes) names) p.0 in
-    and_from (nat_le (length names) limit && list_all (is_name bytes) names) (are_distinct names)
-    (and_from (nat_le (length names) limit) (list_all (is_name bytes) names) (le-leb (length names) limit few) q.1) p.1
+    let (within, named, distinct) = three (nat_le (length names) other) (list_all (is_name bytes) names) (are_distinct names) h in
+    rw (le-leb (length names) limit few, named, distinct) refl
 
 -- a version's limits are within those of all
 pub flags-within : (v : Version) → flags_limit v ≤ FLAGS_LIMIT

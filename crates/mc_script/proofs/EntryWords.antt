@@ -4,52 +4,34 @@ use Rattle.std.proofs.Common.{take, drop, get_or, codes, refl, sym, ap, subst, �
 use Rattle.std.specs.List.{list_any}
 use Rattle.std.specs.Str.{bytes_eq}
 use Rattle.std.proofs.lemmas.Bool.{eqb-true}
+use Rattle.std.proofs.Math.Seq.{take-append_seam}
 use Rattle.std.proofs.lemmas.List.{take-append-drop, drop_all}
-use Rattle.std.proofs.lemmas.Slice.Eq.{bytes_eq-Decides}
 use Rattle.std.proofs.lemmas.Bool.Decides.{nat_tests}
 use Rattle.mc_protocol.specs.Fields.{fields_of}
 use Rattle.mc_protocol.specs.Words.{verb_word, verb_of}
-use Rattle.mc_protocol.specs.declared.request.Verb.{Verb}
-use Rattle.mc_protocol.specs.declared.request.Verb.TheVariants.{Set, Add, Replace, Append, Prepend, Cas, Get, Gets, Incr, Decr, Delete, Touch}
-use Rattle.mc_protocol.specs.Lines.{Word, Words}
+use Rattle.mc_script.specs.Values.{Verb, Word, Words, Entry, Mark, Parts, Keyword, Template}
+use Rattle.mc_script.specs.Values.entry
+use Rattle.mc_script.specs.Values.keyword
+use Rattle.mc_protocol.specs.declared.request.Verb.TheVariants.{Set}
 use Rattle.mc_protocol.specs.Names.{index_of}
 use Rattle.mc_protocol.proofs.OfWords.{word-of_verb}
-use Rattle.mc_script.specs.declared.entry.Entry.{Entry}
-use Rattle.mc_script.specs.declared.entry.Entry.TheVariants as entry
-use Rattle.mc_script.specs.declared.entry.Mark.{Mark}
-use Rattle.mc_script.specs.declared.fields.Parts.{Parts}
-use Rattle.mc_script.specs.declared.read_entry.Keyword.{Keyword}
-use Rattle.mc_script.specs.declared.read_entry.Keyword.TheVariants as keyword
-use Rattle.mc_script.specs.declared.step.Template.{Template}
 use Rattle.mc_script.specs.Script.{Names}
 use Rattle.mc_script.specs.ScriptWords.{is_label_name, label_word}
 use Rattle.mc_script.specs.SectionText.{SpellsEntry, SpellsRequest}
 use Rattle.mc_script.specs.Chains.{◌>>=◌}
-use Rattle.mc_script.specs.Reading.{entry_in, label_of, line_entry, keyword_of, request_word, step_words, before_colon, bind_in}
-use Rattle.mc_script.specs.Reading.{goto_in, request_in, fields_in, field_count, marks_in, binds, template_of}
+use Rattle.mc_script.specs.Reading.{entry_in, label_of, line_entry, keyword_of, step_words, before_colon}
+use Rattle.mc_script.specs.Reading.{request_in, fields_in, field_count, marks_in, binds, template_of}
+use Rattle.mc_script.proofs.Lists.{bytes-same}
 use Rattle.mc_script.proofs.Outcomes.{then-some, cond-cases, some-same, only-then, only-else}
 use Rattle.mc_script.proofs.FieldWords.{fields-spelled, fields-read}
-use Rattle.mc_script.proofs.MarkLists.{marks-spelled, marks-read}
-
-bytes-same : (xs ys : Word) → bytes_eq xs ys ≡ true → xs ≡ ys
-bytes-same xs ys = (bytes_eq-Decides xs ys).0
+use Rattle.mc_script.proofs.MarkWords.{marks-spelled, marks-read}
 
 -- ---- verbs
 
 verb-keyword : (v : Verb) → keyword_of (verb_word v) ≡ Some (keyword.Request v)
 unfolding verb_of
 verb-keyword Set = refl
-verb-keyword Add = refl
-verb-keyword Replace = refl
-verb-keyword Append = refl
-verb-keyword Prepend = refl
-verb-keyword Cas = refl
-verb-keyword Get = refl
-verb-keyword Gets = refl
-verb-keyword Incr = refl
-verb-keyword Decr = refl
-verb-keyword Delete = refl
-verb-keyword Touch = refl
+verb-keyword v = refl
 
 abbrev keyword_word : Keyword → Word
 keyword_word keyword.Bind = codes "bind"
@@ -57,9 +39,9 @@ keyword_word keyword.Goto = codes "goto"
 keyword_word keyword.Halt = codes "halt"
 keyword_word (keyword.Request v) = verb_word v
 
-request-same : (word : Word) (k : Keyword) → request_word word ≡ Some k → word ≡ keyword_word k
+request-same : (word : Word) (k : Keyword) → (verb_of word >>= λ v. Some (keyword.Request v)) ≡ Some k → word ≡ keyword_word k
 request-same word k h =
-    let p = then-some (verb_of word) (λ v. Some (keyword.Request v)) k h in
+    let p = then-some (verb_of word) _ _ h in
     sym (word-of_verb word p.0 p.1) ∙ ap keyword_word (some-same (keyword.Request p.0) k p.2)
 
 keyword-same : (word : Word) (k : Keyword) → keyword_of word ≡ Some k → word ≡ keyword_word k
@@ -92,10 +74,6 @@ colon-spelled word name h =
     ∙ ap (λ byte. take (length word - 1) word ++ byte ∷ []) (eqb-true (get_or word (length word - 1) 0) 58 q.0)
     ∙ ap (λ front. front ++ 58 ∷ []) (some-same (take (length word - 1) word) name q.1)
 
-take-front : (front rest : Word) → take (length front) (front ++ rest) ≡ front
-take-front [] rest = refl
-take-front (byte ∷ front) rest = ap (λ bytes. byte ∷ bytes) (take-front front rest)
-
 get-front : (front rest : Word) (byte : ℕ) → get_or (front ++ byte ∷ rest) (length front) 0 ≡ byte
 get-front [] rest byte = refl
 get-front (b ∷ front) rest byte = get-front front rest byte
@@ -103,27 +81,14 @@ get-front (b ∷ front) rest byte = get-front front rest byte
 labelled : (word : Word) (n : ℕ) → length word ≡ n + 1 → (length word == 0) ≡ false
 labelled word n e = rw e (grind (arith, nat_tests))
 
-colon-read : (name : Word) → before_colon (label_word name) ≡ Some name
+pub colon-read : (name : Word) → before_colon (label_word name) ≡ Some name
 colon-read name =
     let word = label_word name in
     let whole : length word ≡ length name + 1 = omega (arith, length-append name (58 ∷ [])) in
     let last : length word - 1 ≡ length name = omega (arith, whole) in
-    rw (labelled word (length name) whole, last, get-front name [] 58, take-front name (58 ∷ [])) refl
+    rw (labelled word (length name) whole, last, get-front name [] 58, take-append_seam name (58 ∷ [])) refl
 
 -- ---- steps
-
-bind-spelled : (names : Names) (word name : Word) (others : Words) (e : Entry) → word ≡ codes "bind" → bind_in names name others ≡ Some e
-    → SpellsEntry names (word ∷ name ∷ others) e
-bind-spelled names word name [] e w h =
-    let p = then-some (index_of names.vars name) (λ v. Some (entry.Bind v)) e h in
-    subst (SpellsEntry names (word ∷ name ∷ [])) (some-same (entry.Bind p.0) e p.2) (name, ap (λ x. x ∷ name ∷ []) w, p.1)
-bind-spelled names word name (_ ∷ _) e w h = absurd (cc)
-
-goto-spelled : (names : Names) (word label : Word) (others : Words) (e : Entry) → word ≡ codes "goto" → goto_in label others ≡ Some e
-    → SpellsEntry names (word ∷ label ∷ others) e
-goto-spelled names word label [] e w h =
-    subst (SpellsEntry names (word ∷ label ∷ [])) (some-same (entry.Goto label) e h) (ap (λ x. x ∷ label ∷ []) w)
-goto-spelled names word label (_ ∷ _) e w h = absurd (cc)
 
 request-spelled : (names : Names) (v : Verb) (word key : Word) (words : Words) (e : Entry) → verb_word v ≡ word → request_in names v key words ≡ Some e
     → SpellsEntry names (word ∷ key ∷ words) e
@@ -131,9 +96,9 @@ request-spelled names v word key words e w h =
     let rest = drop (field_count (fields_of v)) words in
     let made : ℕ → Parts → List Mark → Entry = λ k parts marks. entry.Send (template_of v k parts) marks in
     let read = marks_in names v (list_any binds rest) [] rest in
-    let p = then-some (index_of names.keys key) (λ k. fields_in names (fields_of v) words >>= λ parts. read >>= λ marks. Some (made k parts marks)) e h in
-    let q = then-some (fields_in names (fields_of v) words) (λ parts. read >>= λ marks. Some (made p.0 parts marks)) e p.2 in
-    let r = then-some read (λ marks. Some (made p.0 q.0 marks)) e q.2 in
+    let p = then-some (index_of names.keys key) _ _ h in
+    let q = then-some (fields_in names (fields_of v) words) _ _ p.2 in
+    let r = then-some read _ _ q.2 in
     let f = fields-spelled names (fields_of v) words v p.0 q.0 q.1 in
     let m = marks-spelled names v rest r.0 r.1 in
     subst (SpellsEntry names (word ∷ key ∷ words)) (some-same (made p.0 q.0 r.0) e r.2)
@@ -151,15 +116,15 @@ request-spelled names v word key words e w h =
 
 step-spelled : (names : Names) (k : Keyword) (word : Word) (others : Words) (e : Entry) → word ≡ keyword_word k → step_words names k others ≡ Some e
     → SpellsEntry names (word ∷ others) e
-step-spelled names keyword.Bind word [] e w h = absurd (cc)
-step-spelled names keyword.Bind word (name ∷ others) e w h = bind-spelled names word name others e w h
-step-spelled names keyword.Goto word [] e w h = absurd (cc)
-step-spelled names keyword.Goto word (label ∷ others) e w h = goto-spelled names word label others e w h
+step-spelled names keyword.Bind word (name ∷ []) e w h =
+    let p = then-some (index_of names.vars name) _ _ h in
+    subst (SpellsEntry names (word ∷ name ∷ [])) (some-same (entry.Bind p.0) e p.2) (name, ap (λ x. x ∷ name ∷ []) w, p.1)
+step-spelled names keyword.Goto word (label ∷ []) e w h =
+    subst (SpellsEntry names (word ∷ label ∷ [])) (some-same (entry.Goto label) e h) (ap (λ x. x ∷ label ∷ []) w)
 step-spelled names keyword.Halt word [] e w h =
     subst (SpellsEntry names (word ∷ [])) (some-same entry.Halt e h) (ap (λ x. x ∷ []) w)
-step-spelled names keyword.Halt word (_ ∷ _) e w h = absurd (cc)
-step-spelled names (keyword.Request v) word [] e w h = absurd (cc)
 step-spelled names (keyword.Request v) word (key ∷ words) e w h = request-spelled names v word key words e (sym w) h
+step-spelled names k word others e w h = absurd (cc)
 
 line-spelled : (names : Names) (o : Option Word) (word : Word) (others : Words) (e : Entry) → label_of (word ∷ others) ≡ o
     → line_entry names o word others ≡ Some e → SpellsEntry names (word ∷ others) e
@@ -168,7 +133,7 @@ line-spelled names (Some name) word [] e at h =
     subst (SpellsEntry names (word ∷ [])) (some-same (entry.Label name) e p.1) (ap (λ w. w ∷ []) (colon-spelled word name at), p.0)
 line-spelled names (Some name) word (_ ∷ _) e at h = absurd (cc)
 line-spelled names None word others e at h =
-    let p = then-some (keyword_of word) (λ k. step_words names k others) e h in
+    let p = then-some (keyword_of word) _ _ h in
     step-spelled names p.0 word others e (keyword-same word p.0 p.1) p.2
 
 pub entry-spelled : (names : Names) (line : Words) (e : Entry) → entry_in names line ≡ Some e → SpellsEntry names line e

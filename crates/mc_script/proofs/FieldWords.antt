@@ -3,23 +3,17 @@ use Rattle.std.proofs.Common.{◌≡◌, ℕ, ◌==◌, true, false, Some, Resul
 use Rattle.std.proofs.lemmas.Bool.{eqb-true, and_parts}
 use Rattle.std.proofs.lemmas.Bool.Decides.{nat_tests}
 use Rattle.std.specs.Result.{result_ok}
-use Rattle.mc_protocol.specs.declared.request.Fields.{Fields}
-use Rattle.mc_protocol.specs.declared.request.Fields.TheVariants as fields
-use Rattle.mc_protocol.specs.declared.request.Verb.{Verb}
-use Rattle.mc_protocol.specs.Lines.{Word, Words}
+use Rattle.mc_script.specs.Values.{Fields, Verb, Word, Words, Parts, Argument, Template}
+use Rattle.mc_script.specs.Values.fields
+use Rattle.mc_script.specs.Values.argument
 use Rattle.mc_protocol.specs.Decimals.{SpellsNumber, decimal_in, are_digits, is_digit, MAX_32, MAX_64}
 use Rattle.mc_protocol.specs.Names.{index_of}
 use Rattle.mc_protocol.specs.declared.decimal.DecimalFault.{DecimalFault}
 use Rattle.mc_protocol.proofs.Decimals.{decimal-spelled, decimal-read}
-use Rattle.mc_script.specs.declared.fields.Parts.{Parts}
-use Rattle.mc_script.specs.declared.step.Argument.{Argument}
-use Rattle.mc_script.specs.declared.step.Argument.TheVariants as argument
-use Rattle.mc_script.specs.declared.step.Template.{Template}
 use Rattle.mc_script.specs.Script.{Names}
 use Rattle.mc_script.specs.ScriptWords.{is_body, body_word}
 use Rattle.mc_script.specs.SectionText.{SpellsAmount, SpellsUnique, SpellsFields}
-use Rattle.mc_script.specs.Chains.{◌>>=◌}
-use Rattle.mc_script.specs.Reading.{number_in, body_in, variable_named, unique_in, plain_amount_in, amount_in, fields_in, field_count, template_of}
+use Rattle.mc_script.specs.Reading.{number_in, body_in, variable_named, unique_in, amount_in, nothing, fields_in, field_count, template_of}
 use Rattle.mc_script.proofs.Outcomes.{then-some, some-same, only-then, cond-cases}
 
 -- ---- numbers
@@ -55,25 +49,24 @@ pub unique-spelled : (names : Names) (word : Word) (a : Argument) → unique_in 
 unique-spelled names [] a h = absurd (cc)
 unique-spelled names (first ∷ name) a h =
     let p = only-then (first == 36) (variable_named names name) a h in
-    let q = then-some (index_of names.vars name) (λ v. Some (argument.Variable v)) a p.1 in
+    let q = then-some (index_of names.vars name) _ _ p.1 in
     let P : Argument → Type 0 = SpellsUnique names (first ∷ name) in
     subst P (some-same (argument.Variable q.0) a q.2) (name, ap (λ byte. byte ∷ name) (eqb-true first 36 p.0), q.1)
 
 pub unique-read : (names : Names) (word : Word) (a : Argument) → SpellsUnique names word a → unique_in names word ≡ Some a
-unique-read names word argument.Nothing s = absurd s
-unique-read names word (argument.Number n) s = absurd s
 unique-read names word (argument.Variable v) (name, e, i) = rw (e, i) refl
+unique-read names word a s = absurd s
 
 pub amount-spelled : (names : Names) (word : Word) (a : Argument) → amount_in names word ≡ Some a → SpellsAmount names word a
 amount-spelled names [] a h = absurd (cc)
 amount-spelled names (first ∷ name) a h =
     let P : Argument → Type 0 = SpellsAmount names (first ∷ name) in
-    cond-cases (first == 36) (variable_named names name) (plain_amount_in (first ∷ name)) a (SpellsAmount names (first ∷ name) a) h
+    cond-cases (first == 36) (variable_named names name) _ a (SpellsAmount names (first ∷ name) a) h
     (λ dollar g.
-    let q = then-some (index_of names.vars name) (λ v. Some (argument.Variable v)) a g in
+    let q = then-some (index_of names.vars name) _ _ g in
     subst P (some-same (argument.Variable q.0) a q.2) (name, ap (λ byte. byte ∷ name) (eqb-true first 36 dollar), q.1))
     (λ other g.
-    let q = then-some (number_in MAX_64 (first ∷ name)) (λ n. Some (argument.Number n)) a g in
+    let q = then-some (number_in MAX_64 (first ∷ name)) _ _ g in
     subst P (some-same (argument.Number q.0) a q.2) (number-spelled MAX_64 (first ∷ name) q.0 q.1))
 
 no-dollar : (byte : ℕ) → is_digit byte ≡ true → (byte == 36) ≡ false
@@ -101,18 +94,10 @@ pub record SpelledParts (names : Names) (shape : Fields) (words : Words) (v : Ve
 pub fields-spelled : (names : Names) (shape : Fields) (words : Words) (v : Verb) (key : ℕ) (parts : Parts) → fields_in names shape words ≡ Some parts
     → SpelledParts names shape words v key parts
 unfolding fields_in
-fields-spelled names fields.KeyAlone words v key parts h =
-    let e = some-same _ parts h in
-    record { front = []; words_are = refl; spelled = subst (λ p. SpellsFields names fields.KeyAlone [] (template_of v key p)) e (refl, refl, refl, refl) }
-fields-spelled names fields.Expiry words v key parts h =
-    let e = some-same _ parts h in
-    record { front = []; words_are = refl; spelled = subst (λ p. SpellsFields names fields.Expiry [] (template_of v key p)) e (refl, refl, refl, refl) }
-fields-spelled names fields.Item [] v key parts h = absurd (cc)
-fields-spelled names fields.Item (flags ∷ []) v key parts h = absurd (cc)
 fields-spelled names fields.Item (flags ∷ body ∷ others) v key parts h =
     let made : ℕ → List ℕ → Parts = λ f b. record { flags = f; argument = argument.Nothing; body = b } in
-    let p = then-some (number_in MAX_32 flags) (λ f. body_in body >>= λ b. Some (made f b)) parts h in
-    let q = then-some (body_in body) (λ b. Some (made p.0 b)) parts p.2 in
+    let p = then-some (number_in MAX_32 flags) _ _ h in
+    let q = then-some (body_in body) _ _ p.2 in
     let b = body-spelled body q.0 q.1 in
     record {
       front = flags ∷ body ∷ [];
@@ -120,14 +105,11 @@ fields-spelled names fields.Item (flags ∷ body ∷ others) v key parts h =
       spelled = subst (λ x. SpellsFields names fields.Item (flags ∷ body ∷ []) (template_of v key x)) (some-same (made p.0 q.0) parts q.2)
           (flags, ap (λ w. flags ∷ w ∷ []) b.0, number-spelled MAX_32 flags p.0 p.1, refl, b.1);
     }
-fields-spelled names fields.Swap [] v key parts h = absurd (cc)
-fields-spelled names fields.Swap (flags ∷ []) v key parts h = absurd (cc)
-fields-spelled names fields.Swap (flags ∷ body ∷ []) v key parts h = absurd (cc)
 fields-spelled names fields.Swap (flags ∷ body ∷ unique ∷ others) v key parts h =
     let made : ℕ → List ℕ → Argument → Parts = λ f b u. record { flags = f; argument = u; body = b } in
-    let p = then-some (number_in MAX_32 flags) (λ f. body_in body >>= λ b. unique_in names unique >>= λ u. Some (made f b u)) parts h in
-    let q = then-some (body_in body) (λ b. unique_in names unique >>= λ u. Some (made p.0 b u)) parts p.2 in
-    let r = then-some (unique_in names unique) (λ u. Some (made p.0 q.0 u)) parts q.2 in
+    let p = then-some (number_in MAX_32 flags) _ _ h in
+    let q = then-some (body_in body) _ _ p.2 in
+    let r = then-some (unique_in names unique) _ _ q.2 in
     let b = body-spelled body q.0 q.1 in
     record {
       front = flags ∷ body ∷ unique ∷ [];
@@ -135,16 +117,21 @@ fields-spelled names fields.Swap (flags ∷ body ∷ unique ∷ others) v key pa
       spelled = subst (λ x. SpellsFields names fields.Swap (flags ∷ body ∷ unique ∷ []) (template_of v key x)) (some-same (made p.0 q.0 r.0) parts r.2)
           (flags, unique, ap (λ w. flags ∷ w ∷ unique ∷ []) b.0, number-spelled MAX_32 flags p.0 p.1, unique-spelled names unique r.0 r.1, b.1);
     }
-fields-spelled names fields.Amount [] v key parts h = absurd (cc)
 fields-spelled names fields.Amount (amount ∷ others) v key parts h =
     let made : Argument → Parts = λ a. record { flags = 0; argument = a; body = [] } in
-    let p = then-some (amount_in names amount) (λ a. Some (made a)) parts h in
+    let p = then-some (amount_in names amount) _ _ h in
     record {
       front = amount ∷ [];
       words_are = refl;
       spelled = subst (λ x. SpellsFields names fields.Amount (amount ∷ []) (template_of v key x)) (some-same (made p.0) parts p.2)
           (amount, refl, refl, amount-spelled names amount p.0 p.1, refl);
     }
+fields-spelled names fields.Item words v key parts h = absurd (cc)
+fields-spelled names fields.Swap words v key parts h = absurd (cc)
+fields-spelled names fields.Amount words v key parts h = absurd (cc)
+fields-spelled names shape words v key parts h =
+    let e = some-same nothing parts h in
+    record { front = []; words_are = refl; spelled = subst (λ p. SpellsFields names shape [] (template_of v key p)) e (refl, refl, refl, refl) }
 
 -- what a template has of them
 abbrev pub parts_of : Template → Parts
@@ -157,13 +144,13 @@ same-parts f g a b x y d e h = rw (d, e, h) refl
 pub fields-read : (names : Names) (shape : Fields) (front others : Words) (t : Template) → SpellsFields names shape front t
     → (fields_in names shape (front ++ others) ≡ Some (parts_of t)) × (drop (field_count shape) (front ++ others) ≡ others)
 unfolding fields_in
-fields-read names fields.KeyAlone front others t (e, f, a, b) =
-    rw e (ap Some (same-parts 0 t.flags argument.Nothing t.argument [] t.body (sym f) (sym a) (sym b)), refl)
-fields-read names fields.Expiry front others t (e, f, a, b) =
-    rw e (ap Some (same-parts 0 t.flags argument.Nothing t.argument [] t.body (sym f) (sym a) (sym b)), refl)
 fields-read names fields.Item front others t (flags, e, f, a, b) =
     rw (e, number-read MAX_32 flags t.flags f, b) (ap Some (same-parts t.flags t.flags argument.Nothing t.argument t.body t.body refl (sym a) refl), refl)
 fields-read names fields.Swap front others t (flags, unique, e, f, u, b) =
     rw (e, number-read MAX_32 flags t.flags f, b, unique-read names unique t.argument u) (refl, refl)
 fields-read names fields.Amount front others t (amount, e, f, a, b) =
     rw (e, amount-read names amount t.argument a) (ap Some (same-parts 0 t.flags t.argument t.argument [] t.body (sym f) refl (sym b)), refl)
+fields-read names fields.KeyAlone front others t (e, f, a, b) =
+    rw e (ap Some (same-parts 0 t.flags argument.Nothing t.argument [] t.body (sym f) (sym a) (sym b)), refl)
+fields-read names fields.Expiry front others t (e, f, a, b) =
+    rw e (ap Some (same-parts 0 t.flags argument.Nothing t.argument [] t.body (sym f) (sym a) (sym b)), refl)

@@ -6,43 +6,32 @@ use Rattle.std.proofs.lemmas.Bool.{and_parts, le-leb, lt-ltb}
 use Rattle.std.proofs.lemmas.List.Quantifiers.{position-Some}
 use Rattle.std.proofs.lemmas.Nat.{pow_pos}
 use Rattle.mc_protocol.specs.Fields.{fields_of}
-use Rattle.mc_protocol.specs.declared.actor.Actor.{Actor}
-use Rattle.mc_protocol.specs.declared.actor.Actor.TheVariants as actor
-use Rattle.mc_protocol.specs.declared.request.Fields.{Fields}
-use Rattle.mc_protocol.specs.declared.request.Fields.TheVariants as fields
-use Rattle.mc_protocol.specs.declared.request.Verb.{Verb}
-use Rattle.mc_protocol.specs.declared.reply.Class.{Class}
-use Rattle.mc_protocol.specs.Lines.{Word, Words}
+use Rattle.mc_script.specs.Values.{Actor, Fields, Verb, Class, Word, Words, Entry, Mark, Label, Argument, Step, Template, Version}
+use Rattle.mc_script.specs.Values.actor
+use Rattle.mc_script.specs.Values.fields
+use Rattle.mc_script.specs.Values.entry
+use Rattle.mc_script.specs.Values.mark
+use Rattle.mc_script.specs.Values.sign
+use Rattle.mc_script.specs.Values.argument
+use Rattle.mc_script.specs.Values.step
 use Rattle.mc_protocol.specs.Names.{index_of}
 use Rattle.mc_protocol.specs.Decimals.{MAX_32, MAX_64}
 use Rattle.mc_protocol.specs.Words.{all_classes}
 use Rattle.mc_protocol.specs.Spelling.{SpellEach}
-use Rattle.mc_script.specs.declared.entry.Entry.{Entry}
-use Rattle.mc_script.specs.declared.entry.Entry.TheVariants as entry
-use Rattle.mc_script.specs.declared.entry.Mark.{Mark}
-use Rattle.mc_script.specs.declared.entry.Mark.TheVariants as mark
-use Rattle.mc_script.specs.declared.entry.Sign.TheVariants as sign
-use Rattle.mc_script.specs.declared.section.Label.{Label}
-use Rattle.mc_script.specs.declared.step.Argument.{Argument}
-use Rattle.mc_script.specs.declared.step.Argument.TheVariants as argument
-use Rattle.mc_script.specs.declared.step.Step.{Step}
-use Rattle.mc_script.specs.declared.step.Step.TheVariants as step
-use Rattle.mc_script.specs.declared.step.Template.{Template}
 use Rattle.mc_script.specs.Script.{Names, Section, Script}
 use Rattle.mc_script.specs.Marks.{SpellsMark, may_stand, may_stand_together, have_no_twins, shows_numbers, is_bind, is_number_jump, bound_by}
 use Rattle.mc_script.specs.SectionText.{SpellsAmount, SpellsUnique, SpellsFields, SpellsRequest, SpellsEntry, SpellsSection}
-use Rattle.mc_script.specs.Steps.{in_front, sends, goes, with_marks, jumps_on, label_after, labels_from, steps_from}
-use Rattle.mc_script.specs.declared.version.Version.{Version}
+use Rattle.mc_script.specs.Steps.{with_marks, jumps_on, label_after, labels_from, step_in, steps_from}
 use Rattle.mc_script.specs.ScriptText.{SpellsBudget, SpellsScript}
 use Rattle.mc_script.specs.Templates.{IsTemplate, has_fields, is_variable, is_amount}
-use Rattle.mc_script.specs.TextReading.{step_total}
+use Rattle.mc_script.specs.Reading.{step_total}
 use Rattle.mc_script.specs.WellFormed.{IsStep, AreSteps, AreLabels, IsSection, IsScript, MayBind}
 use Rattle.mc_script.proofs.Declared.{steps-within}
-use Rattle.mc_script.proofs.Outcomes.{some-same}
+use Rattle.mc_script.proofs.Outcomes.{then-some, some-same, front-parts}
 use Rattle.mc_script.proofs.Masks.{mask-below, masks-apart}
 use Rattle.mc_script.proofs.JumpLists.{label-after, jumps-formed, no-number-jump}
-use Rattle.mc_script.proofs.MarkLists.{three}
-use Rattle.mc_script.proofs.Sections.{steps_count}
+use Rattle.mc_script.proofs.Lists.{three}
+use Rattle.mc_script.proofs.SectionLines.{steps_count}
 
 index-below : (names : List Word) (name : Word) (index : ℕ) → index_of names name ≡ Some index → index < length names
 index-below names name index h = (position-Some (λ n. bytes_eq n name) names index [] h).0
@@ -50,9 +39,8 @@ index-below names name index h = (position-Some (λ n. bytes_eq n name) names in
 -- ---- templates
 
 unique-formed : (names : Names) (word : Word) (a : Argument) → SpellsUnique names word a → is_variable (length names.vars) a ≡ true
-unique-formed names word argument.Nothing s = absurd s
-unique-formed names word (argument.Number n) s = absurd s
 unique-formed names word (argument.Variable v) (name, e, i) = lt-ltb v (length names.vars) (index-below names.vars name v i)
+unique-formed names word a s = absurd s
 
 amount-formed : (names : Names) (word : Word) (a : Argument) → SpellsAmount names word a → is_amount (length names.vars) a ≡ true
 amount-formed names word argument.Nothing s = absurd s
@@ -61,12 +49,12 @@ amount-formed names word (argument.Variable v) (name, e, i) = lt-ltb v (length n
 
 fields-formed : (names : Names) (shape : Fields) (words : Words) (t : Template) → SpellsFields names shape words t
     → has_fields (length names.vars) shape t.flags t.argument t.body ≡ true
-fields-formed names fields.KeyAlone words t (e, f, a, b) = rw (f, a, b) refl
-fields-formed names fields.Expiry words t (e, f, a, b) = rw (f, a, b) refl
 fields-formed names fields.Item words t (flags, e, n, a, b) = rw (le-leb t.flags MAX_32 n.small, a, b) refl
 fields-formed names fields.Swap words t (flags, unique, e, n, u, b) =
     rw (le-leb t.flags MAX_32 n.small, unique-formed names unique t.argument u, b) refl
 fields-formed names fields.Amount words t (amount, e, f, a, b) = rw (f, b, amount-formed names amount t.argument a) refl
+fields-formed names fields.KeyAlone words t (e, f, a, b) = rw (f, a, b) refl
+fields-formed names fields.Expiry words t (e, f, a, b) = rw (f, a, b) refl
 
 template-formed : (names : Names) (line : Words) (t : Template) (marks : List Mark) → SpellsRequest names line t marks
     → IsTemplate (length names.keys) (length names.flags) (length names.vars) (with_marks t marks)
@@ -90,8 +78,6 @@ bound-parts : (names : Names) (v : Verb) (words : Words) (marks : List Mark) (va
     → list_all (may_stand v) marks ≡ true → bound_by marks ≡ Some variable
     → (variable < length names.vars) × (shows_numbers v ≡ true) × (list_any is_bind marks ≡ true)
 bound-parts names v [] [] variable e stand h = absurd (cc)
-bound-parts names v [] (m ∷ marks) variable e stand h = absurd e
-bound-parts names v (w ∷ ws) [] variable e stand h = absurd e
 bound-parts names v (w ∷ ws) (mark.Flag s f ∷ marks) variable e stand h = bound-parts names v ws marks variable e.1 stand h
 bound-parts names v (w ∷ ws) (mark.Jump c l ∷ marks) variable e stand h =
     bound-parts names v ws marks variable e.1 (and_parts (may_stand v (mark.Jump c l)) (list_all (may_stand v) marks) stand).1 h
@@ -100,11 +86,10 @@ bound-parts names v (w ∷ ws) (mark.Bind x ∷ marks) variable e stand h =
     let same = some-same x variable h in
     let P : ℕ → Type 0 = λ n. n < length names.vars in
     (subst P same (index-below names.vars name x i), (and_parts (shows_numbers v) (list_all (may_stand v) marks) stand).0, refl)
+bound-parts names v ws marks variable e stand h = absurd e
 
 free-parts : (a b : Bool) → not (a && b) ≡ true → a ≡ true → b ≡ false
-free-parts true true h e = absurd (cc)
-free-parts true false h e = refl
-free-parts false b h e = absurd (cc)
+free-parts a b h e = grind arith
 
 bind-formed : (names : Names) (v : Verb) (words : Words) (marks : List Mark) (labels : List Label) (place : ℕ) (jumps : List (Class × ℕ)) (o : Option ℕ)
     → bound_by marks ≡ o → SpellEach (SpellsMark names) words marks → may_stand_together v marks ≡ true
@@ -115,66 +100,42 @@ bind-formed names v words marks labels place jumps (Some variable) b e together 
     let p = bound-parts names v words marks variable e t.0 b in
     (p.0, p.1, no-number-jump labels place marks all_classes jumps (free-parts (list_any is_bind marks) (list_any is_number_jump marks) t.2 p.2) h)
 
-request-formed : (names : Names) (line : Words) (t : Template) (marks : List Mark) (labels : List Label) (place : ℕ) (o : Option (List (Class × ℕ))) (s : Step)
-    → SpellsRequest names line t marks → jumps_on labels place marks all_classes ≡ o → sends t marks o ≡ Some s → IsStep names labels place s
-request-formed names line t marks labels place None s r j h = absurd (cc)
-request-formed names line t marks labels place (Some jumps) s r j h =
-    let P : Step → Type 0 = IsStep names labels place in
-    let together = three (list_all (may_stand t.verb) marks) (have_no_twins marks) _ r.together in
-    subst P (some-same (step.Send (with_marks t marks) jumps (bound_by marks)) s h) (
+request-formed : (names : Names) (line : Words) (t : Template) (marks : List Mark) (labels : List Label) (place : ℕ) (jumps : List (Class × ℕ))
+    → SpellsRequest names line t marks → jumps_on labels place marks all_classes ≡ Some jumps
+    → IsStep names labels place (step.Send (with_marks t marks) jumps (bound_by marks))
+request-formed names line t marks labels place jumps r j =
+    let together = three (list_all (may_stand t.verb) marks) (have_no_twins marks) _ r.together in (
       template-formed names line t marks r,
       jumps-formed t.verb labels place marks jumps together.0 j,
       bind-formed names t.verb r.others marks labels place jumps (bound_by marks) refl r.marked r.together j,
     )
 
-goto-formed : (names : Names) (labels : List Label) (place : ℕ) (name : Word) (o : Option ℕ) (s : Step)
-    → label_after labels place name ≡ o → goes o ≡ Some s → IsStep names labels place s
-goto-formed names labels place name None s l h = absurd (cc)
-goto-formed names labels place name (Some index) s l h =
+step-formed : (names : Names) (line : Words) (e : Entry) (labels : List Label) (place : ℕ) (s : Step) → SpellsEntry names line e
+    → step_in labels place e ≡ Some s → IsStep names labels place s
+step-formed names line (entry.Label name) labels place s spelled h = absurd (cc)
+step-formed names line (entry.Send t marks) labels place s spelled h =
     let P : Step → Type 0 = IsStep names labels place in
-    subst P (some-same (step.Goto index) s h) (label-after labels place index name l)
-
-front-parts : {A : Type 0} (x : Option A) (xs : Option (List A)) (ys : List A) → in_front x xs ≡ Some ys
-    → (z : A) × (zs : List A) × (x ≡ Some z) × (xs ≡ Some zs) × (z ∷ zs ≡ ys)
-front-parts (Some x) (Some xs) ys h = (x, xs, refl, refl, some-same (x ∷ xs) ys h)
-front-parts (Some x) None ys h = absurd (cc)
-front-parts None xs ys h = absurd (cc)
+    let p = then-some (jumps_on labels place marks all_classes) _ _ h in
+    subst P (some-same _ s p.2) (request-formed names line t marks labels place p.0 spelled p.1)
+step-formed names line (entry.Bind v) labels place s (name, f, i) h =
+    let P : Step → Type 0 = IsStep names labels place in subst P (some-same (step.Bind v) s h) (index-below names.vars name v i)
+step-formed names line (entry.Goto name) labels place s spelled h =
+    let P : Step → Type 0 = IsStep names labels place in
+    let p = then-some (label_after labels place name) _ _ h in
+    subst P (some-same (step.Goto p.0) s p.2) (label-after labels place p.0 name p.1)
+step-formed names line entry.Halt labels place s spelled h =
+    let P : Step → Type 0 = IsStep names labels place in subst P (some-same step.Halt s h) tt
 
 steps-formed : (names : Names) (lines : List Words) (entries : List Entry) (labels : List Label) (place : ℕ) (steps : List Step)
     → SpellEach (SpellsEntry names) lines entries → steps_from labels place entries ≡ Some steps → AreSteps names labels place steps
 steps-formed names [] [] labels place steps e h =
     let P : List Step → Type 0 = AreSteps names labels place in subst P (some-same [] steps h) tt
-steps-formed names [] (x ∷ entries) labels place steps e h = absurd e
-steps-formed names (l ∷ lines) [] labels place steps e h = absurd e
 steps-formed names (l ∷ lines) (entry.Label name ∷ entries) labels place steps e h = steps-formed names lines entries labels place steps e.1 h
-steps-formed names (l ∷ lines) (entry.Send t marks ∷ entries) labels place steps e h =
+steps-formed names (l ∷ lines) (e ∷ entries) labels place steps h made =
     let P : List Step → Type 0 = AreSteps names labels place in
-    let (z, zs, one, others, all) = front-parts (sends t marks (jumps_on labels place marks all_classes)) (steps_from labels (place + 1) entries) steps h in
-    subst P all (
-      request-formed names l t marks labels place (jumps_on labels place marks all_classes) z e.0 refl one,
-      steps-formed names lines entries labels (place + 1) zs e.1 others,
-    )
-steps-formed names (l ∷ lines) (entry.Bind v ∷ entries) labels place steps e h =
-    let P : List Step → Type 0 = AreSteps names labels place in
-    let Q : Step → Type 0 = IsStep names labels place in
-    let (z, zs, one, others, all) = front-parts (Some (step.Bind v)) (steps_from labels (place + 1) entries) steps h in
-    let (name, f, i) = e.0 in
-    subst P all (
-      subst Q (some-same (step.Bind v) z one) (index-below names.vars name v i),
-      steps-formed names lines entries labels (place + 1) zs e.1 others,
-    )
-steps-formed names (l ∷ lines) (entry.Goto name ∷ entries) labels place steps e h =
-    let P : List Step → Type 0 = AreSteps names labels place in
-    let (z, zs, one, others, all) = front-parts (goes (label_after labels place name)) (steps_from labels (place + 1) entries) steps h in
-    subst P all (
-      goto-formed names labels place name (label_after labels place name) z refl one,
-      steps-formed names lines entries labels (place + 1) zs e.1 others,
-    )
-steps-formed names (l ∷ lines) (entry.Halt ∷ entries) labels place steps e h =
-    let P : List Step → Type 0 = AreSteps names labels place in
-    let Q : Step → Type 0 = IsStep names labels place in
-    let (z, zs, one, others, all) = front-parts (Some step.Halt) (steps_from labels (place + 1) entries) steps h in
-    subst P all (subst Q (some-same step.Halt z one) tt, steps-formed names lines entries labels (place + 1) zs e.1 others)
+    let (z, zs, one, others, all) = front-parts (step_in labels place e) (steps_from labels (place + 1) entries) steps made in
+    subst P all (step-formed names l e labels place z h.0 one, steps-formed names lines entries labels (place + 1) zs h.1 others)
+steps-formed names lines entries labels place steps e h = absurd e
 
 -- ---- labels
 
@@ -186,22 +147,12 @@ labels-formed : (names : Names) (lines : List Words) (entries : List Entry) (ste
     → steps ≡ place + step_total entries → AreLabels steps place (labels_from place entries)
 unfolding step_total
 labels-formed names [] [] steps place e h = tt
-labels-formed names [] (x ∷ entries) steps place e h = absurd e
-labels-formed names (l ∷ lines) [] steps place e h = absurd e
 labels-formed names (l ∷ lines) (entry.Label name ∷ entries) steps place e h =
     (e.0.1, omega arith, omega (arith, h), labels-formed names lines entries steps place e.1 (omega (arith, h)))
-labels-formed names (l ∷ lines) (entry.Send t marks ∷ entries) steps place e h =
+labels-formed names (l ∷ lines) (e ∷ entries) steps place s h =
     labels-weaker steps place (place + 1) (labels_from (place + 1) entries) (omega arith)
-    (labels-formed names lines entries steps (place + 1) e.1 (omega (arith, h)))
-labels-formed names (l ∷ lines) (entry.Bind v ∷ entries) steps place e h =
-    labels-weaker steps place (place + 1) (labels_from (place + 1) entries) (omega arith)
-    (labels-formed names lines entries steps (place + 1) e.1 (omega (arith, h)))
-labels-formed names (l ∷ lines) (entry.Goto name ∷ entries) steps place e h =
-    labels-weaker steps place (place + 1) (labels_from (place + 1) entries) (omega arith)
-    (labels-formed names lines entries steps (place + 1) e.1 (omega (arith, h)))
-labels-formed names (l ∷ lines) (entry.Halt ∷ entries) steps place e h =
-    labels-weaker steps place (place + 1) (labels_from (place + 1) entries) (omega arith)
-    (labels-formed names lines entries steps (place + 1) e.1 (omega (arith, h)))
+    (labels-formed names lines entries steps (place + 1) s.1 (omega (arith, h)))
+labels-formed names lines entries steps place e h = absurd e
 
 -- ---- the whole
 

@@ -5,7 +5,7 @@ use Rattle.std.specs.List.{concat}
 use Rattle.std.proofs.lemmas.List.{take-append-drop, take_at, drop_at}
 use Rattle.bstr.specs.Text.{lines_of}
 use Rattle.bstr.proofs.lemmas.RestLemmas.{concat-lines_of}
-use Rattle.mc_script.specs.FrontReading.{is_end, to_end}
+use Rattle.mc_script.specs.Reading.{is_end, to_end}
 
 -- `len` bytes of the text were taken, and these lines are left of it
 pub record Reaches (text : List ℕ) (len : ℕ) (lines : List (List ℕ)) : Type 0 where

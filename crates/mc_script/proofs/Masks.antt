@@ -8,13 +8,11 @@ use Rattle.std.proofs.lemmas.Bool.{and_parts, and_from, or_parts, or_from, not-t
 use Rattle.std.proofs.lemmas.Nat.{or_lt, pow_below}
 use Rattle.std.proofs.lemmas.Nat.Bits.{bit_at_and, bit_at_or, bit_at-pow_other, bit_at-zero, same_from_bits}
 use Rattle.std.proofs.lemmas.List.Quantifiers.{position-Some}
-use Rattle.mc_protocol.specs.Lines.{Word, Words}
+use Rattle.mc_script.specs.Values.{Word, Words, Mark, Sign}
+use Rattle.mc_script.specs.Values.mark
+use Rattle.mc_script.specs.Values.sign
 use Rattle.mc_protocol.specs.Legal.{same}
 use Rattle.mc_protocol.specs.Spelling.{SpellEach}
-use Rattle.mc_script.specs.declared.entry.Mark.{Mark}
-use Rattle.mc_script.specs.declared.entry.Mark.TheVariants as mark
-use Rattle.mc_script.specs.declared.entry.Sign.{Sign}
-use Rattle.mc_script.specs.declared.entry.Sign.TheVariants as sign
 use Rattle.mc_script.specs.Script.{Names}
 use Rattle.mc_script.specs.Marks.{SpellsMark, sign_byte, is_need, are_twins, have_no_twins, says, with_flag, mask_of}
 use Rattle.mc_script.specs.Reading.{sign_of}
@@ -34,15 +32,13 @@ one-below : (names : Names) (word : Word) (m : Mark) (s : Sign) (mask : ℕ) →
     → with_flag mask (says s m) < 2 ^ length names.flags
 one-below names word (mark.Flag t f) s mask (name, e, i) h =
     with-below (sign_byte s == sign_byte t) (length names.flags) mask f h (position-Some (λ n. bytes_eq n name) names.flags f [] i).0
-one-below names word (mark.Jump c l) s mask e h = h
-one-below names word (mark.Bind v) s mask e h = h
+one-below names word m s mask e h = h
 
 pub mask-below : (names : Names) (words : Words) (marks : List Mark) (s : Sign) (mask : ℕ) → SpellEach (SpellsMark names) words marks
     → mask < 2 ^ length names.flags → gathered s mask marks < 2 ^ length names.flags
 mask-below names [] [] s mask e h = h
-mask-below names [] (m ∷ marks) s mask e h = absurd e
-mask-below names (w ∷ ws) [] s mask e h = absurd e
 mask-below names (w ∷ ws) (m ∷ marks) s mask e h = mask-below names ws marks s (with_flag mask (says s m)) e.1 (one-below names w m s mask e.0 h)
+mask-below names ws marks s mask e h = absurd e
 
 -- ---- bit by bit
 
@@ -71,9 +67,7 @@ bit-kept s i mask (m ∷ marks) h =
 
 sign-of : (s : Sign) → sign_of (sign_byte s) ≡ Some s
 sign-of sign.RequireSet = refl
-sign-of sign.RequireClear = refl
-sign-of sign.Sets = refl
-sign-of sign.Clears = refl
+sign-of s = refl
 
 pub sign-same : (s t : Sign) → (sign_byte s == sign_byte t) ≡ true → s ≡ t
 sign-same s t h = some-same s t (sym (sign-of s) ∙ ap sign_of (eqb-true (sign_byte s) (sign_byte t) h) ∙ sign-of t)
@@ -89,8 +83,7 @@ said-parts s i (mark.Flag t f) h =
     let e = sign-same s t p.0 in
     let d = p.1 in
     rw (e, d) refl
-said-parts s i (mark.Jump c l) h = absurd (cc)
-said-parts s i (mark.Bind v) h = absurd (cc)
+said-parts s i m h = absurd (cc)
 
 number-itself : (n : ℕ) → (n == n) ≡ true
 number-itself n = eq-eqb n n refl

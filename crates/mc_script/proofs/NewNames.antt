@@ -1,100 +1,64 @@
 -- Names that differ, and whether one more may be declared after others.
-use Rattle.std.proofs.Common.{◌≡◌, ◌≢◌, Bor, Some, None, ℕ, ◌+◌, ◌<◌, ◌≤◌, true, false, Bool, ◌&&◌, nat_le, nat_lt, List, []}
-use Rattle.std.proofs.Common.{◌∷◌, ◌++◌, length, get_or, take, drop, map, refl, sym, ap, subst, ◌∙◌, arith, length-append}
+use Rattle.std.proofs.Common.{◌≡◌, ◌≢◌, Bor, Some, None, ℕ, ◌+◌, ◌<◌, true, false, Bool, ◌&&◌, nat_le, nat_lt, List, [], ◌∷◌, ◌++◌, length}
+use Rattle.std.proofs.Common.{get_or, take, drop, map, refl, sym, ap, subst, ◌∙◌, arith, length-append, append_assoc}
 use Rattle.std.specs.List.{list_all, list_any}
 use Rattle.std.specs.Str.{bytes_eq}
-use Rattle.std.proofs.lemmas.Bool.{leb-true, le-leb, lt-ltb, ltb-true, not-true, not_from_false, false_from_ne_true}
-use Rattle.std.proofs.lemmas.Bool.{both_ways, or_parts, or_from, and_parts, and_from}
+use Rattle.std.proofs.lemmas.Bool.{le-leb, leb-true, not-true, not_from_false, false_from_ne_true, both_ways, or_parts, and_parts, and_from}
+use Rattle.std.proofs.lemmas.Bool.Decides.{nat_tests}
 use Rattle.std.proofs.lemmas.List.{take-append-drop, map-append, drop_more}
-use Rattle.std.proofs.lemmas.List.Folds.{list_all-append}
-use Rattle.std.proofs.lemmas.Slice.Eq.{bytes_eq-Decides}
+use Rattle.std.proofs.lemmas.List.Folds.{list_all-append, list_any-append}
 use Rattle.mc_protocol.specs.Lines.{Word}
 use Rattle.mc_protocol.specs.Names.{is_name, is_new, are_distinct}
 use Rattle.mc_script.specs.Reading.{may_follow_names, names_in}
 use Rattle.mc_script.specs.Script.{may_be_declared}
+use Rattle.mc_script.proofs.Lists.{three, from-three, any-push, regroup, bytes-swap}
 
-differ-swap : (x y : Word) → bytes_eq x y ≡ false → bytes_eq y x ≡ false
-differ-swap x y e =
-    false_from_ne_true (bytes_eq y x) (λ same. both_ways (bytes_eq x y) e ((bytes_eq-Decides x y).1 (sym ((bytes_eq-Decides y x).0 same))))
+-- names that differ, and one more that is new beside them
+distinct-push : (names : List Word) (name : Word) → are_distinct (names ++ name ∷ []) ≡ (are_distinct names && is_new names name)
+distinct-push [] name = refl
+distinct-push (x ∷ names) name =
+    rw (any-push (bytes_eq x) names name, distinct-push names name, bytes-swap x name)
+    (regroup (list_any (bytes_eq x) names) (bytes_eq name x) (are_distinct names) (list_any (bytes_eq name) names))
 
-new-parts : (x : Word) (names : List Word) (name : Word) → is_new (x ∷ names) name ≡ true → (bytes_eq name x ≡ false) × (is_new names name ≡ true)
-new-parts x names name e =
-    let p = or_parts (bytes_eq name x) (list_any (bytes_eq name) names) (not-true _ e) in
-    (p.0, not_from_false _ p.1)
-
-new-cons : (x : Word) (names : List Word) (name : Word) → bytes_eq name x ≡ false → is_new names name ≡ true → is_new (x ∷ names) name ≡ true
-new-cons x names name e n = not_from_false _ (or_from (bytes_eq name x) (list_any (bytes_eq name) names) e (not-true _ n))
-
-new-push : (names : List Word) (name x : Word) → is_new names x ≡ true → bytes_eq x name ≡ false → is_new (names ++ name ∷ []) x ≡ true
-new-push [] name x n e = new-cons name [] x e refl
-new-push (y ∷ names) name x n e =
-    let p = new-parts y names x n in
-    new-cons y (names ++ name ∷ []) x p.0 (new-push names name x p.1 e)
-
-new-middle : (names : List Word) (name : Word) (others : List Word) (x : Word) → is_new (names ++ name ∷ others) x ≡ true → bytes_eq x name ≡ false
-new-middle [] name others x n = (new-parts name others x n).0
-new-middle (y ∷ names) name others x n = new-middle names name others x (new-parts y (names ++ name ∷ others) x n).1
-
-pub distinct-push : (names : List Word) (name : Word) → are_distinct names ≡ true → is_new names name ≡ true → are_distinct (names ++ name ∷ []) ≡ true
-distinct-push [] name d n = refl
-distinct-push (x ∷ names) name d n =
-    let p = and_parts (is_new names x) (are_distinct names) d in
-    let q = new-parts x names name n in
-    and_from (is_new (names ++ name ∷ []) x) (are_distinct (names ++ name ∷ [])) (new-push names name x p.0 (differ-swap name x q.0))
-    (distinct-push names name p.1 q.1)
-
-pub distinct-new : (names : List Word) (name : Word) (others : List Word) → are_distinct (names ++ name ∷ others) ≡ true → is_new names name ≡ true
-distinct-new [] name others d = refl
-distinct-new (x ∷ names) name others d =
-    let p = and_parts (is_new (names ++ name ∷ others) x) (are_distinct (names ++ name ∷ others)) d in
-    new-cons x names name (differ-swap x name (new-middle names name others x p.0)) (distinct-new names name others p.1)
+distinct-front : (names others : List Word) → are_distinct (names ++ others) ≡ true → are_distinct names ≡ true
+distinct-front [] others d = refl
+distinct-front (x ∷ names) others d =
+    let p = and_parts (is_new (names ++ others) x) (are_distinct (names ++ others)) d in
+    let q = or_parts (list_any (bytes_eq x) names) (list_any (bytes_eq x) others)
+    (sym (list_any-append (bytes_eq x) names others) ∙ not-true (list_any (bytes_eq x) (names ++ others)) p.0) in
+    and_from (is_new names x) (are_distinct names) (not_from_false (list_any (bytes_eq x) names) q.0) (distinct-front names others p.1)
 
 -- ---- names that are declared together
 
-three-parts : (a b c : Bool) → (a && b && c) ≡ true → (a ≡ true) × (b ≡ true) × (c ≡ true)
-three-parts true true true h = (refl, refl, refl)
-three-parts true true false h = absurd (cc)
-three-parts true false c h = absurd (cc)
-three-parts false b c h = absurd (cc)
+one-more : (n limit : ℕ) (named one distinct new : Bool) → (nat_le (n + 1) limit && (named && (one && true)) && (distinct && new))
+    ≡ ((nat_le n limit && named && distinct) && (one && new && nat_lt n limit))
+one-more n limit named one distinct new = grind (arith, nat_tests)
 
-three-from : (a b c : Bool) → a ≡ true → b ≡ true → c ≡ true → (a && b && c) ≡ true
-three-from true true true h k l = refl
-three-from true true false h k l = l
-three-from true false c h k l = absurd (cc)
-three-from false b c h k l = absurd (cc)
+pub declared_push : (limit bytes : ℕ) (names : List Word) (name : Word)
+    → may_be_declared limit bytes (names ++ name ∷ []) ≡ (may_be_declared limit bytes names && may_follow_names limit bytes names name)
+declared_push limit bytes names name =
+    let long : length (names ++ name ∷ []) ≡ length names + 1 = omega (arith, length-append names (name ∷ [])) in
+    rw (long, list_all-append (is_name bytes) names (name ∷ []), distinct-push names name)
+    (one-more (length names) limit (list_all (is_name bytes) names) (is_name bytes name) (are_distinct names) (is_new names name))
 
-pub declared_push : (limit bytes : ℕ) (names : List Word) (name : Word) → may_be_declared limit bytes names ≡ true
-    → may_follow_names limit bytes names name ≡ true → may_be_declared limit bytes (names ++ name ∷ []) ≡ true
-declared_push limit bytes names name d f =
-    let (few, named, distinct) = three-parts (nat_le (length names) limit) (list_all (is_name bytes) names) (are_distinct names) d in
-    let (one, fresh, room) = three-parts (is_name bytes name) (is_new names name) (nat_lt (length names) limit) f in
-    let below : length names < limit = ltb-true (length names) limit room in
-    let within : length (names ++ name ∷ []) ≤ limit = omega (arith, below, length-append names (name ∷ [])) in
-    three-from (nat_le (length (names ++ name ∷ [])) limit) (list_all (is_name bytes) (names ++ name ∷ [])) (are_distinct (names ++ name ∷ []))
-    (le-leb (length (names ++ name ∷ [])) limit within)
-    (list_all-append (is_name bytes) names (name ∷ [])
-    ∙ and_from (list_all (is_name bytes) names) (list_all (is_name bytes) (name ∷ [])) named (and_from (is_name bytes name) true one refl))
-    (distinct-push names name distinct fresh)
+declared-front : (limit bytes : ℕ) (names others : List Word) → may_be_declared limit bytes (names ++ others) ≡ true → may_be_declared limit bytes names ≡ true
+declared-front limit bytes names others d =
+    let all = names ++ others in
+    let (few, named, distinct) = three (nat_le (length all) limit) (list_all (is_name bytes) all) (are_distinct all) d in
+    let within = leb-true (length (names ++ others)) limit few in
+    from-three (nat_le (length names) limit) (list_all (is_name bytes) names) (are_distinct names)
+    (le-leb (length names) limit (omega (arith, within, length-append names others)))
+    (and_parts (list_all (is_name bytes) names) (list_all (is_name bytes) others) (sym (list_all-append (is_name bytes) names others) ∙ named)).0
+    (distinct-front names others distinct)
 
 -- those that are declared follow those before them
-declared-follow : (limit bytes : ℕ) (names : List Word) (name : Word) (others : List Word) → may_be_declared limit bytes (names ++ name ∷ others) ≡ true
-    → may_follow_names limit bytes names name ≡ true
-declared-follow limit bytes names name others d =
-    let all = names ++ name ∷ others in
-    let (few, named, distinct) = three-parts (nat_le (length all) limit) (list_all (is_name bytes) all) (are_distinct all) d in
-    let within : length all ≤ limit = leb-true (length all) limit few in
-    let below : length names < limit = omega (arith, within, length-append names (name ∷ others)) in
-    let both = and_parts (list_all (is_name bytes) names) (list_all (is_name bytes) (name ∷ others))
-    (sym (list_all-append (is_name bytes) names (name ∷ others)) ∙ named) in
-    let one = and_parts (is_name bytes name) (list_all (is_name bytes) others) both.1 in
-    three-from (is_name bytes name) (is_new names name) (nat_lt (length names) limit)
-    one.0 (distinct-new names name others distinct) (lt-ltb (length names) limit below)
-
 pub undeclared : (limit bytes : ℕ) (names : List Word) (name : Word) (others : List Word) → may_follow_names limit bytes names name ≡ false
     → may_be_declared limit bytes (names ++ name ∷ others) ≡ false
 undeclared limit bytes names name others f =
-    false_from_ne_true (may_be_declared limit bytes (names ++ name ∷ others))
-    (λ d. both_ways (may_follow_names limit bytes names name) f (declared-follow limit bytes names name others d))
+    false_from_ne_true (may_be_declared limit bytes (names ++ name ∷ others)) (λ d.
+    let all = ap (may_be_declared limit bytes) (append_assoc names (name ∷ []) others) ∙ d in
+    let front = sym (declared_push limit bytes names name) ∙ declared-front limit bytes (names ++ name ∷ []) others all in
+    both_ways (may_follow_names limit bytes names name) f (and_parts (may_be_declared limit bytes names) (may_follow_names limit bytes names name) front).1)
 
 -- ---- the words of a line
 

@@ -1,5 +1,5 @@
 -- The flags of a template as marks: they say its masks, and none are twins.
-use Rattle.std.proofs.Common.{◌≡◌, ℕ, ◌+◌, ◌*◌, ◌%◌, ◌<◌, ◌==◌, ◌^◌, Bool, true, false, not, cond, Some, None, List}
+use Rattle.std.proofs.Common.{◌≡◌, ℕ, ◌+◌, ◌*◌, ◌%◌, ◌<◌, ◌≤◌, ◌==◌, ◌^◌, Bool, true, false, not, cond, Some, None, List, subst}
 use Rattle.std.proofs.Common.{[], ◌∷◌, ◌++◌, length, get_or, bit_and, bit_or, min, refl, sym, ap, ◌∙◌, arith, suc}
 use Rattle.std.specs.Int.{bit_at}
 use Rattle.std.specs.List.{list_all, list_any}
@@ -9,17 +9,12 @@ use Rattle.std.proofs.lemmas.List.Folds.{list_all-append}
 use Rattle.std.proofs.lemmas.Nat.{mod-pow-add, or_shifted, or_comm, pow_pos, mod_below}
 use Rattle.std.proofs.Math.Nat.{mod-eq_of_lt}
 use Rattle.std.proofs.lemmas.Nat.Bits.{bit_at_and, bit_at-lt, bit_at-zero}
-use Rattle.mc_protocol.specs.Lines.{Word, Words}
-use Rattle.mc_protocol.specs.Names.{index_of}
+use Rattle.mc_script.specs.Values.{Word, Mark, Sign, Template}
+use Rattle.mc_script.specs.Values.mark
+use Rattle.mc_script.specs.Values.sign
 use Rattle.mc_protocol.specs.Legal.{same}
 use Rattle.mc_protocol.specs.Spelling.{SpellEach}
-use Rattle.mc_script.specs.declared.entry.Mark.{Mark}
-use Rattle.mc_script.specs.declared.entry.Mark.TheVariants as mark
-use Rattle.mc_script.specs.declared.entry.Sign.{Sign}
-use Rattle.mc_script.specs.declared.entry.Sign.TheVariants as sign
-use Rattle.mc_script.specs.declared.step.Template.{Template}
-use Rattle.mc_script.specs.Script.{Names}
-use Rattle.mc_script.specs.Marks.{SpellsMark, sign_byte, is_need, are_twins, have_no_twins, says, with_flag}
+use Rattle.mc_script.specs.Marks.{sign_byte, is_need, are_twins, have_no_twins, says, with_flag}
 use Rattle.mc_script.specs.PrintedScript.{flag_words, all_flag_words}
 use Rattle.mc_script.proofs.Masks.{gathered}
 
@@ -28,9 +23,20 @@ use Rattle.mc_script.proofs.Masks.{gathered}
 pub each-append : {X V : Type 0} (S : X → V → Type 0) (xs ys : List X) (us vs : List V) → SpellEach S xs us → SpellEach S ys vs
     → SpellEach S (xs ++ ys) (us ++ vs)
 each-append S [] ys [] vs h k = k
-each-append S [] ys (u ∷ us) vs h k = absurd h
-each-append S (x ∷ xs) ys [] vs h k = absurd h
 each-append S (x ∷ xs) ys (u ∷ us) vs h k = (h.0, each-append S xs ys us vs h.1 k)
+each-append S xs ys us vs h k = absurd h
+
+-- the word or the line stands for the value, and passes the test
+abbrev pub With : {X V : Type 0} → (X → V → Type 0) → (X → Bool) → X → V → Type 0
+With S p x v = S x v × (p x ≡ true)
+
+pub both-apart : {X V : Type 0} (S : X → V → Type 0) (p : X → Bool) (xs : List X) (vs : List V) → SpellEach (With S p) xs vs
+    → SpellEach S xs vs × (list_all p xs ≡ true)
+both-apart S p [] [] h = (tt, refl)
+both-apart S p (x ∷ xs) (v ∷ vs) h =
+    let others = both-apart S p xs vs h.1 in
+    ((h.0.0, others.0), and_from (p x) (list_all p xs) h.0.1 others.1)
+both-apart S p xs vs h = absurd h
 
 pub any-append : {X : Type 0} (p : X → Bool) (xs ys : List X) → list_any p xs ≡ false → list_any p ys ≡ false → list_any p (xs ++ ys) ≡ false
 any-append p [] ys h k = k
@@ -64,22 +70,22 @@ abbrev pub flag_marks : Sign → ℕ → ℕ → List Word → List Mark
 flag_marks s mask k [] = []
 flag_marks s mask k (name ∷ names) = cond (bit_at mask k == 1) (mark.Flag s k ∷ flag_marks s mask (k + 1) names) (flag_marks s mask (k + 1) names)
 
-spell-cond : (b : Bool) (names : Names) (w : Word) (m : Mark) (ws : Words) (ms : List Mark) → SpellsMark names w m → SpellEach (SpellsMark names) ws ms
-    → SpellEach (SpellsMark names) (cond b (w ∷ ws) ws) (cond b (m ∷ ms) ms)
-spell-cond true names w m ws ms h k = (h, k)
-spell-cond false names w m ws ms h k = k
+pub each-cond : {X V : Type 0} (S : X → V → Type 0) (b : Bool) (x : X) (v : V) (xs : List X) (vs : List V) → S x v → SpellEach S xs vs
+    → SpellEach S (cond b (x ∷ xs) xs) (cond b (v ∷ vs) vs)
+each-cond S true x v xs vs h k = (h, k)
+each-cond S false x v xs vs h k = k
 
-pub flags-spell : (names : Names) (s : Sign) (mask k : ℕ) (ns : List Word) → ((j : ℕ) → j < length ns → index_of names.flags (get_or ns j []) ≡ Some (k + j))
-    → SpellEach (SpellsMark names) (flag_words s mask k ns) (flag_marks s mask k ns)
-flags-spell names s mask k [] found = tt
-flags-spell names s mask k (name ∷ ns) found =
+flags-spell : (S : Word → Mark → Type 0) (s : Sign) (mask k : ℕ) (ns : List Word)
+    → ((j : ℕ) → j < length ns → S (sign_byte s ∷ get_or ns j []) (mark.Flag s (k + j))) → SpellEach S (flag_words s mask k ns) (flag_marks s mask k ns)
+flags-spell S s mask k [] found = tt
+flags-spell S s mask k (name ∷ ns) found =
+    let P : Word → ℕ → Type 0 = λ w n. S (sign_byte s ∷ w) (mark.Flag s n) in
     let none : k + 0 ≡ k = omega arith in
-    let here : index_of names.flags name ≡ Some k = found 0 (omega arith) ∙ ap Some none in
-    let rest : (j : ℕ) → j < length ns → index_of names.flags (get_or ns j []) ≡ Some (k + 1 + j) = λ j lt.
+    let rest : (j : ℕ) → j < length ns → P (get_or ns j []) (k + 1 + j) = λ j lt.
     let next : k + suc j ≡ k + 1 + j = omega arith in
-    found (suc j) (omega arith) ∙ ap Some next in
-    spell-cond (bit_at mask k == 1) names (sign_byte s ∷ name) (mark.Flag s k) (flag_words s mask (k + 1) ns) (flag_marks s mask (k + 1) ns)
-    (name, refl, here) (flags-spell names s mask (k + 1) ns rest)
+    subst (P (get_or ns j [])) next (found (suc j) (omega arith)) in
+    each-cond S (bit_at mask k == 1) (sign_byte s ∷ name) (mark.Flag s k) (flag_words s mask (k + 1) ns) (flag_marks s mask (k + 1) ns)
+    (subst (P name) none (found 0 (omega arith))) (flags-spell S s mask (k + 1) ns rest)
 
 -- what holds of each flag of the mask holds of the marks
 pub flags-all : (p : Mark → Bool) (s : Sign) (mask k : ℕ) (ns : List Word) → ((f : ℕ) → (bit_at mask f == 1) ≡ true → p (mark.Flag s f) ≡ true)
@@ -97,18 +103,15 @@ pub gathered-append : (s : Sign) (mask : ℕ) (xs ys : List Mark) → gathered s
 gathered-append s mask [] ys = refl
 gathered-append s mask (x ∷ xs) ys = gathered-append s (with_flag mask (says s x)) xs ys
 
--- marks that say nothing of the sort add nothing
-pub gathered-silent : (s : Sign) (mask : ℕ) (p : Mark → Bool) (ms : List Mark) → ((m : Mark) → p m ≡ true → says s m ≡ None) → list_all p ms ≡ true
-    → gathered s mask ms ≡ mask
-gathered-silent s mask p [] silent h = refl
-gathered-silent s mask p (m ∷ ms) silent h =
-    let q = and_parts (p m) (list_all p ms) h in
-    let e : with_flag mask (says s m) ≡ mask = ap (with_flag mask) (silent m q.0) in
-    ap (λ n. gathered s n ms) e ∙ gathered-silent s mask p ms silent q.1
-
-pub gathered-skip : (s : Sign) (mask : ℕ) (p : Mark → Bool) (xs ys : List Mark) → ((m : Mark) → p m ≡ true → says s m ≡ None) → list_all p xs ≡ true
-    → gathered s mask (xs ++ ys) ≡ gathered s mask ys
-gathered-skip s mask p xs ys silent h = gathered-append s mask xs ys ∙ ap (λ n. gathered s n ys) (gathered-silent s mask p xs silent h)
+-- flags of another sign say nothing of this one
+pub others-silent : (s t : Sign) (n mask k : ℕ) (ns : List Word) → (sign_byte s == sign_byte t) ≡ false → gathered s n (flag_marks t mask k ns) ≡ n
+others-silent s t n mask k [] d = refl
+others-silent s t n mask k (name ∷ ns) d =
+    let others = flag_marks t mask (k + 1) ns in
+    let rest = others-silent s t n mask (k + 1) ns d in
+    let silent : says s (mark.Flag t k) ≡ None = rw d refl in
+    cond_both (bit_at mask k == 1) (mark.Flag t k ∷ others) others (λ ms. gathered s n ms ≡ n)
+    (λ _. ap (λ o. gathered s (with_flag n o) others) silent ∙ rest) (λ _. rest)
 
 low-set : (mask k : ℕ) → bit_at mask k ≡ 1 → bit_or (mask % 2 ^ k) (2 ^ k) ≡ mask % 2 ^ (k + 1)
 low-set mask k one =
@@ -156,39 +159,15 @@ flags-say s mask ns small =
 
 -- ---- none are twins
 
--- a flag of another kind
-pub other-kind : (s t : Sign) (f mask k : ℕ) (ns : List Word) → same (is_need s) (is_need t) ≡ false
-    → list_any (are_twins (mark.Flag s f)) (flag_marks t mask k ns) ≡ false
-other-kind s t f mask k [] d = refl
-other-kind s t f mask k (name ∷ ns) d =
-    let rest = other-kind s t f mask (k + 1) ns d in
-    let others = flag_marks t mask (k + 1) ns in
-    let twin = are_twins (mark.Flag s f) in
-    cond_both (bit_at mask k == 1) (mark.Flag t k ∷ others) others (λ ms. list_any twin ms ≡ false)
-    (λ _. or_from (twin (mark.Flag t k)) (list_any twin others) (and_right (f == k) (same (is_need s) (is_need t)) d) rest) (λ _. rest)
-
--- a flag that the mask lacks
-other-flag : (s t : Sign) (f mask k : ℕ) (ns : List Word) → (bit_at mask f == 1) ≡ false → list_any (are_twins (mark.Flag s f)) (flag_marks t mask k ns) ≡ false
-other-flag s t f mask k [] d = refl
-other-flag s t f mask k (name ∷ ns) d =
-    let rest = other-flag s t f mask (k + 1) ns d in
-    let others = flag_marks t mask (k + 1) ns in
-    let twin = are_twins (mark.Flag s f) in
-    cond_both (bit_at mask k == 1) (mark.Flag t k ∷ others) others (λ ms. list_any twin ms ≡ false)
-    (λ h. or_from (twin (mark.Flag t k)) (list_any twin others)
-    (and_left (f == k) (same (is_need s) (is_need t)) (ne_eqb f k (λ e. both_ways (bit_at mask f == 1) d (ap (λ n. bit_at mask n == 1) e ∙ h)))) rest)
-    (λ _. rest)
-
--- a flag before those
-earlier-flag : (s t : Sign) (f mask k : ℕ) (ns : List Word) → f < k → list_any (are_twins (mark.Flag s f)) (flag_marks t mask k ns) ≡ false
-earlier-flag s t f mask k [] lt = refl
-earlier-flag s t f mask k (name ∷ ns) lt =
-    let rest = earlier-flag s t f mask (k + 1) ns (omega (arith, lt)) in
-    let others = flag_marks t mask (k + 1) ns in
-    let twin = are_twins (mark.Flag s f) in
-    cond_both (bit_at mask k == 1) (mark.Flag t k ∷ others) others (λ ms. list_any twin ms ≡ false)
-    (λ _. or_from (twin (mark.Flag t k)) (list_any twin others)
-    (and_left (f == k) (same (is_need s) (is_need t)) (ne_eqb f k (λ e. absurd (omega (arith, lt, e))))) rest) (λ _. rest)
+-- what holds of no flag of the mask from this one on holds of none of the marks
+flags-none : (p : Mark → Bool) (s : Sign) (mask k : ℕ) (ns : List Word)
+    → ((f : ℕ) → k ≤ f → (bit_at mask f == 1) ≡ true → p (mark.Flag s f) ≡ false) → list_any p (flag_marks s mask k ns) ≡ false
+flags-none p s mask k [] h = refl
+flags-none p s mask k (name ∷ ns) h =
+    let rest = flags-none p s mask (k + 1) ns (λ f le. h f (omega (arith, le))) in
+    let others = flag_marks s mask (k + 1) ns in
+    cond_both (bit_at mask k == 1) (mark.Flag s k ∷ others) others (λ ms. list_any p ms ≡ false)
+    (λ e. or_from (p (mark.Flag s k)) (list_any p others) (h k (omega arith) e) rest) (λ _. rest)
 
 pub flags-distinct : (s : Sign) (mask k : ℕ) (ns : List Word) → have_no_twins (flag_marks s mask k ns) ≡ true
 flags-distinct s mask k [] = refl
@@ -198,14 +177,17 @@ flags-distinct s mask k (name ∷ ns) =
     let twin = are_twins (mark.Flag s k) in
     cond_both (bit_at mask k == 1) (mark.Flag s k ∷ others) others (λ ms. have_no_twins ms ≡ true)
     (λ _. and_from (not (list_any twin others)) (have_no_twins others)
-    (not_from_false (list_any twin others) (earlier-flag s s k mask (k + 1) ns (omega arith))) rest)
+    (not_from_false (list_any twin others) (flags-none twin s mask (k + 1) ns (λ f le _.
+    and_left (k == f) (same (is_need s) (is_need s)) (ne_eqb k f (λ e. absurd (omega (arith, le, e)))))))
+    rest)
     (λ _. rest)
 
 -- flags of two kinds are apart
 pub kinds-apart : (s t : Sign) (a b k l : ℕ) (ns ms : List Word) → same (is_need s) (is_need t) ≡ false
     → are_apart (flag_marks s a k ns) (flag_marks t b l ms) ≡ true
 kinds-apart s t a b k l ns ms d =
-    flags-all (λ m. not (list_any (are_twins m) (flag_marks t b l ms))) s a k ns (λ f _. not_from_false _ (other-kind s t f b l ms d))
+    flags-all (λ m. not (list_any (are_twins m) (flag_marks t b l ms))) s a k ns (λ f _.
+    not_from_false _ (flags-none (are_twins (mark.Flag s f)) t b l ms (λ g _ _. and_right (f == g) (same (is_need s) (is_need t)) d)))
 
 -- flags of masks that share none are apart
 pub masks-are-apart : (s t : Sign) (a b k l : ℕ) (ns ms : List Word) → bit_and a b ≡ 0 → are_apart (flag_marks s a k ns) (flag_marks t b l ms) ≡ true
@@ -214,7 +196,9 @@ masks-are-apart s t a b k l ns ms none =
     let one = eqb-true (bit_at a f) 1 h in
     let both : min (bit_at a f) (bit_at b f) ≡ 0 = sym (bit_at_and a b f) ∙ ap (λ n. bit_at n f) none ∙ bit_at-zero f in
     let zero : bit_at b f ≡ 0 = omega (arith, one, both) in
-    not_from_false _ (other-flag s t f b l ms (ap (λ n. n == 1) zero)))
+    not_from_false _ (flags-none (are_twins (mark.Flag s f)) t b l ms (λ g _ on.
+    and_left (f == g) (same (is_need s) (is_need t))
+    (ne_eqb f g (λ e. both_ways (bit_at b f == 1) (ap (λ n. n == 1) zero) (ap (λ n. bit_at b n == 1) e ∙ on))))))
 
 -- ---- all flags of a template
 
@@ -223,26 +207,19 @@ all_flag_marks names t =
     flag_marks sign.RequireSet t.require_set 0 names ++ flag_marks sign.RequireClear t.require_clear 0 names
     ++ flag_marks sign.Sets t.sets 0 names ++ flag_marks sign.Clears t.clears 0 names
 
-pub all-flags-spell : (names : Names) (t : Template) → ((j : ℕ) → j < length names.flags → index_of names.flags (get_or names.flags j []) ≡ Some (0 + j))
-    → SpellEach (SpellsMark names) (all_flag_words names.flags t) (all_flag_marks names.flags t)
-all-flags-spell names t found =
-    let S = SpellsMark names in
-    let ns = names.flags in
-    let rs = flags-spell names sign.RequireSet t.require_set 0 ns found in
-    let rc = flags-spell names sign.RequireClear t.require_clear 0 ns found in
-    let se = flags-spell names sign.Sets t.sets 0 ns found in
-    let cl = flags-spell names sign.Clears t.clears 0 ns found in
-    each-append S _ _ _ _ (each-append S _ _ _ _ (each-append S _ _ _ _ rs rc) se) cl
+pub all-flags-spell : (S : Word → Mark → Type 0) (ns : List Word) (t : Template)
+    → ((s : Sign) (j : ℕ) → j < length ns → S (sign_byte s ∷ get_or ns j []) (mark.Flag s (0 + j)))
+    → SpellEach S (all_flag_words ns t) (all_flag_marks ns t)
+all-flags-spell S ns t found =
+    let flags = λ (s : Sign) (mask : ℕ). flags-spell S s mask 0 ns (found s) in
+    each-append S _ _ _ _ (each-append S _ _ _ _ (each-append S _ _ _ _ (flags sign.RequireSet t.require_set) (flags sign.RequireClear t.require_clear))
+    (flags sign.Sets t.sets)) (flags sign.Clears t.clears)
 
 pub all-flags-all : (p : Mark → Bool) (ns : List Word) (t : Template) → ((s : Sign) (f : ℕ) → p (mark.Flag s f) ≡ true)
     → list_all p (all_flag_marks ns t) ≡ true
 all-flags-all p ns t h =
-    let F : Sign → ℕ → List Mark = λ s mask. flag_marks s mask 0 ns in
-    let one : (s : Sign) (mask : ℕ) → list_all p (F s mask) ≡ true = λ s mask. flags-all p s mask 0 ns (λ f _. h s f) in
-    all-append p (F sign.RequireSet t.require_set ++ F sign.RequireClear t.require_clear ++ F sign.Sets t.sets) (F sign.Clears t.clears)
-    (all-append p (F sign.RequireSet t.require_set ++ F sign.RequireClear t.require_clear) (F sign.Sets t.sets)
-    (all-append p (F sign.RequireSet t.require_set) (F sign.RequireClear t.require_clear) (one sign.RequireSet t.require_set)
-    (one sign.RequireClear t.require_clear))
+    let one : (s : Sign) (mask : ℕ) → list_all p (flag_marks s mask 0 ns) ≡ true = λ s mask. flags-all p s mask 0 ns (λ f _. h s f) in
+    all-append p _ _ (all-append p _ _ (all-append p _ _ (one sign.RequireSet t.require_set) (one sign.RequireClear t.require_clear))
     (one sign.Sets t.sets)) (one sign.Clears t.clears)
 
 pub all-flags-distinct : (ns : List Word) (t : Template) → bit_and t.require_set t.require_clear ≡ 0 → bit_and t.sets t.clears ≡ 0

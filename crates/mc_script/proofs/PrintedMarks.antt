@@ -1,29 +1,52 @@
--- The marks of a step as they are printed: words spell them, and they may stand together.
-use Rattle.std.proofs.Common.{◌≡◌, ℕ, ◌+◌, ◌<◌, ◌==◌, Bool, true, false, not, ◌&&◌, ◌||◌, Option, Some}
-use Rattle.std.proofs.Common.{None, List, [], ◌∷◌, ◌++◌, length, map, refl, ap, ◌∙◌, arith}
+-- The marks of a step as they are printed: words spell them, they may stand together, and they say the step again.
+use Rattle.std.proofs.Common.{◌≡◌, ℕ, ◌+◌, ◌<◌, ◌==◌, nat_le, Bool, true, false, not, ◌&&◌, ◌||◌, Option, Some, None, List, [], ◌∷◌, ◌++◌, length, map}
+use Rattle.std.proofs.Common.{refl, ap, ◌∙◌, arith, ◌≤◌, ◌^◌, cond, ◌⊎◌, inl, inr, ⊎_elim, sym, subst, append_assoc}
 use Rattle.std.specs.List.{list_all, list_any}
-use Rattle.std.proofs.lemmas.Bool.{and_from, or_from, not_from_false, ne_eqb}
+use Rattle.std.proofs.lemmas.Bool.{and_from, and_right, or_from, not_from_false, ne_eqb, eq-eqb, cond-true, cond-false, cases_order}
+use Rattle.std.proofs.lemmas.Option.{slice_get_within}
 use Rattle.mc_protocol.specs.Legal.{is_legal}
-use Rattle.mc_protocol.specs.declared.request.Verb.{Verb}
-use Rattle.mc_protocol.specs.declared.reply.Class.{Class}
-use Rattle.mc_protocol.specs.Lines.{Word}
-use Rattle.mc_protocol.specs.Names.{are_distinct}
-use Rattle.mc_protocol.specs.Words.{class_index}
+use Rattle.mc_script.specs.Values.{Verb, Class, Word, KEYS_LIMIT, KEY_BYTES_LIMIT, Mark, Sign, FLAGS_LIMIT, VARIABLES_LIMIT, NAME_BYTES_LIMIT, Label}
+use Rattle.mc_script.specs.Values.{Template}
+use Rattle.mc_script.specs.Values.class
+use Rattle.mc_script.specs.Values.mark
+use Rattle.mc_script.specs.Values.sign
+use Rattle.mc_protocol.specs.Names.{is_name, are_distinct}
+use Rattle.mc_protocol.specs.Words.{class_word, class_index, all_classes}
 use Rattle.mc_protocol.specs.Spelling.{SpellEach}
-use Rattle.mc_script.specs.declared.entry.Mark.{Mark}
-use Rattle.mc_script.specs.declared.entry.Mark.TheVariants as mark
-use Rattle.mc_script.specs.declared.entry.Sign.{Sign}
-use Rattle.mc_script.specs.declared.section.Label.{Label}
-use Rattle.mc_script.specs.declared.step.Template.{Template}
-use Rattle.mc_script.specs.Script.{Names}
-use Rattle.mc_script.specs.Marks.{SpellsMark, are_twins, have_no_twins, may_stand, may_stand_together, shows_numbers, is_bind, is_number_jump}
-use Rattle.mc_script.specs.WellFormed.{AreJumps, MayBind, is_number_class, jumps_on_number}
+use Rattle.mc_script.specs.Script.{Names, AreDeclared}
+use Rattle.mc_script.specs.ScriptWords.{is_label_name}
+use Rattle.mc_script.specs.SectionText.{label_names}
+use Rattle.mc_script.specs.Marks.{sign_byte, jump_word, SpellsMark, are_twins, have_no_twins, may_stand, may_stand_together, shows_numbers, is_bind}
+use Rattle.mc_script.specs.Marks.{is_number_jump, mask_of, target_of, bound_by}
+use Rattle.mc_script.specs.WellFormed.{IsAfter, AreJumps, MayBind, is_number_class, jumps_on_number}
 use Rattle.mc_script.specs.Templates.{IsTemplate}
-use Rattle.mc_script.specs.PrintedScript.{name_at, label_at, jump_words, bind_words, all_flag_words, mark_words}
-use Rattle.mc_script.proofs.JumpLists.{number-jump}
-use Rattle.mc_script.proofs.PrintedNames.{index-found}
-use Rattle.mc_script.proofs.PrintedFlags.{each-append, any-append, all-append, are_apart, no-twins-append, apart-append}
-use Rattle.mc_script.proofs.PrintedFlags.{all_flag_marks, all-flags-spell, all-flags-all, all-flags-distinct}
+use Rattle.mc_script.specs.PrintedScript.{name_at, label_at, jump_words, bind_words, mark_words}
+use Rattle.mc_script.proofs.Lists.{three, from-three, some-first}
+use Rattle.mc_script.proofs.JumpLists.{number-jump, class-same}
+use Rattle.mc_script.proofs.PrintedNames.{named-plain, front-whole, name-has, index-found, names-length, label-found}
+use Rattle.mc_script.proofs.PrintedLines.{is_plain, are_plain, is_whole}
+use Rattle.mc_script.proofs.PrintedFlags.{With, each-append, any-append, all-append, are_apart, no-twins-append, apart-append, all_flag_marks}
+use Rattle.mc_script.proofs.PrintedFlags.{all-flags-spell, all-flags-all, all-flags-distinct, flag_marks, others-silent, gathered-append, flags-say}
+use Rattle.mc_script.specs.Chains.{◌>>=◌}
+use Rattle.mc_script.specs.Steps.{in_front, jump_before, jumps_on}
+use Rattle.mc_script.proofs.Masks.{gathered}
+
+-- ---- declared names
+
+pub record Known (names : Names) : Type 0 where
+  pub keys : are_distinct names.keys ≡ true
+  pub flags : are_distinct names.flags ≡ true
+  pub vars : are_distinct names.vars ≡ true
+  pub key_names : list_all (is_name KEY_BYTES_LIMIT) names.keys ≡ true
+  pub flag_names : list_all (is_name NAME_BYTES_LIMIT) names.flags ≡ true
+  pub var_names : list_all (is_name NAME_BYTES_LIMIT) names.vars ≡ true
+
+pub known : (names : Names) → AreDeclared names → Known names
+known names d =
+    let k = three (nat_le (length names.keys) KEYS_LIMIT) (list_all (is_name KEY_BYTES_LIMIT) names.keys) (are_distinct names.keys) d.keys in
+    let f = three (nat_le (length names.flags) FLAGS_LIMIT) (list_all (is_name NAME_BYTES_LIMIT) names.flags) (are_distinct names.flags) d.flags in
+    let v = three (nat_le (length names.vars) VARIABLES_LIMIT) (list_all (is_name NAME_BYTES_LIMIT) names.vars) (are_distinct names.vars) d.vars in
+    record { keys = k.2; flags = f.2; vars = v.2; key_names = k.1; flag_names = f.1; var_names = v.1 }
 
 -- ---- jumps and `>`
 
@@ -38,27 +61,62 @@ bind_marks (Some variable) = mark.Bind variable ∷ []
 abbrev pub marks_of : List Word → List Label → Template → List (Class × ℕ) → Option ℕ → List Mark
 marks_of flags labels t jumps bind = all_flag_marks flags t ++ jump_marks labels jumps ++ bind_marks bind
 
-jumps-spell : (names : Names) (labels : List Label) (jumps : List (Class × ℕ))
-    → SpellEach (SpellsMark names) (jump_words labels jumps) (jump_marks labels jumps)
-jumps-spell names labels [] = tt
-jumps-spell names labels (jump ∷ jumps) = (refl, jumps-spell names labels jumps)
+sign-plain : (s : Sign) → is_plain (sign_byte s) ≡ true
+sign-plain sign.RequireSet = refl
+sign-plain s = refl
 
-bind-spells : (names : Names) (v : Verb) (jumps : List (Class × ℕ)) (bind : Option ℕ) → are_distinct names.vars ≡ true → MayBind names v jumps bind
-    → SpellEach (SpellsMark names) (bind_words names bind) (bind_marks bind)
-bind-spells names v jumps None distinct h = tt
-bind-spells names v jumps (Some variable) distinct h = ((name_at names.vars variable, refl, index-found names.vars variable distinct h.0), tt)
+class-plain : (c : Class) → are_plain (class_word c) ≡ true
+class-plain class.Stored = refl
+class-plain c = refl
 
-pub marks-spell : (names : Names) (labels : List Label) (t : Template) (jumps : List (Class × ℕ)) (bind : Option ℕ)
-    → are_distinct names.flags ≡ true → are_distinct names.vars ≡ true → MayBind names t.verb jumps bind
-    → SpellEach (SpellsMark names) (mark_words names labels t jumps bind) (marks_of names.flags labels t jumps bind)
-marks-spell names labels t jumps bind f v b =
-    let S = SpellsMark names in
-    let flags = all-flags-spell names t (λ j lt. let e : j ≡ 0 + j = omega arith in index-found names.flags j f lt ∙ ap Some e) in
-    each-append S (all_flag_words names.flags t ++ jump_words labels jumps) (bind_words names bind)
-    (all_flag_marks names.flags t ++ jump_marks labels jumps) (bind_marks bind)
-    (each-append S (all_flag_words names.flags t) (jump_words labels jumps) (all_flag_marks names.flags t) (jump_marks labels jumps) flags
-    (jumps-spell names labels jumps))
-    (bind-spells names t.verb jumps bind v b)
+middle-some : (xs : List ℕ) (byte : ℕ) (ys : List ℕ) → not (length (xs ++ byte ∷ ys) == 0) ≡ true
+middle-some [] byte ys = some-first byte ys
+middle-some (x ∷ xs) byte ys = some-first x (xs ++ byte ∷ ys)
+
+jump-whole : (c : Class) (l : Word) → are_plain l ≡ true → is_whole (jump_word c l) ≡ true
+jump-whole c l h =
+    and_from (not (length (jump_word c l) == 0)) (are_plain (jump_word c l)) (middle-some (class_word c) 58 l)
+    (all-append is_plain (class_word c) (58 ∷ l) (class-plain c) (and_from true (are_plain l) refl h))
+
+pub behind-named : (labels : List Label) (place index : ℕ) → list_all is_label_name (label_names labels) ≡ true → IsAfter labels place index
+    → is_label_name (label_at labels index) ≡ true
+behind-named labels place index all (label, get, lt) =
+    let inside = slice_get_within labels index label get in
+    let e = names-length labels in
+    name-has is_label_name (label_names labels) index all (omega (arith, inside, e))
+
+jumps-spell : (names : Names) (v : Verb) (labels : List Label) (place least : ℕ) (jumps : List (Class × ℕ))
+    → list_all is_label_name (label_names labels) ≡ true → AreJumps v labels place least jumps
+    → SpellEach (With (SpellsMark names) is_whole) (jump_words labels jumps) (jump_marks labels jumps)
+jumps-spell names v labels place least [] all h = tt
+jumps-spell names v labels place least (jump ∷ jumps) all h = (
+  (refl, jump-whole jump.0 (label_at labels jump.1) (named-plain NAME_BYTES_LIMIT (label_at labels jump.1) (behind-named labels place jump.1 all h.2))),
+  jumps-spell names v labels place (class_index jump.0 + 1) jumps all h.3,
+)
+
+-- a byte, and a name that is declared
+pub front-name : (byte : ℕ) (ns : List Word) (index : ℕ) → is_plain byte ≡ true → list_all (is_name NAME_BYTES_LIMIT) ns ≡ true → index < length ns
+    → is_whole (byte ∷ name_at ns index) ≡ true
+front-name byte ns index plain all lt =
+    front-whole byte (name_at ns index) plain
+    (named-plain NAME_BYTES_LIMIT (name_at ns index) (name-has (is_name NAME_BYTES_LIMIT) ns index all lt))
+
+bind-spells : (names : Names) (v : Verb) (jumps : List (Class × ℕ)) (bind : Option ℕ) → Known names → MayBind names v jumps bind
+    → SpellEach (With (SpellsMark names) is_whole) (bind_words names bind) (bind_marks bind)
+bind-spells names v jumps None k h = tt
+bind-spells names v jumps (Some variable) k h = (
+  ((name_at names.vars variable, refl, index-found names.vars variable k.vars h.0), front-name 62 names.vars variable refl k.var_names h.0),
+  tt,
+)
+
+pub marks-spell : (names : Names) (labels : List Label) (place : ℕ) (t : Template) (jumps : List (Class × ℕ)) (bind : Option ℕ) → Known names
+    → list_all is_label_name (label_names labels) ≡ true → AreJumps t.verb labels place 0 jumps → MayBind names t.verb jumps bind
+    → SpellEach (With (SpellsMark names) is_whole) (mark_words names labels t jumps bind) (marks_of names.flags labels t jumps bind)
+marks-spell names labels place t jumps bind k all j b =
+    let S = With (SpellsMark names) is_whole in
+    let flags = all-flags-spell S names.flags t (λ s i lt. let e : i ≡ 0 + i = omega arith in
+    ((name_at names.flags i, refl, index-found names.flags i k.flags lt ∙ ap Some e), front-name (sign_byte s) names.flags i (sign-plain s) k.flag_names lt)) in
+    each-append S _ _ _ _ (each-append S _ _ _ _ flags (jumps-spell names t.verb labels place 0 jumps all j)) (bind-spells names t.verb jumps bind k b)
 
 -- ---- they may stand together
 
@@ -125,14 +183,12 @@ marks-distinct flags v labels place t jumps bind f j =
 
 abbrev pub is_flag_mark : Mark → Bool
 is_flag_mark (mark.Flag s f) = true
-is_flag_mark (mark.Jump c l) = false
-is_flag_mark (mark.Bind v) = false
+is_flag_mark m = false
 
 none-of-flags : (p : Mark → Bool) (ms : List Mark) → ((s : Sign) (f : ℕ) → p (mark.Flag s f) ≡ false) → list_all is_flag_mark ms ≡ true → list_any p ms ≡ false
 none-of-flags p [] none h = refl
 none-of-flags p (mark.Flag s f ∷ ms) none h = or_from (p (mark.Flag s f)) (list_any p ms) (none s f) (none-of-flags p ms none h)
-none-of-flags p (mark.Jump c l ∷ ms) none h = absurd (cc)
-none-of-flags p (mark.Bind v ∷ ms) none h = absurd (cc)
+none-of-flags p (m ∷ ms) none h = absurd (cc)
 
 pub flags-are-flags : (flags : List Word) (t : Template) → list_all is_flag_mark (all_flag_marks flags t) ≡ true
 flags-are-flags flags t = all-flags-all is_flag_mark flags t (λ s f. refl)
@@ -147,10 +203,6 @@ number-jumps labels (jump ∷ jumps) =
     ap (λ b. b || list_any is_number_jump (jump_marks labels jumps)) (number-jump jump.0 (label_at labels jump.1))
     ∙ ap (λ b. is_number_class jump.0 || b) (number-jumps labels jumps)
 
-and-false : (a b : Bool) → b ≡ false → (a && b) ≡ false
-and-false true b h = h
-and-false false b h = refl
-
 marks-free : (names : Names) (labels : List Label) (v : Verb) (t : Template) (jumps : List (Class × ℕ)) (bind : Option ℕ) → MayBind names v jumps bind
     → (list_any is_bind (marks_of names.flags labels t jumps bind) && list_any is_number_jump (marks_of names.flags labels t jumps bind)) ≡ false
 marks-free names labels v t jumps None h =
@@ -162,12 +214,9 @@ marks-free names labels v t jumps None h =
 marks-free names labels v t jumps (Some variable) h =
     let F = all_flag_marks names.flags t in
     let J = jump_marks labels jumps in
-    and-false (list_any is_bind (marks_of names.flags labels t jumps (Some variable))) _
+    and_right (list_any is_bind (marks_of names.flags labels t jumps (Some variable))) _
     (any-append is_number_jump (F ++ J) (mark.Bind variable ∷ [])
     (any-append is_number_jump F J (none-of-flags is_number_jump F (λ s f. refl) (flags-are-flags names.flags t)) (number-jumps labels jumps ∙ h.2)) refl)
-
-from-three : (a b c : Bool) → a ≡ true → b ≡ true → c ≡ true → (a && b && c) ≡ true
-from-three a b c p q r = rw (p, q, r) refl
 
 pub marks-together : (names : Names) (keys : ℕ) (labels : List Label) (place : ℕ) (t : Template) (jumps : List (Class × ℕ)) (bind : Option ℕ)
     → IsTemplate keys (length names.flags) (length names.vars) t → AreJumps t.verb labels place 0 jumps → MayBind names t.verb jumps bind
@@ -183,3 +232,181 @@ marks-together names keys labels place t jumps bind h j b =
     (bind-stands names v jumps bind b))
     (marks-distinct names.flags v labels place t jumps bind (all-flags-distinct names.flags t h.needs_apart h.changes_apart) j)
     (not_from_false _ (marks-free names labels v t jumps bind b))
+
+-- ---- they say the masks
+
+jumps-silent : (s : Sign) (mask : ℕ) (labels : List Label) (jumps : List (Class × ℕ)) → gathered s mask (jump_marks labels jumps) ≡ mask
+jumps-silent s mask labels [] = refl
+jumps-silent s mask labels (jump ∷ jumps) = jumps-silent s mask labels jumps
+
+bind-silent : (s : Sign) (mask : ℕ) (bind : Option ℕ) → gathered s mask (bind_marks bind) ≡ mask
+bind-silent s mask None = refl
+bind-silent s mask (Some v) = refl
+
+-- the flags of a template with this sign
+abbrev pub mask_at : Template → Sign → ℕ
+mask_at t sign.RequireSet = t.require_set
+mask_at t sign.RequireClear = t.require_clear
+mask_at t sign.Sets = t.sets
+mask_at t sign.Clears = t.clears
+
+abbrev marks_at : List Word → Template → Sign → List Mark
+marks_at flags t s = flag_marks s (mask_at t s) 0 flags
+
+four : (flags : List Word) (t : Template) (s : Sign) (i j k l : ℕ) → gathered s 0 (marks_at flags t sign.RequireSet) ≡ i
+    → gathered s i (marks_at flags t sign.RequireClear) ≡ j → gathered s j (marks_at flags t sign.Sets) ≡ k
+    → gathered s k (marks_at flags t sign.Clears) ≡ l → gathered s 0 (all_flag_marks flags t) ≡ l
+four flags t s i j k l a b c d =
+    let F = marks_at flags t in
+    let x = F sign.RequireSet in
+    let y = F sign.RequireClear in
+    let z = F sign.Sets in
+    let w = F sign.Clears in
+    gathered-append s 0 (x ++ y ++ z) w ∙ ap (λ n. gathered s n w) (gathered-append s 0 (x ++ y) z
+    ∙ ap (λ n. gathered s n z) (gathered-append s 0 x y ∙ ap (λ n. gathered s n y) a ∙ b) ∙ c) ∙ d
+
+quiet : (flags : List Word) (t : Template) (s u : Sign) (n : ℕ) → (sign_byte s == sign_byte u) ≡ false → gathered s n (marks_at flags t u) ≡ n
+quiet flags t s u n d = others-silent s u n (mask_at t u) 0 flags d
+
+flags-gathered : (flags : List Word) (t : Template) (s : Sign) → gathered s 0 (marks_at flags t s) ≡ mask_at t s
+    → gathered s 0 (all_flag_marks flags t) ≡ mask_at t s
+flags-gathered flags t sign.RequireSet own =
+    let q = quiet flags t sign.RequireSet in
+    let m = t.require_set in
+    four flags t sign.RequireSet m m m m own (q sign.RequireClear m refl) (q sign.Sets m refl) (q sign.Clears m refl)
+flags-gathered flags t sign.RequireClear own =
+    let q = quiet flags t sign.RequireClear in
+    let m = t.require_clear in
+    four flags t sign.RequireClear 0 m m m (q sign.RequireSet 0 refl) own (q sign.Sets m refl) (q sign.Clears m refl)
+flags-gathered flags t sign.Sets own =
+    let q = quiet flags t sign.Sets in
+    four flags t sign.Sets 0 0 t.sets t.sets (q sign.RequireSet 0 refl) (q sign.RequireClear 0 refl) own (q sign.Clears t.sets refl)
+flags-gathered flags t sign.Clears own =
+    let q = quiet flags t sign.Clears in
+    four flags t sign.Clears 0 0 0 t.clears (q sign.RequireSet 0 refl) (q sign.RequireClear 0 refl) (q sign.Sets 0 refl) own
+
+pub says-mask : (flags : List Word) (labels : List Label) (t : Template) (jumps : List (Class × ℕ)) (bind : Option ℕ) (s : Sign)
+    → mask_at t s < 2 ^ length flags → mask_of s (marks_of flags labels t jumps bind) ≡ mask_at t s
+says-mask flags labels t jumps bind s small =
+    let F = all_flag_marks flags t in
+    let J = jump_marks labels jumps in
+    gathered-append s 0 (F ++ J) (bind_marks bind) ∙ bind-silent s (gathered s 0 (F ++ J)) bind ∙ gathered-append s 0 F J
+    ∙ jumps-silent s (gathered s 0 F) labels jumps ∙ flags-gathered flags t s (flags-say s (mask_at t s) flags small)
+
+-- ---- they say the jumps, and what is bound
+
+target-skip : (c : Class) (ms rest : List Mark) → list_all is_flag_mark ms ≡ true → target_of c (ms ++ rest) ≡ target_of c rest
+target-skip c [] rest h = refl
+target-skip c (mark.Flag s f ∷ ms) rest h = target-skip c ms rest h
+target-skip c (m ∷ ms) rest h = absurd (cc)
+
+bound-skip : (ms rest : List Mark) → list_all is_flag_mark ms ≡ true → bound_by (ms ++ rest) ≡ bound_by rest
+bound-skip [] rest h = refl
+bound-skip (mark.Flag s f ∷ ms) rest h = bound-skip ms rest h
+bound-skip (m ∷ ms) rest h = absurd (cc)
+
+bound-jumps : (labels : List Label) (jumps : List (Class × ℕ)) (bind : Option ℕ) → bound_by (jump_marks labels jumps ++ bind_marks bind) ≡ bind
+bound-jumps labels [] None = refl
+bound-jumps labels [] (Some v) = refl
+bound-jumps labels (jump ∷ jumps) bind = bound-jumps labels jumps bind
+
+pub says-bind : (flags : List Word) (labels : List Label) (t : Template) (jumps : List (Class × ℕ)) (bind : Option ℕ)
+    → bound_by (marks_of flags labels t jumps bind) ≡ bind
+says-bind flags labels t jumps bind =
+    ap bound_by (append_assoc (all_flag_marks flags t) (jump_marks labels jumps) (bind_marks bind))
+    ∙ bound-skip (all_flag_marks flags t) (jump_marks labels jumps ++ bind_marks bind) (flags-are-flags flags t) ∙ bound-jumps labels jumps bind
+
+bind-target : (c : Class) (bind : Option ℕ) → target_of c (bind_marks bind) ≡ None
+bind-target c None = refl
+bind-target c (Some v) = refl
+
+-- the jumps after the flags decide
+jumps-target : (c : Class) (labels : List Label) (jumps : List (Class × ℕ)) (bind : Option ℕ)
+    → target_of c (jump_marks labels jumps ++ bind_marks bind) ≡ target_of c (jump_marks labels jumps)
+jumps-target c labels [] bind = bind-target c bind
+jumps-target c labels (jump ∷ jumps) bind =
+    ap (λ o. cond (class_index c == class_index jump.0) (Some (label_at labels jump.1)) o) (jumps-target c labels jumps bind)
+
+marks-target : (c : Class) (flags : List Word) (labels : List Label) (t : Template) (jumps : List (Class × ℕ)) (bind : Option ℕ)
+    → target_of c (marks_of flags labels t jumps bind) ≡ target_of c (jump_marks labels jumps)
+marks-target c flags labels t jumps bind =
+    ap (target_of c) (append_assoc (all_flag_marks flags t) (jump_marks labels jumps) (bind_marks bind))
+    ∙ target-skip c (all_flag_marks flags t) (jump_marks labels jumps ++ bind_marks bind) (flags-are-flags flags t) ∙ jumps-target c labels jumps bind
+
+no-target : (v : Verb) (labels : List Label) (place least : ℕ) (c : Class) (jumps : List (Class × ℕ)) → AreJumps v labels place least jumps
+    → class_index c < least
+    → target_of c (jump_marks labels jumps) ≡ None
+no-target v labels place least c [] h lt = refl
+no-target v labels place least c (jump ∷ jumps) h lt =
+    let from = h.0 in
+    cond-false (class_index c == class_index jump.0) (Some (label_at labels jump.1)) (target_of c (jump_marks labels jumps))
+    (ne_eqb (class_index c) (class_index jump.0) (λ e. absurd (omega (arith, from, lt, e))))
+    ∙ no-target v labels place (class_index jump.0 + 1) c jumps h.3 (omega (arith, from, lt))
+
+-- the classes are numbered from this on, up to the last
+abbrev Numbered : ℕ → List Class → Type 0
+Numbered n [] = n ≡ 10
+Numbered n (c ∷ classes) = (class_index c ≡ n) × Numbered (n + 1) classes
+
+all-numbered : Numbered 0 all_classes
+all-numbered = (refl, (refl, (refl, (refl, (refl, (refl, (refl, (refl, (refl, (refl, refl))))))))))
+
+below-ten : (c : Class) → class_index c < 10
+below-ten class.Stored = omega arith
+below-ten c = omega arith
+
+-- a jump that comes first, or none on this class
+first-jump : (v : Verb) (labels : List Label) (place n : ℕ) (c : Class) (jumps : List (Class × ℕ)) → class_index c ≡ n → AreJumps v labels place n jumps
+    → AreJumps v labels place (n + 1) jumps
+    ⊎ ((index : ℕ) × (js : List (Class × ℕ)) × (jumps ≡ (c, index) ∷ js) × IsAfter labels place index × AreJumps v labels place (n + 1) js)
+first-jump v labels place n c [] e h = inl tt
+first-jump v labels place n c ((d, index) ∷ js) e h =
+    let from = h.0 in
+    let P : ℕ → Type 0 = λ k. AreJumps v labels place k js in
+    ⊎_elim
+    (λ same.
+    let k : class_index c ≡ class_index d = e ∙ same in
+    let one : class_index d + 1 ≡ n + 1 = omega (arith, same) in
+    let cd : c ≡ d = class-same c d (eq-eqb (class_index c) (class_index d) k) in
+    inr (index, js, ap (λ x. (x, index) ∷ js) (sym cd), h.2, subst P one h.3))
+    (λ o. ⊎_elim (λ lt. inl (omega (arith, lt), h.1, h.2, h.3)) (λ lt. absurd (omega (arith, lt, from))) o)
+    (cases_order n (class_index d))
+
+-- the marks have jumps on these classes
+jumps-again : (v : Verb) (labels : List Label) (place n : ℕ) (marks : List Mark) (classes : List Class) (jumps : List (Class × ℕ))
+    → are_distinct (label_names labels) ≡ true → Numbered n classes → AreJumps v labels place n jumps
+    → ((c : Class) → n ≤ class_index c → target_of c marks ≡ target_of c (jump_marks labels jumps))
+    → jumps_on labels place marks classes ≡ Some jumps
+jumps-again v labels place n marks [] [] distinct numbered h target = refl
+jumps-again v labels place n marks [] ((d, index) ∷ js) distinct numbered h target =
+    let from = h.0 in
+    let small = below-ten d in
+    absurd (omega (arith, from, small, numbered))
+jumps-again v labels place n marks (c ∷ classes) jumps distinct numbered h target =
+    let here = numbered.0 in
+    ⊎_elim
+    (λ later.
+    let none : target_of c marks ≡ None = target c (omega (arith, here)) ∙ no-target v labels place (n + 1) c jumps later (omega (arith, here)) in
+    ap (λ o. jump_before labels place c o (jumps_on labels place marks classes)) none
+    ∙ jumps-again v labels place (n + 1) marks classes jumps distinct numbered.1 later (λ d lt. target d (omega (arith, lt))))
+    (λ (index, js, e, behind, rest).
+    let name = label_at labels index in
+    let some : target_of c marks ≡ Some name =
+    target c (omega (arith, here)) ∙ ap (λ l. target_of c (jump_marks labels l)) e
+    ∙ cond-true (class_index c == class_index c) (Some name) (target_of c (jump_marks labels js)) (eq-eqb (class_index c) (class_index c) refl) in
+    let found = label-found labels place index behind.0 distinct behind.1 behind.2 in
+    let others = jumps-again v labels place (n + 1) marks classes js distinct numbered.1 rest
+    (λ d lt. target d (omega (arith, lt)) ∙ ap (λ l. target_of d (jump_marks labels l)) e
+    ∙ cond-false (class_index d == class_index c) (Some name) (target_of d (jump_marks labels js))
+    (ne_eqb (class_index d) (class_index c) (λ k. absurd (omega (arith, k, lt, here))))) in
+    ap (λ o. jump_before labels place c o (jumps_on labels place marks classes)) some
+    ∙ ap (λ o. in_front (o >>= λ l. Some (c, l)) (jumps_on labels place marks classes)) found
+    ∙ ap (in_front (Some (c, index))) others ∙ ap Some (sym e))
+    (first-jump v labels place n c jumps here h)
+
+pub says-jumps : (v : Verb) (flags : List Word) (labels : List Label) (place : ℕ) (t : Template) (jumps : List (Class × ℕ)) (bind : Option ℕ)
+    → are_distinct (label_names labels) ≡ true → AreJumps v labels place 0 jumps
+    → jumps_on labels place (marks_of flags labels t jumps bind) all_classes ≡ Some jumps
+says-jumps v flags labels place t jumps bind distinct h =
+    jumps-again v labels place 0 (marks_of flags labels t jumps bind) all_classes jumps distinct all-numbered h
+    (λ c _. marks-target c flags labels t jumps bind)

@@ -6,16 +6,16 @@ use Rattle.std.specs.Str.{bytes_eq}
 use Rattle.std.proofs.lemmas.Bool.{and_parts, and_from, or_parts, not-true, lt-ltb}
 use Rattle.std.proofs.lemmas.Bool.Decides.{nat_tests}
 use Rattle.std.proofs.lemmas.List.Folds.{list_all-append}
-use Rattle.mc_protocol.specs.Lines.{Word}
+use Rattle.mc_script.specs.Values.{Word, Label}
 use Rattle.mc_protocol.specs.Decimals.{is_digit, MAX_64}
 use Rattle.mc_protocol.specs.Names.{is_name, is_name_byte, is_new, are_distinct, index_of}
 use Rattle.mc_protocol.proofs.Decimals.{decimal-spells}
-use Rattle.mc_script.specs.declared.section.Label.{Label}
 use Rattle.mc_script.specs.ScriptWords.{is_label_name, is_body, is_body_byte, body_word, label_word}
 use Rattle.mc_script.specs.SectionText.{label_names}
 use Rattle.mc_script.specs.Steps.{label_after}
 use Rattle.mc_script.specs.PrintedScript.{name_at, label_at}
 use Rattle.mc_script.proofs.PrintedLines.{is_plain, are_plain, is_whole, all-weaker}
+use Rattle.mc_script.proofs.Lists.{three, some-first}
 use Rattle.mc_script.proofs.SectionLines.{bytes-equal}
 
 -- ---- numbers
@@ -30,39 +30,29 @@ decimal-whole n small =
 
 -- ---- names and bodies
 
-some-byte : (byte : ℕ) (bytes : List ℕ) → not (length (byte ∷ bytes) == 0) ≡ true
-some-byte byte bytes = grind (arith, nat_tests)
-
 name-plain : (byte : ℕ) → is_name_byte byte ≡ true → is_plain byte ≡ true
 name-plain byte h = grind (arith, nat_tests)
 
 body-plain : (byte : ℕ) → is_body_byte byte ≡ true → is_plain byte ≡ true
 body-plain byte h = grind (arith, nat_tests)
 
-named-parts : (a b c : Bool) → (a && b && c) ≡ true → (a ≡ true) × (c ≡ true)
-named-parts true true true h = (refl, refl)
-named-parts true true false h = absurd (cc)
-named-parts true false c h = absurd (cc)
-named-parts false b c h = absurd (cc)
-
 pub named-plain : (limit : ℕ) (name : Word) → is_name limit name ≡ true → are_plain name ≡ true
-named-plain limit name h = all-weaker is_name_byte is_plain name-plain name (named-parts (not (length name == 0)) (nat_le (length name) limit) _ h).1
+named-plain limit name h = all-weaker is_name_byte is_plain name-plain name (three (not (length name == 0)) (nat_le (length name) limit) _ h).2
 
 pub named-whole : (limit : ℕ) (name : Word) → is_name limit name ≡ true → is_whole name ≡ true
 named-whole limit name h =
-    and_from (not (length name == 0)) (are_plain name) (named-parts (not (length name == 0)) (nat_le (length name) limit) _ h).0 (named-plain limit name h)
+    and_from (not (length name == 0)) (are_plain name) (three (not (length name == 0)) (nat_le (length name) limit) _ h).0 (named-plain limit name h)
 
 -- a plain byte in front of plain bytes
 pub front-whole : (byte : ℕ) (name : Word) → is_plain byte ≡ true → are_plain name ≡ true → is_whole (byte ∷ name) ≡ true
-front-whole byte name p h = and_from (not (length (byte ∷ name) == 0)) (are_plain (byte ∷ name)) (some-byte byte name)
-    (and_from (is_plain byte) (are_plain name) p h)
+front-whole byte name p h = rw (some-first byte name, p, h) refl
 
 pub body-whole : (body : List ℕ) → is_body body ≡ true → is_whole (body_word body) ≡ true
 body-whole body h = front-whole 61 body refl (all-weaker is_body_byte is_plain body-plain body (and_parts _ _ h).1)
 
 label-some : (name : Word) → not (length (name ++ 58 ∷ []) == 0) ≡ true
 label-some [] = refl
-label-some (byte ∷ name) = some-byte byte (name ++ 58 ∷ [])
+label-some (byte ∷ name) = some-first byte (name ++ 58 ∷ [])
 
 pub label-whole : (name : Word) → is_label_name name ≡ true → is_whole (label_word name) ≡ true
 label-whole name h =
@@ -103,6 +93,10 @@ index-found names index distinct lt =
 
 -- ---- labels by their index
 
+pub names-length : (ls : List Label) → length (label_names ls) ≡ length ls
+names-length [] = refl
+names-length (l ∷ ls) = let e = names-length ls in omega (arith, e)
+
 label-place-found : (labels : List Label) (place index : ℕ) (label : Label) → are_distinct (label_names labels) ≡ true
     → slice_get labels index ≡ Some label → place < label.place
     → (position_or_len (λ l. bytes_eq l.name (label_at labels index) && nat_lt place l.place) labels ≡ index) × (index < length labels)
@@ -119,10 +113,6 @@ label-place-found (l ∷ labels) place (suc index) label distinct get lt =
     let named : length (label_names labels) ≡ length labels = names-length labels in
     let n : index < length (label_names labels) = omega (arith, named, below) in
     (rw (new-apart l.name (label_names labels) index (not-true _ p.0) n) (ap (λ k. 1 + k) rest.0 ∙ e), omega (arith, below))
-  where
-    names-length : (ls : List Label) → length (label_names ls) ≡ length ls
-    names-length [] = refl
-    names-length (l ∷ ls) = let e = names-length ls in omega (arith, e)
 
 -- the label with an index is found by its name from each place above it
 pub label-found : (labels : List Label) (place index : ℕ) (label : Label) → are_distinct (label_names labels) ≡ true

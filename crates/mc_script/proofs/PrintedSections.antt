@@ -1,42 +1,194 @@
--- The lines of sections as they are printed, and the whole text: they spell the section, and the script.
-use Rattle.std.proofs.Common.{◌≡◌, ℕ, ◌+◌, ◌<◌, ◌≤◌, ◌==◌, nat_le, Bool, true, false, cond, ⊎_elim, Some, List}
-use Rattle.std.proofs.Common.{[], ◌∷◌, ◌++◌, length, codes, decimal, refl, sym, ap, subst, ◌∙◌, arith}
+-- The lines of steps and of sections as they are printed, and the whole text: they spell the section, and the script.
+use Rattle.std.proofs.Common.{◌≡◌, ℕ, ◌+◌, ◌<◌, ◌==◌, ◌^◌, nat_le, true, Option, Some, List, [], ◌∷◌, ◌++◌, length, decimal, refl, sym, ap, ◌∙◌, arith, ◌≤◌}
+use Rattle.std.proofs.Common.{Bool, false, cond, codes, subst, append-nil}
 use Rattle.std.specs.List.{list_all}
-use Rattle.std.proofs.lemmas.Bool.{and_parts, and_from, eqb-true, eq-eqb, ne_eqb, le-leb, lt-leb, cond_both, cases_order}
-use Rattle.mc_protocol.specs.declared.actor.Actor.{Actor}
-use Rattle.mc_protocol.specs.declared.actor.Actor.TheVariants as actor
-use Rattle.mc_protocol.specs.declared.sections.Sections.{Sections}
-use Rattle.mc_protocol.specs.declared.limits.TheConstants.{KEY_BYTES_LIMIT, REQUESTS_LIMIT, REQUEST_BYTES_LIMIT}
-use Rattle.mc_protocol.specs.Lines.{Word, Words}
+use Rattle.std.proofs.lemmas.Bool.{eqb-true, leb-true, ltb-true, and_parts, and_from, ne_eqb, le-leb, cond_both}
+use Rattle.mc_protocol.specs.Fields.{fields_of}
+use Rattle.mc_protocol.specs.Words.{verb_word, actor_word}
+use Rattle.mc_script.specs.Values.{Fields, Verb, Class, KEY_BYTES_LIMIT, Word, Words, Entry, Sign, NAME_BYTES_LIMIT, Label, Argument, Step, Template, Actor}
+use Rattle.mc_script.specs.Values.{Sections, REQUESTS_LIMIT, REQUEST_BYTES_LIMIT, FLAGS_LIMIT, Version}
+use Rattle.mc_script.specs.Values.fields
+use Rattle.mc_script.specs.Values.entry
+use Rattle.mc_script.specs.Values.sign
+use Rattle.mc_script.specs.Values.argument
+use Rattle.mc_script.specs.Values.step
+use Rattle.mc_protocol.specs.declared.request.Verb.TheVariants.{Set}
 use Rattle.mc_protocol.specs.Names.{is_name, are_distinct}
-use Rattle.mc_protocol.specs.Sections as sections
-use Rattle.mc_protocol.specs.Words.{actor_word}
-use Rattle.mc_protocol.specs.Spelling.{SpellEach}
+use Rattle.mc_protocol.specs.Decimals.{SpellsNumber, MAX_32, MAX_64}
 use Rattle.mc_protocol.proofs.Decimals.{decimal-spells}
-use Rattle.mc_script.specs.declared.entry.Entry.{Entry}
-use Rattle.mc_script.specs.declared.entry.Entry.TheVariants as entry
-use Rattle.mc_script.specs.declared.limits.TheConstants.{NAME_BYTES_LIMIT, FLAGS_LIMIT}
-use Rattle.mc_script.specs.declared.section.Label.{Label}
-use Rattle.mc_script.specs.declared.step.Step.{Step}
-use Rattle.mc_script.specs.declared.step.Step.TheVariants as step
-use Rattle.mc_script.specs.declared.version.Version.{Version}
-use Rattle.mc_script.specs.declared.version.Version.TheVariants as version
-use Rattle.mc_script.specs.Versions.{steps_limit}
+use Rattle.mc_script.specs.Chains.{◌>>=◌}
 use Rattle.mc_script.specs.Script.{Names, Section, Script, section_of, longest, version_of}
-use Rattle.mc_script.specs.ScriptWords.{is_label_name, label_word}
-use Rattle.mc_script.specs.ScriptText.{SpellsBudget, header, names_line, names_lines, section_line, end_line, body_lines}
-use Rattle.mc_script.specs.SectionText.{SpellsEntry, SpellsSection, label_names}
-use Rattle.mc_script.specs.Steps.{in_front, labels_from, steps_from}
-use Rattle.mc_script.specs.WellFormed.{AreSteps, AreLabels, IsSection, IsScript}
-use Rattle.mc_script.specs.PrintedScript.{label_lines, step_words, step_lines, section_lines, bodies_of, budget_line, script_lines}
-use Rattle.mc_script.specs.PrintedScript.{script_text, PrintedScriptsAreSpelled, PrintedScriptsAreReadAgain}
-use Rattle.mc_script.proofs.Declared.{declared-few, least-has-room}
+use Rattle.mc_script.specs.ScriptWords.{is_label_name, is_body, body_word, variable_word, label_word}
+use Rattle.mc_script.specs.Marks.{SpellsMark, mask_of, bound_by}
+use Rattle.mc_script.specs.SectionText.{SpellsEntry, SpellsFields, SpellsVariable, SpellsUnique, SpellsAmount, label_names, SpellsSection}
+use Rattle.mc_script.specs.Steps.{in_front, with_marks, steps_from, labels_from}
+use Rattle.mc_script.specs.Templates.{IsTemplate, has_fields, is_nothing, is_variable, is_amount, is_empty}
+use Rattle.mc_script.specs.WellFormed.{IsStep, AreSteps, AreLabels, IsSection, IsScript}
+use Rattle.mc_script.specs.PrintedScript.{name_at, label_at, item_words, argument_words, mark_words, field_words, step_words, label_lines, step_lines}
+use Rattle.mc_script.specs.PrintedScript.{section_lines, bodies_of, budget_line, script_lines, script_text, PrintedScriptsAreSpelled}
+use Rattle.mc_script.specs.PrintedScript.{PrintedScriptsAreReadAgain}
+use Rattle.mc_script.proofs.Lists.{three, some-first}
+use Rattle.mc_script.proofs.EntryWords.{same-template}
 use Rattle.mc_script.proofs.PrintedLines.{is_whole, are_whole, is_line, are_lines, all-weaker, lines_fall_apart}
-use Rattle.mc_script.proofs.PrintedNames.{decimal-whole, named-whole, label-whole}
-use Rattle.mc_script.proofs.PrintedFlags.{each-append, all-append}
-use Rattle.mc_script.proofs.PrintedSteps.{Known, known, step_entry, step-spells, step-again, step-line, line-from}
-use Rattle.mc_script.proofs.ScriptRead.{one_script}
-use Rattle.mc_script.proofs.WholeScript.{each}
+use Rattle.mc_script.proofs.PrintedNames.{decimal-whole, named-whole, body-whole, name-has, index-found, label-found, label-whole}
+use Rattle.mc_script.proofs.PrintedFlags.{With, both-apart, all-append, each-append, each-cond}
+use Rattle.mc_script.proofs.PrintedMarks.{Known, front-name, behind-named, marks_of, marks-spell, marks-together, known, mask_at, says-mask, says-bind}
+use Rattle.mc_script.proofs.PrintedMarks.{says-jumps}
+use Rattle.std.proofs.lemmas.Bool.Decides.{nat_tests}
+use Rattle.std.proofs.lemmas.List.Folds.{list_all-append}
+use Rattle.mc_script.specs.Values.actor
+use Rattle.mc_script.specs.Values.version
+use Rattle.mc_protocol.specs.Sections as sections
+use Rattle.mc_protocol.specs.Spelling.{SpellEach}
+use Rattle.mc_script.specs.Versions.{steps_limit}
+use Rattle.mc_script.specs.ScriptText.{SpellsBudget, header, names_line, names_lines, section_line, end_line, body_lines}
+use Rattle.mc_script.proofs.Declared.{declared-few, least-has-room}
+use Rattle.mc_script.proofs.WholeScript.{one_script, each}
+
+-- ---- fields
+
+nothing-is : (a : Argument) → is_nothing a ≡ true → a ≡ argument.Nothing
+nothing-is argument.Nothing h = refl
+nothing-is a h = absurd (cc)
+
+empty-is : (body : List ℕ) → is_empty body ≡ true → body ≡ []
+empty-is [] h = refl
+empty-is (byte ∷ body) h = absurd (omega (arith, eqb-true (length (byte ∷ body)) 0 h))
+
+-- the variable's word spells it, and is whole
+variable-spells : (names : Names) (v : ℕ) → Known names → v < length names.vars
+    → SpellsVariable names (variable_word (name_at names.vars v)) v × (is_whole (variable_word (name_at names.vars v)) ≡ true)
+variable-spells names v k lt =
+    ((name_at names.vars v, refl, index-found names.vars v k.vars lt), front-name 36 names.vars v refl k.var_names lt)
+
+unique-spells : (names : Names) (a : Argument) → Known names → is_variable (length names.vars) a ≡ true
+    → (word : Word) × (argument_words names a ≡ word ∷ []) × SpellsUnique names word a × (is_whole word ≡ true)
+unique-spells names (argument.Variable v) k h =
+    let s = variable-spells names v k (ltb-true v (length names.vars) h) in (variable_word (name_at names.vars v), refl, s.0, s.1)
+unique-spells names a k h = absurd (cc)
+
+amount-spells : (names : Names) (a : Argument) → Known names → is_amount (length names.vars) a ≡ true
+    → (word : Word) × (argument_words names a ≡ word ∷ []) × SpellsAmount names word a × (is_whole word ≡ true)
+amount-spells names argument.Nothing k h = absurd (cc)
+amount-spells names (argument.Number n) k h =
+    let small = leb-true n MAX_64 h in (decimal n, refl, decimal-spells MAX_64 n (omega arith) small, decimal-whole n small)
+amount-spells names (argument.Variable v) k h =
+    let s = variable-spells names v k (ltb-true v (length names.vars) h) in (variable_word (name_at names.vars v), refl, s.0, s.1)
+
+-- the template without flags
+abbrev pub bare : Template → Template
+bare t = record {
+  verb = t.verb;
+  key = t.key;
+  flags = t.flags;
+  argument = t.argument;
+  body = t.body;
+  require_set = 0;
+  require_clear = 0;
+  sets = 0;
+  clears = 0;
+}
+
+flags-spell : (flags : ℕ) → nat_le flags MAX_32 ≡ true → SpellsNumber MAX_32 (decimal flags) flags × (is_whole (decimal flags) ≡ true)
+flags-spell flags h =
+    let small = leb-true flags MAX_32 h in (decimal-spells MAX_32 flags (omega arith) small, decimal-whole flags (omega (arith, small)))
+
+fields-spell : (names : Names) (shape : Fields) (t : Template) → Known names → has_fields (length names.vars) shape t.flags t.argument t.body ≡ true
+    → SpellsFields names shape (item_words shape t.flags t.body ++ argument_words names t.argument) (bare t)
+    × (are_whole (item_words shape t.flags t.body ++ argument_words names t.argument) ≡ true)
+fields-spell names fields.Item t k h =
+    let p = three (nat_le t.flags MAX_32) (is_nothing t.argument) (is_body t.body) h in
+    let a = nothing-is t.argument p.1 in
+    let f = flags-spell t.flags p.0 in (
+      (decimal t.flags, ap (λ x. decimal t.flags ∷ body_word t.body ∷ argument_words names x) a, f.0, a, p.2),
+      rw (f.1, body-whole t.body p.2, a) refl,
+    )
+fields-spell names fields.Swap t k h =
+    let p = three (nat_le t.flags MAX_32) (is_variable (length names.vars) t.argument) (is_body t.body) h in
+    let (word, e, s, w) = unique-spells names t.argument k p.1 in
+    let f = flags-spell t.flags p.0 in (
+      (decimal t.flags, word, ap (λ x. decimal t.flags ∷ body_word t.body ∷ x) e, f.0, s, p.2),
+      rw (f.1, body-whole t.body p.2, e, w) refl,
+    )
+fields-spell names fields.Amount t k h =
+    let p = three (t.flags == 0) (is_amount (length names.vars) t.argument) (is_empty t.body) h in
+    let (word, e, s, w) = amount-spells names t.argument k p.1 in
+    ((word, e, eqb-true t.flags 0 p.0, s, empty-is t.body p.2), rw (e, w) refl)
+fields-spell names shape t k h =
+    let p = three (t.flags == 0) (is_nothing t.argument) (is_empty t.body) h in
+    let a = nothing-is t.argument p.1 in
+    ((ap (argument_words names) a, eqb-true t.flags 0 p.0, a, empty-is t.body p.2), rw a refl)
+
+-- ---- entries
+
+verb-whole : (v : Verb) → is_whole (verb_word v) ≡ true
+verb-whole Set = refl
+verb-whole v = refl
+
+pub line-from : (word : Word) (words : Words) → are_whole (word ∷ words) ≡ true → is_line (word ∷ words) ≡ true
+line-from word words h = rw (some-first word words) h
+
+abbrev pub step_entry : Names → List Label → Step → Entry
+step_entry names labels (step.Send t jumps bind) = entry.Send (bare t) (marks_of names.flags labels t jumps bind)
+step_entry names labels (step.Bind variable) = entry.Bind variable
+step_entry names labels (step.Goto label) = entry.Goto (label_at labels label)
+step_entry names labels step.Halt = entry.Halt
+
+pub step-spells : (names : Names) (labels : List Label) (place : ℕ) (s : Step) → Known names → list_all is_label_name (label_names labels) ≡ true
+    → IsStep names labels place s → With (SpellsEntry names) is_line (step_words names labels s) (step_entry names labels s)
+step-spells names labels place (step.Send t jumps bind) k all (h, j, b) =
+    let key = name_at names.keys t.key in
+    let fields = field_words names t in
+    let marks = mark_words names labels t jumps bind in
+    let f = fields-spell names (fields_of t.verb) t k h.fields in
+    let m = both-apart (SpellsMark names) is_whole marks (marks_of names.flags labels t jumps bind) (marks-spell names labels place t jumps bind k all j b) in
+    let key_whole = named-whole KEY_BYTES_LIMIT key (name-has (is_name KEY_BYTES_LIMIT) names.keys t.key k.key_names h.key) in (
+      record {
+        key = key;
+        fields = fields;
+        others = marks;
+        words = refl;
+        declared = index-found names.keys t.key k.keys h.key;
+        spelled = f.0;
+        bare = record { require_set = refl; require_clear = refl; sets = refl; clears = refl };
+        marked = m.0;
+        together = marks-together names (length names.keys) labels place t jumps bind h j b;
+      },
+      line-from (verb_word t.verb) (key ∷ fields ++ marks)
+          (rw (verb-whole t.verb, key_whole) (all-append is_whole fields marks f.1 m.1)),
+    )
+step-spells names labels place (step.Bind v) k all h = (
+  (name_at names.vars v, refl, index-found names.vars v k.vars h),
+  rw (named-whole NAME_BYTES_LIMIT (name_at names.vars v) (name-has (is_name NAME_BYTES_LIMIT) names.vars v k.var_names h)) refl,
+)
+step-spells names labels place (step.Goto l) k all h =
+    (refl, rw (named-whole NAME_BYTES_LIMIT (label_at labels l) (behind-named labels place l all h)) refl)
+step-spells names labels place step.Halt k all h = (refl, refl)
+
+-- ---- steps again
+
+marked-again : (names : Names) (labels : List Label) (t : Template) (jumps : List (Class × ℕ)) (bind : Option ℕ)
+    → IsTemplate (length names.keys) (length names.flags) (length names.vars) t → with_marks (bare t) (marks_of names.flags labels t jumps bind) ≡ t
+marked-again names labels t jumps bind h =
+    let fs = names.flags in
+    let says : (u : Sign) → mask_at t u < 2 ^ length fs → mask_at t u ≡ mask_of u (marks_of fs labels t jumps bind) =
+    λ u small. sym (says-mask fs labels t jumps bind u small) in
+    same-template t _ _ _ _ (says sign.RequireSet h.require_set) (says sign.RequireClear h.require_clear) (says sign.Sets h.sets) (says sign.Clears h.clears)
+
+pub step-again : (names : Names) (labels : List Label) (place : ℕ) (s : Step) (entries : List Entry) → are_distinct (label_names labels) ≡ true
+    → IsStep names labels place s
+    → steps_from labels place (step_entry names labels s ∷ entries) ≡ in_front (Some s) (steps_from labels (place + 1) entries)
+step-again names labels place (step.Send t jumps bind) entries distinct (h, j, b) =
+    let M = marks_of names.flags labels t jumps bind in
+    let rest = steps_from labels (place + 1) entries in
+    ap (λ o. in_front (o >>= λ js. Some (step.Send (with_marks (bare t) M) js (bound_by M))) rest)
+    (says-jumps t.verb names.flags labels place t jumps bind distinct j)
+    ∙ ap (λ x. in_front (Some (step.Send x jumps (bound_by M))) rest) (marked-again names labels t jumps bind h)
+    ∙ ap (λ x. in_front (Some (step.Send t jumps x)) rest) (says-bind names.flags labels t jumps bind)
+step-again names labels place (step.Bind v) entries distinct h = refl
+step-again names labels place (step.Goto l) entries distinct (label, get, lt) =
+    ap (λ o. in_front (o >>= λ l. Some (step.Goto l)) (steps_from labels (place + 1) entries)) (label-found labels place l label distinct get lt)
+step-again names labels place step.Halt entries distinct h = refl
 
 -- ---- labels
 
@@ -50,29 +202,12 @@ label-names steps place (label ∷ labels) h =
     and_from (is_label_name label.name) (list_all is_label_name (label_names labels)) h.0 (label-names steps label.place labels h.3)
 
 labels-spell : (names : Names) (place : ℕ) (labels : List Label) → list_all is_label_name (label_names labels) ≡ true
-    → SpellEach (SpellsEntry names) (label_lines place labels) (label_entries place labels)
+    → SpellEach (With (SpellsEntry names) is_line) (label_lines place labels) (label_entries place labels)
 labels-spell names place [] all = tt
 labels-spell names place (label ∷ labels) all =
     let p = and_parts (is_label_name label.name) (list_all is_label_name (label_names labels)) all in
-    let rest = labels-spell names place labels p.1 in
-    go (label.place == place) names (label_word label.name ∷ []) (entry.Label label.name) (label_lines place labels)
-    (label_entries place labels) (refl, p.0) rest
-  where
-    go : (b : Bool) (names : Names) (w : Words) (m : Entry) (ws : List Words) (ms : List Entry) → SpellsEntry names w m → SpellEach (SpellsEntry names) ws ms
-        → SpellEach (SpellsEntry names) (cond b (w ∷ ws) ws) (cond b (m ∷ ms) ms)
-    go true names w m ws ms h k = (h, k)
-    go false names w m ws ms h k = k
-
-labels-lines : (place : ℕ) (labels : List Label) → list_all is_label_name (label_names labels) ≡ true → are_lines (label_lines place labels) ≡ true
-labels-lines place [] all = refl
-labels-lines place (label ∷ labels) all =
-    let p = and_parts (is_label_name label.name) (list_all is_label_name (label_names labels)) all in
-    let rest = labels-lines place labels p.1 in
-    let line = label_word label.name ∷ [] in
-    cond_both (label.place == place) (line ∷ label_lines place labels) (label_lines place labels) (λ ls. are_lines ls ≡ true)
-    (λ _. and_from (is_line line) (are_lines (label_lines place labels))
-    (line-from (label_word label.name) [] (and_from (is_whole (label_word label.name)) true (label-whole label.name p.0) refl)) rest)
-    (λ _. rest)
+    each-cond (With (SpellsEntry names) is_line) (label.place == place) (label_word label.name ∷ []) (entry.Label label.name) (label_lines place labels)
+    (label_entries place labels) ((refl, p.0), rw (label-whole label.name p.0) refl) (labels-spell names place labels p.1)
 
 -- the labels of a place, and those from a place on
 abbrev labels_at : ℕ → List Label → List Label
@@ -98,58 +233,31 @@ labels-before place (label ∷ labels) rest = go (label.place == place) refl (la
         ∙ ap (λ l. l ∷ (labels_at place labels ++ labels_from place rest)) (label-made place label (eqb-true label.place place e))
     go false e h = h
 
-append-nil : {X : Type 0} (xs : List X) → xs ++ [] ≡ xs
-append-nil [] = refl
-append-nil (x ∷ xs) = ap (λ ys. x ∷ ys) (append-nil xs)
-
 none-at : (steps least place : ℕ) (labels : List Label) → AreLabels steps least labels → place < least → labels_at place labels ≡ []
 none-at steps least place [] h lt = refl
 none-at steps least place (label ∷ labels) h lt =
     let from = h.1 in
     rw (ne_eqb label.place place (λ e. absurd (omega (arith, from, lt, e)))) (none-at steps label.place place labels h.3 (omega (arith, from, lt)))
 
+split-one : (place at : ℕ) (l : Label) (from here after : List Label) → from ≡ here ++ after → (place < at → here ≡ [])
+    → cond (nat_le place at) (l ∷ from) from ≡ cond (at == place) (l ∷ here) here ++ cond (nat_le (place + 1) at) (l ∷ after) after
+split-one place at l from here after e none = grind (arith, nat_tests)
+
 labels-split : (steps least place : ℕ) (labels : List Label) → AreLabels steps least labels
     → labels_beyond place labels ≡ labels_at place labels ++ labels_beyond (place + 1) labels
 labels-split steps least place [] h = refl
 labels-split steps least place (label ∷ labels) h =
-    let rest = labels-split steps label.place place labels h.3 in
-    ⊎_elim
-    (λ e.
-    let a : nat_le place label.place ≡ true = le-leb place label.place (omega (arith, e)) in
-    let b : (label.place == place) ≡ true = eq-eqb label.place place e in
-    let c : nat_le (place + 1) label.place ≡ false = lt-leb (place + 1) label.place (omega (arith, e)) in
-    rw (a, b, c) (ap (λ l. label ∷ l) rest))
-    (λ o. ⊎_elim
-    (λ lt.
-    let a : nat_le place label.place ≡ false = lt-leb place label.place lt in
-    let b : (label.place == place) ≡ false = ne_eqb label.place place (λ e. absurd (omega (arith, e, lt))) in
-    let c : nat_le (place + 1) label.place ≡ false = lt-leb (place + 1) label.place (omega (arith, lt)) in
-    rw (a, b, c) rest)
-    (λ gt.
-    let none = none-at steps label.place place labels h.3 gt in
-    let a : nat_le place label.place ≡ true = le-leb place label.place (omega (arith, gt)) in
-    let b : (label.place == place) ≡ false = ne_eqb label.place place (λ e. absurd (omega (arith, e, gt))) in
-    let c : nat_le (place + 1) label.place ≡ true = le-leb (place + 1) label.place (omega (arith, gt)) in
-    let others : labels_beyond place labels ≡ labels_beyond (place + 1) labels = rest ∙ ap (λ l. l ++ labels_beyond (place + 1) labels) none in
-    rw (a, b, c, none) (ap (λ l. label ∷ l) others)) o)
-    (cases_order label.place place)
+    split-one place label.place label (labels_beyond place labels) (labels_at place labels) (labels_beyond (place + 1) labels)
+    (labels-split steps label.place place labels h.3) (λ gt. none-at steps label.place place labels h.3 gt)
+
+end-one : (steps at : ℕ) (l : Label) (here from : List Label) → here ≡ from → at ≤ steps
+    → cond (at == steps) (l ∷ here) here ≡ cond (nat_le steps at) (l ∷ from) from
+end-one steps at l here from e to = grind (arith, nat_tests)
 
 labels-end : (steps least : ℕ) (labels : List Label) → AreLabels steps least labels → labels_at steps labels ≡ labels_beyond steps labels
 labels-end steps least [] h = refl
 labels-end steps least (label ∷ labels) h =
-    let to = h.2 in
-    let rest = labels-end steps label.place labels h.3 in
-    ⊎_elim
-    (λ e.
-    let a : nat_le steps label.place ≡ true = le-leb steps label.place (omega (arith, e)) in
-    rw (a, eq-eqb label.place steps e) (ap (λ l. label ∷ l) rest))
-    (λ o. ⊎_elim
-    (λ lt.
-    let a : nat_le steps label.place ≡ false = lt-leb steps label.place lt in
-    let b : (label.place == steps) ≡ false = ne_eqb label.place steps (λ e. absurd (omega (arith, e, lt))) in
-    rw (a, b) rest)
-    (λ gt. absurd (omega (arith, to, gt))) o)
-    (cases_order label.place steps)
+    end-one steps label.place label (labels_at steps labels) (labels_beyond steps labels) (labels-end steps label.place labels h.3) h.2
 
 labels-start : (labels : List Label) → labels_beyond 0 labels ≡ labels
 labels-start [] = refl
@@ -162,27 +270,17 @@ step_entries names labels place [] = label_entries place labels
 step_entries names labels place (s ∷ steps) = label_entries place labels ++ step_entry names labels s ∷ step_entries names labels (place + 1) steps
 
 lines-spell : (names : Names) (labels : List Label) (place : ℕ) (steps : List Step) → Known names → list_all is_label_name (label_names labels) ≡ true
-    → AreSteps names labels place steps → SpellEach (SpellsEntry names) (step_lines names labels place steps) (step_entries names labels place steps)
+    → AreSteps names labels place steps
+    → SpellEach (With (SpellsEntry names) is_line) (step_lines names labels place steps) (step_entries names labels place steps)
 lines-spell names labels place [] k all h = labels-spell names place labels all
 lines-spell names labels place (s ∷ steps) k all h =
-    each-append (SpellsEntry names) (label_lines place labels) (step_words names labels s ∷ step_lines names labels (place + 1) steps)
-    (label_entries place labels) (step_entry names labels s ∷ step_entries names labels (place + 1) steps) (labels-spell names place labels all)
-    (step-spells names labels place s k h.0, lines-spell names labels (place + 1) steps k all h.1)
-
-lines-are-lines : (names : Names) (labels : List Label) (place : ℕ) (steps : List Step) → Known names → list_all is_label_name (label_names labels) ≡ true
-    → AreSteps names labels place steps → are_lines (step_lines names labels place steps) ≡ true
-lines-are-lines names labels place [] k all h = labels-lines place labels all
-lines-are-lines names labels place (s ∷ steps) k all h =
-    all-append is_line (label_lines place labels) (step_words names labels s ∷ step_lines names labels (place + 1) steps) (labels-lines place labels all)
-    (and_from (is_line (step_words names labels s)) (are_lines (step_lines names labels (place + 1) steps))
-    (step-line names labels place s k all h.0) (lines-are-lines names labels (place + 1) steps k all h.1))
+    each-append (With (SpellsEntry names) is_line) _ _ _ _ (labels-spell names place labels all)
+    (step-spells names labels place s k all h.0, lines-spell names labels (place + 1) steps k all h.1)
 
 labels-behind : (names : Names) (labels : List Label) (place : ℕ) (s : Step) (entries : List Entry)
     → labels_from place (step_entry names labels s ∷ entries) ≡ labels_from (place + 1) entries
-labels-behind names labels place (step.Send t jumps bind) entries = refl
-labels-behind names labels place (step.Bind v) entries = refl
-labels-behind names labels place (step.Goto l) entries = refl
 labels-behind names labels place step.Halt entries = refl
+labels-behind names labels place s entries = refl
 
 labels-again : (names : Names) (labels : List Label) (count place : ℕ) (steps : List Step) → AreLabels count 0 labels → count ≡ place + length steps
     → labels_from place (step_entries names labels place steps) ≡ labels_beyond place labels
@@ -214,21 +312,22 @@ steps-again names labels place (s ∷ steps) distinct h =
     steps-before labels place place labels (step_entry names labels s ∷ rest) ∙ step-again names labels place s rest distinct h.0
     ∙ ap (λ o. in_front (Some s) o) (steps-again names labels (place + 1) steps distinct h.1)
 
+section-lines : (names : Names) (s : Section) → Known names → IsSection names s
+    → SpellEach (SpellsEntry names) (section_lines names s) (step_entries names s.labels 0 s.steps) × (are_lines (section_lines names s) ≡ true)
+section-lines names s k h =
+    both-apart (SpellsEntry names) is_line (section_lines names s) (step_entries names s.labels 0 s.steps)
+    (lines-spell names s.labels 0 s.steps k (label-names (length s.steps) 0 s.labels h.labels) h.steps)
+
 section-spells : (v : Version) (names : Names) (s : Section) → Known names → IsSection names s → length s.steps ≤ steps_limit v
     → SpellsSection v names (section_lines names s) s
-section-spells v names s k h few =
-    let all = label-names (length s.steps) 0 s.labels h.labels in
-    record {
-      entries = step_entries names s.labels 0 s.steps;
-      spelled = lines-spell names s.labels 0 s.steps k all h.steps;
-      labels = sym (labels-again names s.labels (length s.steps) 0 s.steps h.labels (omega arith) ∙ labels-start s.labels);
-      distinct = h.distinct;
-      steps = steps-again names s.labels 0 s.steps h.distinct h.steps;
-      few = few;
-    }
-
-section-lines : (names : Names) (s : Section) → Known names → IsSection names s → are_lines (section_lines names s) ≡ true
-section-lines names s k h = lines-are-lines names s.labels 0 s.steps k (label-names (length s.steps) 0 s.labels h.labels) h.steps
+section-spells v names s k h few = record {
+  entries = step_entries names s.labels 0 s.steps;
+  spelled = (section-lines names s k h).0;
+  labels = sym (labels-again names s.labels (length s.steps) 0 s.steps h.labels (omega arith) ∙ labels-start s.labels);
+  distinct = h.distinct;
+  steps = steps-again names s.labels 0 s.steps h.distinct h.steps;
+  few = few;
+}
 
 -- ---- the whole text
 
@@ -250,18 +349,11 @@ actor-whole actor.P = refl
 actor-whole actor.A = refl
 actor-whole actor.B = refl
 
-more : (word : Word) (words : Words) → is_whole word ≡ true → are_whole words ≡ true → are_whole (word ∷ words) ≡ true
-more word words one others = and_from (is_whole word) (are_whole words) one others
-
 budget-is-line : (a : Actor) (names : Names) (s : Section) → IsSection names s → is_line (budget_line a s.budget) ≡ true
 budget-is-line a names s h =
-    let r = decimal s.budget.requests in
-    let b = decimal s.budget.bytes in
     let few = h.requests in
     let small = h.bytes in
-    line-from (codes "budget") (actor_word a ∷ r ∷ b ∷ []) (more (codes "budget") (actor_word a ∷ r ∷ b ∷ []) refl
-    (more (actor_word a) (r ∷ b ∷ []) (actor-whole a) (more r (b ∷ []) (decimal-whole s.budget.requests (omega (arith, few)))
-    (more b [] (decimal-whole s.budget.bytes (omega (arith, small))) refl))))
+    rw (actor-whole a, decimal-whole s.budget.requests (omega (arith, few)), decimal-whole s.budget.bytes (omega (arith, small))) refl
 
 names-whole : (limit : ℕ) (names : List Word) → list_all (is_name limit) names ≡ true → are_whole names ≡ true
 names-whole limit names h = all-weaker (is_name limit) is_whole (named-whole limit) names h
@@ -270,13 +362,8 @@ names-are-lines : (word : Word) (limit : ℕ) (names : List Word) → is_whole w
     → are_lines (names_line word names) ≡ true
 names-are-lines word limit [] w h = refl
 names-are-lines word limit (name ∷ names) w h =
-    and_from (is_line (word ∷ name ∷ names)) true (line-from word (name ∷ names) (more word (name ∷ names) w (names-whole limit (name ∷ names) h))) refl
-
-cons : (line : Words) (lines : List Words) → is_line line ≡ true → are_lines lines ≡ true → are_lines (line ∷ lines) ≡ true
-cons line lines h k = and_from (is_line line) (are_lines lines) h k
-
-section-line : (a : Actor) → is_line (section_line a) ≡ true
-section-line a = line-from (actor_word a) [] (more (actor_word a) [] (actor-whole a) refl)
+    let whole = names-whole limit (name ∷ names) h in
+    rw (line-from word (name ∷ names) (and_from (is_whole word) (are_whole (name ∷ names)) w whole)) refl
 
 script-are-lines : (s : Script) → IsScript s → are_lines (script_lines s) ≡ true
 script-are-lines s h =
@@ -284,27 +371,34 @@ script-are-lines s h =
     let p = section_lines s.names s.sections.p in
     let a = section_lines s.names s.sections.a in
     let b = section_lines s.names s.sections.b in
-    let tail = all-append is_line b (end_line ∷ []) (section-lines s.names s.sections.b k h.b) refl in
-    let from_a = all-append is_line a (section_line actor.B ∷ (b ++ end_line ∷ [])) (section-lines s.names s.sections.a k h.a)
-    (cons (section_line actor.B) (b ++ end_line ∷ []) (section-line actor.B) tail) in
-    let from_p = all-append is_line p (section_line actor.A ∷ (a ++ section_line actor.B ∷ (b ++ end_line ∷ []))) (section-lines s.names s.sections.p k h.p)
-    (cons (section_line actor.A) (a ++ section_line actor.B ∷ (b ++ end_line ∷ [])) (section-line actor.A) from_a) in
-    let body = cons (section_line actor.P) (p ++ section_line actor.A ∷ (a ++ section_line actor.B ∷ (b ++ end_line ∷ []))) (section-line actor.P) from_p in
-    let bp = budget_line actor.P s.sections.p.budget in
-    let ba = budget_line actor.A s.sections.a.budget in
-    let bb = budget_line actor.B s.sections.b.budget in
-    let budgets = cons bp (ba ∷ bb ∷ body_lines (bodies_of s)) (budget-is-line actor.P s.names s.sections.p h.p)
-    (cons ba (bb ∷ body_lines (bodies_of s)) (budget-is-line actor.A s.names s.sections.a h.a)
-    (cons bb (body_lines (bodies_of s)) (budget-is-line actor.B s.names s.sections.b h.b) body)) in
     let keys = names_line (codes "keys") s.names.keys in
     let flags = names_line (codes "flags") s.names.flags in
-    let vars = names_line (codes "vars") s.names.vars in
-    let names = all-append is_line (keys ++ flags) vars
+    let after_a = b ++ end_line ∷ [] in
+    let after_p = a ++ section_line actor.B ∷ after_a in
+    let joins = list_all-append is_line in
+    let body : are_lines (body_lines (bodies_of s)) ≡ true =
+    rw (
+      joins p (section_line actor.A ∷ after_p),
+      joins a (section_line actor.B ∷ after_a),
+      joins b (end_line ∷ []),
+      (section-lines s.names s.sections.p k h.p).1,
+      (section-lines s.names s.sections.a k h.a).1,
+      (section-lines s.names s.sections.b k h.b).1,
+    ) refl in
+    let names = all-append is_line (keys ++ flags) (names_line (codes "vars") s.names.vars)
     (all-append is_line keys flags (names-are-lines (codes "keys") KEY_BYTES_LIMIT s.names.keys refl k.key_names)
     (names-are-lines (codes "flags") NAME_BYTES_LIMIT s.names.flags refl k.flag_names))
     (names-are-lines (codes "vars") NAME_BYTES_LIMIT s.names.vars refl k.var_names) in
-    cons (header (version_of s)) (names_lines s.names ++ bp ∷ ba ∷ bb ∷ body_lines (bodies_of s)) (version-whole (version_of s))
-    (all-append is_line (names_lines s.names) (bp ∷ ba ∷ bb ∷ body_lines (bodies_of s)) names budgets)
+    let bp = budget_line actor.P s.sections.p.budget in
+    let ba = budget_line actor.A s.sections.a.budget in
+    let bb = budget_line actor.B s.sections.b.budget in
+    let budgets : are_lines (bp ∷ ba ∷ bb ∷ body_lines (bodies_of s)) ≡ true =
+    rw (
+      budget-is-line actor.P s.names s.sections.p h.p,
+      budget-is-line actor.A s.names s.sections.a h.a,
+      budget-is-line actor.B s.names s.sections.b h.b,
+    ) body in
+    rw (version-whole (version_of s)) (all-append is_line (names_lines s.names) (bp ∷ ba ∷ bb ∷ body_lines (bodies_of s)) names budgets)
 
 pub printed_scripts : PrintedScriptsAreSpelled
 printed_scripts s h =

@@ -6,8 +6,6 @@ use Rattle.mc_protocol.specs.Lines.{Words}
 use Rattle.mc_script.specs.declared.section.Budget.{Budget}
 use Rattle.mc_script.specs.declared.version.Version.{Version}
 use Rattle.mc_script.specs.Script.{Names, Section, Script, version_of}
-use Rattle.mc_script.specs.declared.section.Budget.{Budget}
-use Rattle.mc_script.specs.declared.version.Version.{Version}
 use Rattle.mc_script.specs.ScriptText.{header, names_lines, section_line, end_line}
 use Rattle.mc_script.specs.PrintedScript.{line_text, lines_text, section_lines, budget_line, script_text}
 

@@ -1,18 +1,16 @@
 -- What the answer of the reader says: it is a script exactly where the text spells one, and that script is well formed.
 use Rattle.std.proofs.Common.{◌≡◌, ◌≢◌, ℕ, List, Some, None, Result, Ok, Err}
 use Rattle.std.specs.Result.{IfOk, IfErr}
-use Rattle.mc_protocol.specs.declared.lines.Separator.TheVariants.{SpaceOrTab}
+use Rattle.mc_script.specs.Values.{SpaceOrTab, ScriptFault}
+use Rattle.mc_script.specs.Values.kind
 use Rattle.mc_protocol.specs.Lines.{words_of_text}
-use Rattle.mc_script.specs.declared.fault.ScriptFault.{ScriptFault}
-use Rattle.mc_script.specs.declared.fault.ScriptKind.TheVariants as kind
 use Rattle.mc_script.specs.Reading.{Says}
 use Rattle.mc_script.specs.Script.{Script}
 use Rattle.mc_script.specs.ScriptText.{SpellsScript}
-use Rattle.mc_script.specs.TextReading.{script_in}
+use Rattle.mc_script.specs.Reading.{script_in}
 use Rattle.mc_script.specs.WellFormed.{IsScript}
 use Rattle.mc_script.proofs.Formed.{script-formed}
-use Rattle.mc_script.proofs.ScriptRead.{script-read}
-use Rattle.mc_script.proofs.WholeScript.{script_spelled}
+use Rattle.mc_script.proofs.WholeScript.{script-read, script_spelled}
 
 pub script_formed : (text : List ℕ) (s : Script) → script_in (words_of_text SpaceOrTab text) ≡ Some s → IsScript s
 script_formed text s h = script-formed text s (script_spelled text s h)

@@ -1,20 +1,14 @@
 -- The steps of the entries that are left, one further on.
 use Rattle.std.proofs.Common.{◌≡◌, ℕ, ◌+◌, ◌<◌, true, false, Option, Some, None, List, [], ◌∷◌, ◌++◌}
-use Rattle.std.proofs.Common.{length, drop, get_or, refl, sym, ap, ◌∙◌, arith, length-append}
+use Rattle.std.proofs.Common.{length, drop, get_or, refl, sym, ap, ◌∙◌, arith, length-append, append_assoc}
 use Rattle.std.proofs.lemmas.List.{drop_more}
-use Rattle.mc_script.specs.declared.entry.Entry.{Entry}
-use Rattle.mc_script.specs.declared.entry.Entry.TheVariants as entry
-use Rattle.mc_script.specs.declared.section.Label.{Label}
-use Rattle.mc_script.specs.declared.step.Step.{Step}
-use Rattle.mc_script.specs.Steps.{steps_from, in_front}
-use Rattle.mc_script.specs.TextReading.{onto, step_in, is_label}
-
-push_assoc : {X : Type 0} (xs : List X) (x : X) (ys : List X) → (xs ++ x ∷ []) ++ ys ≡ xs ++ x ∷ ys
-push_assoc [] x ys = refl
-push_assoc (y ∷ xs) x ys = ap (λ zs. y ∷ zs) (push_assoc xs x ys)
+use Rattle.mc_script.specs.Values.{Entry, Label, Step}
+use Rattle.mc_script.specs.Values.entry
+use Rattle.mc_script.specs.Steps.{step_in, steps_from, in_front}
+use Rattle.mc_script.specs.Reading.{onto, is_label}
 
 onto-push : {A : Type 0} (xs : List A) (x : A) (ys : Option (List A)) → onto (xs ++ x ∷ []) ys ≡ onto xs (in_front (Some x) ys)
-onto-push xs x (Some ys) = ap Some (push_assoc xs x ys)
+onto-push xs x (Some ys) = ap Some (append_assoc xs (x ∷ []) ys)
 onto-push xs x None = refl
 
 pushed-length : {A : Type 0} (xs : List A) (x : A) → length (xs ++ x ∷ []) ≡ length xs + 1
@@ -23,18 +17,12 @@ pushed-length xs x = omega (arith, length-append xs (x ∷ []))
 steps-cons : (labels : List Label) (place : ℕ) (e : Entry) (entries : List Entry) → is_label e ≡ false
     → steps_from labels place (e ∷ entries) ≡ in_front (step_in labels place e) (steps_from labels (place + 1) entries)
 steps-cons labels place (entry.Label name) entries h = absurd (cc)
-steps-cons labels place (entry.Send t marks) entries h = refl
-steps-cons labels place (entry.Bind v) entries h = refl
-steps-cons labels place (entry.Goto name) entries h = refl
-steps-cons labels place entry.Halt entries h = refl
+steps-cons labels place e entries h = refl
 
 label-cons : (labels : List Label) (place : ℕ) (e : Entry) (entries : List Entry) → is_label e ≡ true
     → steps_from labels place (e ∷ entries) ≡ steps_from labels place entries
 label-cons labels place (entry.Label name) entries h = refl
-label-cons labels place (entry.Send t marks) entries h = absurd (cc)
-label-cons labels place (entry.Bind v) entries h = absurd (cc)
-label-cons labels place (entry.Goto name) entries h = absurd (cc)
-label-cons labels place entry.Halt entries h = absurd (cc)
+label-cons labels place e entries h = absurd (cc)
 
 -- the entries from this one on
 from-entry : (entries : List Entry) (k : ℕ) (e : Entry) → k < length entries → e ≡ get_or entries k e → drop k entries ≡ e ∷ drop (k + 1) entries

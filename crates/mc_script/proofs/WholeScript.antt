@@ -1,34 +1,35 @@
--- A text is read as a script exactly where it spells it.
-use Rattle.std.proofs.Common.{◌≡◌, ℕ, ◌≤◌, ◌==◌, cond, true, not, Some, None, List, [], ◌∷◌, ◌++◌, length, drop, codes, refl, sym, ap, subst, ◌∙◌, arith}
+-- A text is read as a script exactly where it spells it, so a text spells one.
+use Rattle.std.proofs.Common.{◌≡◌, ℕ, ◌≤◌, ◌==◌, cond, true, not, Some, None, List, [], ◌∷◌, ◌++◌, length, drop, codes, refl, sym, ap, subst, ◌∙◌}
+use Rattle.std.proofs.Common.{append_assoc, arith}
 use Rattle.std.specs.Str.{bytes_eq}
-use Rattle.mc_protocol.specs.declared.actor.Actor.{Actor}
-use Rattle.mc_protocol.specs.declared.actor.Actor.TheVariants as actor
-use Rattle.mc_protocol.specs.declared.sections.Sections.{Sections}
-use Rattle.mc_protocol.specs.declared.lines.Separator.TheVariants.{SpaceOrTab}
-use Rattle.mc_protocol.specs.Lines.{words_of_text, Word, Words, begins_with, is_only}
-use Rattle.mc_protocol.specs.declared.limits.TheConstants.{KEYS_LIMIT, KEY_BYTES_LIMIT, REQUESTS_LIMIT, REQUEST_BYTES_LIMIT}
+use Rattle.mc_script.specs.Values.{Actor, Sections, SpaceOrTab, Word, Words, KEYS_LIMIT, KEY_BYTES_LIMIT, REQUESTS_LIMIT, REQUEST_BYTES_LIMIT, Entry}
+use Rattle.mc_script.specs.Values.{NAME_BYTES_LIMIT, FLAGS_LIMIT, VARIABLES_LIMIT, Budget, Version}
+use Rattle.mc_script.specs.Values.actor
+use Rattle.mc_script.specs.Values.version
+use Rattle.mc_protocol.specs.Lines.{words_of_text, begins_with, is_only}
 use Rattle.mc_protocol.specs.Decimals.{SpellsNumber}
 use Rattle.mc_protocol.specs.Sections as sections
 use Rattle.mc_protocol.specs.Words.{actor_word, verb_of}
-use Rattle.mc_script.specs.declared.entry.Entry.{Entry}
-use Rattle.mc_script.specs.declared.limits.TheConstants.{NAME_BYTES_LIMIT, FLAGS_LIMIT, VARIABLES_LIMIT}
-use Rattle.mc_script.specs.declared.section.Budget.{Budget}
-use Rattle.mc_script.specs.declared.version.Version.{Version}
-use Rattle.mc_script.specs.declared.version.Version.TheVariants as version
 use Rattle.mc_script.specs.Versions.{version_word, flags_limit, steps_limit}
-use Rattle.mc_script.specs.Script.{Names, Section, Script, AreDeclared, section_of}
+use Rattle.mc_script.specs.Script.{Names, Section, Script, AreDeclared, section_of, may_be_declared}
 use Rattle.mc_script.specs.ScriptText.{SpellsInVersion, SpellsScript, SpellsBudget, header, names_line, names_lines, section_line, end_line, body_lines}
+use Rattle.mc_script.specs.ScriptText.{SpellsOneScript}
 use Rattle.mc_script.specs.SectionText.{SpellsSection}
 use Rattle.mc_script.specs.Chains.{◌>>=◌}
-use Rattle.mc_script.specs.Reading.{entry_in, version_of_word, header_version, header_in, names_in, keys_in}
-use Rattle.mc_script.specs.Reading.{optional_in, then_line, number_in, numbers_in, amounts_in, budget_in}
-use Rattle.mc_script.specs.TextReading.{line_in, names_of, all_names_in, next_budget_in, budgets_of, budgets_in, section_line_in}
-use Rattle.mc_script.specs.TextReading.{entries_in, ended_in, bodies_in, section_in, script_of, resolved_in, script_in}
+use Rattle.mc_script.specs.Reading.{entry_in, version_of_word, header_version, header_in, names_in, keys_in, optional_in, line_in, number_in, numbers_in}
+use Rattle.mc_script.specs.Reading.{budget_in, all_names_in, next_budget_in, budgets_in, section_line_in, entries_in, ended_in}
+use Rattle.mc_script.specs.Reading.{bodies_in, section_in, script_of, resolved_in, script_in}
 use Rattle.mc_script.proofs.Outcomes.{then-some, cond-cases, some-same, only-then}
 use Rattle.mc_script.proofs.FieldWords.{number-spelled, number-read}
 use Rattle.mc_script.proofs.Declared.{names-declared, keys-declared, optional-declared, declared-few, declared-within, none-declared, flags-within}
-use Rattle.mc_script.proofs.SectionLines.{bytes-same, bytes-equal, only-line}
-use Rattle.mc_script.proofs.Sections.{section-spelled}
+use Rattle.mc_script.proofs.SectionLines.{bytes-equal, only-line, section-spelled, section-read}
+use Rattle.mc_script.proofs.Lists.{bytes-same}
+
+abbrev names_of : List Word → List Word → List Word → Names
+names_of keys flags vars = record { keys = keys; flags = flags; vars = vars }
+
+abbrev budgets_of : Budget → Budget → Budget → Sections Budget
+budgets_of p a b = record { p = p; a = a; b = b }
 
 -- ---- the header
 
@@ -41,17 +42,15 @@ version-word word v h =
     bytes-same word (codes "2") p.0 ∙ ap version_word (some-same version.Two v p.1))
 
 header-line : (line : Words) (v : Version) → header_version line ≡ Some v → line ≡ header v
-header-line [] v h = absurd (cc)
-header-line (word ∷ []) v h = absurd (cc)
 header-line (word ∷ number ∷ []) v h =
     let p = only-then (bytes_eq word (codes "script")) (version_of_word number) v h in
     ap (λ w. w ∷ number ∷ []) (bytes-same word (codes "script") p.0) ∙ ap (λ w. codes "script" ∷ w ∷ []) (version-word number v p.1)
-header-line (word ∷ number ∷ next ∷ others) v h = absurd (cc)
+header-line line v h = absurd (cc)
 
 header-spelled : (lines : List Words) (v : Version) (rest : List Words) → header_in lines ≡ Some (v, rest) → lines ≡ header v ∷ rest
 header-spelled [] v rest h = absurd (cc)
 header-spelled (line ∷ lines) v rest h =
-    let p = then-some (header_version line) (λ v. Some (v, lines)) (v, rest) h in
+    let p = then-some (header_version line) _ _ h in
     let e = some-same (p.0, lines) (v, rest) p.2 in
     ap (λ l. l ∷ lines) (header-line line p.0 p.1) ∙ ap (λ t. header t.0 ∷ t.1) e
 
@@ -70,43 +69,33 @@ keys-line [] keys rest h = absurd (cc)
 keys-line (line ∷ lines) keys rest h =
     let word = codes "keys" in
     let p = only-then (begins_with word line) (names_in KEYS_LIMIT KEY_BYTES_LIMIT (drop 1 line) >>= λ names. Some (names, lines)) (keys, rest) h in
-    let q = then-some (names_in KEYS_LIMIT KEY_BYTES_LIMIT (drop 1 line)) (λ names. Some (names, lines)) (keys, rest) p.1 in
+    let q = then-some (names_in KEYS_LIMIT KEY_BYTES_LIMIT (drop 1 line)) _ _ p.1 in
     let d = names-declared KEYS_LIMIT KEY_BYTES_LIMIT (drop 1 line) q.0 q.1 in
     let e = some-same (q.0, lines) (keys, rest) q.2 in
     let here : line ≡ word ∷ q.0 = first-word word line p.0 ∙ ap (λ ns. word ∷ ns) d.2 in
     ap (λ l. l ∷ lines) here ∙ ap (λ ls. ls ++ lines) (sym (some-line word q.0 d.0)) ∙ ap (λ t. names_line word t.0 ++ t.1) e
 
-then-same : {A : Type 0} (x y : A) (lines : List Words) (next : Words) (rest : List Words) → then_line x lines ≡ Some (y, next, rest)
-    → (x ≡ y) × (lines ≡ next ∷ rest)
-then-same x y [] next rest h = absurd (cc)
-then-same x y (line ∷ lines) next rest h =
-    let e = some-same (x, line, lines) (y, next, rest) h in
-    (ap (λ t. t.0) e, ap (λ t. t.1 ∷ t.2) e)
-
-optional-line : (word : Word) (limit : ℕ) (line : Words) (lines : List Words) (names : List Word) (next : Words) (rest : List Words)
-    → optional_in word limit line lines ≡ Some (names, next, rest) → line ∷ lines ≡ names_line word names ++ next ∷ rest
-optional-line word limit line lines names next rest h =
-    cond-cases (begins_with word line) (names_in limit NAME_BYTES_LIMIT (drop 1 line) >>= λ ns. then_line ns lines) (Some ([], line, lines))
-    (names, next, rest) (line ∷ lines ≡ names_line word names ++ next ∷ rest) h
-    (λ b g.
-    let q = then-some (names_in limit NAME_BYTES_LIMIT (drop 1 line)) (λ ns. then_line ns lines) (names, next, rest) g in
-    let d = names-declared limit NAME_BYTES_LIMIT (drop 1 line) q.0 q.1 in
-    let t = then-same q.0 names lines next rest q.2 in
-    let here : line ≡ word ∷ q.0 = first-word word line b ∙ ap (λ ns. word ∷ ns) d.2 in
-    ap (λ l. l ∷ lines) here ∙ ap (λ ls. ls ++ lines) (sym (some-line word q.0 d.0))
-    ∙ ap (λ ns. names_line word ns ++ lines) t.0 ∙ ap (λ ls. names_line word names ++ ls) t.1)
-    (λ _ g. let e = some-same ([], line, lines) (names, next, rest) g in ap (λ t. names_line word t.0 ++ t.1 ∷ t.2) e)
-
 line-same : (lines : List Words) (line : Words) (rest : List Words) → line_in lines ≡ Some (line, rest) → lines ≡ line ∷ rest
 line-same [] line rest h = absurd (cc)
 line-same (first ∷ lines) line rest h = ap (λ t. t.0 ∷ t.1) (some-same (first, lines) (line, rest) h)
 
-append-assoc : {X : Type 0} (xs ys zs : List X) → (xs ++ ys) ++ zs ≡ xs ++ (ys ++ zs)
-append-assoc [] ys zs = refl
-append-assoc (x ∷ xs) ys zs = ap (λ l. x ∷ l) (append-assoc xs ys zs)
+optional-line : (word : Word) (limit : ℕ) (line : Words) (lines : List Words) (names : List Word) (next : Words) (rest : List Words)
+    → optional_in word limit line lines ≡ Some (names, next, rest) → line ∷ lines ≡ names_line word names ++ next ∷ rest
+optional-line word limit line lines names next rest h =
+    cond-cases (begins_with word line) _ (Some ([], line, lines))
+    (names, next, rest) (line ∷ lines ≡ names_line word names ++ next ∷ rest) h
+    (λ b g.
+    let q = then-some (names_in limit NAME_BYTES_LIMIT (drop 1 line)) _ _ g in
+    let d = names-declared limit NAME_BYTES_LIMIT (drop 1 line) q.0 q.1 in
+    let l = then-some (line_in lines) _ _ q.2 in
+    let t = some-same (q.0, l.0.0, l.0.1) (names, next, rest) l.2 in
+    let here : line ≡ word ∷ q.0 = first-word word line b ∙ ap (λ ns. word ∷ ns) d.2 in
+    ap (λ l. l ∷ lines) here ∙ ap (λ ls. ls ++ lines) (sym (some-line word q.0 d.0))
+    ∙ ap (λ ls. names_line word q.0 ++ ls) (line-same lines l.0.0 l.0.1 l.1) ∙ ap (λ t. names_line word t.0 ++ t.1 ∷ t.2) t)
+    (λ _ g. let e = some-same ([], line, lines) (names, next, rest) g in ap (λ t. names_line word t.0 ++ t.1 ∷ t.2) e)
 
 rejoin : (a b c d : List Words) → a ++ (b ++ (c ++ d)) ≡ ((a ++ b) ++ c) ++ d
-rejoin a b c d = sym (append-assoc (a ++ b) c d ∙ append-assoc a b (c ++ d))
+rejoin a b c d = sym (append_assoc (a ++ b) c d ∙ append_assoc a b (c ++ d))
 
 -- the parts of what declares the names
 names-joined : (v : Version) (lines : List Words) (keys flags vars : List Word) (more : List Words) (first second last : Words)
@@ -136,13 +125,10 @@ names-joined v lines keys flags vars more first second last behind onward rest k
 names-spelled : (v : Version) (lines : List Words) (names : Names) (line : Words) (rest : List Words) → all_names_in v lines ≡ Some (names, line, rest)
     → (lines ≡ names_lines names ++ line ∷ rest) × AreDeclared names × (length names.flags ≤ flags_limit v)
 names-spelled v lines names line rest h =
-    let k = then-some (keys_in lines) (λ k. line_in k.1 >>= λ l. optional_in (codes "flags") (flags_limit v) l.0 l.1
-    >>= λ f. optional_in (codes "vars") VARIABLES_LIMIT f.1 f.2 >>= λ w. Some (names_of k.0 f.0 w.0, w.1, w.2)) (names, line, rest) h in
-    let l = then-some (line_in k.0.1) (λ l. optional_in (codes "flags") (flags_limit v) l.0 l.1
-    >>= λ f. optional_in (codes "vars") VARIABLES_LIMIT f.1 f.2 >>= λ w. Some (names_of k.0.0 f.0 w.0, w.1, w.2)) (names, line, rest) k.2 in
-    let f = then-some (optional_in (codes "flags") (flags_limit v) l.0.0 l.0.1)
-    (λ f. optional_in (codes "vars") VARIABLES_LIMIT f.1 f.2 >>= λ w. Some (names_of k.0.0 f.0 w.0, w.1, w.2)) (names, line, rest) l.2 in
-    let w = then-some (optional_in (codes "vars") VARIABLES_LIMIT f.0.1 f.0.2) (λ w. Some (names_of k.0.0 f.0.0 w.0, w.1, w.2)) (names, line, rest) f.2 in
+    let k = then-some (keys_in lines) _ _ h in
+    let l = then-some (line_in k.0.1) _ _ k.2 in
+    let f = then-some (optional_in (codes "flags") (flags_limit v) l.0.0 l.0.1) _ _ l.2 in
+    let w = then-some (optional_in (codes "vars") VARIABLES_LIMIT f.0.1 f.0.2) _ _ f.2 in
     let P : Names × Words × List Words → Type 0 = λ t. (lines ≡ names_lines t.0 ++ t.1 ∷ t.2) × AreDeclared t.0 × (length t.0.flags ≤ flags_limit v) in
     subst P (some-same (names_of k.0.0 f.0.0 w.0.0, w.0.1, w.0.2) (names, line, rest) w.2)
     (names-joined v lines k.0.0 f.0.0 w.0.0 k.0.1 l.0.0 f.0.1 w.0.1 l.0.1 f.0.2 w.0.2 k.1 l.1 f.1 w.1)
@@ -151,23 +137,19 @@ names-spelled v lines names line rest h =
 
 numbers-spelled : (words : Words) (b : Budget) → numbers_in words ≡ Some b
     → (r : Word) × (y : Word) × (words ≡ r ∷ y ∷ []) × SpellsNumber REQUESTS_LIMIT r b.requests × SpellsNumber REQUEST_BYTES_LIMIT y b.bytes
-numbers-spelled [] b h = absurd (cc)
-numbers-spelled (r ∷ []) b h = absurd (cc)
 numbers-spelled (r ∷ y ∷ []) b h =
     let made : ℕ → ℕ → Budget = λ n m. record { requests = n; bytes = m } in
-    let p = then-some (number_in REQUESTS_LIMIT r) (λ n. number_in REQUEST_BYTES_LIMIT y >>= λ m. Some (made n m)) b h in
-    let q = then-some (number_in REQUEST_BYTES_LIMIT y) (λ m. Some (made p.0 m)) b p.2 in
+    let p = then-some (number_in REQUESTS_LIMIT r) _ _ h in
+    let q = then-some (number_in REQUEST_BYTES_LIMIT y) _ _ p.2 in
     let P : Budget → Type 0 = λ x. (r' : Word) × (y' : Word) × (r ∷ y ∷ [] ≡ r' ∷ y' ∷ []) × SpellsNumber REQUESTS_LIMIT r' x.requests
     × SpellsNumber REQUEST_BYTES_LIMIT y' x.bytes in
     subst P (some-same (made p.0 q.0) b q.2) (r, y, refl, number-spelled REQUESTS_LIMIT r p.0 p.1, number-spelled REQUEST_BYTES_LIMIT y q.0 q.1)
-numbers-spelled (r ∷ y ∷ x ∷ words) b h = absurd (cc)
+numbers-spelled words b h = absurd (cc)
 
 budget-spelled : (a : Actor) (line : Words) (b : Budget) → budget_in a line ≡ Some b → SpellsBudget a line b
 unfolding budget_in
-budget-spelled a [] b h = absurd (cc)
-budget-spelled a (word ∷ []) b h = let p = only-then (bytes_eq word (codes "budget")) None b h in absurd (cc)
 budget-spelled a (word ∷ section ∷ numbers) b h =
-    let p = only-then (bytes_eq word (codes "budget")) (amounts_in a (section ∷ numbers)) b h in
+    let p = only-then (bytes_eq word (codes "budget")) _ b h in
     let q = only-then (bytes_eq section (actor_word a)) (numbers_in numbers) b p.1 in
     let (r, y, e, n, m) = numbers-spelled numbers b q.1 in (
       r,
@@ -177,6 +159,7 @@ budget-spelled a (word ∷ section ∷ numbers) b h =
       n,
       m,
     )
+budget-spelled a line b h = absurd (cc)
 
 pub budget-read : (a : Actor) (line : Words) (b : Budget) → SpellsBudget a line b → budget_in a line ≡ Some b
 unfolding budget_in
@@ -187,7 +170,7 @@ next-budget : (a : Actor) (lines : List Words) (b : Budget) (rest : List Words) 
     → (line : Words) × (lines ≡ line ∷ rest) × SpellsBudget a line b
 next-budget a [] b rest h = absurd (cc)
 next-budget a (line ∷ lines) b rest h =
-    let p = then-some (budget_in a line) (λ b. Some (b, lines)) (b, rest) h in
+    let p = then-some (budget_in a line) _ _ h in
     let e = some-same (p.0, lines) (b, rest) p.2 in
     let P : Budget → Type 0 = SpellsBudget a line in
     (line, ap (λ t. line ∷ t.1) e, subst P (ap (λ t. t.0) e) (budget-spelled a line p.0 p.1))
@@ -255,18 +238,14 @@ bodies-joined v names budgets lines l lp la lb p a b x y z h i j k e f g m =
 bodies-spelled : (v : Version) (names : Names) (budgets : Sections Budget) (lines : List Words) (p a b : List Entry) (s : Script)
     → bodies_in v names lines ≡ Some (p, a, b) → resolved_in names budgets p a b ≡ Some s → SpelledBodies v names budgets lines s
 bodies-spelled v names budgets lines p a b s h made =
-    let l = then-some (section_line_in lines)
-    (λ l. entries_in (steps_limit v) names (codes "A") [] 0 [] l >>= λ p. entries_in (steps_limit v) names (codes "B") [] 0 [] p.1
-    >>= λ a. entries_in (steps_limit v) names (codes "end") [] 0 [] a.1 >>= λ b. ended_in (p.0, a.0, b.0) b.1) (p, a, b) h in
-    let P = then-some (entries_in (steps_limit v) names (codes "A") [] 0 [] l.0) (λ p. entries_in (steps_limit v) names (codes "B") [] 0 [] p.1
-    >>= λ a. entries_in (steps_limit v) names (codes "end") [] 0 [] a.1 >>= λ b. ended_in (p.0, a.0, b.0) b.1) (p, a, b) l.2 in
-    let A = then-some (entries_in (steps_limit v) names (codes "B") [] 0 [] P.0.1)
-    (λ a. entries_in (steps_limit v) names (codes "end") [] 0 [] a.1 >>= λ b. ended_in (P.0.0, a.0, b.0) b.1) (p, a, b) P.2 in
-    let B = then-some (entries_in (steps_limit v) names (codes "end") [] 0 [] A.0.1) (λ b. ended_in (P.0.0, A.0.0, b.0) b.1) (p, a, b) A.2 in
+    let l = then-some (section_line_in lines) _ _ h in
+    let P = then-some (entries_in (steps_limit v) names (codes "A") [] 0 [] l.0) _ _ l.2 in
+    let A = then-some (entries_in (steps_limit v) names (codes "B") [] 0 [] P.0.1) _ _ P.2 in
+    let B = then-some (entries_in (steps_limit v) names (codes "end") [] 0 [] A.0.1) _ _ A.2 in
     let E = ended (P.0.0, A.0.0, B.0.0) (p, a, b) B.0.1 B.2 in
-    let x = then-some (section_in budgets.p p) (λ x. section_in budgets.a a >>= λ y. section_in budgets.b b >>= λ z. Some (script_of names x y z)) s made in
-    let y = then-some (section_in budgets.a a) (λ y. section_in budgets.b b >>= λ z. Some (script_of names x.0 y z)) s x.2 in
-    let z = then-some (section_in budgets.b b) (λ z. Some (script_of names x.0 y.0 z)) s y.2 in
+    let x = then-some (section_in budgets.p p) _ _ made in
+    let y = then-some (section_in budgets.a a) _ _ x.2 in
+    let z = then-some (section_in budgets.b b) _ _ y.2 in
     let same-p : P.0.0 ≡ p = ap (λ t. t.0) E.0 in
     let same-a : A.0.0 ≡ a = ap (λ t. t.1) E.0 in
     let same-b : B.0.0 ≡ b = ap (λ t. t.2) E.0 in
@@ -280,10 +259,9 @@ budgets-spelled : (line : Words) (lines : List Words) (budgets : Sections Budget
     → (second : Words) × (third : Words) × (lines ≡ second ∷ third ∷ rest)
     × SpellsBudget actor.P line budgets.p × SpellsBudget actor.A second budgets.a × SpellsBudget actor.B third budgets.b
 budgets-spelled line lines budgets rest h =
-    let p = then-some (budget_in actor.P line)
-    (λ p. next_budget_in actor.A lines >>= λ a. next_budget_in actor.B a.1 >>= λ b. Some (budgets_of p a.0 b.0, b.1)) (budgets, rest) h in
-    let a = then-some (next_budget_in actor.A lines) (λ a. next_budget_in actor.B a.1 >>= λ b. Some (budgets_of p.0 a.0 b.0, b.1)) (budgets, rest) p.2 in
-    let b = then-some (next_budget_in actor.B a.0.1) (λ b. Some (budgets_of p.0 a.0.0 b.0, b.1)) (budgets, rest) a.2 in
+    let p = then-some (budget_in actor.P line) _ _ h in
+    let a = then-some (next_budget_in actor.A lines) _ _ p.2 in
+    let b = then-some (next_budget_in actor.B a.0.1) _ _ a.2 in
     let (second, e, s) = next-budget actor.A lines a.0.0 a.0.1 a.1 in
     let (third, f, t) = next-budget actor.B a.0.1 b.0.0 b.0.1 b.1 in
     let same = some-same (budgets_of p.0 a.0.0 b.0.0, b.0.1) (budgets, rest) b.2 in
@@ -317,13 +295,81 @@ script-joined v text l names line behind budgets onward s h (n, declared, few) (
 pub script_spelled : (text : List ℕ) (s : Script) → script_in (words_of_text SpaceOrTab text) ≡ Some s → SpellsScript text s
 script_spelled text s h =
     let lines = words_of_text SpaceOrTab text in
-    let l = then-some (header_in lines)
-    (λ h. all_names_in h.0 h.1 >>= λ n. budgets_in n.1 n.2 >>= λ d. bodies_in h.0 n.0 d.1 >>= λ e. resolved_in n.0 d.0 e.0 e.1 e.2) s h in
+    let l = then-some (header_in lines) _ _ h in
     let v = l.0.0 in
-    let n = then-some (all_names_in v l.0.1) (λ n. budgets_in n.1 n.2 >>= λ d. bodies_in v n.0 d.1 >>= λ e. resolved_in n.0 d.0 e.0 e.1 e.2) s l.2 in
-    let d = then-some (budgets_in n.0.1 n.0.2) (λ d. bodies_in v n.0.0 d.1 >>= λ e. resolved_in n.0.0 d.0 e.0 e.1 e.2) s n.2 in
-    let e = then-some (bodies_in v n.0.0 d.0.1) (λ e. resolved_in n.0.0 d.0.0 e.0 e.1 e.2) s d.2 in (
+    let n = then-some (all_names_in v l.0.1) _ _ l.2 in
+    let d = then-some (budgets_in n.0.1 n.0.2) _ _ n.2 in
+    let e = then-some (bodies_in v n.0.0 d.0.1) _ _ d.2 in (
       v,
       script-joined v text l.0.1 n.0.0 n.0.1 n.0.2 d.0.0 d.0.1 s (header-spelled lines v l.0.1 l.1) (names-spelled v l.0.1 n.0.0 n.0.1 n.0.2 n.1)
           (budgets-spelled n.0.1 n.0.2 d.0.0 d.0.1 d.1) (bodies-spelled v n.0.0 d.0.0 d.0.1 e.0.0 e.0.1 e.0.2 s e.1 e.2),
     )
+
+names-in : (limit bytes : ℕ) (name : Word) (names : List Word) → may_be_declared limit bytes (name ∷ names) ≡ true
+    → names_in limit bytes (name ∷ names) ≡ Some (name ∷ names)
+unfolding names_in
+names-in limit bytes name names h = rw h refl
+
+-- names are read from their lines, where a budget follows
+names-read : (v : Version) (keys flags vars : List Word) (others : Words) (rest : List Words) → not (length keys == 0) ≡ true
+    → may_be_declared KEYS_LIMIT KEY_BYTES_LIMIT keys ≡ true → may_be_declared (flags_limit v) NAME_BYTES_LIMIT flags ≡ true
+    → may_be_declared VARIABLES_LIMIT NAME_BYTES_LIMIT vars ≡ true
+    → all_names_in v (names_lines (names_of keys flags vars) ++ (codes "budget" ∷ others) ∷ rest)
+    ≡ Some (names_of keys flags vars, codes "budget" ∷ others, rest)
+names-read v [] flags vars others rest some k f w = absurd (cc)
+names-read v (key ∷ keys) [] [] others rest some k f w = rw (names-in KEYS_LIMIT KEY_BYTES_LIMIT key keys k) refl
+names-read v (key ∷ keys) (flag ∷ flags) [] others rest some k f w =
+    rw (names-in KEYS_LIMIT KEY_BYTES_LIMIT key keys k, names-in (flags_limit v) NAME_BYTES_LIMIT flag flags f) refl
+names-read v (key ∷ keys) [] (var ∷ vars) others rest some k f w =
+    rw (names-in KEYS_LIMIT KEY_BYTES_LIMIT key keys k, names-in VARIABLES_LIMIT NAME_BYTES_LIMIT var vars w) refl
+names-read v (key ∷ keys) (flag ∷ flags) (var ∷ vars) others rest some k f w =
+    rw (
+      names-in KEYS_LIMIT KEY_BYTES_LIMIT key keys k,
+      names-in (flags_limit v) NAME_BYTES_LIMIT flag flags f,
+      names-in VARIABLES_LIMIT
+          NAME_BYTES_LIMIT var vars w,
+    ) refl
+
+names-read-at : (v : Version) (names : Names) (line : Words) (budget : Budget) (rest : List Words) → AreDeclared names → length names.flags ≤ flags_limit v
+    → SpellsBudget actor.P line budget
+    → all_names_in v (names_lines names ++ line ∷ rest) ≡ Some (names, line, rest)
+names-read-at v names line budget rest d few (r, y, e, n, m) =
+    let behind = actor_word actor.P ∷ r ∷ y ∷ [] in
+    let P : Words → Type 0 = λ l. all_names_in v (names_lines names ++ l ∷ rest) ≡ Some (names, l, rest) in
+    subst P (sym e) (names-read v names.keys names.flags names.vars behind rest d.some d.keys
+    (declared-within (flags_limit v) FLAGS_LIMIT NAME_BYTES_LIMIT names.flags few d.flags) d.vars)
+
+budgets-read : (line second third : Words) (p a b : Budget) (rest : List Words) → SpellsBudget actor.P line p → SpellsBudget actor.A second a
+    → SpellsBudget actor.B third b → budgets_in line (second ∷ third ∷ rest) ≡ Some (budgets_of p a b, rest)
+budgets-read line second third p a b rest x y z =
+    rw (budget-read actor.P line p x, budget-read actor.A second a y, budget-read actor.B third b z) refl
+
+header-read : (v : Version) → header_version (header v) ≡ Some v
+header-read version.One = refl
+header-read version.Two = refl
+
+script-read-lines : (v : Version) (text : List ℕ) (s : Script) (h : SpellsInVersion v text s)
+    → script_in (header v ∷ (names_lines s.names ++ h.budgets.p ∷ h.budgets.a ∷ h.budgets.b ∷ body_lines h.bodies)) ≡ Some s
+script-read-lines v text s h =
+    let lines = h.budgets in
+    let p = h.spelled actor.P in
+    let a = h.spelled actor.A in
+    let b = h.spelled actor.B in
+    let B = section-read v s.names (codes "end") h.bodies.b [] s.sections.b (no-entry-end s.names) b in
+    let A = section-read v s.names (codes "B") h.bodies.a (h.bodies.b ++ end_line ∷ []) s.sections.a (no-entry-b s.names) a in
+    let P = section-read v s.names (codes "A") h.bodies.p (h.bodies.a ++ section_line actor.B ∷ (h.bodies.b ++ end_line ∷ [])) s.sections.p
+    (no-entry-a s.names) p in
+    let body = body_lines h.bodies in
+    let names = names-read-at v s.names lines.p s.sections.p.budget (lines.a ∷ lines.b ∷ body) h.declared h.few_flags (h.allowed actor.P) in
+    let budgets = budgets-read lines.p lines.a lines.b s.sections.p.budget s.sections.a.budget s.sections.b.budget body (h.allowed actor.P) (h.allowed actor.A)
+    (h.allowed actor.B) in
+    let bodies : bodies_in v s.names body ≡ Some (p.entries, a.entries, b.entries) = rw (P.0, A.0, B.0) refl in
+    let made : resolved_in s.names (budgets_of s.sections.p.budget s.sections.a.budget s.sections.b.budget) p.entries a.entries b.entries ≡ Some s =
+    rw (P.1, A.1, B.1) refl in
+    rw (header-read v, names, budgets, bodies) made
+
+pub script-read : (text : List ℕ) (s : Script) → SpellsScript text s → script_in (words_of_text SpaceOrTab text) ≡ Some s
+script-read text s (v, h) = ap script_in h.lines ∙ script-read-lines v text s h
+
+pub one_script : SpellsOneScript
+one_script text s t a b = some-same s t (sym (script-read text s a) ∙ script-read text t b)

@@ -1,7 +1,7 @@
 -- The number and the name of a kind, as the refusal of a script shows them.
 use Rattle.std.specs.Prelude.{ℕ, List, codes}
-use Rattle.mc_script.specs.declared.fault.ScriptKind.{ScriptKind}
-use Rattle.mc_script.specs.declared.fault.ScriptKind.TheVariants as kind
+use Rattle.mc_script.specs.Values.{ScriptKind}
+use Rattle.mc_script.specs.Values.kind
 
 abbrev pub kind_number : ScriptKind → ℕ
 kind_number kind.Header = 1

@@ -6,6 +6,7 @@ pub use Rattle.mc_protocol.specs.Lines
 pub use Rattle.mc_protocol.specs.Names
 pub use Rattle.mc_protocol.specs.Spelling
 pub use Rattle.mc_protocol.specs.Words as VerbWords
+pub mod Values
 pub mod Versions
 pub mod Script
 pub mod ScriptWords
@@ -13,7 +14,6 @@ pub mod Marks
 pub mod Steps
 pub mod SectionText
 pub mod ScriptText
-pub mod StepLines
 pub mod FrontText
 pub mod Templates
 pub mod WellFormed
@@ -23,5 +23,3 @@ pub mod Kinds
 -- What private contracts cite.
 pub mod Chains
 pub mod Reading
-pub mod TextReading
-pub mod FrontReading

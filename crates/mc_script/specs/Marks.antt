@@ -3,18 +3,13 @@ use Rattle.std.specs.Prelude.{◌≡◌, ℕ, ◌==◌, Bool, true, false, not, 
 use Rattle.std.specs.Int.Bits.{bit_or}
 use Rattle.std.specs.List.{list_all, list_any, fold}
 use Rattle.mc_protocol.specs.Legal.{is_legal, same}
-use Rattle.mc_protocol.specs.Words.{class_word}
-use Rattle.mc_protocol.specs.Words.{class_index}
-use Rattle.mc_protocol.specs.declared.request.Verb.{Verb}
+use Rattle.mc_protocol.specs.Words.{class_word, class_index}
+use Rattle.mc_script.specs.Values.{Verb, Class, Word, Mark, Sign}
+use Rattle.mc_script.specs.Values.class
+use Rattle.mc_script.specs.Values.mark
+use Rattle.mc_script.specs.Values.sign
 use Rattle.mc_protocol.specs.declared.request.Verb.TheVariants as verb
-use Rattle.mc_protocol.specs.declared.reply.Class.{Class}
-use Rattle.mc_protocol.specs.declared.reply.Class.TheVariants as class
-use Rattle.mc_protocol.specs.Lines.{Word}
 use Rattle.mc_protocol.specs.Names.{index_of}
-use Rattle.mc_script.specs.declared.entry.Mark.{Mark}
-use Rattle.mc_script.specs.declared.entry.Mark.TheVariants as mark
-use Rattle.mc_script.specs.declared.entry.Sign.{Sign}
-use Rattle.mc_script.specs.declared.entry.Sign.TheVariants as sign
 use Rattle.mc_script.specs.Script.{Names}
 
 -- ---- words
@@ -61,8 +56,7 @@ may_stand verb (mark.Bind variable) = shows_numbers verb
 abbrev pub is_need : Sign → Bool
 is_need sign.RequireSet = true
 is_need sign.RequireClear = true
-is_need sign.Sets = false
-is_need sign.Clears = false
+is_need _ = false
 
 -- both ask something of the same flag, or both change it; both are jumps on the same class; or both bind a variable
 abbrev pub are_twins : Mark → Mark → Bool

@@ -1,25 +1,14 @@
 -- The text that is printed of a script.
 use Rattle.std.specs.Prelude.{◌≡◌, ℕ, ◌+◌, ◌==◌, Option, Some, None, List, [], ◌∷◌, ◌++◌, map, get_or, codes, decimal, if◌then◌else◌}
-use Rattle.std.specs.Int.{bit_at}
-use Rattle.std.specs.List.{flat_map}
+use Rattle.std.specs.{Int.bit_at, List.flat_map}
 use Rattle.mc_protocol.specs.Fields.{fields_of}
 use Rattle.mc_protocol.specs.Words.{verb_word, actor_word}
-use Rattle.mc_protocol.specs.declared.actor.Actor.{Actor}
-use Rattle.mc_protocol.specs.declared.actor.Actor.TheVariants as actor
-use Rattle.mc_protocol.specs.declared.request.Fields.{Fields}
-use Rattle.mc_protocol.specs.declared.request.Fields.TheVariants as fields
-use Rattle.mc_protocol.specs.declared.reply.Class.{Class}
-use Rattle.mc_protocol.specs.declared.sections.Sections.{Sections}
-use Rattle.mc_protocol.specs.Lines.{Word, Words}
-use Rattle.mc_script.specs.declared.entry.Sign.{Sign}
-use Rattle.mc_script.specs.declared.entry.Sign.TheVariants as sign
-use Rattle.mc_script.specs.declared.section.Budget.{Budget}
-use Rattle.mc_script.specs.declared.section.Label.{Label}
-use Rattle.mc_script.specs.declared.step.Argument.{Argument}
-use Rattle.mc_script.specs.declared.step.Argument.TheVariants as argument
-use Rattle.mc_script.specs.declared.step.Step.{Step}
-use Rattle.mc_script.specs.declared.step.Step.TheVariants as step
-use Rattle.mc_script.specs.declared.step.Template.{Template}
+use Rattle.mc_script.specs.Values.{Actor, Fields, Class, Sections, Word, Words, Sign, Budget, Label, Argument, Step, Template}
+use Rattle.mc_script.specs.Values.actor
+use Rattle.mc_script.specs.Values.fields
+use Rattle.mc_script.specs.Values.sign
+use Rattle.mc_script.specs.Values.argument
+use Rattle.mc_script.specs.Values.step
 use Rattle.mc_script.specs.Script.{Names, Section, Script, version_of}
 use Rattle.mc_script.specs.ScriptWords.{body_word, variable_word, label_word}
 use Rattle.mc_script.specs.ScriptText.{SpellsInVersion, SpellsScript, header, names_lines, body_lines}
@@ -52,11 +41,9 @@ label_at labels index = name_at (label_names labels) index
 
 -- flags and body, where the verb has them
 abbrev pub item_words : Fields → ℕ → List ℕ → Words
-item_words fields.KeyAlone flags body = []
-item_words fields.Expiry flags body = []
 item_words fields.Item flags body = decimal flags ∷ body_word body ∷ []
 item_words fields.Swap flags body = decimal flags ∷ body_word body ∷ []
-item_words fields.Amount flags body = []
+item_words _ flags body = []
 
 -- the number, or `$` and the variable's name, where the verb has one
 abbrev pub argument_words : Names → Argument → Words

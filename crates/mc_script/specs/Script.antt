@@ -1,17 +1,10 @@
 -- What a script is: the names that it declares, and three sections.
 use Rattle.std.specs.Prelude.{◌≡◌, ℕ, ◌==◌, nat_le, Bool, true, not, ◌&&◌, List, length, max}
 use Rattle.std.specs.List.{list_all}
-use Rattle.mc_protocol.specs.declared.actor.Actor.{Actor}
-use Rattle.mc_protocol.specs.declared.sections.Sections.{Sections}
-use Rattle.mc_protocol.specs.declared.limits.TheConstants.{KEYS_LIMIT, KEY_BYTES_LIMIT}
-use Rattle.mc_protocol.specs.Lines.{Word}
+use Rattle.mc_script.specs.Values.{Actor, Sections, KEYS_LIMIT, KEY_BYTES_LIMIT, Word, FLAGS_LIMIT, VARIABLES_LIMIT, NAME_BYTES_LIMIT}
+use Rattle.mc_script.specs.Values.{Budget, Label, Step, Version}
 use Rattle.mc_protocol.specs.Names.{is_name, are_distinct}
 use Rattle.mc_protocol.specs.Sections as sections
-use Rattle.mc_script.specs.declared.limits.TheConstants.{FLAGS_LIMIT, VARIABLES_LIMIT, NAME_BYTES_LIMIT}
-use Rattle.mc_script.specs.declared.section.Budget.{Budget}
-use Rattle.mc_script.specs.declared.section.Label.{Label}
-use Rattle.mc_script.specs.declared.step.Step.{Step}
-use Rattle.mc_script.specs.declared.version.Version.{Version}
 use Rattle.mc_script.specs.Versions.{least_version}
 
 -- the keys, the flags and the variables, each by its name
@@ -51,3 +44,9 @@ longest s = max (length s.sections.p.steps) (max (length s.sections.a.steps) (le
 -- the version whose text is printed of the script
 abbrev pub version_of : Script → Version
 version_of s = least_version (length s.names.flags) (longest s)
+
+-- each step of a section has a line
+pub record HasLines (s : Script) (lines : Sections (List ℕ)) : Type 0 where
+  pub p : length lines.p ≡ length s.sections.p.steps
+  pub a : length lines.a ≡ length s.sections.a.steps
+  pub b : length lines.b ≡ length s.sections.b.steps

@@ -1,16 +1,9 @@
 -- The text of a script.
 use Rattle.std.specs.Prelude.{◌≡◌, ℕ, ◌≤◌, List, [], ◌∷◌, ◌++◌, length, codes}
-use Rattle.mc_protocol.specs.declared.actor.Actor.{Actor}
-use Rattle.mc_protocol.specs.declared.actor.Actor.TheVariants as actor
-use Rattle.mc_protocol.specs.declared.sections.Sections.{Sections}
-use Rattle.mc_protocol.specs.declared.lines.Separator.TheVariants.{SpaceOrTab}
-use Rattle.mc_protocol.specs.Lines.{words_of_text, Word, Words}
-use Rattle.mc_protocol.specs.declared.limits.TheConstants.{REQUESTS_LIMIT, REQUEST_BYTES_LIMIT}
-use Rattle.mc_protocol.specs.Decimals.{SpellsNumber}
+use Rattle.mc_script.specs.Values.{Actor, Sections, SpaceOrTab, Word, Words, REQUESTS_LIMIT, REQUEST_BYTES_LIMIT, Budget, Version}
+use Rattle.mc_script.specs.Values.actor
+use Rattle.mc_protocol.specs.{Lines.words_of_text, Decimals.SpellsNumber, Words.actor_word}
 use Rattle.mc_protocol.specs.Sections as sections
-use Rattle.mc_protocol.specs.Words.{actor_word}
-use Rattle.mc_script.specs.declared.section.Budget.{Budget}
-use Rattle.mc_script.specs.declared.version.Version.{Version}
 use Rattle.mc_script.specs.Versions.{version_word, flags_limit}
 use Rattle.mc_script.specs.Script.{Names, Script, AreDeclared, section_of}
 use Rattle.mc_script.specs.SectionText.{SpellsSection}

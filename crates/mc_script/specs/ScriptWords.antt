@@ -1,11 +1,8 @@
 -- The words of a script that stand for names and bodies.
 use Rattle.std.specs.Prelude.{ℕ, nat_le, Bool, ◌&&◌, ◌||◌, List, [], ◌∷◌, ◌++◌, length}
 use Rattle.std.specs.List.{list_all}
-use Rattle.mc_protocol.specs.declared.limits.TheConstants.{SCRIPT_BODY_LIMIT}
-use Rattle.mc_protocol.specs.Decimals.{is_digit}
-use Rattle.mc_protocol.specs.Lines.{Word}
-use Rattle.mc_protocol.specs.Names.{is_name}
-use Rattle.mc_script.specs.declared.limits.TheConstants.{NAME_BYTES_LIMIT}
+use Rattle.mc_script.specs.Values.{SCRIPT_BODY_LIMIT, Word, NAME_BYTES_LIMIT}
+use Rattle.mc_protocol.specs.{Decimals.is_digit, Names.is_name}
 
 -- ---- names
 

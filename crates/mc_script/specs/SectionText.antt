@@ -1,21 +1,12 @@
 -- The lines of a section.
 use Rattle.std.specs.Prelude.{◌≡◌, ℕ, ◌≤◌, true, Some, List, [], ◌∷◌, ◌++◌, map, length, codes}
-use Rattle.mc_protocol.specs.Fields.{fields_of}
-use Rattle.mc_protocol.specs.Words.{verb_word}
-use Rattle.mc_protocol.specs.declared.request.Fields.{Fields}
-use Rattle.mc_protocol.specs.declared.request.Fields.TheVariants as fields
-use Rattle.mc_protocol.specs.Lines.{Word, Words}
+use Rattle.mc_protocol.specs.{Fields.fields_of, Words.verb_word, Spelling.SpellEach}
+use Rattle.mc_script.specs.Values.{Fields, Word, Words, Entry, Mark, Label, Argument, Template, Version}
+use Rattle.mc_script.specs.Values.fields
+use Rattle.mc_script.specs.Values.entry
+use Rattle.mc_script.specs.Values.argument
 use Rattle.mc_protocol.specs.Names.{are_distinct, index_of}
 use Rattle.mc_protocol.specs.Decimals.{SpellsNumber, MAX_32, MAX_64}
-use Rattle.mc_protocol.specs.Spelling.{SpellEach}
-use Rattle.mc_script.specs.declared.entry.Entry.{Entry}
-use Rattle.mc_script.specs.declared.entry.Entry.TheVariants as entry
-use Rattle.mc_script.specs.declared.entry.Mark.{Mark}
-use Rattle.mc_script.specs.declared.section.Label.{Label}
-use Rattle.mc_script.specs.declared.step.Argument.{Argument}
-use Rattle.mc_script.specs.declared.step.Argument.TheVariants as argument
-use Rattle.mc_script.specs.declared.step.Template.{Template}
-use Rattle.mc_script.specs.declared.version.Version.{Version}
 use Rattle.mc_script.specs.Versions.{steps_limit}
 use Rattle.mc_script.specs.Script.{Names, Section}
 use Rattle.mc_script.specs.ScriptWords.{is_label_name, is_body, body_word, variable_word, label_word}
@@ -42,15 +33,12 @@ SpellsAmount names word (argument.Variable variable) = SpellsVariable names word
 
 -- the cas unique of a `cas`: `$VAR`
 abbrev pub SpellsUnique : Names → Word → Argument → Type 0
-SpellsUnique names word argument.Nothing = ⊥
-SpellsUnique names word (argument.Number n) = ⊥
 SpellsUnique names word (argument.Variable variable) = SpellsVariable names word variable
+SpellsUnique names word _ = ⊥
 
 -- the words between the key and the marks: none, `FLAGS =BODY`, `FLAGS =BODY $VAR`, or the amount; what the verb lacks
 -- is 0, empty or nothing
 abbrev pub SpellsFields : Names → Fields → Words → Template → Type 0
-SpellsFields names fields.KeyAlone words t = (words ≡ []) × (t.flags ≡ 0) × (t.argument ≡ argument.Nothing) × (t.body ≡ [])
-SpellsFields names fields.Expiry words t = (words ≡ []) × (t.flags ≡ 0) × (t.argument ≡ argument.Nothing) × (t.body ≡ [])
 SpellsFields names fields.Item words t =
     (flags : Word) × (words ≡ flags ∷ body_word t.body ∷ [])
     × SpellsNumber MAX_32 flags t.flags × (t.argument ≡ argument.Nothing) × (is_body t.body ≡ true)
@@ -59,6 +47,7 @@ SpellsFields names fields.Swap words t =
     × SpellsNumber MAX_32 flags t.flags × SpellsUnique names unique t.argument × (is_body t.body ≡ true)
 SpellsFields names fields.Amount words t =
     (amount : Word) × (words ≡ amount ∷ []) × (t.flags ≡ 0) × SpellsAmount names amount t.argument × (t.body ≡ [])
+SpellsFields names _ words t = (words ≡ []) × (t.flags ≡ 0) × (t.argument ≡ argument.Nothing) × (t.body ≡ [])
 
 -- no flag is needed or changed
 pub record HasNoFlags (t : Template) : Type 0 where

@@ -1,18 +1,12 @@
 -- The steps of a section: what its lines say, once each label has its place.
 use Rattle.std.specs.Prelude.{ℕ, ◌+◌, nat_lt, ◌&&◌, Option, Some, None, List, [], ◌∷◌}
-use Rattle.std.specs.List.{position}
-use Rattle.std.specs.Str.{bytes_eq}
-use Rattle.mc_protocol.specs.declared.reply.Class.{Class}
+use Rattle.std.specs.{List.position, Str.bytes_eq}
+use Rattle.mc_script.specs.Values.{Class, Word, Entry, Mark, Label, Step, Template}
+use Rattle.mc_script.specs.Values.entry
+use Rattle.mc_script.specs.Values.sign
+use Rattle.mc_script.specs.Values.step
 use Rattle.mc_protocol.specs.Words.{all_classes}
-use Rattle.mc_protocol.specs.Lines.{Word}
-use Rattle.mc_script.specs.declared.entry.Entry.{Entry}
-use Rattle.mc_script.specs.declared.entry.Entry.TheVariants as entry
-use Rattle.mc_script.specs.declared.entry.Mark.{Mark}
-use Rattle.mc_script.specs.declared.entry.Sign.TheVariants as sign
-use Rattle.mc_script.specs.declared.section.Label.{Label}
-use Rattle.mc_script.specs.declared.step.Step.{Step}
-use Rattle.mc_script.specs.declared.step.Step.TheVariants as step
-use Rattle.mc_script.specs.declared.step.Template.{Template}
+use Rattle.mc_script.specs.Chains.{◌>>=◌}
 use Rattle.mc_script.specs.Marks.{mask_of, target_of, bound_by}
 
 -- the labels of these lines, where `count` steps stand before them: each label's place is that of the next step, or the
@@ -35,14 +29,14 @@ in_front _ _ = None
 
 -- ---- steps
 
--- the jump on the class before the others, where the marks have one; the label's index may be missing
-abbrev pub with_jump : Class → Option ℕ → Option (List (Class × ℕ)) → Option (List (Class × ℕ))
-with_jump c (Some label) (Some jumps) = Some ((c, label) ∷ jumps)
-with_jump c _ _ = None
+-- a jump on the class to the label with this name, which stands after the step at this place
+abbrev pub jump_named : List Label → ℕ → Class → Word → Option (Class × ℕ)
+jump_named labels place c name = label_after labels place name >>= λ label. Some (c, label)
 
+-- the jump of the mark on the class, where there is one, before the others
 abbrev pub jump_before : List Label → ℕ → Class → Option Word → Option (List (Class × ℕ)) → Option (List (Class × ℕ))
 jump_before labels place c None jumps = jumps
-jump_before labels place c (Some name) jumps = with_jump c (label_after labels place name) jumps
+jump_before labels place c (Some name) jumps = in_front (jump_named labels place c name) jumps
 
 -- the jumps of the marks on these classes, in order, for a step at this place
 abbrev pub jumps_on : List Label → ℕ → List Mark → List Class → Option (List (Class × ℕ))
@@ -64,23 +58,17 @@ with_marks t marks = record {
   clears = mask_of sign.Clears marks;
 }
 
-abbrev pub sends : Template → List Mark → Option (List (Class × ℕ)) → Option Step
-sends t marks (Some jumps) = Some (step.Send (with_marks t marks) jumps (bound_by marks))
-sends t marks None = None
-
-abbrev pub goes : Option ℕ → Option Step
-goes (Some label) = Some (step.Goto label)
-goes None = None
+-- the step at this place that the line is, if it is no label
+abbrev pub step_in : List Label → ℕ → Entry → Option Step
+step_in labels place (entry.Label name) = None
+step_in labels place (entry.Send t marks) =
+    jumps_on labels place marks all_classes >>= λ jumps. Some (step.Send (with_marks t marks) jumps (bound_by marks))
+step_in labels place (entry.Bind variable) = Some (step.Bind variable)
+step_in labels place (entry.Goto name) = label_after labels place name >>= λ label. Some (step.Goto label)
+step_in labels place entry.Halt = Some step.Halt
 
 -- the steps of these lines, the first at this place
 abbrev pub steps_from : List Label → ℕ → List Entry → Option (List Step)
 steps_from labels place [] = Some []
 steps_from labels place (entry.Label name ∷ entries) = steps_from labels place entries
-steps_from labels place (entry.Send t marks ∷ entries) =
-    in_front (sends t marks (jumps_on labels place marks all_classes)) (steps_from labels (place + 1) entries)
-steps_from labels place (entry.Bind variable ∷ entries) =
-    in_front (Some (step.Bind variable)) (steps_from labels (place + 1) entries)
-steps_from labels place (entry.Goto name ∷ entries) =
-    in_front (goes (label_after labels place name)) (steps_from labels (place + 1) entries)
-steps_from labels place (entry.Halt ∷ entries) =
-    in_front (Some step.Halt) (steps_from labels (place + 1) entries)
+steps_from labels place (e ∷ entries) = in_front (step_in labels place e) (steps_from labels (place + 1) entries)

@@ -2,26 +2,22 @@
 use Rattle.std.specs.Prelude.{◌≡◌, ℕ, ◌<◌, ◌==◌, nat_le, nat_lt, Bool, true, false, ◌&&◌, List, length, ◌^◌}
 use Rattle.std.specs.Int.Bits.{bit_and}
 use Rattle.mc_protocol.specs.Fields.{fields_of}
-use Rattle.mc_protocol.specs.declared.request.Fields.{Fields}
-use Rattle.mc_protocol.specs.declared.request.Fields.TheVariants as fields
+use Rattle.mc_script.specs.Values.{Fields, Argument, Template}
+use Rattle.mc_script.specs.Values.fields
+use Rattle.mc_script.specs.Values.argument
 use Rattle.mc_protocol.specs.Decimals.{MAX_32, MAX_64}
-use Rattle.mc_script.specs.declared.step.Argument.{Argument}
-use Rattle.mc_script.specs.declared.step.Argument.TheVariants as argument
-use Rattle.mc_script.specs.declared.step.Template.{Template}
 use Rattle.mc_script.specs.ScriptWords.{is_body}
 
 -- ---- the words after the key
 
 abbrev pub is_nothing : Argument → Bool
 is_nothing argument.Nothing = true
-is_nothing (argument.Number n) = false
-is_nothing (argument.Variable v) = false
+is_nothing _ = false
 
 -- one of `vars` variables
 abbrev pub is_variable : ℕ → Argument → Bool
-is_variable vars argument.Nothing = false
-is_variable vars (argument.Number n) = false
 is_variable vars (argument.Variable v) = nat_lt v vars
+is_variable vars _ = false
 
 -- a number of 64 bits, or one of `vars` variables
 abbrev pub is_amount : ℕ → Argument → Bool
@@ -34,11 +30,10 @@ is_empty body = length body == 0
 
 -- flags of 32 bits, the argument and the body are what the verb has, and 0, nothing and empty where it has none
 abbrev pub has_fields : ℕ → Fields → ℕ → Argument → List ℕ → Bool
-has_fields vars fields.KeyAlone flags a body = flags == 0 && is_nothing a && is_empty body
-has_fields vars fields.Expiry flags a body = flags == 0 && is_nothing a && is_empty body
 has_fields vars fields.Item flags a body = nat_le flags MAX_32 && is_nothing a && is_body body
 has_fields vars fields.Swap flags a body = nat_le flags MAX_32 && is_variable vars a && is_body body
 has_fields vars fields.Amount flags a body = flags == 0 && is_amount vars a && is_empty body
+has_fields vars _ flags a body = flags == 0 && is_nothing a && is_empty body
 
 -- ---- the whole template
 

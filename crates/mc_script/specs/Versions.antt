@@ -1,9 +1,7 @@
 -- The versions of the text of a script and of the image of a code: what each has room for, and which one is written.
 use Rattle.std.specs.Prelude.{ℕ, nat_le, Bool, ◌&&◌, codes, if◌then◌else◌}
-use Rattle.mc_protocol.specs.Lines.{Word}
-use Rattle.mc_script.specs.declared.limits.TheConstants.{FLAGS_LIMIT, STEPS_LIMIT}
-use Rattle.mc_script.specs.declared.version.Version.{Version}
-use Rattle.mc_script.specs.declared.version.Version.TheVariants as version
+use Rattle.mc_script.specs.Values.{Word, FLAGS_LIMIT, STEPS_LIMIT, Version}
+use Rattle.mc_script.specs.Values.version
 
 abbrev pub version_word : Version → Word
 version_word version.One = codes "1"

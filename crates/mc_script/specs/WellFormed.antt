@@ -1,22 +1,12 @@
 -- Which values are scripts, whatever text spells them. The limits are those of the last version.
 use Rattle.std.specs.Prelude.{◌≡◌, ℕ, ◌+◌, ◌<◌, ◌≤◌, Bool, true, false, Option, Some, None, List, [], ◌∷◌, length, slice_get}
 use Rattle.std.specs.List.{list_any}
-use Rattle.mc_protocol.specs.Legal.{is_legal}
-use Rattle.mc_protocol.specs.declared.request.Verb.{Verb}
-use Rattle.mc_protocol.specs.declared.reply.Class.{Class}
-use Rattle.mc_protocol.specs.declared.reply.Class.TheVariants as class
-use Rattle.mc_protocol.specs.declared.limits.TheConstants.{REQUESTS_LIMIT, REQUEST_BYTES_LIMIT}
-use Rattle.mc_protocol.specs.Names.{are_distinct}
-use Rattle.mc_protocol.specs.Words.{class_index}
-use Rattle.mc_script.specs.declared.limits.TheConstants.{STEPS_LIMIT}
-use Rattle.mc_script.specs.declared.section.Label.{Label}
-use Rattle.mc_script.specs.declared.step.Step.{Step}
-use Rattle.mc_script.specs.declared.step.Step.TheVariants as step
+use Rattle.mc_protocol.specs.{Legal.is_legal, Names.are_distinct, Words.class_index}
+use Rattle.mc_script.specs.Values.{Verb, Class, REQUESTS_LIMIT, REQUEST_BYTES_LIMIT, STEPS_LIMIT, Label, Step}
+use Rattle.mc_script.specs.Values.class
+use Rattle.mc_script.specs.Values.step
 use Rattle.mc_script.specs.Script.{Names, Section, Script, AreDeclared}
-use Rattle.mc_script.specs.ScriptWords.{is_label_name}
-use Rattle.mc_script.specs.Marks.{shows_numbers}
-use Rattle.mc_script.specs.SectionText.{label_names}
-use Rattle.mc_script.specs.Templates.{IsTemplate}
+use Rattle.mc_script.specs.{ScriptWords.is_label_name, Marks.shows_numbers, SectionText.label_names, Templates.IsTemplate}
 
 -- the label with this index stands after the step at this place
 abbrev pub IsAfter : List Label → ℕ → ℕ → Type 0

@@ -1,12 +1,8 @@
 -- A script less one of its steps.
 use Rattle.std.specs.Prelude.{◌≡◌, ℕ, ◌+◌, ◌-◌, ◌<◌, nat_le, nat_lt, Some, List, ◌∷◌, ◌++◌, map, length, slice_get}
 use Rattle.std.specs.Prelude.{count_by, remove, if◌then◌else◌}
-use Rattle.mc_protocol.specs.declared.actor.Actor.{Actor}
-use Rattle.mc_protocol.specs.declared.actor.Actor.TheVariants as actor
-use Rattle.mc_protocol.specs.Lines.{Words}
-use Rattle.mc_protocol.specs.declared.sections.Sections.{Sections}
-use Rattle.mc_script.specs.declared.section.Label.{Label}
-use Rattle.mc_script.specs.declared.step.Step.{Step}
+use Rattle.mc_script.specs.Values.{Actor, Words, Sections, Label, Step}
+use Rattle.mc_script.specs.Values.actor
 use Rattle.mc_script.specs.PrintedScript.{step_words, section_lines}
 use Rattle.mc_script.specs.Script.{Names, Section, Script, section_of}
 use Rattle.mc_script.specs.WellFormed.{IsScript}

@@ -2,14 +2,14 @@
 
 ghost use Rattle.std.specs.Prelude.{◌≡◌, ◌<◌};
 ghost use Rattle.mc_script.specs.declared.limits.TheConstants.{FLAGS_LIMIT};
-ghost use Rattle.mc_script.specs.TextReading as whole;
+ghost use Rattle.mc_script.specs.Reading as reading;
 
 use crate::Template;
 use mc_protocol::{Bytes, Class};
 use std::marker::Model;
 
 /// A line of a section, as it is written: a label is still a name, and the marks of a request stand beside it.
-#[derive(Debug, Drop)]
+#[derive(Drop)]
 pub(crate) enum Entry {
     /// The place of the next step, or of the section's end.
     Label(Bytes),
@@ -22,7 +22,7 @@ pub(crate) enum Entry {
 
 /// Whether the line is a label, and no step.
 pub(crate) fn is_label(entry: &Entry) -> bool
-    ensures { result ≡ whole.is_label entry.now }
+    ensures { result ≡ reading.is_label entry.now }
 {
     match entry {
         Entry::Label(_) => true,
@@ -31,7 +31,7 @@ pub(crate) fn is_label(entry: &Entry) -> bool
 }
 
 /// A word after the fields of a request.
-#[derive(Debug, Drop)]
+#[derive(Drop)]
 pub(crate) enum Mark {
     /// How the request needs or changes a flag, which has this index.
     Flag(Sign, Flag),
@@ -42,7 +42,7 @@ pub(crate) enum Mark {
 }
 
 /// A flag by its index. Contracts see the number, for which a mask has a bit.
-#[derive(Debug, Drop)]
+#[derive(Drop)]
 pub(crate) struct Flag {
     index: u8,
 }
@@ -75,7 +75,7 @@ impl Flag {
 }
 
 /// How a request needs or changes a flag.
-#[derive(Clone, Copy, Debug, PartialEq, Eq)]
+#[derive(Clone, Copy, PartialEq, Eq)]
 pub(crate) enum Sign {
     /// `?`: it must be set.
     RequireSet,
@@ -88,7 +88,7 @@ pub(crate) enum Sign {
 }
 
 /// The marks of a request, in their order, of which no two say the same thing. Contracts see the list of them.
-#[derive(Debug, Drop)]
+#[derive(Drop)]
 pub(crate) struct Marks {
     marks: Vec<Mark>,
 }

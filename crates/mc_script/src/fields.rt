@@ -22,7 +22,7 @@ const UNIQUE_WORD: usize = 4;
 const AMOUNT_WORD: usize = 2;
 
 /// What the words between the key and the marks of a request say.
-#[derive(Debug, Drop)]
+#[derive(Drop)]
 pub(crate) struct Parts {
     pub(crate) flags: u32,
     pub(crate) argument: Argument,

@@ -5,7 +5,7 @@ ghost use Rattle.std.specs.List.{concat};
 ghost use Rattle.bstr.specs.Text.{lines_of};
 ghost use Rattle.mc_script.specs.Script as spec;
 ghost use Rattle.mc_script.specs.FrontText.{SpellsFront};
-ghost use Rattle.mc_script.specs.FrontReading.{is_end, to_end};
+ghost use Rattle.mc_script.specs.Reading.{is_end, to_end};
 ghost use Rattle.mc_script.specs.WellFormed.{IsScript};
 
 use crate::{Script, ScriptFault, ScriptKind, parse};

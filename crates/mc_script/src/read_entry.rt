@@ -1,8 +1,9 @@
 //! Reads the words of a line of a section.
 
-ghost use Rattle.std.specs.Prelude.{◌≡◌, Some, None, map, drop, MatchOption, if◌then◌else◌};
+ghost use Rattle.std.specs.Prelude.{◌≡◌, ◌∷◌, Some, None, map, drop, MatchOption, if◌then◌else◌};
 ghost use Rattle.std.specs.Result.{result_ok};
 ghost use Rattle.mc_protocol.specs.declared.request.Verb.{Verb};
+ghost use Rattle.mc_script.specs.declared.read_entry.Keyword.TheVariants as keyword;
 ghost use Rattle.mc_script.specs.ScriptWords as words;
 ghost use Rattle.mc_script.specs.Reading as reading;
 
@@ -16,7 +17,7 @@ use mc_protocol::{Actor, Bytes, Verb, is_name, is_word};
 use std::alloc::Global;
 
 /// What the first word of a step says it is.
-#[derive(Clone, Copy, Debug, PartialEq, Eq)]
+#[derive(Clone, Copy)]
 pub(crate) enum Keyword {
     Bind,
     Goto,
@@ -151,7 +152,7 @@ pub(crate) fn before_colon<'a>(word: &'a [u8]) -> Option<&'a [u8]>
 }
 
 fn read_bind(names: &Names, name: &[u8], others: &[&[u8]]) -> Result<Entry, WordFault>
-    ensures { result_ok result ≡ reading.bind_in names.now name.now (map (λ w. w.now) others.now) }
+    ensures { result_ok result ≡ reading.step_words names.now keyword.Bind (name.now ∷ map (λ w. w.now) others.now) }
 {
     let Some(variable) = names.variable(name) else {
         let expected = Expected::KnownName(Sort::Variable);

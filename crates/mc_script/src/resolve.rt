@@ -4,10 +4,10 @@ ghost use Rattle.std.specs.Prelude.{◌≡◌, ◌<◌, Some, None, length, IfOk
 ghost use Rattle.std.specs.Result.{result_ok};
 ghost use Rattle.mc_script.specs.declared.limits.TheConstants.{FLAGS_LIMIT};
 ghost use Rattle.mc_protocol.specs.Words.{all_classes};
+ghost use Rattle.mc_script.specs.declared.entry.Entry.TheVariants as entry;
 ghost use Rattle.mc_script.specs.Marks as said;
 ghost use Rattle.mc_script.specs.Steps as spec;
 ghost use Rattle.mc_script.specs.Reading as reading;
-ghost use Rattle.mc_script.specs.TextReading as whole;
 
 use crate::entry::{Entry, Mark, Marks, Sign, is_label};
 use crate::fields::mark_word;
@@ -19,14 +19,14 @@ use mc_protocol::{Class, OutOfMemory, Verb};
 use std::alloc::Global;
 
 /// Makes a section of its lines.
-#[tactic(auto, using(crate::proofs::Sections::steps_count))]
+#[tactic(auto, using(crate::proofs::SectionLines::steps_count))]
 pub(crate) fn resolve(
     alloc: Global,
     budget: Budget,
     entries: &[Numbered],
 ) -> Result<Section, ScriptFault>
-    ensures read { reading.Says (λ section. section) result (whole.section_in budget entries.now) }
-    ensures steps { IfOk result (λ section. length section.steps ≡ whole.step_total entries.now) }
+    ensures read { reading.Says (λ section. section) result (reading.section_in budget entries.now) }
+    ensures steps { IfOk result (λ section. length section.steps ≡ reading.step_total entries.now) }
 {
     let labels = labels_of(alloc, entries)?;
     let steps = steps_of(alloc, &labels, entries)?;
@@ -73,7 +73,7 @@ fn steps_of(alloc: Global, labels: &[Label], entries: &[Numbered]) -> Result<Vec
 
 /// The step at `place`, of a line that is no label.
 fn step_of(alloc: Global, labels: &[Label], place: usize, entry: &Entry) -> Result<Step, WordFault>
-    ensures { reading.Gives result (whole.step_in labels.now place entry.now) }
+    ensures { reading.Gives result (spec.step_in labels.now place entry.now) }
 {
     match entry {
         Entry::Label(_) => Err(WordFault::line(0, Expected::Step)),
@@ -85,7 +85,7 @@ fn step_of(alloc: Global, labels: &[Label], place: usize, entry: &Entry) -> Resu
 }
 
 fn goto_of(labels: &[Label], place: usize, name: &[u8]) -> Result<Step, WordFault>
-    ensures { reading.Gives result (spec.goes (spec.label_after labels.now place name.now)) }
+    ensures { reading.Gives result (spec.step_in labels.now place (entry.Goto name.now)) }
 {
     Ok(Step::Goto(find_label(labels, place, 1, name)?))
 }
@@ -98,8 +98,7 @@ fn send_of(
     template: &Template,
     marks: &Marks,
 ) -> Result<Step, WordFault>
-    ensures { reading.Gives result
-        (spec.sends template.now marks.now (spec.jumps_on labels.now place marks.now all_classes)) }
+    ensures { reading.Gives result (spec.step_in labels.now place (entry.Send template.now marks.now)) }
 {
     let jumps = jumps_of(alloc, labels, place, template.verb, marks)?;
     let marks = marks.as_slice();
@@ -195,7 +194,7 @@ fn targets_of(
     verb: Verb,
     marks: &[Mark],
 ) -> Result<Vec<(Class, usize)>, WordFault>
-    ensures { reading.Shows (λ targets. targets.items) result (whole.targets_in labels.now place marks.now) }
+    ensures { reading.Shows (λ targets. targets.items) result (reading.targets_in labels.now place marks.now) }
 {
     let mut targets = Vec::new(alloc);
     let mut word = mark_word(verb.fields(), 0);
@@ -215,7 +214,7 @@ fn jumps_to(
     targets: &[(Class, usize)],
     classes: &[Class],
 ) -> Result<Vec<(Class, usize)>, OutOfMemory>
-    ensures { IfOk result (λ jumps. jumps.items ≡ whole.jumps_to targets.now classes.now) }
+    ensures { IfOk result (λ jumps. jumps.items ≡ reading.jumps_to targets.now classes.now) }
 {
     let mut jumps = Vec::new(alloc);
     'classes: for class in classes {
@@ -228,7 +227,7 @@ fn jumps_to(
 
 /// The label of the first of these jumps on the class.
 fn label_for(class: Class, jumps: &[(Class, usize)]) -> Option<usize>
-    ensures { result ≡ whole.label_for class jumps.now }
+    ensures { result ≡ reading.label_for class jumps.now }
 {
     'jumps: for (other, label) in jumps {
         if *other == class {

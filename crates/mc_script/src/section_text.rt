@@ -2,7 +2,6 @@
 
 ghost use Rattle.std.specs.Prelude.{◌≡◌, [], Some, None, IfOk, MatchOption, nat_lt};
 ghost use Rattle.mc_script.specs.Reading as reading;
-ghost use Rattle.mc_script.specs.TextReading as whole;
 ghost use Rattle.mc_script.specs.Versions.{steps_limit};
 
 use crate::entry::Entry;
@@ -16,7 +15,7 @@ use std::alloc::Global;
 use std::marker::Model;
 
 /// A line of a section that was read, with its number. Contracts see the entry.
-#[derive(Debug, Drop)]
+#[derive(Drop)]
 pub(crate) struct Numbered {
     pub(crate) line: u32,
     pub(crate) entry: Entry,
@@ -39,7 +38,7 @@ pub(crate) fn read_section<'a>(
     stop: &[u8],
 ) -> Result<Vec<Numbered>, ScriptFault>
     ensures { reading.Says (λ entries. (entries.items, lines.new.words)) result
-        (whole.entries_in (steps_limit version) names.now stop.now [] 0 [] lines.old.words) }
+        (reading.entries_in (steps_limit version) names.now stop.now [] 0 [] lines.old.words) }
 {
     let mut entries = Vec::new(alloc);
     let mut count = 0;
@@ -49,16 +48,32 @@ pub(crate) fn read_section<'a>(
         if line.is_only(stop) {
             return Ok(entries);
         }
-        match read_line(alloc, version, names, count, &mut labels, stop, &line) {
-            Ok(entry) => {
-                count += step_count(&entry);
-                entries.push(Numbered {
-                    line: line.number(),
-                    entry,
-                })?;
-            }
-            Err(fault) => return Err(fault.on(line.number())),
-        }
+        let read = read_numbered(alloc, version, names, count, &mut labels, stop, &line)?;
+        count += step_count(&read.entry);
+        entries.push(read)?;
+    }
+}
+
+/// Reads a line as `read_line` does, with its number.
+fn read_numbered<'a>(
+    alloc: Global,
+    version: Version,
+    names: &Names,
+    count: usize,
+    labels: &mut NameSet<'a>,
+    stop: &[u8],
+    line: &WordLine<'a>,
+) -> Result<Numbered, ScriptFault>
+    ensures entry { reading.Says (λ read. read) result
+        (reading.following (steps_limit version) count labels.old (reading.entry_in names.now line.now.words)) }
+    ensures labels { IfOk result (λ read. labels.new ≡ reading.with_label labels.old read) }
+{
+    match read_line(alloc, version, names, count, labels, stop, line) {
+        Ok(entry) => Ok(Numbered {
+            line: line.number(),
+            entry,
+        }),
+        Err(fault) => Err(fault.on(line.number())),
     }
 }
 
@@ -74,8 +89,8 @@ fn read_line<'a>(
     line: &WordLine<'a>,
 ) -> Result<Entry, WordFault>
     ensures entry { reading.Gives result
-        (whole.following (steps_limit version) count labels.old (reading.entry_in names.now line.now.words)) }
-    ensures labels { IfOk result (λ entry. labels.new ≡ whole.with_label labels.old entry) }
+        (reading.following (steps_limit version) count labels.old (reading.entry_in names.now line.now.words)) }
+    ensures labels { IfOk result (λ entry. labels.new ≡ reading.with_label labels.old entry) }
 {
     let Some(name) = label_in(line) else {
         return read_step(alloc, names, has_room(version, count), stop, line.words());
@@ -90,7 +105,7 @@ fn read_line<'a>(
 }
 
 fn step_count(entry: &Entry) -> usize
-    ensures { result ≡ whole.step_count entry.now }
+    ensures { result ≡ reading.step_count entry.now }
 {
     match entry {
         Entry::Label(_) => 0,

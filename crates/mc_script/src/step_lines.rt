@@ -2,7 +2,7 @@
 
 ghost use Rattle.std.specs.Prelude.{◌≡◌, length, IfOk};
 ghost use Rattle.mc_protocol.specs.Sections as sections;
-ghost use Rattle.mc_script.specs.TextReading as whole;
+ghost use Rattle.mc_script.specs.Reading as reading;
 
 use crate::entry::is_label;
 use crate::section_text::Numbered;
@@ -28,9 +28,9 @@ impl Model for StepLines {
 impl StepLines {
     /// The lines of the steps among the lines of three sections.
     pub(crate) fn new(alloc: Global, bodies: &Sections<Vec<Numbered>>) -> Result<Self, OutOfMemory>
-        ensures p { IfOk result (λ lines. length lines.p ≡ whole.step_total bodies.now.p.items) }
-        ensures a { IfOk result (λ lines. length lines.a ≡ whole.step_total bodies.now.a.items) }
-        ensures b { IfOk result (λ lines. length lines.b ≡ whole.step_total bodies.now.b.items) }
+        ensures p { IfOk result (λ lines. length lines.p ≡ reading.step_total bodies.now.p.items) }
+        ensures a { IfOk result (λ lines. length lines.a ≡ reading.step_total bodies.now.a.items) }
+        ensures b { IfOk result (λ lines. length lines.b ≡ reading.step_total bodies.now.b.items) }
     {
         let p = lines_of(alloc, &bodies.p)?;
         let a = lines_of(alloc, &bodies.a)?;
@@ -53,9 +53,9 @@ impl StepLines {
 }
 
 /// The numbers of the lines that are no labels.
-#[tactic(auto, unfolding(crate::specs::TextReading::step_total))]
+#[tactic(auto, unfolding(crate::specs::Reading::step_total))]
 fn lines_of(alloc: Global, entries: &[Numbered]) -> Result<Vec<u32>, OutOfMemory>
-    ensures { IfOk result (λ numbers. length numbers.items ≡ whole.step_total entries.now) }
+    ensures { IfOk result (λ numbers. length numbers.items ≡ reading.step_total entries.now) }
 {
     let mut numbers = Vec::new(alloc);
     'entries: for numbered in entries {

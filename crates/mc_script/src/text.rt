@@ -6,8 +6,6 @@ ghost use Rattle.mc_protocol.specs.Lines.{words_of_text};
 ghost use Rattle.mc_script.specs.Script as spec;
 ghost use Rattle.mc_script.specs.ScriptText.{SpellsScript};
 ghost use Rattle.mc_script.specs.Reading as reading;
-ghost use Rattle.mc_script.specs.StepLines.{HasLines};
-ghost use Rattle.mc_script.specs.TextReading as whole;
 ghost use Rattle.mc_script.specs.WellFormed.{IsScript};
 
 use crate::declarations::{read_budget, read_optional, take_header, take_keys};
@@ -40,7 +38,7 @@ pub fn parse(alloc: Global, text: &[u8]) -> Result<Script, ScriptFault>
 pub fn parse_lines(alloc: Global, text: &[u8]) -> Result<(Script, StepLines), ScriptFault>
     ensures found { IfOk result (λ r. SpellsScript text.now r.0) }
     ensures kept { IfOk result (λ r. IsScript r.0) }
-    ensures lines { IfOk result (λ r. HasLines r.0 r.1) }
+    ensures lines { IfOk result (λ r. spec.HasLines r.0 r.1) }
     ensures none { IfErr result (λ fault. fault.kind ≢ ScriptKind.OutOfMemory
         → (script : spec.Script) → SpellsScript text.now script → ⊥) }
     ensures memory { IfErr result (λ fault. fault.kind ≡ ScriptKind.OutOfMemory → fault.line ≡ 0) }
@@ -51,7 +49,7 @@ pub fn parse_lines(alloc: Global, text: &[u8]) -> Result<(Script, StepLines), Sc
 }
 
 fn read_script(alloc: Global, text: &[u8]) -> Result<Script, ScriptFault>
-    ensures { reading.Says (λ script. script) result (whole.script_in (words_of_text SpaceOrTab text.now)) }
+    ensures { reading.Says (λ script. script) result (reading.script_in (words_of_text SpaceOrTab text.now)) }
 {
     match read_all(alloc, text) {
         Ok((script, _)) => Ok(script),
@@ -61,8 +59,8 @@ fn read_script(alloc: Global, text: &[u8]) -> Result<Script, ScriptFault>
 
 /// Reads a script, and the lines of its sections.
 fn read_all(alloc: Global, text: &[u8]) -> Result<(Script, Sections<Vec<Numbered>>), ScriptFault>
-    ensures read { reading.Says (λ r. r.0) result (whole.script_in (words_of_text SpaceOrTab text.now)) }
-    ensures steps { IfOk result (λ r. whole.HasSteps r.0 r.1.p.items r.1.a.items r.1.b.items) }
+    ensures read { reading.Says (λ r. r.0) result (reading.script_in (words_of_text SpaceOrTab text.now)) }
+    ensures steps { IfOk result (λ r. reading.HasSteps r.0 r.1.p.items r.1.a.items r.1.b.items) }
 {
     let mut lines = WordLines::new(text, Separator::SpaceOrTab);
     let version = take_header(alloc, &mut lines)?;
@@ -79,7 +77,7 @@ fn take_names<'a>(
     version: Version,
     lines: &mut WordLines<'a>,
 ) -> Result<(Names, WordLine<'a>), ScriptFault>
-    ensures { reading.Says (λ r. (r.0, r.1.words, lines.new.words)) result (whole.all_names_in version lines.old.words) }
+    ensures { reading.Says (λ r. (r.0, r.1.words, lines.new.words)) result (reading.all_names_in version lines.old.words) }
 {
     let keys = take_keys(alloc, lines)?;
     let line = next_due(alloc, lines, ScriptKind::Header, Expected::Budget(Actor::P))?;
@@ -96,7 +94,7 @@ fn take_budgets(
     lines: &mut WordLines,
     first: &WordLine,
 ) -> Result<Sections<Budget>, ScriptFault>
-    ensures { reading.Says (λ budgets. (budgets, lines.new.words)) result (whole.budgets_in first.now.words lines.old.words) }
+    ensures { reading.Says (λ budgets. (budgets, lines.new.words)) result (reading.budgets_in first.now.words lines.old.words) }
 {
     let p = read_budget(Actor::P, first)?;
     let a = take_budget(alloc, Actor::A, lines)?;
@@ -105,7 +103,7 @@ fn take_budgets(
 }
 
 fn take_budget(alloc: Global, actor: Actor, lines: &mut WordLines) -> Result<Budget, ScriptFault>
-    ensures { reading.Says (λ budget. (budget, lines.new.words)) result (whole.next_budget_in actor lines.old.words) }
+    ensures { reading.Says (λ budget. (budget, lines.new.words)) result (reading.next_budget_in actor lines.old.words) }
 {
     let line = next_due(alloc, lines, ScriptKind::Header, Expected::Budget(actor))?;
     read_budget(actor, &line)
@@ -119,7 +117,7 @@ fn take_bodies(
     lines: &mut WordLines,
 ) -> Result<Sections<Vec<Numbered>>, ScriptFault>
     ensures { reading.Says (λ bodies. (bodies.p.items, bodies.a.items, bodies.b.items)) result
-        (whole.bodies_in version names.now lines.old.words) }
+        (reading.bodies_in version names.now lines.old.words) }
 {
     take_section_line(alloc, lines)?;
     let p = read_section(alloc, version, names, lines, b"A")?;
@@ -131,7 +129,7 @@ fn take_bodies(
 
 /// Takes the line before P's lines.
 fn take_section_line(alloc: Global, lines: &mut WordLines) -> Result<(), ScriptFault>
-    ensures { reading.Says (λ _. lines.new.words) result (whole.section_line_in lines.old.words) }
+    ensures { reading.Says (λ _. lines.new.words) result (reading.section_line_in lines.old.words) }
 {
     let line = next_due(
         alloc,
@@ -164,11 +162,11 @@ fn resolve_all(
     bodies: &Sections<Vec<Numbered>>,
 ) -> Result<Script, ScriptFault>
     requires { (script : spec.Script)
-        → whole.resolved_in names budgets bodies.now.p.items bodies.now.a.items bodies.now.b.items ≡ Some script
+        → reading.resolved_in names budgets bodies.now.p.items bodies.now.a.items bodies.now.b.items ≡ Some script
         → IsScript script }
     ensures read { reading.Says (λ script. script) result
-        (whole.resolved_in names budgets bodies.now.p.items bodies.now.a.items bodies.now.b.items) }
-    ensures steps { IfOk result (λ script. whole.HasSteps script bodies.now.p.items bodies.now.a.items bodies.now.b.items) }
+        (reading.resolved_in names budgets bodies.now.p.items bodies.now.a.items bodies.now.b.items) }
+    ensures steps { IfOk result (λ script. reading.HasSteps script bodies.now.p.items bodies.now.a.items bodies.now.b.items) }
 {
     let p = resolve(alloc, budgets.p, &bodies.p)?;
     let a = resolve(alloc, budgets.a, &bodies.a)?;

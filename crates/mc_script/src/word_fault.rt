@@ -7,7 +7,7 @@ use crate::{Expected, Misread, ScriptFault, ScriptKind};
 use std::alloc::{AllocError, AllocFailed};
 
 /// Why the words of a line can't be read, and which of them; none where memory ran out.
-#[derive(Clone, Copy, Debug, Drop)]
+#[derive(Clone, Copy, Drop)]
 pub(crate) struct WordFault {
     pub(crate) kind: ScriptKind,
     misread: Option<Misread>,

@@ -1,6 +1,6 @@
 //! The lines of a script's steps.
 
-use crate::printed::text_of;
+use crate::printed::{printed, text_of};
 use crate::told::told;
 use mc_protocol::Actor;
 use mc_script::{parse, parse_lines};
@@ -49,12 +49,15 @@ fn numbers_the_lines_of_steps(rt: HostRuntime) -> Result<(), Fail> {
     Ok(())
 }
 
+// What is printed of the script that the text spells, as the reader of lines reads it.
+fn printed_with_lines(alloc: Global) -> Result<Vec<u8>, Fail> {
+    let (script, _) = parse_lines(alloc, TEXT.as_bytes())?;
+    text_of(alloc, &script, b"")
+}
+
 fn is_read_alike(alloc: Global) -> Result<bool, Fail> {
-    let script = parse(alloc, TEXT.as_bytes())?;
-    let (other, _) = parse_lines(alloc, TEXT.as_bytes())?;
-    let printed = text_of(alloc, &script, b"")?;
-    let again = text_of(alloc, &other, b"")?;
-    Ok(printed.as_slice() == again.as_slice())
+    let wanted = printed(alloc, TEXT, b"")?;
+    Ok(printed_with_lines(alloc)?.as_slice() == wanted.as_slice())
 }
 
 #[test]

@@ -2,7 +2,7 @@
 
 use crate::printed::{is_printed_as, text_of};
 use mc_protocol::{Actor, OutOfMemory};
-use mc_script::{parse, without};
+use mc_script::{Script, parse, without};
 use std::alloc::Global;
 use std::test::Fail;
 
@@ -81,21 +81,51 @@ fn less_line(alloc: Global, text: &str, number: usize) -> Result<String, OutOfMe
     Ok(rest)
 }
 
-// Whether each of these steps has the line that it is said to have.
-fn leave_lines(alloc: Global, text: &str, steps: &[(Actor, usize, usize)]) -> Result<bool, Fail> {
-    let script = parse(alloc, text.as_bytes())?;
-    for (actor, step, line) in steps {
-        if script.steps(*actor).len() <= *step {
-            return Ok(false);
-        }
-        let less = without(alloc, &script, *actor, *step)?;
-        let wanted = less_line(alloc, text, *line)?;
-        let printed = text_of(alloc, &less, b"")?;
-        if printed.as_slice() != wanted.as_bytes() || !is_printed_as(alloc, &wanted, &wanted)? {
+// What is printed of the script less this step. Nothing is where it has no such step.
+fn printed_less(
+    alloc: Global,
+    script: &Script,
+    actor: Actor,
+    step: usize,
+) -> Result<Vec<u8>, Fail> {
+    if script.steps(actor).len() <= step {
+        return Ok(Vec::new(alloc));
+    }
+    let less = without(alloc, script, actor, step)?;
+    text_of(alloc, &less, b"")
+}
+
+// Whether the step has the line that it is said to have.
+fn leaves_line(
+    alloc: Global,
+    script: &Script,
+    text: &str,
+    row: &(Actor, usize, usize),
+) -> Result<bool, Fail> {
+    let (actor, step, line) = row;
+    let printed = printed_less(alloc, script, *actor, *step)?;
+    let wanted = less_line(alloc, text, *line)?;
+    Ok(printed.as_slice() == wanted.as_bytes() && is_printed_as(alloc, &wanted, &wanted)?)
+}
+
+// The same of each of these steps.
+fn each_leaves_line(
+    alloc: Global,
+    script: &Script,
+    text: &str,
+    steps: &[(Actor, usize, usize)],
+) -> Result<bool, Fail> {
+    for row in steps {
+        if !leaves_line(alloc, script, text, row)? {
             return Ok(false);
         }
     }
     Ok(true)
+}
+
+fn leave_lines(alloc: Global, text: &str, steps: &[(Actor, usize, usize)]) -> Result<bool, Fail> {
+    let script = parse(alloc, text.as_bytes())?;
+    each_leaves_line(alloc, &script, text, steps)
 }
 
 #[test]

@@ -1,14 +1,15 @@
-use Rattle.std.proofs.Common.{◌↔◌, ◌≤◌, List, [], length}
+use Rattle.std.proofs.Common.{◌↔◌, ◌≤◌, List, length}
 use Rattle.mc_protocol.specs.declared.actor.Actor.{Actor}
 use Rattle.mc_history.specs.declared.event.Event.{Event}
 use Rattle.mc_history.specs.declared.step_text.TheConstants.{STEP_LIST_LIMIT}
-use Rattle.mc_history.specs.StepReading.{SpellsOnward}
+use Rattle.mc_history.specs.Series.{Series}
+use Rattle.mc_history.specs.StepReading.{steps, AfterSteps, SpellsOnward}
 use Rattle.mc_history.proofs.step_text.read_steps.Given as goal
 
 abbrev pub invariant-steps : goal.invariant-steps
 invariant-steps l = record {
   few : length l.steps.items ≤ STEP_LIST_LIMIT;
-  same : (all : List (Actor × Event)) → SpellsOnward l.steps.items l.lines.words all ↔ SpellsOnward [] l.initial.lines.words all;
+  same : (all : List (Actor × Event)) → Series steps (AfterSteps all) l.steps.items l.lines.words ↔ SpellsOnward l.initial.lines.words all;
 }
 
 abbrev pub decreases-steps : goal.decreases-steps

@@ -1,8 +1,7 @@
 -- The word is read as a body exactly where it spells it.
-use Rattle.mc_model.specs.Words.{SpellsBody}
-use Rattle.mc_model.specs.Reading.{body_in}
-use Rattle.mc_model.proofs.Readings.{IfOk-from_gives, IfErr-from_gives, no_number-from_gives}
-use Rattle.mc_model.proofs.BodyWords.{body-spelled, body-read, body-form}
+use Rattle.mc_model.specs.{Words.SpellsBody, Reading.body_in}
+use Rattle.mc_model.proofs.Readings.{IfOk-from_gives, IfErr-from_gives}
+use Rattle.mc_model.proofs.BodyWords.{body-spelled, body-read}
 use Rattle.mc_model.proofs.body.read_body.Goals as goal
 
 pub returns-clause-found : goal.returns-clause-found
@@ -14,8 +13,3 @@ pub returns-clause-none : goal.returns-clause-none
 returns-clause-none c =
     let word = c.args.word.now in
     IfErr-from_gives (SpellsBody word) (body_in word) c.body_in.result (body-read word) c.body_in.ensures.exact
-
-pub returns-clause-form : goal.returns-clause-form
-returns-clause-form c =
-    let word = c.args.word.now in
-    no_number-from_gives (body_in word) c.body_in.result (body-form word) c.body_in.ensures.exact

@@ -20,5 +20,6 @@ returns-in_err-byte c =
       exact =
           onto-fails c.bytes.bytes.items c.bytes.rest.now (bytes_in c.args.text.now) c.in_err-byte.field-0.0.kind c.bytes.invariant
           c.in_err-byte.ensures.exact;
+      form = rw c.in_err-byte.ensures.form (λ e. cc);
       word = c.in_err-byte.ensures.word;
     })

@@ -1,10 +1,7 @@
 use Rattle.std.proofs.Common.{◌≡◌, ◌≢◌, ℕ, ◌<◌, true, Some, List, length, get_or, take, map-id, sym, ap, ◌∙◌}
-use Rattle.std.proofs.lemmas.Option.{slice_get-get_or}
-use Rattle.std.proofs.lemmas.Iterator.Adapters.{YieldsList-from_vec}
+use Rattle.std.proofs.lemmas.{Option.slice_get-get_or, Iterator.Adapters.YieldsList-from_vec}
 use Rattle.std.proofs.lemmas.Iterator.Consumers.{YieldsList-turn, YieldsList-so_far}
-use Rattle.mc_protocol.specs.declared.actor.Actor.{Actor}
-use Rattle.mc_model.specs.declared.sent.Sent.{Sent}
-use Rattle.mc_model.specs.declared.rules.HistoryKind.{HistoryKind}
+use Rattle.mc_model.specs.Types.{Actor, Sent, HistoryKind}
 use Rattle.mc_model.specs.declared.rules.HistoryKind.TheVariants.{OutOfMemory}
 use Rattle.mc_model.specs.Sections.{Sections}
 use Rattle.mc_model.specs.History.{is_history, fault_at}

@@ -1,8 +1,7 @@
 -- Of a `cas` the earlier requests are asked, one by one.
 use Rattle.std.proofs.Common.{◌≡◌, Bool, true, false, not, refl, rules, tests}
 use Rattle.std.specs.List.{list_any}
-use Rattle.std.proofs.lemmas.Iterator.{YieldsList-from_slice}
-use Rattle.std.proofs.lemmas.Iterator.Search.{any_from_yields_List}
+use Rattle.std.proofs.lemmas.{Iterator.YieldsList-from_slice, Iterator.Search.any_from_yields_List}
 use denote.Enum.Bare.{same_true}
 use Rattle.mc_protocol.specs.contracts.request.Verb.{the_type}
 use Rattle.mc_protocol.specs.declared.request.Verb.TheVariants.{Cas}

@@ -14,10 +14,15 @@ returns-in_err-check_name c =
 pub words-preserved : goal.words-preserved
 words-preserved c =
     let may = rw c.deref.ensures.value at c.in_ok-check_name.ensures.ok in
-    let pushed = declared_push c.args.limit c.args.bytes c.words.names.items _ c.words.invariant.declared may in
     record {
       names = grind (arith, common_steps);
-      declared = rw (c.in_ok-push.ensures.items, c.new.ensures, c.in_ok-from_slice.ensures.items) pushed;
+      declared = rw (
+        c.in_ok-push.ensures.items,
+        c.new.ensures,
+        c.in_ok-from_slice.ensures.items,
+        declared_push c.args.limit c.args.bytes c.words.names.items _,
+        c.words.invariant.declared,
+      ) may;
     }
 
 pub returns : goal.returns

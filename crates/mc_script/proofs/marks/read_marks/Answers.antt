@@ -2,7 +2,7 @@ use Rattle.std.proofs.Common.{◌≡◌, Some, [], map, sym, ap, ◌∙◌}
 use Rattle.std.specs.List.{list_any}
 use Rattle.std.proofs.lemmas.List.{drop_all}
 use Rattle.mc_script.specs.Reading.{marks_in, binds}
-use Rattle.mc_script.proofs.MarkLists.{marks-apart}
+use Rattle.mc_script.proofs.MarkWords.{marks-apart}
 use Rattle.mc_script.proofs.marks.read_marks.Goals as goal
 
 pub new-requires : goal.new-requires

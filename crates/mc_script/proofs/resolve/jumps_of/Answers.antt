@@ -2,8 +2,8 @@ use Rattle.std.proofs.Common.{◌≡◌, ◌≢◌, None, sym, ap, ◌∙◌, ru
 use Rattle.mc_protocol.specs.Words.{all_classes}
 use Rattle.mc_script.specs.declared.fault.ScriptKind.TheVariants as kind
 use Rattle.mc_script.specs.Steps.{jumps_on}
-use Rattle.mc_script.specs.TextReading.{targets_in}
-use Rattle.mc_script.proofs.Targets.{jumps-found, jumps-missing}
+use Rattle.mc_script.specs.Reading.{targets_in}
+use Rattle.mc_script.proofs.JumpLists.{jumps-found, jumps-missing}
 use Rattle.mc_script.proofs.resolve.jumps_of.Goals as goal
 
 pub returns-in_err-targets : goal.returns-in_err-targets

@@ -1,5 +1,5 @@
 use Rattle.std.proofs.Common.{◌≡◌, take}
-use Rattle.mc_script.specs.TextReading.{jumps_to}
+use Rattle.mc_script.specs.Reading.{jumps_to}
 use Rattle.mc_script.proofs.resolve.jumps_to.Given as goal
 
 abbrev pub invariant-classes : goal.invariant-classes

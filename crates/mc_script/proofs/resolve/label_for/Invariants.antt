@@ -1,5 +1,5 @@
 use Rattle.std.proofs.Common.{◌≡◌, drop}
-use Rattle.mc_script.specs.TextReading.{label_for}
+use Rattle.mc_script.specs.Reading.{label_for}
 use Rattle.mc_script.proofs.resolve.label_for.Given as goal
 
 abbrev pub invariant-jumps : goal.invariant-jumps

@@ -1,5 +1,6 @@
 use Rattle.std.proofs.Common.{◌≡◌, Some, length, sym, ap, ◌∙◌, rules}
-use Rattle.mc_script.specs.TextReading.{is_label, step_in}
+use Rattle.mc_script.specs.Steps.{step_in}
+use Rattle.mc_script.specs.Reading.{is_label}
 use Rattle.mc_script.proofs.Resolving.{step-pushed, label-passed}
 use Rattle.mc_script.proofs.resolve.steps_of.Goals.{then-not-is_label+in-Ok+in_ok-push-in-Ok, else-not-is_label}
 use Rattle.mc_script.proofs.resolve.steps_of.Goals as goal

@@ -1,5 +1,5 @@
 use Rattle.std.proofs.Common.{◌≡◌, length, drop}
-use Rattle.mc_script.specs.TextReading.{onto}
+use Rattle.mc_script.specs.Reading.{onto}
 use Rattle.mc_script.specs.Steps.{steps_from}
 use Rattle.mc_script.proofs.resolve.steps_of.Given as goal
 

@@ -1,5 +1,5 @@
 use Rattle.std.proofs.Common.{◌≡◌, drop}
-use Rattle.mc_script.specs.TextReading.{onto, targets_in}
+use Rattle.mc_script.specs.Reading.{onto, targets_in}
 use Rattle.mc_script.proofs.resolve.targets_of.Given as goal
 
 abbrev pub invariant-marks : goal.invariant-marks

@@ -2,7 +2,7 @@ use Rattle.std.proofs.Common.{◌≡◌, ◌≢◌, Some, None, cond, not, sym, 
 use Rattle.mc_script.specs.Versions.{steps_limit}
 use Rattle.mc_script.specs.declared.fault.ScriptKind.TheVariants as kind
 use Rattle.mc_script.specs.Reading.{entry_in}
-use Rattle.mc_script.specs.TextReading.{following}
+use Rattle.mc_script.specs.Reading.{following}
 use Rattle.mc_script.proofs.Labelled.{step_following, step_adds, label_following, label_unread}
 use Rattle.mc_script.proofs.section_text.read_line.Goals as goal
 

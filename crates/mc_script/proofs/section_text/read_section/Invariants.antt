@@ -1,5 +1,5 @@
 use Rattle.std.proofs.Common.{◌≡◌, ◌≤◌, [], length}
-use Rattle.mc_script.specs.TextReading.{entries_in}
+use Rattle.mc_script.specs.Reading.{entries_in}
 use Rattle.mc_script.specs.Versions.{steps_limit}
 use Rattle.mc_script.proofs.section_text.read_section.Given as goal
 

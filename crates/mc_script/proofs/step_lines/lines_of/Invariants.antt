@@ -1,5 +1,5 @@
 use Rattle.std.proofs.Common.{◌≡◌, ◌+◌, length, drop}
-use Rattle.mc_script.specs.TextReading.{step_total}
+use Rattle.mc_script.specs.Reading.{step_total}
 use Rattle.mc_script.proofs.step_lines.lines_of.Given as goal
 
 abbrev pub invariant-entries : goal.invariant-entries

@@ -1,4 +1,4 @@
-use Rattle.mc_script.proofs.ScriptRead.{one_script}
+use Rattle.mc_script.proofs.WholeScript.{one_script}
 use Rattle.mc_script.proofs.text_laws.texts_spell_one_script.Goals as goal
 
 pub returns : goal.returns

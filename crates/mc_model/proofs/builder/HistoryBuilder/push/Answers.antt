@@ -1,6 +1,5 @@
 use Rattle.std.proofs.Common.{◌≡◌, ℕ, true, None, refl, sym, ◌∙◌}
-use Rattle.mc_protocol.specs.declared.actor.Actor.{Actor}
-use Rattle.mc_model.specs.declared.sent.Sent.{Sent}
+use Rattle.mc_model.specs.Types.{Actor, Sent}
 use Rattle.mc_model.specs.Sections.{Sections, with_sent}
 use Rattle.mc_model.specs.History.{is_history, fault_at, key_count}
 use Rattle.mc_model.specs.Next.{keys_with}

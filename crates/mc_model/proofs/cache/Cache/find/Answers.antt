@@ -4,8 +4,7 @@ use Rattle.std.specs.Str.{bytes_eq}
 use Rattle.std.specs.FinMap as finite_map
 use Rattle.std.specs.Option.{MatchOption, IsSomeAnd, option_map, option_copied}
 use denote.Bor.{Bor}
-use Rattle.std.proofs.lemmas.Iterator.{YieldsList-from_slice}
-use Rattle.std.proofs.lemmas.Iterator.Search.{find_from_yields_List}
+use Rattle.std.proofs.lemmas.{Iterator.YieldsList-from_slice, Iterator.Search.find_from_yields_List}
 use Rattle.mc_model.proofs.Entries.{found_entry}
 use Rattle.mc_model.proofs.cache.Cache.find.Goals as goal
 

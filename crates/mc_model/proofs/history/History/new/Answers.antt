@@ -2,8 +2,7 @@
 use Rattle.std.proofs.Common.{rules, ◌≢◌}
 use Rattle.std.proofs.lemmas.Result.{err_from_is_err_and}
 use Rattle.mc_model.specs.declared.rules.HistoryKind.TheVariants.{OutOfMemory}
-use Rattle.mc_model.specs.Sections.{Sections}
-use Rattle.mc_model.specs.History.{IsFirstFault}
+use Rattle.mc_model.specs.{Sections.Sections, History.IsFirstFault}
 use Rattle.mc_model.proofs.Prefixes.{no_history}
 use Rattle.mc_model.proofs.history.History.new.Goals as goal
 
