@@ -22,5 +22,7 @@ pub mod PrintedLines
 pub mod PrintedNames
 pub mod PrintedFlags
 pub mod PrintedMarks
+pub mod PrintedJumps
 pub mod PrintedSections
+pub mod PrintedScripts
 pub mod WithoutStep

@@ -1,12 +1,12 @@
--- The lines of steps and of sections as they are printed, and the whole text: they spell the section, and the script.
+-- The lines of steps and of sections as they are printed: they spell the section.
 use Rattle.std.proofs.Common.{◌≡◌, ℕ, ◌+◌, ◌<◌, ◌==◌, ◌^◌, nat_le, true, Option, Some, List, [], ◌∷◌, ◌++◌, length, decimal, refl, sym, ap, ◌∙◌, arith, ◌≤◌}
-use Rattle.std.proofs.Common.{Bool, false, cond, codes, subst, append-nil}
+use Rattle.std.proofs.Common.{Bool, false, cond, subst, append-nil}
 use Rattle.std.specs.List.{list_all}
 use Rattle.std.proofs.lemmas.Bool.{eqb-true, leb-true, ltb-true, and_parts, and_from, ne_eqb, le-leb, cond_both}
 use Rattle.mc_protocol.specs.Fields.{fields_of}
-use Rattle.mc_protocol.specs.Words.{verb_word, actor_word}
-use Rattle.mc_script.specs.Values.{Fields, Verb, Class, KEY_BYTES_LIMIT, Word, Words, Entry, Sign, NAME_BYTES_LIMIT, Label, Argument, Step, Template, Actor}
-use Rattle.mc_script.specs.Values.{Sections, REQUESTS_LIMIT, REQUEST_BYTES_LIMIT, FLAGS_LIMIT, Version}
+use Rattle.mc_protocol.specs.Words.{verb_word}
+use Rattle.mc_script.specs.Values.{Fields, Verb, Class, KEY_BYTES_LIMIT, Word, Words, Entry, Sign, NAME_BYTES_LIMIT, Label, Argument, Step, Template}
+use Rattle.mc_script.specs.Values.{Version}
 use Rattle.mc_script.specs.Values.fields
 use Rattle.mc_script.specs.Values.entry
 use Rattle.mc_script.specs.Values.sign
@@ -17,33 +17,26 @@ use Rattle.mc_protocol.specs.Names.{is_name, are_distinct}
 use Rattle.mc_protocol.specs.Decimals.{SpellsNumber, MAX_32, MAX_64}
 use Rattle.mc_protocol.proofs.Decimals.{decimal-spells}
 use Rattle.mc_script.specs.Chains.{◌>>=◌}
-use Rattle.mc_script.specs.Script.{Names, Section, Script, section_of, longest, version_of}
+use Rattle.mc_script.specs.Script.{Names, Section}
 use Rattle.mc_script.specs.ScriptWords.{is_label_name, is_body, body_word, variable_word, label_word}
 use Rattle.mc_script.specs.Marks.{SpellsMark, mask_of, bound_by}
 use Rattle.mc_script.specs.SectionText.{SpellsEntry, SpellsFields, SpellsVariable, SpellsUnique, SpellsAmount, label_names, SpellsSection}
 use Rattle.mc_script.specs.Steps.{in_front, with_marks, steps_from, labels_from}
 use Rattle.mc_script.specs.Templates.{IsTemplate, has_fields, is_nothing, is_variable, is_amount, is_empty}
-use Rattle.mc_script.specs.WellFormed.{IsStep, AreSteps, AreLabels, IsSection, IsScript}
+use Rattle.mc_script.specs.WellFormed.{IsStep, AreSteps, AreLabels, IsSection}
 use Rattle.mc_script.specs.PrintedScript.{name_at, label_at, item_words, argument_words, mark_words, field_words, step_words, label_lines, step_lines}
-use Rattle.mc_script.specs.PrintedScript.{section_lines, bodies_of, budget_line, script_lines, script_text, PrintedScriptsAreSpelled}
-use Rattle.mc_script.specs.PrintedScript.{PrintedScriptsAreReadAgain}
+use Rattle.mc_script.specs.PrintedScript.{section_lines}
 use Rattle.mc_script.proofs.Lists.{three, some-first}
 use Rattle.mc_script.proofs.EntryWords.{same-template}
-use Rattle.mc_script.proofs.PrintedLines.{is_whole, are_whole, is_line, are_lines, all-weaker, lines_fall_apart}
+use Rattle.mc_script.proofs.PrintedLines.{is_whole, are_whole, is_line, are_lines}
 use Rattle.mc_script.proofs.PrintedNames.{decimal-whole, named-whole, body-whole, name-has, index-found, label-found, label-whole}
 use Rattle.mc_script.proofs.PrintedFlags.{With, both-apart, all-append, each-append, each-cond}
-use Rattle.mc_script.proofs.PrintedMarks.{Known, front-name, behind-named, marks_of, marks-spell, marks-together, known, mask_at, says-mask, says-bind}
-use Rattle.mc_script.proofs.PrintedMarks.{says-jumps}
+use Rattle.mc_script.proofs.PrintedMarks.{Known, front-name, behind-named, marks_of, marks-spell, marks-together, mask_at, says-mask}
+use Rattle.mc_script.proofs.PrintedJumps.{says-bind}
+use Rattle.mc_script.proofs.PrintedJumps.{says-jumps}
 use Rattle.std.proofs.lemmas.Bool.Decides.{nat_tests}
-use Rattle.std.proofs.lemmas.List.Folds.{list_all-append}
-use Rattle.mc_script.specs.Values.actor
-use Rattle.mc_script.specs.Values.version
-use Rattle.mc_protocol.specs.Sections as sections
 use Rattle.mc_protocol.specs.Spelling.{SpellEach}
 use Rattle.mc_script.specs.Versions.{steps_limit}
-use Rattle.mc_script.specs.ScriptText.{SpellsBudget, header, names_line, names_lines, section_line, end_line, body_lines}
-use Rattle.mc_script.proofs.Declared.{declared-few, least-has-room}
-use Rattle.mc_script.proofs.WholeScript.{one_script, each}
 
 -- ---- fields
 
@@ -312,13 +305,13 @@ steps-again names labels place (s ∷ steps) distinct h =
     steps-before labels place place labels (step_entry names labels s ∷ rest) ∙ step-again names labels place s rest distinct h.0
     ∙ ap (λ o. in_front (Some s) o) (steps-again names labels (place + 1) steps distinct h.1)
 
-section-lines : (names : Names) (s : Section) → Known names → IsSection names s
+pub section-lines : (names : Names) (s : Section) → Known names → IsSection names s
     → SpellEach (SpellsEntry names) (section_lines names s) (step_entries names s.labels 0 s.steps) × (are_lines (section_lines names s) ≡ true)
 section-lines names s k h =
     both-apart (SpellsEntry names) is_line (section_lines names s) (step_entries names s.labels 0 s.steps)
     (lines-spell names s.labels 0 s.steps k (label-names (length s.steps) 0 s.labels h.labels) h.steps)
 
-section-spells : (v : Version) (names : Names) (s : Section) → Known names → IsSection names s → length s.steps ≤ steps_limit v
+pub section-spells : (v : Version) (names : Names) (s : Section) → Known names → IsSection names s → length s.steps ≤ steps_limit v
     → SpellsSection v names (section_lines names s) s
 section-spells v names s k h few = record {
   entries = step_entries names s.labels 0 s.steps;
@@ -328,105 +321,3 @@ section-spells v names s k h few = record {
   steps = steps-again names s.labels 0 s.steps h.distinct h.steps;
   few = few;
 }
-
--- ---- the whole text
-
-budget-spells : (a : Actor) (names : Names) (s : Section) → IsSection names s → SpellsBudget a (budget_line a s.budget) s.budget
-budget-spells a names s h = (
-  decimal s.budget.requests,
-  decimal s.budget.bytes,
-  refl,
-  decimal-spells REQUESTS_LIMIT s.budget.requests (omega arith) h.requests,
-  decimal-spells REQUEST_BYTES_LIMIT s.budget.bytes (omega arith) h.bytes,
-)
-
-version-whole : (v : Version) → is_line (header v) ≡ true
-version-whole version.One = refl
-version-whole version.Two = refl
-
-actor-whole : (a : Actor) → is_whole (actor_word a) ≡ true
-actor-whole actor.P = refl
-actor-whole actor.A = refl
-actor-whole actor.B = refl
-
-budget-is-line : (a : Actor) (names : Names) (s : Section) → IsSection names s → is_line (budget_line a s.budget) ≡ true
-budget-is-line a names s h =
-    let few = h.requests in
-    let small = h.bytes in
-    rw (actor-whole a, decimal-whole s.budget.requests (omega (arith, few)), decimal-whole s.budget.bytes (omega (arith, small))) refl
-
-names-whole : (limit : ℕ) (names : List Word) → list_all (is_name limit) names ≡ true → are_whole names ≡ true
-names-whole limit names h = all-weaker (is_name limit) is_whole (named-whole limit) names h
-
-names-are-lines : (word : Word) (limit : ℕ) (names : List Word) → is_whole word ≡ true → list_all (is_name limit) names ≡ true
-    → are_lines (names_line word names) ≡ true
-names-are-lines word limit [] w h = refl
-names-are-lines word limit (name ∷ names) w h =
-    let whole = names-whole limit (name ∷ names) h in
-    rw (line-from word (name ∷ names) (and_from (is_whole word) (are_whole (name ∷ names)) w whole)) refl
-
-script-are-lines : (s : Script) → IsScript s → are_lines (script_lines s) ≡ true
-script-are-lines s h =
-    let k = known s.names h.declared in
-    let p = section_lines s.names s.sections.p in
-    let a = section_lines s.names s.sections.a in
-    let b = section_lines s.names s.sections.b in
-    let keys = names_line (codes "keys") s.names.keys in
-    let flags = names_line (codes "flags") s.names.flags in
-    let after_a = b ++ end_line ∷ [] in
-    let after_p = a ++ section_line actor.B ∷ after_a in
-    let joins = list_all-append is_line in
-    let body : are_lines (body_lines (bodies_of s)) ≡ true =
-    rw (
-      joins p (section_line actor.A ∷ after_p),
-      joins a (section_line actor.B ∷ after_a),
-      joins b (end_line ∷ []),
-      (section-lines s.names s.sections.p k h.p).1,
-      (section-lines s.names s.sections.a k h.a).1,
-      (section-lines s.names s.sections.b k h.b).1,
-    ) refl in
-    let names = all-append is_line (keys ++ flags) (names_line (codes "vars") s.names.vars)
-    (all-append is_line keys flags (names-are-lines (codes "keys") KEY_BYTES_LIMIT s.names.keys refl k.key_names)
-    (names-are-lines (codes "flags") NAME_BYTES_LIMIT s.names.flags refl k.flag_names))
-    (names-are-lines (codes "vars") NAME_BYTES_LIMIT s.names.vars refl k.var_names) in
-    let bp = budget_line actor.P s.sections.p.budget in
-    let ba = budget_line actor.A s.sections.a.budget in
-    let bb = budget_line actor.B s.sections.b.budget in
-    let budgets : are_lines (bp ∷ ba ∷ bb ∷ body_lines (bodies_of s)) ≡ true =
-    rw (
-      budget-is-line actor.P s.names s.sections.p h.p,
-      budget-is-line actor.A s.names s.sections.a h.a,
-      budget-is-line actor.B s.names s.sections.b h.b,
-    ) body in
-    rw (version-whole (version_of s)) (all-append is_line (names_lines s.names) (bp ∷ ba ∷ bb ∷ body_lines (bodies_of s)) names budgets)
-
-pub printed_scripts : PrintedScriptsAreSpelled
-printed_scripts s h =
-    let k = known s.names h.declared in
-    let v = version_of s in
-    let p = h.p.few in
-    let a = h.a.few in
-    let b = h.b.few in
-    let within = least-has-room (length s.names.flags) (longest s) (declared-few FLAGS_LIMIT NAME_BYTES_LIMIT s.names.flags h.declared.flags)
-    (omega (arith, p, a, b)) in
-    let long = within.1 in
-    let lines : Sections Words = record {
-      p = budget_line actor.P s.sections.p.budget;
-      a = budget_line actor.A s.sections.a.budget;
-      b = budget_line actor.B s.sections.b.budget;
-    } in
-    record {
-      budgets = lines;
-      bodies = bodies_of s;
-      lines = lines_fall_apart (script_lines s) (script-are-lines s h);
-      declared = h.declared;
-      few_flags = within.0;
-      allowed = each (λ k. SpellsBudget k (sections.section_of lines k) (section_of s k).budget)
-          (budget-spells actor.P s.names s.sections.p h.p) (budget-spells actor.A s.names s.sections.a h.a) (budget-spells actor.B s.names s.sections.b h.b);
-      spelled = each (λ k. SpellsSection v s.names (sections.section_of (bodies_of s) k) (section_of s k))
-          (section-spells v s.names s.sections.p k h.p (omega (arith, long))) (section-spells v s.names s.sections.a k h.a (omega (arith, long)))
-          (section-spells v s.names s.sections.b k h.b (omega (arith, long)));
-    }
-
-pub read_again : PrintedScriptsAreReadAgain
-read_again s t h spelled = one_script (script_text s) t s spelled (version_of s, printed_scripts s h)

@@ -148,7 +148,7 @@ words-stay names labels others step.Halt e = refl
 
 -- ---- the lines of labels
 
--- the place of a label compared with one before the step, and with one behind it
+-- the place of a label compared with one before the step, and with one after it
 at-earlier : (k place at : ℕ) → at < k → (place_without k place == at) ≡ (place == at)
 at-earlier k place at h = grind (arith, nat_tests)
 

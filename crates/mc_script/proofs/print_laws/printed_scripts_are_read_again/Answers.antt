@@ -1,4 +1,4 @@
-use Rattle.mc_script.proofs.PrintedSections.{read_again}
+use Rattle.mc_script.proofs.PrintedScripts.{read_again}
 use Rattle.mc_script.proofs.print_laws.printed_scripts_are_read_again.Goals as goal
 
 pub returns : goal.returns

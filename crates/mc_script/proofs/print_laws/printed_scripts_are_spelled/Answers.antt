@@ -1,4 +1,4 @@
-use Rattle.mc_script.proofs.PrintedSections.{printed_scripts}
+use Rattle.mc_script.proofs.PrintedScripts.{printed_scripts}
 use Rattle.mc_script.proofs.print_laws.printed_scripts_are_spelled.Goals as goal
 
 pub returns : goal.returns

@@ -1,4 +1,4 @@
-use Rattle.mc_script.proofs.PrintedSections.{printed_scripts}
+use Rattle.mc_script.proofs.PrintedScripts.{printed_scripts}
 use Rattle.mc_script.proofs.PrintedTexts.{script_text-made}
 use Rattle.mc_script.proofs.print_script.text_of.Goals as goal
 
