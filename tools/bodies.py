@@ -7,10 +7,16 @@ of all that it calls, and with it what is written of their proofs. `rt ci` has p
 
 import shutil
 
-HOLE = """use Rattle.{place}.Statement.{{statement}}
+HOLE = """-- Stands for the proofs that were taken.
+pub taken_proof : {A : Type 2} → A
+taken_proof = ?
+"""
+OF_HOLE = "TakenProof"
+PROOF = """use Rattle.{place}.Statement.{{statement}}
+use Rattle.{crate}.proofs.{of_hole}.{{taken_proof}}
 
 pub {name}_spec : {{M : Type 1}} → statement M
-{name}_spec = ?
+{name}_spec = taken_proof
 """
 
 
@@ -19,6 +25,7 @@ def copy_with_bodies_of(functions, crate, found, sources, folder):
     if folder.exists():
         shutil.rmtree(folder)
     shutil.copytree(sources, folder)
+    add_hole(folder / "proofs")
     others = [it for it in found if it not in functions]
     for file in {it.file for it in others}:
         lines = (folder / file).read_text(encoding="utf-8").split("\n")
@@ -59,6 +66,14 @@ def places_of_proof(item):
     return [f"{home}/{it}.antt" for it in ("Proof", "Invariants", "Answers")], closures
 
 
+def add_hole(proofs):
+    """Writes the file of the one hole, and declares it."""
+    proofs.mkdir(exist_ok=True)
+    (proofs / f"{OF_HOLE}.antt").write_text(HOLE, encoding="utf-8")
+    with open(proofs / "Lib.antt", "a", encoding="utf-8") as lib:
+        lib.write(f"\npub mod {OF_HOLE}\n")
+
+
 def write_hole(item, crate, folder):
     """Puts a hole in place of what is written of the function's proof, that of its closures included."""
     files, closures = places_of_proof(item)
@@ -69,4 +84,4 @@ def write_hole(item, crate, folder):
     proof = folder / files[0]
     proof.parent.mkdir(parents=True, exist_ok=True)
     place = ".".join((crate.name, "proofs", *item.path))
-    proof.write_text(HOLE.format(place=place, name=item.name), encoding="utf-8")
+    proof.write_text(PROOF.format(place=place, crate=crate.name, of_hole=OF_HOLE, name=item.name), encoding="utf-8")

@@ -1,4 +1,6 @@
-"""Edits that only a test refuses, each tried in a copy: the test passes without the edit, and must fail with it."""
+"""Edits that only a test refuses, each tried in a copy: the test passes without the edit, and must fail with it. The copy has no other
+test then, since each would be compiled with all that it calls.
+"""
 
 import pathlib
 import re
@@ -7,14 +9,34 @@ from dataclasses import dataclass
 
 import checks
 import edits
+import items
 import tries
 
 TEST_LINE = re.compile(r"(?m)^test (\S+) \.\.\. (\w+)")
+HEAD = re.compile(r" *(?:pub )?fn (\w+)")
 
 
-def run_tests(folder):
-    """The tests of the crate in this folder by name, and whether each passed, with what was said and the seconds."""
+def with_tests(text, names):
+    """A source with no other tests than those of these names, in as many lines."""
+    lines = text.split("\n")
+    for first in [at for at, line in enumerate(lines) if line.strip() == "#[test]"]:
+        head = next(at for at in range(first, len(lines)) if HEAD.match(lines[at]))
+        last = items.ends(lines, head, lines[first].removesuffix("#[test]"))
+        if HEAD.match(lines[head])[1] not in names:
+            above = next(at for at in range(first, -1, -1) if at == 0 or not lines[at - 1].lstrip().startswith(("//", "#[")))
+            lines[above : last + 1] = [""] * (last + 1 - above)
+    return "\n".join(lines)
+
+
+def run_tests(folder, names):
+    """Runs the tests of these names, of the crate in this folder. Answers each by its name, and whether it passed, with what was said and
+    the seconds."""
+    were = {it: it.read_text(encoding="utf-8") for it in (folder / "src").rglob("*.rt")}
+    for file, text in were.items():
+        file.write_text(with_tests(text, names), encoding="utf-8")
     _, said, seconds = checks.run(["rt", "try", "--test"], folder)
+    for file, text in were.items():
+        file.write_text(text, encoding="utf-8")
     passed = {}
     for name, word in TEST_LINE.findall(said):
         passed.setdefault(name.rpartition("::")[2], []).append(word == "ok")
@@ -61,8 +83,8 @@ class TestsOf:
             for of_crate, edit in self.pairs:
                 of_crate.fail(edit, f"there is no crate {self.name}, whose test it names")
             return [0.0] * len(self.pairs)
-        before, said, seconds = run_tests(folder)
-        self.say(f"{self.name}: its tests as they stand, {len(before)} of them")
+        before, said, seconds = run_tests(folder, {edit.test[1] for _, edit in self.pairs})
+        self.say(f"{self.name}: its tests as they stand, {len(before)} of those that are named")
         taken = [self.run_one(of_crate, edit, before, folder) for of_crate, edit in self.pairs]
         return [taken[0] + seconds, *taken[1:]]
 
@@ -73,7 +95,7 @@ class TestsOf:
             of_crate.fail(edit, f"there is no one test {test} in {self.name} that passes without it: it has {they}")
             return 0.0
         were = edits.apply([edit], folder.parent / edit.crate)
-        after, said, seconds = run_tests(folder)
+        after, said, seconds = run_tests(folder, {test})
         edits.restore(were, folder.parent / edit.crate)
         if after.get(test) == [False]:
             of_crate.refused[str(edit)] = "test", f"{self.name}::{test}"

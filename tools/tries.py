@@ -8,6 +8,7 @@ import bodies
 import checks
 import edits
 import items
+import twins
 import unedited
 
 # What a check takes beside the functions that it is asked for, as so many of these; and one with all bodies, which makes and
@@ -16,7 +17,7 @@ CHECK = 5
 CHECK_WITH_BODIES = 25
 # How many edits one check carries at most. A function takes up to a minute where the machine is busy, so that a check of this many ends
 # long before `checks.SECONDS` have gone; and checks of like length leave no processor idle at the end.
-MOST = 30
+MOST = 40
 
 
 @dataclass
@@ -38,17 +39,18 @@ class Check:
     def run(self, room, kit):
         """The answer, and the processor seconds that it took."""
         crate, home = self.tries.crate, room / f"check-{id(self)}"
-        copy, kept = home / crate.name, home / "kept"
-        # It keeps nothing for another, and takes nothing from one: a check that begins with what others kept takes as long.
-        kept.mkdir(parents=True)
+        copy = home / crate.name
+        home.mkdir()
         sources = room / "copy/crates" / crate.name
         if self.has_bodies:
             shutil.copytree(sources, copy)
         else:
             own = [it for it in self.tries.items if attribution.name_of(crate, it) in self.functions]
             bodies.copy_with_bodies_of(own, crate, self.tries.items, sources, copy)
-        edits.apply(self.batch, copy)
-        answer = checks.check(crate, copy, self.functions, kit, kept, *([] if self.has_bodies else ["--allow-holes"]))
+        in_twins = [] if self.has_bodies else twins.numbered(self.batch)
+        edits.apply([it for it in self.batch if it not in [edit for edit, _ in in_twins]], copy)
+        asked = [*self.functions, *twins.add(in_twins, crate, sources, copy)]
+        answer = checks.check(crate, copy, asked, kit, *([] if self.has_bodies else ["--allow-holes"]))
         shutil.rmtree(home)
         return answer
 
@@ -59,6 +61,11 @@ class Check:
         tries.checks, tries.seconds = tries.checks + 1, tries.seconds + seconds
         if self.has_bodies:
             return [Check(tries, it, True) for it in tries.settle_with_bodies(self.batch, answer)]
+        if not answer.has_verdict and twins.numbered(self.batch):
+            # An edit that doesn't compile stands in it, or a twin doesn't.
+            again = [Check(tries, it, False) for it in batches_of(self.batch)]
+            tries.first_checks += len(again) - 1
+            return again
         tries.settle_without_bodies(self.batch, answer)
         tries.first_checks -= 1
         return [Check(tries, it, True) for it in batches_of(tries.unsettled)] if tries.first_checks == 0 else []
@@ -129,14 +136,15 @@ class Tries:
 
     def begin(self):
         """The checks to begin with: batches without the other bodies. What these don't refuse is tried with them, and then alone."""
-        found = [Check(self, it, False) for it in batches_of(self.of_contracts())]
+        found = [Check(self, it, False) for it in batches_of(self.of_contracts(), twins.Twins(self.crate).can_have)]
         self.first_checks = len(found)
         return found
 
     def settle_without_bodies(self, batch, answer):
         """Settles the edits that the answer refuses, and keeps the others."""
         if answer.has_verdict:
-            found = {str(it): attribution.refusal(it, answer) for it in batch}
+            in_twins = {str(edit): twins.seen_as(answer, edit, number) for edit, number in twins.numbered(batch)}
+            found = {str(it): attribution.refusal(it, in_twins.get(str(it), answer)) for it in batch}
             self.refused |= {it: how for it, how in found.items() if how}
         self.unsettled += [it for it in batch if str(it) not in self.refused]
 
@@ -168,15 +176,21 @@ class Tries:
         return again
 
 
-def batches_of(found):
-    """Splits edits into batches of at most `MOST`, in which no two stand in one function or change one line. One that changes more than
-    bodies has a batch of its own."""
+def batches_of(found, can_have_twin=lambda edit: False):
+    """Splits edits into batches of at most `MOST`. In one, no two stand in one function or change one line, but for those that may stand
+    in a twin of their function. An edit that changes more than bodies has a batch of its own."""
     batches = []
-    for edit in [it for it in found if not it.is_alone]:
+    # In a function with others, one that can't stand in a twin comes first.
+    for edit in sorted((it for it in found if not it.is_alone), key=can_have_twin):
         for batch in batches:
-            if len(batch) < MOST and not any(set(edit.functions) & set(it.functions) or edit.meets(it) for it in batch):
+            if len(batch) < MOST and (can_have_twin(edit) or not any(is_hindered_by(edit, it) for it in batch)):
                 batch.append(edit)
                 break
         else:
             batches.append([edit])
     return batches + [[it] for it in found if it.is_alone]
+
+
+def is_hindered_by(edit, other):
+    """Whether both stand in one function, or change one line."""
+    return bool(set(edit.functions) & set(other.functions)) or edit.meets(other)

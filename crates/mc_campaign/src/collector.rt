@@ -131,7 +131,7 @@ fn keep_at<'a, S: Stream + Send, W: Watcher<S>>(
     if let Some(kept) = kept.get_mut(place as usize) {
         if kept.is_none() {
             watcher.ended(message.job(), message.outcome());
-            *kept = Some(message);
+            drop(kept.replace(message));
         }
     }
 }

@@ -15,12 +15,24 @@ use std::thread::Threads;
 
 /// What a job came to, with the seed and the name of its campaign. Whoever receives it knows that the job may come to this. Contracts
 /// see the seed, the name, the job and the outcome.
-#[derive(Debug, Drop)]
+#[derive(Debug)]
 pub struct JobMessage<'a, S: Stream> {
     seed: u64,
     name: Option<&'a Namespace<'a>>,
     job: u64,
     outcome: JobOutcome<S>,
+}
+
+// One call drops its parts. A derived `Drop` would write them out at each end of each function that holds one.
+impl<'a, S: Stream> Drop for JobMessage<'a, S> {
+    fn drop(self) {
+        let JobMessage {
+            seed: _,
+            name: _,
+            job: _,
+            outcome: _,
+        } = self;
+    }
 }
 
 impl<'a, S: Stream> Model for JobMessage<'a, S> {
@@ -93,6 +105,12 @@ impl<'a, S: Stream + Send> JobMessage<'a, S> {
         ensures same { result ≡ self.entry.outcome }
         ensures right { IsOutcome self.entry.seed self.entry.name self.entry.job result }
     {
-        self.outcome
+        let JobMessage {
+            seed: _,
+            name: _,
+            job: _,
+            outcome,
+        } = self;
+        outcome
     }
 }

@@ -251,6 +251,6 @@ fn work<'a, S: Stream + Send, C: Connector<S>, G: Gate, R: Threads + Wait + Sync
             break;
         };
         let message = JobMessage::run(rt, alloc, campaign, connector, gate, job);
-        let _unsent = to_collector.send(rt, message);
+        drop(to_collector.send(rt, message));
     }
 }

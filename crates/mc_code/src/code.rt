@@ -29,13 +29,26 @@ impl Model for Section {
 /// Code: 1 to 8 keys, at most 64 flags and 16 variables, at most 64 templates, and three sections of at most 128
 /// instructions each. A template's key, flags and variable are declared. An instruction may name a template, a variable or
 /// a place that isn't there. Contracts see the vectors as lists.
-#[derive(Debug, Drop)]
+#[derive(Debug)]
 pub struct Code {
     pub(crate) keys: Vec<Bytes>,
     pub(crate) flags: u8,
     pub(crate) vars: u8,
     pub(crate) templates: Vec<Template>,
     pub(crate) sections: Sections<Section>,
+}
+
+// One call drops its parts. A derived `Drop` would write them out at each end of each function that holds one.
+impl Drop for Code {
+    fn drop(self) {
+        let Code {
+            keys: _,
+            flags: _,
+            vars: _,
+            templates: _,
+            sections: _,
+        } = self;
+    }
 }
 
 impl Model for Code {

@@ -19,7 +19,7 @@ use std::marker::Model;
 /// let stream = MemoryStream::new(alloc, &[b"NOT_FOUND\r\n", b"STORED\r\n"], 64)?;
 /// let cut = MemoryStream::new(alloc, &[b"STO", b"RED\r\n"], 64)?.with_longest_write(3).with_failure_at(2);
 /// ```
-#[derive(Debug, Drop)]
+#[derive(Debug)]
 pub struct MemoryStream {
     replies: Vec<u8>,
     ends: Vec<usize>,
@@ -30,6 +30,23 @@ pub struct MemoryStream {
     until_failure: Option<u64>,
     counts: Counts,
     at_end: bool,
+}
+
+// One call drops its parts. A derived `Drop` would write them out at each end of each function that holds one.
+impl Drop for MemoryStream {
+    fn drop(self) {
+        let MemoryStream {
+            replies: _,
+            ends: _,
+            given: _,
+            written: _,
+            room: _,
+            longest_write: _,
+            until_failure: _,
+            counts: _,
+            at_end: _,
+        } = self;
+    }
 }
 
 impl Model for MemoryStream {

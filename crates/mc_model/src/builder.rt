@@ -14,13 +14,25 @@ use std::marker::Model;
 
 /// A history that is made request by request, in the order in which a text has them. Contracts see the sections so
 /// far, which are a history.
-#[derive(Debug, Drop)]
+#[derive(Debug)]
 pub struct HistoryBuilder {
     p: Vec<Sent>,
     a: Vec<Sent>,
     b: Vec<Sent>,
     /// How many keys the requests have.
     keys: usize,
+}
+
+// One call drops its parts. A derived `Drop` would write them out at each end of each function that holds one.
+impl Drop for HistoryBuilder {
+    fn drop(self) {
+        let HistoryBuilder {
+            p: _,
+            a: _,
+            b: _,
+            keys: _,
+        } = self;
+    }
 }
 
 impl Model for HistoryBuilder {
@@ -172,7 +184,7 @@ impl HistoryBuilder {
         ensures same { result ≡ recorded.without_notes self }
         ensures history { rule.is_history result.sections ≡ true }
     {
-        let HistoryBuilder { p, a, b, .. } = self;
+        let HistoryBuilder { p, a, b, keys: _ } = self;
         History::from_sections(p, a, b, None)
     }
 
@@ -181,7 +193,7 @@ impl HistoryBuilder {
         requires { recorded.Keeps self (Some noted) }
         ensures { result ≡ recorded.with_notes noted }
     {
-        let HistoryBuilder { p, a, b, .. } = self;
+        let HistoryBuilder { p, a, b, keys: _ } = self;
         History::from_sections(p, a, b, Some(noted))
     }
 }

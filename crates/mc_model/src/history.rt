@@ -14,12 +14,24 @@ use std::marker::Model;
 
 /// What three sections sent and received, and where it was noted the order of all that. Contracts see the sections and the
 /// notes, which keep the rules of a history.
-#[derive(Debug, Drop)]
+#[derive(Debug)]
 pub struct History {
     p: Vec<Sent>,
     a: Vec<Sent>,
     b: Vec<Sent>,
     noted: Option<Record>,
+}
+
+// One call drops its parts. A derived `Drop` would write them out at each end of each function that holds one.
+impl Drop for History {
+    fn drop(self) {
+        let History {
+            p: _,
+            a: _,
+            b: _,
+            noted: _,
+        } = self;
+    }
 }
 
 impl Model for History {

@@ -11,11 +11,21 @@ use std::alloc::Global;
 use std::marker::Model;
 
 /// A history that is made note by note. Contracts see the notes so far, which make a history.
-#[derive(Debug, Drop)]
+#[derive(Debug)]
 pub struct NotedBuilder {
     /// The sections that the notes spell.
     sections: HistoryBuilder,
     notes: Vec<(Actor, Note)>,
+}
+
+// One call drops its parts. A derived `Drop` would write them out at each end of each function that holds one.
+impl Drop for NotedBuilder {
+    fn drop(self) {
+        let NotedBuilder {
+            sections: _,
+            notes: _,
+        } = self;
+    }
 }
 
 impl Model for NotedBuilder {

@@ -27,11 +27,21 @@ pub enum Fed {
 
 /// A reader of the reply to one request, which comes in pieces. Contracts see the request's verb and key, and the joined
 /// bytes that were fed since the reader was made, until it has answered a reply or a fault.
-#[derive(Drop)]
 pub struct ReplyReader<'k> {
     alloc: Global,
     shape: Shape<'k>,
     stage: Stage,
+}
+
+// One call drops its parts. A derived `Drop` would write them out at each end of each function that holds one.
+impl<'k> Drop for ReplyReader<'k> {
+    fn drop(self) {
+        let ReplyReader {
+            alloc: _,
+            shape: _,
+            stage: _,
+        } = self;
+    }
 }
 
 impl<'k> Model for ReplyReader<'k> {

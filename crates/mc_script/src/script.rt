@@ -12,10 +12,20 @@ use std::marker::Model;
 
 /// A script: the names that it declares, and its three sections. Each value is one that a text can spell. Contracts see
 /// its parts as lists.
-#[derive(Debug, Drop)]
+#[derive(Debug)]
 pub struct Script {
     pub(crate) names: Names,
     pub(crate) sections: Sections<Section>,
+}
+
+// One call drops its parts. A derived `Drop` would write them out at each end of each function that holds one.
+impl Drop for Script {
+    fn drop(self) {
+        let Script {
+            names: _,
+            sections: _,
+        } = self;
+    }
 }
 
 impl Model for Script {

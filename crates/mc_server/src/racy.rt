@@ -77,20 +77,49 @@ fn read<R: Wait>(
     ensures { IfOk result (λ step. MayAnswer request.now (Ok step.0)) }
 {
     let get = bare(alloc, Verb::Get, &request.key)?;
-    let mut copy = Store::new(alloc);
     let found = shard.lock(rt).call(&get)?;
-    if let Reply::Hit { flags, body, .. } = found {
-        copy.call(&set(alloc, &request.key, flags, body)?)?;
-    }
+    decide(alloc, request, &get, found)
+}
+
+/// The same, where a `get` of the key found this.
+#[tactic(auto, using(crate::proofs::Callers::may_answer, crate::proofs::Callers::may_fail_as))]
+fn decide(
+    alloc: Global,
+    request: &Request,
+    get: &Request,
+    found: Reply,
+) -> Result<(Reply, Option<Request>), StoreFault>
+    requires { request.now.verb ≡ Incr }
+    ensures { IfOk result (λ step. MayAnswer request.now (Ok step.0)) }
+{
+    let mut copy = store_with(alloc, &request.key, found)?;
     let reply = copy.call(request)?;
-    let made = copy.call(&get)?;
-    let write = match (&reply, made) {
-        (Reply::Number(_), Reply::Hit { flags, body, .. }) => {
-            Some(set(alloc, &request.key, flags, body)?)
-        }
-        _ => None,
-    };
+    let write = write_of(alloc, &request.key, &reply, copy.call(get)?)?;
     Ok((reply, write))
+}
+
+/// A store with what a `get` of the key found, and nothing else.
+fn store_with(alloc: Global, key: &Bytes, found: Reply) -> Result<Store, StoreFault> {
+    let mut store = Store::new(alloc);
+    if let Reply::Hit { flags, body, .. } = found {
+        store.call(&set(alloc, key, flags, body)?)?;
+    }
+    Ok(store)
+}
+
+/// The request that stores what was made, where the `incr` was answered with a number.
+fn write_of(
+    alloc: Global,
+    key: &Bytes,
+    reply: &Reply,
+    made: Reply,
+) -> Result<Option<Request>, OutOfMemory> {
+    match (reply, made) {
+        (Reply::Number(_), Reply::Hit { flags, body, .. }) => {
+            Ok(Some(set(alloc, key, flags, body)?))
+        }
+        _ => Ok(None),
+    }
 }
 
 /// A request to store an item at the key.

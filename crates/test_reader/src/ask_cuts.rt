@@ -24,10 +24,10 @@ fn fail_without_memory(reader: &mut RequestReader) -> Result<Option<Asked>, OutO
 
 /// Whether the reader answers `More`.
 pub(crate) fn goes_on(reader: &mut RequestReader, piece: &[u8]) -> Result<bool, OutOfMemory> {
-    match feed(reader, piece)? {
-        Some(Asked::More) => Ok(true),
-        _ => Ok(false),
-    }
+    let asked = feed(reader, piece)?;
+    let goes_on = matches!(&asked, Some(Asked::More));
+    drop(asked);
+    Ok(goes_on)
 }
 
 /// Whether this is asked at the end of the first `used` bytes of the piece.
@@ -78,10 +78,18 @@ pub(crate) fn is_asked_in_pieces(
     closes: bool,
 ) -> Result<bool, OutOfMemory> {
     let mut reader = RequestReader::new(alloc);
-    match last_piece(&mut reader, text, len)? {
-        Some(last) => {
-            Ok(asks(&mut reader, last, last.len(), wanted)? && goes_on_after(&mut reader, closes)?)
-        }
+    is_asked_by(&mut reader, text, len, wanted, closes)
+}
+
+fn is_asked_by(
+    reader: &mut RequestReader,
+    text: &[u8],
+    len: usize,
+    wanted: &WantedAsk,
+    closes: bool,
+) -> Result<bool, OutOfMemory> {
+    match last_piece(reader, text, len)? {
+        Some(last) => Ok(asks(reader, last, last.len(), wanted)? && goes_on_after(reader, closes)?),
         None => Ok(false),
     }
 }
