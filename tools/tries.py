@@ -17,7 +17,7 @@ CHECK = 5
 CHECK_WITH_BODIES = 25
 # How many edits one check carries at most. A function takes up to a minute where the machine is busy, so that a check of this many ends
 # long before `checks.SECONDS` have gone; and checks of like length leave no processor idle at the end.
-MOST = 40
+MOST = 48
 
 
 @dataclass

@@ -21,10 +21,13 @@ class Twins:
     def __init__(self, crate):
         self.crate = crate
         self.lines = {}
-        # What each file of proofs or of sources names of the crate's proofs.
-        name = re.compile(rf"(?:Rattle\.{crate.name}|crate)(?:\.|::)proofs((?:\.|::)[\w.:+]+)")
-        files = [it for it in crate.sources() if it.is_file() and it.suffix in (".antt", ".rt")]
-        self.named = {it.relative_to(crate.folder).as_posix(): set(name.findall(it.read_text(encoding="utf-8"))) for it in files}
+        # What each file of proofs or of sources names of the crate's proofs: modules, each with those above it.
+        self.named = {it.relative_to(crate.folder).as_posix(): self.modules_in(it) for it in crate.sources() if it.is_file()}
+
+    def modules_in(self, file):
+        name = re.compile(rf"(?:Rattle\.{self.crate.name}\.|crate::)proofs((?:(?:\.|::)[\w+]+)+)")
+        text = file.read_text(encoding="utf-8", errors="surrogateescape")
+        return {tuple(re.findall(r"[\w+]+", it)) for it in name.findall(text)}
 
     def lines_of(self, file):
         if file not in self.lines:
@@ -41,24 +44,16 @@ class Twins:
 
     def is_named(self, item):
         """Whether a file names the function's proof that is no part of it."""
-        own, places = homes_of(item), places_of(item)
-        rest = [names for file, names in self.named.items() if not file.startswith(tuple(own))]
-        return any(is_below(it.replace("::", ".")[1:], place) for names in rest for it in names for place in places)
-
-
-def is_below(name, place):
-    return name == place or name.startswith(f"{place}.")
+        places = places_of(item)
+        own = tuple(f"proofs/{'/'.join(it)}/" for it in places)
+        names = [it for file, of_file in self.named.items() if not file.startswith(own) for it in of_file]
+        return any(it[: len(place)] == place for it in names for place in places)
 
 
 def places_of(item):
     """The modules of the function's proof and of those of its closures."""
     path = item.path
-    return [".".join(path), *(".".join((*path[:at], "fn", *path[at:])) for at in range(len(path)))]
-
-
-def homes_of(item):
-    """The folders of these modules, each with a slash at its end."""
-    return [f"proofs/{it.replace('.', '/')}/" for it in places_of(item)]
+    return [path, *((*path[:at], "fn", *path[at:]) for at in range(len(path)))]
 
 
 def twin_of(item, number):
@@ -104,18 +99,22 @@ def text_of(edit, number, sources):
 
 
 def copy_proof(item, number, crate, sources, copy):
-    """Copies what is written of the function's proof for its twin."""
-    twin = twin_of(item, number)
-    for home in homes_of(item):
-        to = copy / home.rstrip("/").rpartition("/")[0] / twin
-        if (sources / home).is_dir():
-            shutil.copytree(sources / home, to)
+    """Copies what is written of the function's proof, and of those of its closures, for its twin."""
+    pairs = [(place, (*place[:-1], twin_of(item, number))) for place in places_of(item)]
+    for place, of_twin in pairs:
+        home, to = sources.joinpath("proofs", *place), copy.joinpath("proofs", *of_twin)
+        if home.is_dir():
+            shutil.copytree(home, to)
         for file in to.rglob("*.antt") if to.is_dir() else ():
-            text = file.read_text(encoding="utf-8")
-            for place in places_of(item):
-                name = re.escape(f"Rattle.{crate.name}.proofs.{place}")
-                text = re.sub(rf"{name}(?=[.\s]|$)", f"Rattle.{crate.name}.proofs.{place.rpartition('.')[0]}.{twin}".replace("..", "."), text)
-            file.write_text(text, encoding="utf-8")
+            file.write_text(named_by_twin(file.read_text(encoding="utf-8"), pairs, crate), encoding="utf-8")
+
+
+def named_by_twin(text, pairs, crate):
+    """The text with the twin's modules in place of the function's."""
+    for place, of_twin in pairs:
+        head = f"Rattle.{crate.name}.proofs."
+        text = re.sub(rf"{re.escape(head + '.'.join(place))}(?=[.\s]|$)", head + ".".join(of_twin), text)
+    return text
 
 
 def seen_as(answer, edit, number):
