@@ -12,9 +12,9 @@ use crate::seconds::Seconds;
 use crate::serve::Service;
 use crate::{asking, flag, limit, meeting, namespace, repeat, seconds, spread};
 use clap::error::ErrorKind;
-use clap::{ArgMatches, Command, Error};
+use clap::{ArgMatches, Error};
 use mc_campaign::{Meeting, Namespace};
-use mc_line::run_subcommand;
+use mc_line::Subcommand;
 use mc_protocol::Actor;
 use std::alloc::Global;
 
@@ -128,19 +128,19 @@ pub fn check_run_words(alloc: Global, options: &ArgMatches) -> Result<(), Error>
     ensures fault { IfErr result (λ error. (kind_of error ≡ ErrorKind.OutOfMemory)
         ⊎ ((kind_of error ≡ ErrorKind.ValueValidation) × (AreRunWords (first_value (found_of options.now)) → ⊥))) }
 {
-    check_meeting(alloc, options, run_subcommand(alloc)?)?;
+    check_meeting(alloc, options, Subcommand::Run)?;
     check_name(alloc, options)?;
-    check_time(alloc, options, run_subcommand(alloc)?, "timeout")?;
-    check_time(alloc, options, run_subcommand(alloc)?, "wait")?;
-    repeat::check(alloc, options, run_subcommand(alloc)?)?;
-    spread::check(alloc, options, run_subcommand(alloc)?)
+    check_time(alloc, options, Subcommand::Run, "timeout")?;
+    check_time(alloc, options, Subcommand::Run, "wait")?;
+    repeat::check(alloc, options, Subcommand::Run)?;
+    spread::check(alloc, options, Subcommand::Run)
 }
 
 /// Nothing, or the fault of the subcommand's line whose word is no time.
 pub fn check_time(
     alloc: Global,
     options: &ArgMatches,
-    subcommand: Command<'_>,
+    subcommand: Subcommand,
     name: &str,
 ) -> Result<(), Error>
     ensures time { IfOk result (λ _. MayBeTime (first_value (found_of options.now) name.now)) }
@@ -163,7 +163,7 @@ fn check_name(alloc: Global, options: &ArgMatches) -> Result<(), Error>
 {
     match namespace::read(options) {
         Ok(_) => Ok(()),
-        Err(word) => Err(namespace::fault(alloc, run_subcommand(alloc)?, word)?),
+        Err(word) => Err(namespace::fault(alloc, Subcommand::Run, word)?),
     }
 }
 
@@ -171,7 +171,7 @@ fn check_name(alloc: Global, options: &ArgMatches) -> Result<(), Error>
 pub fn check_meeting(
     alloc: Global,
     options: &ArgMatches,
-    subcommand: Command<'_>,
+    subcommand: Subcommand,
 ) -> Result<(), Error>
     ensures meeting { IfOk result (λ _. NamesMeeting (first_value (found_of options.now) (codes "meet"))) }
     ensures fault { IfErr result (λ error. (kind_of error ≡ ErrorKind.OutOfMemory)

@@ -7,7 +7,7 @@ use crate::until::Until;
 use crate::{asking, campaign_name, campaign_show, flag, limit, number, until};
 use clap::error::ErrorKind;
 use clap::{ArgMatches, Error};
-use mc_line::campaign_subcommand;
+use mc_line::Subcommand;
 use std::alloc::{AllocError, Global};
 
 // The seed, the first job, and how many workers there are, where the line names none.
@@ -65,10 +65,10 @@ pub fn read_or_fault(alloc: Global, options: &ArgMatches) -> Result<Plan, Error>
 {
     let seed = number_or_fault(alloc, options, "seed", DEFAULT_SEED)?;
     let first = number_or_fault(alloc, options, "from", DEFAULT_FIRST)?;
-    let until = until::read_or_fault(alloc, options, campaign_subcommand(alloc)?)?;
-    let jobs = until::jobs_or_fault(alloc, options, campaign_subcommand(alloc)?, first)?;
+    let until = until::read_or_fault(alloc, options, Subcommand::Campaign)?;
+    let jobs = until::jobs_or_fault(alloc, options, Subcommand::Campaign, first)?;
     let workers = workers_or_fault(alloc, options)?;
-    let limit = limit::read_or_fault(alloc, options, campaign_subcommand(alloc)?)?;
+    let limit = limit::read_or_fault(alloc, options, Subcommand::Campaign)?;
     let tries = count_or_fault(alloc, options, "tries", DEFAULT_TRIES, GREATEST_TRIES)?;
     if !has_last(first, jobs) {
         return Err(last_fault(alloc, first, jobs)?);
@@ -104,7 +104,7 @@ fn number_or_fault(
     number::read_or_fault(
         alloc,
         options,
-        campaign_subcommand(alloc)?,
+        Subcommand::Campaign,
         name,
         default,
         u64::MAX,
@@ -128,7 +128,7 @@ fn count_or_fault(
     number::read_count_or_fault(
         alloc,
         options,
-        campaign_subcommand(alloc)?,
+        Subcommand::Campaign,
         name,
         default,
         greatest,
@@ -195,5 +195,5 @@ fn last_fault(alloc: Global, first: u64, jobs: u64) -> Result<Error, AllocError>
         "invalid value '{first}' for '--from <N>': the last of {jobs} jobs would have a number above {}",
         u64::MAX
     )?;
-    campaign_subcommand(alloc)?.error(ErrorKind::ValueValidation, message.as_str())
+    Subcommand::Campaign.value_fault(alloc, message.as_str())
 }

@@ -11,7 +11,7 @@ use crate::{campaign, flag, meeting, namespace, seconds, spread};
 use clap::error::ErrorKind;
 use clap::{ArgMatches, Error};
 use mc_campaign::{Meeting, Namespace};
-use mc_line::campaign_subcommand;
+use mc_line::Subcommand;
 use std::alloc::Global;
 
 /// A campaign, and the server that it runs against.
@@ -70,8 +70,8 @@ pub fn check_campaign_words(alloc: Global, options: &ArgMatches) -> Result<(), E
     ensures fault { IfErr result (λ error. (kind_of error ≡ ErrorKind.OutOfMemory)
         ⊎ ((kind_of error ≡ ErrorKind.ValueValidation) × (AreCampaignWords (first_value (found_of options.now)) → ⊥))) }
 {
-    check_meeting(alloc, options, campaign_subcommand(alloc)?)?;
-    spread::check(alloc, options, campaign_subcommand(alloc)?)?;
-    check_time(alloc, options, campaign_subcommand(alloc)?, "timeout")?;
-    check_time(alloc, options, campaign_subcommand(alloc)?, "wait")
+    check_meeting(alloc, options, Subcommand::Campaign)?;
+    spread::check(alloc, options, Subcommand::Campaign)?;
+    check_time(alloc, options, Subcommand::Campaign, "timeout")?;
+    check_time(alloc, options, Subcommand::Campaign, "wait")
 }

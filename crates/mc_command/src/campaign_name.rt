@@ -8,7 +8,7 @@ use crate::namespace;
 use clap::error::ErrorKind;
 use clap::{ArgMatches, Error};
 use mc_campaign::{Namespace, keys_fit};
-use mc_line::campaign_subcommand;
+use mc_line::Subcommand;
 use std::alloc::Global;
 
 /// Whether the words of `campaign` give no name, or one under which no key of this many jobs, from the first on, becomes too long.
@@ -38,7 +38,7 @@ pub fn check(alloc: Global, options: &ArgMatches, first: u64, jobs: u64) -> Resu
 {
     let name = match namespace::read(options) {
         Ok(name) => name,
-        Err(word) => return Err(namespace::fault(alloc, campaign_subcommand(alloc)?, word)?),
+        Err(word) => return Err(namespace::fault(alloc, Subcommand::Campaign, word)?),
     };
     match name {
         Some(name) => check_keys(alloc, &name, first, jobs),
@@ -58,6 +58,5 @@ fn check_keys(alloc: Global, name: &Namespace<'_>, first: u64, jobs: u64) -> Res
     }
     let last = first + jobs.saturating_sub(1);
     let key = format!(in alloc; "r{last}-0")?;
-    let command = campaign_subcommand(alloc)?;
-    Err(namespace::long_key_fault(alloc, command, name, key.as_bytes())?)
+    Err(namespace::long_key_fault(alloc, Subcommand::Campaign, name, key.as_bytes())?)
 }

@@ -6,7 +6,7 @@ ghost use Rattle.mc_command.specs.Command.{WhyIsShown};
 use crate::{asking, flag};
 use clap::error::ErrorKind;
 use clap::{ArgMatches, Error};
-use mc_line::campaign_subcommand;
+use mc_line::Subcommand;
 use std::alloc::{AllocError, Global};
 
 /// Whether the words of `campaign` don't ask why, or ask for the histories too.
@@ -32,5 +32,5 @@ pub fn check_why(alloc: Global, options: &ArgMatches) -> Result<(), Error>
 fn why_fault(alloc: Global) -> Result<Error, AllocError>
     ensures { IfOk result (λ error. kind_of error ≡ ErrorKind.ValueValidation) }
 {
-    campaign_subcommand(alloc)?.error(ErrorKind::ValueValidation, "--why needs --show")
+    Subcommand::Campaign.value_fault(alloc, "--why needs --show")
 }

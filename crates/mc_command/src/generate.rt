@@ -8,7 +8,7 @@ use crate::number;
 use clap::error::ErrorKind;
 use clap::{ArgMatches, Error};
 use mc_campaign::generate_script;
-use mc_line::generate_subcommand;
+use mc_line::Subcommand;
 use mc_script::print;
 use std::alloc::{AllocError, Global};
 
@@ -37,7 +37,7 @@ pub fn read_seed(alloc: Global, options: &ArgMatches) -> Result<u64, Error>
     number::read_or_fault(
         alloc,
         options,
-        generate_subcommand(alloc)?,
+        Subcommand::Generate,
         "seed",
         DEFAULT_SEED,
         u64::MAX,
@@ -54,7 +54,7 @@ pub fn read_job(alloc: Global, options: &ArgMatches) -> Result<u64, Error>
     number::read_or_fault(
         alloc,
         options,
-        generate_subcommand(alloc)?,
+        Subcommand::Generate,
         "job",
         DEFAULT_JOB,
         u64::MAX,

@@ -12,7 +12,7 @@ use crate::serve::Service;
 use crate::{asking, campaign, generate, limit, serve};
 use clap::error::ErrorKind;
 use clap::{ArgMatches, Error};
-use mc_line::{drive_subcommand, judge_subcommand, program, run_subcommand};
+use mc_line::{Subcommand, program};
 use std::alloc::{AllocError, Global};
 
 /// What a line asks for, with all that its words say of it.
@@ -100,7 +100,7 @@ fn read_judge<'a>(alloc: Global, options: &ArgMatches<'a>) -> Result<Invocation<
     ensures fault { IfErr result (λ error. (kind_of error ≡ ErrorKind.OutOfMemory)
         ⊎ AsksNothing (Some (codes "judge")) (first_value (found_of options.now)) (kind_of error)) }
 {
-    let limit = limit::read_or_fault(alloc, options, judge_subcommand(alloc)?)?;
+    let limit = limit::read_or_fault(alloc, options, Subcommand::Judge)?;
     let why = asking::asks_why(options);
     Ok(Invocation::Offline(Asked::Judge(Search { limit, why })))
 }
@@ -112,7 +112,7 @@ fn read_drive<'a>(alloc: Global, options: &ArgMatches<'a>) -> Result<Invocation<
     ensures fault { IfErr result (λ error. (kind_of error ≡ ErrorKind.OutOfMemory)
         ⊎ AsksNothing (Some (codes "drive")) (first_value (found_of options.now)) (kind_of error)) }
 {
-    let limit = limit::read_or_fault(alloc, options, drive_subcommand(alloc)?)?;
+    let limit = limit::read_or_fault(alloc, options, Subcommand::Drive)?;
     let why = asking::asks_why(options);
     Ok(Invocation::Offline(Asked::Drive(Search { limit, why })))
 }
@@ -124,7 +124,7 @@ fn read_run<'a>(alloc: Global, options: &ArgMatches<'a>) -> Result<Invocation<'a
     ensures fault { IfErr result (λ error. (kind_of error ≡ ErrorKind.OutOfMemory)
         ⊎ AsksNothing (Some (codes "run")) (first_value (found_of options.now)) (kind_of error)) }
 {
-    let limit = limit::read_or_fault(alloc, options, run_subcommand(alloc)?)?;
+    let limit = limit::read_or_fault(alloc, options, Subcommand::Run)?;
     check_run_words(alloc, options)?;
     let why = asking::asks_why(options);
     match read_run_options(options) {

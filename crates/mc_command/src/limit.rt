@@ -5,7 +5,8 @@ ghost use Rattle.mc_command.specs.Command.{IsLimit};
 
 use crate::number;
 use clap::error::ErrorKind;
-use clap::{ArgMatches, Command, Error};
+use clap::{ArgMatches, Error};
+use mc_line::Subcommand;
 use std::alloc::Global;
 
 // The most turns of a search where the line names no limit.
@@ -26,7 +27,7 @@ pub fn read<'a>(options: &ArgMatches<'a>) -> Result<u64, &'a str>
 pub fn read_or_fault(
     alloc: Global,
     options: &ArgMatches,
-    subcommand: Command<'_>,
+    subcommand: Subcommand,
 ) -> Result<u64, Error>
     ensures limit { IfOk result (λ limit. IsLimit (first_value (found_of options.now) (codes "limit")) limit) }
     ensures fault { IfErr result (λ error. (kind_of error ≡ ErrorKind.OutOfMemory)

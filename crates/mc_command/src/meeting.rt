@@ -5,8 +5,9 @@ ghost use Rattle.mc_command.specs.Command.{IsMeeting};
 ghost use Rattle.mc_command.specs.Drawing.{meet_by};
 
 use clap::error::ErrorKind;
-use clap::{ArgMatches, Command, Error};
+use clap::{ArgMatches, Error};
 use mc_campaign::Meeting;
+use mc_line::Subcommand;
 use mc_run::Meet;
 use rand_pcg::Pcg32;
 use std::alloc::{AllocError, Global};
@@ -36,13 +37,13 @@ pub fn read<'a>(options: &ArgMatches<'a>) -> Result<Meeting, &'a str>
 }
 
 /// The fault of a subcommand's line whose word names no meeting.
-pub fn fault(alloc: Global, mut command: Command<'_>, word: &str) -> Result<Error, AllocError>
+pub fn fault(alloc: Global, subcommand: Subcommand, word: &str) -> Result<Error, AllocError>
     ensures { IfOk result (λ error. kind_of error ≡ ErrorKind.ValueValidation) }
 {
     let message = format!(in alloc;
         "invalid value '{word}' for '--meet <WORD>': expected drawn, each, first or never"
     )?;
-    command.error(ErrorKind::ValueValidation, message.as_str())
+    subcommand.value_fault(alloc, message.as_str())
 }
 
 /// How a run meets that is asked to meet so, where a branch is late by `spread` microseconds at most. What is drawn of it, as

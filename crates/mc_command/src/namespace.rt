@@ -4,8 +4,9 @@ ghost use Rattle.clap.specs.Words.{first_value, found_of, kind_of};
 ghost use Rattle.mc_command.specs.Command.{MayName};
 
 use clap::error::ErrorKind;
-use clap::{ArgMatches, Command, Error};
+use clap::{ArgMatches, Error};
 use mc_campaign::Namespace;
+use mc_line::Subcommand;
 use mc_protocol::{Bytes, KEY_BYTES_LIMIT};
 use std::alloc::{AllocError, Global};
 
@@ -25,30 +26,30 @@ pub fn read<'a>(options: &ArgMatches<'a>) -> Result<Option<Namespace<'a>>, &'a s
 }
 
 /// The fault of a subcommand's line whose word is no such name.
-pub fn fault(alloc: Global, mut command: Command<'_>, word: &str) -> Result<Error, AllocError>
+pub fn fault(alloc: Global, subcommand: Subcommand, word: &str) -> Result<Error, AllocError>
     ensures { IfOk result (λ error. kind_of error ≡ ErrorKind.ValueValidation) }
 {
     let message = format!(in alloc;
         "invalid value '{word}' for '--name <NAME>': expected 1 to 38 of a to z, 0 to 9 and -"
     )?;
-    command.error(ErrorKind::ValueValidation, message.as_str())
+    subcommand.value_fault(alloc, message.as_str())
 }
 
 /// What standard error says where a key becomes too long under the name: the fault of the subcommand's line.
 pub fn long_key_text(
     alloc: Global,
-    command: Command<'_>,
+    subcommand: Subcommand,
     name: &Namespace<'_>,
     key: &Bytes,
 ) -> Result<String, AllocError> {
-    let error = long_key_fault(alloc, command, name, key.as_slice())?;
+    let error = long_key_fault(alloc, subcommand, name, key.as_slice())?;
     error.to_string(alloc)
 }
 
 /// The fault of a subcommand's line under whose name this key becomes too long.
 pub fn long_key_fault(
     alloc: Global,
-    mut command: Command<'_>,
+    subcommand: Subcommand,
     name: &Namespace<'_>,
     key: &[u8],
 ) -> Result<Error, AllocError>
@@ -60,5 +61,5 @@ pub fn long_key_fault(
     let message = format!(in alloc;
         "invalid value '{name}' for '--name <NAME>': the key '{key}' has {length} bytes with it, and may have {KEY_BYTES_LIMIT}"
     )?;
-    command.error(ErrorKind::ValueValidation, message.as_str())
+    subcommand.value_fault(alloc, message.as_str())
 }

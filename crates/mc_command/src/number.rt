@@ -4,7 +4,8 @@ ghost use Rattle.clap.specs.Words.{first_value, found_of, kind_of};
 ghost use Rattle.mc_command.specs.Command.{IsCount, IsNumber};
 
 use clap::error::ErrorKind;
-use clap::{ArgMatches, Command, Error};
+use clap::{ArgMatches, Error};
+use mc_line::Subcommand;
 use mc_protocol::read_decimal;
 use std::alloc::{AllocError, Global};
 
@@ -32,7 +33,7 @@ pub fn read<'a>(
 pub fn read_or_fault(
     alloc: Global,
     options: &ArgMatches,
-    subcommand: Command<'_>,
+    subcommand: Subcommand,
     name: &str,
     default: u64,
     greatest: u64,
@@ -76,7 +77,7 @@ pub fn read_count<'a>(
 pub fn read_count_or_fault(
     alloc: Global,
     options: &ArgMatches,
-    subcommand: Command<'_>,
+    subcommand: Subcommand,
     name: &str,
     default: u64,
     greatest: u64,
@@ -96,7 +97,7 @@ pub fn read_count_or_fault(
 // The fault of a subcommand's line whose word is no such number.
 fn fault(
     alloc: Global,
-    mut subcommand: Command<'_>,
+    subcommand: Subcommand,
     name: &str,
     least: u64,
     greatest: u64,
@@ -107,5 +108,5 @@ fn fault(
     let message = format!(in alloc;
         "invalid value '{word}' for '--{name} <N>': expected a number from {least} to {greatest}"
     )?;
-    subcommand.error(ErrorKind::ValueValidation, message.as_str())
+    subcommand.value_fault(alloc, message.as_str())
 }

@@ -6,7 +6,8 @@ ghost use Rattle.mc_command.specs.Repeats.{AreRepeatWords, MayBeRead, repeat_in}
 
 use crate::flag;
 use clap::error::ErrorKind;
-use clap::{ArgMatches, Command, Error};
+use clap::{ArgMatches, Error};
+use mc_line::Subcommand;
 use mc_protocol::read_decimal;
 use std::alloc::{AllocError, Global};
 
@@ -61,7 +62,7 @@ pub fn read<'a>(options: &ArgMatches<'a>) -> Result<Option<Repeat>, RepeatFault<
 }
 
 /// Nothing, or the fault of the subcommand's line whose words don't say how often the script is run.
-pub fn check(alloc: Global, options: &ArgMatches, subcommand: Command<'_>) -> Result<(), Error>
+pub fn check(alloc: Global, options: &ArgMatches, subcommand: Subcommand) -> Result<(), Error>
     ensures words { IfOk result (λ _. AreRepeatWords (first_value (found_of options.now))) }
     ensures fault { IfErr result (λ error. (kind_of error ≡ ErrorKind.OutOfMemory)
         ⊎ ((kind_of error ≡ ErrorKind.ValueValidation)
@@ -76,7 +77,7 @@ pub fn check(alloc: Global, options: &ArgMatches, subcommand: Command<'_>) -> Re
 // The fault of the subcommand's line.
 fn error_of(
     alloc: Global,
-    mut subcommand: Command<'_>,
+    subcommand: Subcommand,
     fault: RepeatFault<'_>,
 ) -> Result<Error, AllocError>
     ensures { IfOk result (λ error. kind_of error ≡ ErrorKind.ValueValidation) }
@@ -88,7 +89,7 @@ fn error_of(
         RepeatFault::Time(word) => time_message(alloc, word)?,
         RepeatFault::Unbounded => format!(in alloc; "--keep-going needs --times or --for")?,
     };
-    subcommand.error(ErrorKind::ValueValidation, message.as_str())
+    subcommand.value_fault(alloc, message.as_str())
 }
 
 /// What is said of a word that is no time.

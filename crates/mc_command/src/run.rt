@@ -20,7 +20,7 @@ use mc_campaign::{Namespace, PutFault, put_under};
 use mc_core::World;
 use mc_explain::Verdict;
 use mc_history::print_history;
-use mc_line::run_subcommand;
+use mc_line::Subcommand;
 use mc_model::History;
 use mc_protocol::Actor;
 use mc_run::{FreeGate, Judged, Run, RunError, play};
@@ -129,12 +129,7 @@ pub fn put_code_under(
             Err(refusal) => { Ok(Err((Played::Unsound(refusal, Vec::new(alloc)), Remarks::None))) }
         },
         Err(PutFault::KeyTooLong(index)) => {
-            let text = long_key_text(
-                alloc,
-                run_subcommand(alloc)?,
-                name,
-                &checked.code().keys()[index],
-            )?;
+            let text = long_key_text(alloc, Subcommand::Run, name, &checked.code().keys()[index])?;
             Ok(Err((Played::KeyTooLong(index), Remarks::WrongLine(text))))
         }
         Err(PutFault::OutOfMemory) => Err(AllocError),

@@ -7,7 +7,8 @@ ghost use Rattle.mc_command.specs.Command.{MayBeTime};
 ghost use Rattle.mc_command.specs.Seconds as spec;
 
 use clap::error::ErrorKind;
-use clap::{ArgMatches, Command, Error};
+use clap::{ArgMatches, Error};
+use mc_line::Subcommand;
 use mc_protocol::read_decimal;
 use std::alloc::{AllocError, Global};
 use std::time::Duration;
@@ -53,7 +54,7 @@ pub fn read<'a>(options: &ArgMatches<'a>, name: &str) -> Result<Option<Seconds<'
 /// The fault of a subcommand's line whose word is no time.
 pub fn fault(
     alloc: Global,
-    mut subcommand: Command<'_>,
+    subcommand: Subcommand,
     name: &str,
     word: &str,
 ) -> Result<Error, AllocError>
@@ -62,7 +63,7 @@ pub fn fault(
     let message = format!(in alloc;
         "invalid value '{word}' for '--{name} <SECONDS>': expected 0.001 to 86400, with at most 3 places"
     )?;
-    subcommand.error(ErrorKind::ValueValidation, message.as_str())
+    subcommand.value_fault(alloc, message.as_str())
 }
 
 // The milliseconds of the time that the word is, if it is one.

@@ -6,7 +6,7 @@ ghost use Rattle.mc_command.specs.Command.{IsConnections, IsPort, is_set};
 use crate::{flag, number};
 use clap::error::ErrorKind;
 use clap::{ArgMatches, Error};
-use mc_line::serve_subcommand;
+use mc_line::Subcommand;
 use mc_protocol::read_decimal;
 use std::alloc::{AllocError, Global};
 
@@ -39,7 +39,7 @@ pub fn read_or_fault(alloc: Global, options: &ArgMatches) -> Result<Service, Err
     let connections = number::read_or_fault(
         alloc,
         options,
-        serve_subcommand(alloc)?,
+        Subcommand::Serve,
         "connections",
         DEFAULT_CONNECTIONS,
         u64::MAX,
@@ -82,9 +82,8 @@ fn read_port<'a>(options: &ArgMatches<'a>) -> Result<u16, &'a str>
 fn port_fault(alloc: Global, word: &str) -> Result<Error, AllocError>
     ensures { IfOk result (λ error. kind_of error ≡ ErrorKind.ValueValidation) }
 {
-    let mut subcommand = serve_subcommand(alloc)?;
     let message = format!(in alloc;
         "invalid value '{word}' for '<PORT>': expected a number from 0 to 65535"
     )?;
-    subcommand.error(ErrorKind::ValueValidation, message.as_str())
+    Subcommand::Serve.value_fault(alloc, message.as_str())
 }

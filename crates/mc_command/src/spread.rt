@@ -6,7 +6,8 @@ ghost use Rattle.mc_command.specs.Repeats as repeats;
 
 use crate::repeat::Repeat;
 use clap::error::ErrorKind;
-use clap::{ArgMatches, Command, Error};
+use clap::{ArgMatches, Error};
+use mc_line::Subcommand;
 use mc_protocol::read_decimal;
 use std::alloc::{AllocError, Global};
 
@@ -45,7 +46,7 @@ pub fn read<'a>(options: &ArgMatches<'a>, default: u16) -> Result<u16, &'a str>
 }
 
 /// Nothing, or the fault of the subcommand's line whose word is no such number.
-pub fn check(alloc: Global, options: &ArgMatches, subcommand: Command<'_>) -> Result<(), Error>
+pub fn check(alloc: Global, options: &ArgMatches, subcommand: Subcommand) -> Result<(), Error>
     ensures spread { IfOk result (λ _. MayBeSpread (first_value (found_of options.now) (codes "spread"))) }
     ensures fault { IfErr result (λ error. (kind_of error ≡ ErrorKind.OutOfMemory)
         ⊎ ((kind_of error ≡ ErrorKind.ValueValidation)
@@ -58,11 +59,11 @@ pub fn check(alloc: Global, options: &ArgMatches, subcommand: Command<'_>) -> Re
 }
 
 // The fault of a subcommand's line whose word is no such number.
-fn fault(alloc: Global, mut subcommand: Command<'_>, word: &str) -> Result<Error, AllocError>
+fn fault(alloc: Global, subcommand: Subcommand, word: &str) -> Result<Error, AllocError>
     ensures { IfOk result (λ error. kind_of error ≡ ErrorKind.ValueValidation) }
 {
     let message = format!(in alloc;
         "invalid value '{word}' for '--spread <MICROS>': expected a number from 0 to {GREATEST}"
     )?;
-    subcommand.error(ErrorKind::ValueValidation, message.as_str())
+    subcommand.value_fault(alloc, message.as_str())
 }

@@ -9,7 +9,8 @@ ghost use Rattle.mc_command.specs.Untils.{AreUntilWords, until_in};
 use crate::campaign::{DEFAULT_JOBS, GREATEST_JOBS};
 use crate::{number, repeat};
 use clap::error::ErrorKind;
-use clap::{ArgMatches, Command, Error};
+use clap::{ArgMatches, Error};
+use mc_line::Subcommand;
 use mc_protocol::read_decimal;
 use std::alloc::{AllocError, Global};
 
@@ -60,7 +61,7 @@ pub fn read<'a>(options: &ArgMatches<'a>) -> Result<Option<Until>, UntilFault<'a
 pub fn read_or_fault(
     alloc: Global,
     options: &ArgMatches,
-    subcommand: Command<'_>,
+    subcommand: Subcommand,
 ) -> Result<Option<Until>, Error>
     ensures words { IfOk result (λ _. AreUntilWords (first_value (found_of options.now))) }
     ensures until { IfOk result (λ until. until ≡ until_in (first_value (found_of options.now))) }
@@ -77,7 +78,7 @@ pub fn read_or_fault(
 // The fault of the subcommand's line.
 fn error_of(
     alloc: Global,
-    mut subcommand: Command<'_>,
+    subcommand: Subcommand,
     fault: UntilFault<'_>,
 ) -> Result<Error, AllocError>
     ensures { IfOk result (λ error. kind_of error ≡ ErrorKind.ValueValidation) }
@@ -89,7 +90,7 @@ fn error_of(
         )?,
         UntilFault::Jobs => format!(in alloc; "--for and --jobs can't stand together")?,
     };
-    subcommand.error(ErrorKind::ValueValidation, message.as_str())
+    subcommand.value_fault(alloc, message.as_str())
 }
 
 // Until when a campaign with these bounds runs in blocks, if it does.
@@ -134,7 +135,7 @@ fn unexplained_in(word: &[u8]) -> Option<u64>
 pub fn jobs_or_fault(
     alloc: Global,
     options: &ArgMatches,
-    subcommand: Command<'_>,
+    subcommand: Subcommand,
     first: u64,
 ) -> Result<u64, Error>
     ensures jobs { IfOk result

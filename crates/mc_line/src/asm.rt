@@ -115,7 +115,7 @@ const STATUSES: &str = "Exit status:
 /// # Errors
 ///
 /// That there is no memory.
-pub fn asm_subcommand<'a>(alloc: Global) -> Result<Command<'a>, AllocError>
+pub(crate) fn asm_subcommand<'a>(alloc: Global) -> Result<Command<'a>, AllocError>
     ensures { IfOk result (λ command. app_of command ≡ asm_app) }
 {
     let command = Command::new(alloc, "asm")

@@ -138,7 +138,7 @@ const STOP_AFTER: &str = "Begin no block when N jobs are unexplained";
 /// # Errors
 ///
 /// That there is no memory.
-pub fn campaign_subcommand<'a>(alloc: Global) -> Result<Command<'a>, AllocError>
+pub(crate) fn campaign_subcommand<'a>(alloc: Global) -> Result<Command<'a>, AllocError>
     ensures { IfOk result (λ command. app_of command ≡ campaign_app) }
 {
     let command = Command::new(alloc, "campaign")

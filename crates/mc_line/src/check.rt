@@ -138,7 +138,7 @@ const STATUSES: &str = "Exit status:
 /// # Errors
 ///
 /// That there is no memory.
-pub fn check_subcommand<'a>(alloc: Global) -> Result<Command<'a>, AllocError>
+pub(crate) fn check_subcommand<'a>(alloc: Global) -> Result<Command<'a>, AllocError>
     ensures { IfOk result (λ command. app_of command ≡ check_app) }
 {
     let command = Command::new(alloc, "check")

@@ -148,7 +148,7 @@ const STATUSES: &str = "Exit status:
 /// # Errors
 ///
 /// That there is no memory.
-pub fn drive_subcommand<'a>(alloc: Global) -> Result<Command<'a>, AllocError>
+pub(crate) fn drive_subcommand<'a>(alloc: Global) -> Result<Command<'a>, AllocError>
     ensures { IfOk result (λ command. app_of command ≡ drive_app) }
 {
     let command = Command::new(alloc, "drive")

@@ -61,7 +61,7 @@ const JOB: &str = "The job, 0 to 18446744073709551615 [default: 0]";
 /// # Errors
 ///
 /// That there is no memory.
-pub fn generate_subcommand<'a>(alloc: Global) -> Result<Command<'a>, AllocError>
+pub(crate) fn generate_subcommand<'a>(alloc: Global) -> Result<Command<'a>, AllocError>
     ensures { IfOk result (λ command. app_of command ≡ generate_app) }
 {
     let command = Command::new(alloc, "generate")

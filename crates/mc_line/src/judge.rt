@@ -164,7 +164,7 @@ const STATUSES: &str = "Exit status:
 /// # Errors
 ///
 /// That there is no memory.
-pub fn judge_subcommand<'a>(alloc: Global) -> Result<Command<'a>, AllocError>
+pub(crate) fn judge_subcommand<'a>(alloc: Global) -> Result<Command<'a>, AllocError>
     ensures { IfOk result (λ command. app_of command ≡ judge_app) }
 {
     let command = Command::new(alloc, "judge")

@@ -195,7 +195,7 @@ const SPREAD: &str = "A branch's lateness, 0 to 10000 [default: 0 or 64]";
 /// # Errors
 ///
 /// That there is no memory.
-pub fn run_subcommand<'a>(alloc: Global) -> Result<Command<'a>, AllocError>
+pub(crate) fn run_subcommand<'a>(alloc: Global) -> Result<Command<'a>, AllocError>
     ensures { IfOk result (λ command. app_of command ≡ run_app) }
 {
     let command = Command::new(alloc, "run")

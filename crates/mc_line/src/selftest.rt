@@ -34,7 +34,7 @@ const STATUSES: &str = "Exit status:
   4  out of memory before it began; or output failed";
 
 /// The subcommand `selftest`, which has no options.
-pub fn selftest_subcommand<'a>(alloc: Global) -> Command<'a>
+pub(crate) fn selftest_subcommand<'a>(alloc: Global) -> Command<'a>
     ensures { app_of result ≡ selftest_app }
 {
     Command::new(alloc, "selftest")

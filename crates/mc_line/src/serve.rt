@@ -58,7 +58,7 @@ const RACY: &str = "Have a race in incr";
 /// # Errors
 ///
 /// That there is no memory.
-pub fn serve_subcommand<'a>(alloc: Global) -> Result<Command<'a>, AllocError>
+pub(crate) fn serve_subcommand<'a>(alloc: Global) -> Result<Command<'a>, AllocError>
     ensures { IfOk result (λ command. app_of command ≡ serve_app) }
 {
     let command = Command::new(alloc, "serve")
