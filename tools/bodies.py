@@ -7,6 +7,8 @@ of all that it calls, and with it what is written of their proofs. `rt ci` has p
 
 import shutil
 
+import checks
+
 HOLE = """-- Stands for the proofs that were taken.
 pub taken_proof : {A : Type 2} → A
 taken_proof = ?
@@ -85,3 +87,14 @@ def write_hole(item, crate, folder):
     proof.parent.mkdir(parents=True, exist_ok=True)
     place = ".".join((crate.name, "proofs", *item.path))
     proof.write_text(PROOF.format(place=place, crate=crate.name, of_hole=OF_HOLE, name=item.name), encoding="utf-8")
+
+
+def leave_out_offers(item, path, sources, folder):
+    """Has a check of the copy in this folder offer no file for the open goals of the function, or of its twin, which has this path. One of
+    which the whole proof is written gets none anyway, nor do functions that call one another get one each."""
+    head = (sources / item.file).read_text(encoding="utf-8").split("\n")[item.first : item.body + 1]
+    home = folder.joinpath("proofs", *path)
+    if not (home / "Proof.antt").is_file() and not any("#[cycle(" in it for it in head):
+        home.mkdir(parents=True, exist_ok=True)
+        with open(home / "Answers.antt", "a", encoding="utf-8") as file:
+            file.write(checks.TEXT_OF_NO_OFFER)

@@ -1,9 +1,13 @@
-"""Edits that only a test refuses, each tried in a copy: the test must fail with it. That it passes without the edit `rt ci` has seen. The
-copy has no other test, since each would be compiled with all that it calls.
+"""Edits that only a test refuses: the test must fail with its edit. That it passes without the edit `rt ci` has seen.
+
+One program runs the tests of many edits, since most of its time goes into reading the libraries below. For each edit it has a copy, with a
+number after its name, of the edited crate and of those between it and the tests; and the crate of the tests as a module over these, with
+that test alone, since each would be compiled with all that it calls.
 """
 
 import pathlib
 import re
+import shutil
 import tempfile
 from collections.abc import Callable
 from dataclasses import dataclass
@@ -13,8 +17,10 @@ import edits
 import items
 import tries
 
-TEST_LINE = re.compile(r"(?m)^test (\S+) \.\.\. (\w+)")
+TEST_LINE = re.compile(r"(?m)^test edit_(\d+)::\S+ \.\.\. (\w+)")
 HEAD = re.compile(r" *(?:pub )?fn (\w+)")
+OF_CRATE = re.compile(r"(?m)^#!\[.*\]\n")
+LIB = "#![tactic(auto)]\n"
 
 
 def tests_of(text):
@@ -36,19 +42,57 @@ def with_test(text, name):
     return "\n".join(lines)
 
 
-def run_test(name, crate, kit, room):
-    """Runs the test of this name, of a crate in its folder. Answers whether it passed, by its name, with what was said and the seconds."""
-    were = {it: it.read_text(encoding="utf-8") for it in (crate.folder / "src").rglob("*.rt")}
-    for file, text in were.items():
-        file.write_text(with_test(text, name), encoding="utf-8")
-    with tempfile.TemporaryDirectory(dir=room) as own:
-        _, said, seconds = checks.run(["env", f"TMPDIR={own}", *checks.words_of_try(crate, kit)], crate.folder)
-    for file, text in were.items():
-        file.write_text(text, encoding="utf-8")
-    passed = {}
-    for place, word in TEST_LINE.findall(said):
-        passed.setdefault(place.rpartition("::")[2], []).append(word == "ok")
-    return passed, said, seconds
+def between(crate, edited):
+    """The names of the crate with this name below that of tests, and of those between the two."""
+    return [it.name for it in crate.below() if edited in [it.name, *(below.name for below in it.below())]]
+
+
+def add_edit(edit, number, program, crate, home):
+    """Adds to a program what it needs of the edit: the copies with this number, and the module of its test."""
+    names = between(crate, edit.crate)
+    name = re.compile(rf"\b({'|'.join(map(re.escape, names))})\b")
+    copies = {}
+    for it in [it for it in crate.below() if it.name in names]:
+        own = [copies.get(used.name, used) for used in it.own]
+        made = checks.Crate(f"{it.name}_{number}", home / f"{it.name}_{number}", own, it.of_kit)
+        shutil.copytree(it.folder / "src", made.folder / "src")
+        if it.name == edit.crate:
+            edits.apply([edit], made.folder)
+        for file in (made.folder / "src").rglob("*.rt"):
+            file.write_text(name.sub(rf"\1_{number}", file.read_text(encoding="utf-8")), encoding="utf-8")
+        copies[it.name] = made
+    program.own += [made for it in crate.own if (made := copies.get(it.name, it)) not in program.own]
+    program.of_kit += [it for it in crate.of_kit if it not in program.of_kit]
+    add_module(edit.test[1], number, name, program.folder / "src", crate)
+
+
+def add_module(test, number, name, to, crate):
+    """Adds the crate of tests as a module with this number, over the copies with it of the crates that the expression finds."""
+    module = f"edit_{number}"
+    with open(to / "lib.rt", "a", encoding="utf-8") as lib:
+        lib.write(f"#[cfg(test)]\nmod {module};\n")
+    for file in (crate.folder / "src").rglob("*.rt"):
+        text = name.sub(rf"\1_{number}", with_test(file.read_text(encoding="utf-8"), test)).replace("crate::", f"crate::{module}::")
+        place = file.relative_to(crate.folder / "src")
+        made = to / (f"{module}.rt" if str(place) == "lib.rt" else module / place)
+        made.parent.mkdir(exist_ok=True)
+        made.write_text(OF_CRATE.sub("", text), encoding="utf-8")
+
+
+def run_tests(found, crate, kit, room):
+    """Runs the tests of these edits, which are of this crate, in one program. Answers of each edit whether its test passed, where that
+    ran, with what was said and the seconds."""
+    with tempfile.TemporaryDirectory(dir=room) as name:
+        home = pathlib.Path(name)
+        program = checks.Crate("program", home / "program", [], [])
+        (program.folder / "src").mkdir(parents=True)
+        (program.folder / "src/lib.rt").write_text(LIB, encoding="utf-8")
+        for number, edit in enumerate(found, 1):
+            add_edit(edit, number, program, crate, home)
+        (home / "tmp").mkdir()
+        _, said, seconds = checks.run(["env", f"TMPDIR={home / 'tmp'}", *checks.words_of_try(program, kit)], program.folder)
+    words = {int(number): word for number, word in TEST_LINE.findall(said)}
+    return [words[it] == "ok" if it in words else None for it in range(1, len(found) + 1)], said, seconds
 
 
 @dataclass
@@ -72,47 +116,57 @@ class TestsOf:
             of_crate.fail(edit, why)
 
     def begin(self):
-        """What is run of these: one after another."""
+        """What is run of these: one program."""
         return [self]
 
     def work(self):
         """As of a check: how many functions take as long."""
-        return tries.CHECK * (1 + len(self.pairs))
+        return tries.CHECK * (4 + len(self.pairs))
 
     def __str__(self):
         return f"{self.name}: its tests, with {len(self.pairs)} edits"
 
     def run(self, room, kit):
-        """Tries each, and answers the processor seconds that it took."""
-        copy = room / f"tests-of-{self.name}"
-        checks.copy_sources(self.root, copy)
-        crate = checks.crates_of(copy).get(self.name)
-        if not crate or not (crate.folder / "src").is_dir():
-            for of_crate, edit in self.pairs:
-                of_crate.fail(edit, f"there is no crate {self.name}, whose test it names")
-            return [0.0] * len(self.pairs)
-        files = crate.folder.rglob("src/**/*.rt")
-        names = [name for it in files for name, _, _ in tests_of(it.read_text(encoding="utf-8"))]
-        return [self.run_one(of_crate, edit, names, crate, kit, room) for of_crate, edit in self.pairs]
-
-    def run_one(self, of_crate, edit, names, crate, kit, room):
-        test, sources = edit.test[1], crate.folder.parent / edit.crate
-        if names.count(test) != 1:
-            of_crate.fail(edit, f"there is no one test {test} in {self.name}: it has {', '.join(names) or 'none'}")
+        """Tries them, and answers the processor seconds that it took. One that doesn't run with the others is tried alone."""
+        crate = checks.crates_of(room / "copy").get(self.name)
+        pairs = []
+        for of_crate, edit in self.pairs:
+            if fault := self.fault_of(edit, crate):
+                of_crate.fail(edit, fault)
+            else:
+                pairs.append((of_crate, edit))
+        if not pairs:
             return 0.0
-        were = edits.apply([edit], sources)
-        after, said, seconds = run_test(test, crate, kit, room)
-        edits.restore(were, sources)
-        if after.get(test) == [False]:
-            of_crate.refused[str(edit)] = "test", f"{self.name}::{test}"
-        elif after.get(test) == [True]:
-            of_crate.fail(edit, f"NOT REFUSED: the test {self.name}::{test} passes with it")
-        else:
-            of_crate.fail(edit, f"the test {self.name}::{test} doesn't run with it: {said.strip()[-200:]!r}")
-        self.say(f"{edit}: {self.name}::{test} was tried")
+        passed, said, seconds = run_tests([edit for _, edit in pairs], crate, kit, room)
+        for pair, has_passed in zip(pairs, passed):
+            if has_passed is None and len(pairs) > 1:
+                (has_passed,), said, more = run_tests([pair[1]], crate, kit, room)
+                seconds += more
+            self.judge(*pair, has_passed, said)
         return seconds
 
-    def settle(self, taken):
-        for (of_crate, _), seconds in zip(self.pairs, taken):
-            of_crate.seconds += seconds
+    def fault_of(self, edit, crate):
+        """Why the edit's test can't be run, or None where it can."""
+        if not crate or edit.crate not in [it.name for it in crate.below()]:
+            return f"there is no crate {self.name} above {edit.crate}, whose test it names"
+        files = (crate.folder / "src").rglob("*.rt")
+        tests = [name for it in files for name, _, _ in tests_of(it.read_text(encoding="utf-8"))]
+        if tests.count(edit.test[1]) != 1:
+            return f"there is no one test {edit.test[1]} in {self.name}: it has {', '.join(tests) or 'none'}"
+        return None
+
+    def judge(self, of_crate, edit, has_passed, said):
+        test = f"{self.name}::{edit.test[1]}"
+        if has_passed is None:
+            of_crate.fail(edit, f"the test {test} doesn't run with it: {said.strip()[-200:]!r}")
+        elif has_passed:
+            of_crate.fail(edit, f"NOT REFUSED: the test {test} passes with it")
+        else:
+            of_crate.refused[str(edit)] = "test", test
+        self.say(f"{edit}: {test} was tried")
+
+    def settle(self, seconds):
+        """Counts the seconds, a like share to each edit."""
+        for of_crate, _ in self.pairs:
+            of_crate.seconds += seconds / len(self.pairs)
         return []

@@ -13,17 +13,19 @@ KEPT = "rt: low is kept: it was proved before\n", "rt: small is kept: it was pro
 REFUSED = "rt: low proved\n", "rt: small NOT PROVED\n"
 
 
-def run(root, lines, status, is_later=False):
+def run(root, lines, status, is_later=False, beside=1):
     """What the runner says of one edit where `rt ci` says these lines one after another and ends with this status; and whether a check
-    began before the last of these and after it. `rt ci` may have begun later than what stands there was built."""
+    began before the last of these and after it. `rt ci` may have begun later than what stands there was built, and there may be no check
+    beside it."""
     edit, begins = root / "crates/small/wrong-bodies/caps_above.edit", []
     log, said = root / "proofs.log", root / "said.log"
     began = min((root / f"crates/{it}/out/rlib/{it}.rlib/format").stat().st_mtime for it in ("low", "small"))
     log.write_text(f"rt ci began at {int(began) + 3600 * is_later}\n", encoding="utf-8")
-    words = [root / "tools/run-wrong-bodies", "--beside", log, "--jobs", "1", "--whole", edit]
+    words = [root / "tools/run-wrong-bodies", "--beside", log, "--jobs", "1", "--jobs-beside", str(beside), "--whole", edit]
     with open(said, "wb") as to, subprocess.Popen(words, stdout=to, stderr=subprocess.STDOUT) as runner:
         for line in lines:
-            begins.append(begins_after(line, root, runner, BEGINS if line in (PROVED[-1], KEPT[-1]) else WOULD_BEGIN))
+            may_begin = beside and line in (PROVED[-1], KEPT[-1])
+            begins.append(begins_after(line, root, runner, BEGINS if may_begin else WOULD_BEGIN))
         add(log, f"rt ci ended with status {status}\n")
         try:
             runner.wait(SECONDS)
@@ -62,7 +64,10 @@ def faults(root: pathlib.Path):
     said, begins = run(root, KEPT, 0, is_later=True)
     if begins != [False, True] or "\n1 passed, " not in said:
         found.append(f"beside: it ends with {said.splitlines()[-2:]} where an earlier run proved its crate")
+    said, begins = run(root, KEPT, 0, is_later=True, beside=0)
+    if any(begins) or "\n1 passed, " not in said:
+        found.append(f"beside: a check began {begins} after each line, and it ends with {said.splitlines()[-2:]} where none is to begin")
     said, begins = run(root, REFUSED, 1)
     if any(begins) or "\nfailed: small/caps_above: not tried: " not in said or "\n0 passed, " not in said:
         found.append(f"beside: it ends with {said.splitlines()[-2:]} where its crate isn't proved")
-    return found, 5
+    return found, 6

@@ -1,7 +1,7 @@
 """What is tried of a crate's wrong bodies: the checks that are to refuse them, and what came of each edit."""
 
 import shutil
-from dataclasses import dataclass
+from dataclasses import dataclass, field
 
 import attribution
 import bodies
@@ -27,14 +27,22 @@ class Check:
     tries: "Tries"
     batch: list
     has_bodies: bool
+    # The edits that stand in twins, each with the number of its twin.
+    in_twins: list = field(default_factory=list)
+
+    @property
+    def in_place(self):
+        """The edits that stand in their functions themselves."""
+        return [it for it in self.batch if not any(edit is it for edit, _ in self.in_twins)]
 
     @property
     def functions(self):
-        return list(dict.fromkeys(it for edit in self.batch for it in edit.functions))
+        """The functions that are edited in place."""
+        return list(dict.fromkeys(it for edit in self.in_place for it in edit.functions))
 
     def work(self):
         """How long it takes, roughly: those that take longest begin first."""
-        return len(self.functions) + (CHECK_WITH_BODIES if self.has_bodies else CHECK)
+        return len(self.functions) + len(self.in_twins) + (CHECK_WITH_BODIES if self.has_bodies else CHECK)
 
     def run(self, room, kit):
         """The answer, and the processor seconds that it took."""
@@ -47,9 +55,10 @@ class Check:
         else:
             own = [it for it in self.tries.items if attribution.name_of(crate, it) in self.functions]
             bodies.copy_with_bodies_of(own, crate, self.tries.items, sources, copy)
-        in_twins = [] if self.has_bodies else twins.numbered(self.batch)
-        edits.apply([it for it in self.batch if it not in [edit for edit, _ in in_twins]], copy)
-        asked = [*self.functions, *twins.add(in_twins, crate, sources, copy)]
+            for it in own:
+                bodies.leave_out_offers(it, it.path, sources, copy)
+        edits.apply(self.in_place, copy)
+        asked = [*self.functions, *twins.add(self.in_twins, crate, sources, copy)]
         answer = checks.check(crate, copy, asked, kit, *([] if self.has_bodies else ["--allow-holes"]))
         shutil.rmtree(home)
         return answer
@@ -61,12 +70,12 @@ class Check:
         tries.checks, tries.seconds = tries.checks + 1, tries.seconds + seconds
         if self.has_bodies:
             return [Check(tries, it, True) for it in tries.settle_with_bodies(self.batch, answer)]
-        if not answer.has_verdict and twins.numbered(self.batch):
+        if not answer.has_verdict and self.in_twins:
             # An edit that doesn't compile stands in it, or a twin doesn't.
             again = [Check(tries, it, False) for it in batches_of(self.batch)]
             tries.first_checks += len(again) - 1
             return again
-        tries.settle_without_bodies(self.batch, answer)
+        tries.settle_without_bodies(self.batch, self.in_twins, answer)
         tries.first_checks -= 1
         return [Check(tries, it, True) for it in batches_of(tries.unsettled)] if tries.first_checks == 0 else []
 
@@ -136,15 +145,16 @@ class Tries:
 
     def begin(self):
         """The checks to begin with: batches without the other bodies. What these don't refuse is tried with them, and then alone."""
-        found = [Check(self, it, False) for it in batches_of(self.of_contracts(), twins.Twins(self.crate).can_have)]
+        can_have = twins.Twins(self.crate).can_have
+        found = [Check(self, it, False, twins.numbered(filter(can_have, it))) for it in batches_of(self.of_contracts(), can_have)]
         self.first_checks = len(found)
         return found
 
-    def settle_without_bodies(self, batch, answer):
+    def settle_without_bodies(self, batch, in_twins, answer):
         """Settles the edits that the answer refuses, and keeps the others."""
         if answer.has_verdict:
-            in_twins = {str(edit): twins.seen_as(answer, edit, number) for edit, number in twins.numbered(batch)}
-            found = {str(it): attribution.refusal(it, in_twins.get(str(it), answer)) for it in batch}
+            of_twins = {str(edit): twins.seen_as(answer, edit, number) for edit, number in in_twins}
+            found = {str(it): attribution.refusal(it, of_twins.get(str(it), answer)) for it in batch}
             self.refused |= {it: how for it, how in found.items() if how}
         self.unsettled += [it for it in batch if str(it) not in self.refused]
 
@@ -180,7 +190,7 @@ def batches_of(found, can_have_twin=lambda edit: False):
     """Splits edits into batches of at most `MOST`. In one, no two stand in one function or change one line, but for those that may stand
     in a twin of their function. An edit that changes more than bodies has a batch of its own."""
     batches = []
-    # In a function with others, one that can't stand in a twin comes first.
+    # Those that can't stand in a twin come first, and are hindered by one another alone.
     for edit in sorted((it for it in found if not it.is_alone), key=can_have_twin):
         for batch in batches:
             if len(batch) < MOST and (can_have_twin(edit) or not any(is_hindered_by(edit, it) for it in batch)):

@@ -1,11 +1,12 @@
 """Twins of functions: with them one check carries many edits of one function.
 
-A check takes a long start, whatever it is asked for. So where a batch has several edits of a function, the first stands in the function
-itself, and each other one in a twin: the function once more, under a name of its own, with what is written of its proof. It has the
-function's contract, so what refuses the edit of the twin refuses that of the function.
+A check takes a long start, whatever it is asked for. So each edit stands in a twin of its function: the function once more, under a name
+of its own, with what is written of its proof. It has the function's contract, so what refuses the edit of the twin refuses that of the
+function. Nothing calls a twin, so what calls the function is looked at as if no edit stood in it.
 
 There are no twins of a trait's methods, of functions that call one another in a cycle, and of a function whose proof another file
-names; nor where an edit changes a line outside its function. Such edits of one function are in batches of their own.
+names; nor where an edit changes a line outside its function. Such an edit stands in the function itself, and others of that function in
+batches of their own.
 """
 
 import re
@@ -61,14 +62,13 @@ def twin_of(item, number):
     return f"{item.name}_twin_{number}"
 
 
-def numbered(batch):
-    """The edits of the batch that stand in twins, each with the number of its twin."""
+def numbered(edits):
+    """These edits, each with the number of its twin among those of its function."""
     seen, found = {}, []
-    for edit in batch:
-        for name in edit.functions:
-            seen[name] = seen.get(name, 0) + 1
-        if seen[edit.functions[0]] > 1:
-            found.append((edit, seen[edit.functions[0]]))
+    for edit in edits:
+        name = edit.functions[0]
+        seen[name] = seen.get(name, 0) + 1
+        found.append((edit, seen[name]))
     return found
 
 
@@ -78,8 +78,10 @@ def add(found, crate, sources, copy):
     for edit, number in sorted(found, key=lambda it: -it[0].items[0].last):
         item = edit.items[0]
         lines = (copy / item.file).read_text(encoding="utf-8").split("\n")
-        (copy / item.file).write_text("\n".join([*lines[: item.last + 1], "", *text_of(edit, number, sources), *lines[item.last + 1 :]]))
+        added = [*lines[: item.last + 1], "", *text_of(edit, number, sources), *lines[item.last + 1 :]]
+        (copy / item.file).write_text("\n".join(added), encoding="utf-8")
         copy_proof(item, number, crate, sources, copy)
+        bodies.leave_out_offers(item, (*item.path[:-1], twin_of(item, number)), sources, copy)
     return [name_of(edit, number) for edit, number in found]
 
 

@@ -1,4 +1,4 @@
-//! What is told of the runs of a script while they go on, beside what is written of the one that is handed out.
+//! Observers of the runs of a script: one that does nothing, and one that tells of the runs on standard error and counts what they came to.
 ghost use Rattle.std.specs.Prelude.{◌≡◌, is_some};
 
 use crate::progress::{Progress, lead};

@@ -1,31 +1,8 @@
 -- The program's subcommands and their options, as clap reads them.
-use Rattle.std.specs.Prelude.{Some, List, [], ◌∷◌, true, codes, fold}
-use Rattle.clap.specs.Words.{App, Rule, Text, new_app, new_rule, with_rule, with_subcommand}
+use Rattle.std.specs.Prelude.{List, [], ◌∷◌, true, codes, fold}
+use Rattle.clap.specs.Words.{App, Rule, Text, new_app, with_rule, with_subcommand}
 use Rattle.clap.specs.Simple.{new_shape}
-use Rattle.clap.specs.declared.builder.action.ArgAction.TheVariants.{SetTrue}
-
--- ---- options
-
--- the option `--NAME` with a word as its value
-abbrev pub valued_rule : Text → Rule
-valued_rule name = record (new_rule name) {
-  long = Some name;
-  value_names = 1;
-}
-
--- the flag `--NAME`
-abbrev pub flag_rule : Text → Rule
-flag_rule name = record (new_rule name) {
-  long = Some name;
-  action = Some SetTrue;
-}
-
--- the argument with this name, which has to be there
-abbrev pub argument_rule : Text → Rule
-argument_rule name = record (new_rule name) {
-  value_names = 1;
-  required = true;
-}
+use Rattle.mc_line.specs.Options.{argument_rule, flag_rule, valued_rule}
 
 -- ---- subcommands
 

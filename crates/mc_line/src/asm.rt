@@ -3,7 +3,8 @@ ghost use Rattle.std.specs.Prelude.{◌≡◌, IfOk};
 ghost use Rattle.clap.specs.Words.{app_of};
 ghost use Rattle.mc_line.specs.Commands.{asm_app};
 
-use crate::options::{flag, with_options};
+use crate::options::OptionRow::Flag;
+use crate::options::with_options;
 use crate::shared_help::REFUSED;
 use clap::Command;
 use std::alloc::{AllocError, Global};
@@ -123,6 +124,6 @@ pub(crate) fn asm_subcommand<'a>(alloc: Global) -> Result<Command<'a>, AllocErro
         .long_about(LONG_ABOUT)
         .override_usage(USAGE)
         .after_help(STATUSES);
-    let options = vec![in alloc; flag(alloc, "why", REFUSED)]?;
-    with_options(command, options)
+    let options = &[Flag("why", REFUSED)];
+    with_options(alloc, command, options)
 }

@@ -3,7 +3,8 @@ ghost use Rattle.std.specs.Prelude.{◌≡◌, IfOk};
 ghost use Rattle.clap.specs.Words.{app_of};
 ghost use Rattle.mc_line.specs.Commands.{campaign_app};
 
-use crate::options::{argument, flag, valued, with_options};
+use crate::options::OptionRow::{Argument, Flag, Valued};
+use crate::options::with_options;
 use crate::shared_help::{LIMIT, MEET, NAME, SEED, STATS, TARGET, TIMEOUT, WAIT};
 use clap::Command;
 use std::alloc::{AllocError, Global};
@@ -146,26 +147,26 @@ pub(crate) fn campaign_subcommand<'a>(alloc: Global) -> Result<Command<'a>, Allo
         .long_about(LONG_ABOUT)
         .override_usage(USAGE)
         .after_help(STATUSES);
-    let options = vec![in alloc;
-        argument(alloc, "target", "HOST:PORT", TARGET),
-        valued(alloc, "seed", "N", SEED),
-        valued(alloc, "from", "N", FROM),
-        valued(alloc, "jobs", "N", JOBS),
-        valued(alloc, "workers", "N", WORKERS),
-        valued(alloc, "limit", "N", LIMIT),
-        valued(alloc, "meet", "WORD", MEET),
-        valued(alloc, "name", "NAME", NAME),
-        valued(alloc, "timeout", "SECONDS", TIMEOUT),
-        valued(alloc, "wait", "SECONDS", WAIT),
-        flag(alloc, "brief", BRIEF),
-        flag(alloc, "show", SHOW),
-        flag(alloc, "why", WHY),
-        valued(alloc, "tries", "N", TRIES),
-        flag(alloc, "quiet", QUIET),
-        valued(alloc, "spread", "MICROS", SPREAD),
-        flag(alloc, "stats", STATS),
-        valued(alloc, "for", "TIME", FOR),
-        valued(alloc, "stop-after", "N", STOP_AFTER),
-    ]?;
-    with_options(command, options)
+    let options = &[
+        Argument("target", "HOST:PORT", TARGET),
+        Valued("seed", "N", SEED),
+        Valued("from", "N", FROM),
+        Valued("jobs", "N", JOBS),
+        Valued("workers", "N", WORKERS),
+        Valued("limit", "N", LIMIT),
+        Valued("meet", "WORD", MEET),
+        Valued("name", "NAME", NAME),
+        Valued("timeout", "SECONDS", TIMEOUT),
+        Valued("wait", "SECONDS", WAIT),
+        Flag("brief", BRIEF),
+        Flag("show", SHOW),
+        Flag("why", WHY),
+        Valued("tries", "N", TRIES),
+        Flag("quiet", QUIET),
+        Valued("spread", "MICROS", SPREAD),
+        Flag("stats", STATS),
+        Valued("for", "TIME", FOR),
+        Valued("stop-after", "N", STOP_AFTER),
+    ];
+    with_options(alloc, command, options)
 }

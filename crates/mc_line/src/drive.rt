@@ -3,7 +3,8 @@ ghost use Rattle.std.specs.Prelude.{◌≡◌, IfOk};
 ghost use Rattle.clap.specs.Words.{app_of};
 ghost use Rattle.mc_line.specs.Commands.{drive_app};
 
-use crate::options::{flag, valued, with_options};
+use crate::options::OptionRow::{Flag, Valued};
+use crate::options::with_options;
 use crate::shared_help::{LIMIT, WHY};
 use clap::Command;
 use std::alloc::{AllocError, Global};
@@ -156,6 +157,6 @@ pub(crate) fn drive_subcommand<'a>(alloc: Global) -> Result<Command<'a>, AllocEr
         .long_about(LONG_ABOUT)
         .override_usage(USAGE)
         .after_help(STATUSES);
-    let options = vec![in alloc; valued(alloc, "limit", "N", LIMIT), flag(alloc, "why", WHY)]?;
-    with_options(command, options)
+    let options = &[Valued("limit", "N", LIMIT), Flag("why", WHY)];
+    with_options(alloc, command, options)
 }

@@ -3,7 +3,8 @@ ghost use Rattle.std.specs.Prelude.{◌≡◌, IfOk};
 ghost use Rattle.clap.specs.Words.{app_of};
 ghost use Rattle.mc_line.specs.Commands.{generate_app};
 
-use crate::options::{valued, with_options};
+use crate::options::OptionRow::Valued;
+use crate::options::with_options;
 use crate::shared_help::SEED;
 use clap::Command;
 use std::alloc::{AllocError, Global};
@@ -69,9 +70,6 @@ pub(crate) fn generate_subcommand<'a>(alloc: Global) -> Result<Command<'a>, Allo
         .long_about(LONG_ABOUT)
         .override_usage(USAGE)
         .after_help(STATUSES);
-    let options = vec![in alloc;
-        valued(alloc, "seed", "N", SEED),
-        valued(alloc, "job", "N", JOB),
-    ]?;
-    with_options(command, options)
+    let options = &[Valued("seed", "N", SEED), Valued("job", "N", JOB)];
+    with_options(alloc, command, options)
 }

@@ -3,7 +3,8 @@ ghost use Rattle.std.specs.Prelude.{◌≡◌, IfOk};
 ghost use Rattle.clap.specs.Words.{app_of};
 ghost use Rattle.mc_line.specs.Commands.{run_app};
 
-use crate::options::{argument, flag, valued, with_options};
+use crate::options::OptionRow::{Argument, Flag, Valued};
+use crate::options::with_options;
 use crate::shared_help::{LIMIT, MEET, NAME, STATS, TARGET, TIMEOUT, WAIT, WHY};
 use clap::Command;
 use std::alloc::{AllocError, Global};
@@ -203,23 +204,23 @@ pub(crate) fn run_subcommand<'a>(alloc: Global) -> Result<Command<'a>, AllocErro
         .long_about(LONG_ABOUT)
         .override_usage(USAGE)
         .after_help(STATUSES);
-    let options = vec![in alloc;
-        argument(alloc, "target", "HOST:PORT", TARGET),
-        valued(alloc, "limit", "N", LIMIT),
-        flag(alloc, "why", WHY),
-        valued(alloc, "meet", "WORD", MEET),
-        valued(alloc, "a", "HOST:PORT", SERVER_OF_A),
-        valued(alloc, "b", "HOST:PORT", SERVER_OF_B),
-        valued(alloc, "name", "NAME", NAME),
-        valued(alloc, "timeout", "SECONDS", TIMEOUT),
-        valued(alloc, "wait", "SECONDS", WAIT),
-        valued(alloc, "times", "N", TIMES),
-        valued(alloc, "for", "TIME", FOR),
-        flag(alloc, "keep-going", KEEP_GOING),
-        flag(alloc, "reconnect", RECONNECT),
-        flag(alloc, "quiet", QUIET),
-        valued(alloc, "spread", "MICROS", SPREAD),
-        flag(alloc, "stats", STATS),
-    ]?;
-    with_options(command, options)
+    let options = &[
+        Argument("target", "HOST:PORT", TARGET),
+        Valued("limit", "N", LIMIT),
+        Flag("why", WHY),
+        Valued("meet", "WORD", MEET),
+        Valued("a", "HOST:PORT", SERVER_OF_A),
+        Valued("b", "HOST:PORT", SERVER_OF_B),
+        Valued("name", "NAME", NAME),
+        Valued("timeout", "SECONDS", TIMEOUT),
+        Valued("wait", "SECONDS", WAIT),
+        Valued("times", "N", TIMES),
+        Valued("for", "TIME", FOR),
+        Flag("keep-going", KEEP_GOING),
+        Flag("reconnect", RECONNECT),
+        Flag("quiet", QUIET),
+        Valued("spread", "MICROS", SPREAD),
+        Flag("stats", STATS),
+    ];
+    with_options(alloc, command, options)
 }

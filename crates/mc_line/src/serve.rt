@@ -3,7 +3,8 @@ ghost use Rattle.std.specs.Prelude.{◌≡◌, IfOk};
 ghost use Rattle.clap.specs.Words.{app_of};
 ghost use Rattle.mc_line.specs.Commands.{serve_app};
 
-use crate::options::{argument, flag, valued, with_options};
+use crate::options::OptionRow::{Argument, Flag, Valued};
+use crate::options::with_options;
 use clap::Command;
 use std::alloc::{AllocError, Global};
 
@@ -66,10 +67,10 @@ pub(crate) fn serve_subcommand<'a>(alloc: Global) -> Result<Command<'a>, AllocEr
         .long_about(LONG_ABOUT)
         .override_usage(USAGE)
         .after_help(STATUSES);
-    let options = vec![in alloc;
-        argument(alloc, "port", "PORT", PORT),
-        valued(alloc, "connections", "N", CONNECTIONS),
-        flag(alloc, "racy", RACY),
-    ]?;
-    with_options(command, options)
+    let options = &[
+        Argument("port", "PORT", PORT),
+        Valued("connections", "N", CONNECTIONS),
+        Flag("racy", RACY),
+    ];
+    with_options(alloc, command, options)
 }

@@ -31,7 +31,8 @@ pub enum Subcommand {
 }
 
 impl Subcommand {
-    /// The fault of a line of this subcommand of which a value is wrong, as the message says. The subcommand's usage is told with it.
+    /// The fault of a line of this subcommand that has a wrong value. The message says which value and what was expected; clap adds the
+    /// subcommand's usage.
     ///
     /// # Errors
     ///
@@ -44,7 +45,7 @@ impl Subcommand {
     }
 
     /// The command by which clap reads a line of it.
-    pub(crate) fn command<'a>(self, alloc: Global) -> Result<Command<'a>, AllocError>
+    fn command<'a>(self, alloc: Global) -> Result<Command<'a>, AllocError>
         ensures { IfOk result (λ command. app_of command ≡ subcommand_app self) }
     {
         match self {

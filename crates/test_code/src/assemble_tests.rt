@@ -116,7 +116,7 @@ fn writes_the_version_that_has_room(rt: HostRuntime) -> Result<(), Fail> {
 #[test]
 fn refuses_what_exceeds_a_limit(rt: HostRuntime) -> Result<(), Fail> {
     for (counts, fault) in &SIZES {
-        assert_eq!(rt; fault_of_sizes(rt.alloc(), *counts)?, *fault);
+        assert!(rt; is_answered_with(rt.alloc(), *counts, *fault)?);
     }
     Ok(())
 }
@@ -162,6 +162,15 @@ fn is_written_as(alloc: Global, counts: [usize; 4], start: &[u8]) -> Result<bool
 fn has_image(alloc: Global, code: &Code, start: &[u8]) -> Result<bool, Fail> {
     let image = image_after(alloc, b"", code)?;
     Ok(image.starts_with(start) && is_image_of(alloc, &image, code)?)
+}
+
+// Whether this is why a script with these numbers of lines is refused, or that it isn't.
+fn is_answered_with(
+    alloc: Global,
+    counts: [usize; 4],
+    fault: Option<AsmFault>,
+) -> Result<bool, Fail> {
+    Ok(fault_of_sizes(alloc, counts)? == fault)
 }
 
 // Why a script with these numbers of lines is refused, if it is.
