@@ -35,6 +35,9 @@ MOST_RUNS = 50
 MOST_IN_BLOCK = 64
 MOST_IN_REPORT = 10_000
 
+# How long the server that loses updates waits for the other one of two. A job with one alone waits as long, and a campaign has many.
+SECONDS_OF_GATE = 0.03
+
 # By how many seconds a campaign for a time may end late: it ends its block, and the program begins and ends.
 LATE = 3
 
@@ -48,6 +51,14 @@ class Report:
     totals: tuple
     shrunk: str
     faults: str
+
+
+@contextlib.contextmanager
+def losing_updates():
+    """The port of a server that loses each update that it can, as long as the block runs."""
+    port = servers.free_port()
+    with servers.started([sys.executable, ROOT / "examples/racy-server", str(port), str(SECONDS_OF_GATE)], port):
+        yield port
 
 
 def run_campaign(program, port, *words):
@@ -116,8 +127,7 @@ def campaign_of_small_script(program, port, *words):
 
 def fault_of_small_script(program):
     """Why not at most three requests are left where the server loses each update that it can, or None."""
-    port = servers.free_port()
-    with servers.started([sys.executable, ROOT / "examples/racy-server", str(port)], port):
+    with losing_updates() as port:
         report = campaign_of_small_script(program, port)
         if report.status != 1 or not report.shrunk:
             return f"{report.totals} with status {report.status}: {report.faults[:300]!r}"
@@ -215,8 +225,7 @@ def fault_of_named_race(program):
 
 def fault_of_named_small_script(program):
     """Why not at most three requests are left, under a name, where the server loses each update that it can, or None."""
-    port = servers.free_port()
-    with servers.started([sys.executable, ROOT / "examples/racy-server", str(port)], port):
+    with losing_updates() as port:
         report = campaign_of_small_script(program, port, "--name", "ci7")
     if report.status != 1 or not report.shrunk or len(steps_of(report.shrunk)) > MOST_LEFT or "ci7" in report.shrunk:
         return f"{report.totals} with status {report.status}: {report.shrunk!r}, {report.faults[:300]!r}"
@@ -410,8 +419,7 @@ def fault_of_several_reports(program):
 
 def fault_of_stop(program, *words):
     """Why a campaign doesn't end within a block after the first finding, or None."""
-    port = servers.free_port()
-    with servers.started([sys.executable, ROOT / "examples/racy-server", str(port)], port):
+    with losing_updates() as port:
         ran, _ = timed(program, port, "--stop-after", "1", *words)
     reports, rest = reports_of(ran.stdout)
     if ran.returncode != 1 or len(reports) != 1 or rest[:2] != ["shrunk", "script 1"] or rest.count("shrunk") != 1:
