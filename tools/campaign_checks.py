@@ -1,4 +1,5 @@
-"""What `mcrace campaign` reports of servers that are right and of servers with a race, and what it says of them while it runs."""
+"""What `mcrace campaign` reports of servers that are right, that answer wrongly or late, or that go away, and what it says while it runs;
+and `mcrace selftest`."""
 
 import concurrent.futures
 import contextlib
@@ -9,190 +10,24 @@ import re
 import signal
 import socket
 import subprocess
-import sys
 import time
-from dataclasses import dataclass
 
+import campaigns
 import serve_checks
 import servers
-
-ROOT = pathlib.Path(__file__).resolve().parents[1]
-
-JOB = re.compile(r"\d+ (?:explained|unexplained|undecided)(?: [PAB] \w+)*|\d+ no connection [PAB]|\d+ not (?:run|made)")
-
-TOTALS = re.compile(r"jobs (\d+) explained (\d+) unexplained (\d+) other (\d+)")
-
-# How often a campaign is run until it finds a race that depends on how threads meet.
-MOST_CAMPAIGNS = 50
-
-# The most requests that are left of a script that shows a race of two increments.
-MOST_LEFT = 3
-
-# How often a shrunk script is run until it is unexplained.
-MOST_RUNS = 50
-
-# The most jobs of a block, and of a report, where a campaign runs in blocks.
-MOST_IN_BLOCK = 64
-MOST_IN_REPORT = 10_000
-
-# How long the server that loses updates waits for the other one of two. A job with one alone waits as long, and a campaign has many.
-SECONDS_OF_GATE = 0.03
 
 # By how many seconds a campaign for a time may end late: it ends its block, and the program begins and ends.
 LATE = 3
 
 
-@dataclass
-class Report:
-    """What a campaign answered."""
-
-    status: int
-    jobs: list
-    totals: tuple
-    shrunk: str
-    faults: str
-
-
-@contextlib.contextmanager
-def losing_updates():
-    """The port of a server that loses each update that it can, as long as the block runs."""
-    port = servers.free_port()
-    with servers.started([sys.executable, ROOT / "examples/racy-server", str(port), str(SECONDS_OF_GATE)], port):
-        yield port
-
-
-def run_campaign(program, port, *words):
-    """The report of a campaign against the server on this port of 127.0.0.1."""
-    words = [program, "campaign", f"127.0.0.1:{port}", *words]
-    ran = subprocess.run(words, stdin=subprocess.DEVNULL, capture_output=True, timeout=10 * servers.SECONDS, text=True)
-    lines = ran.stdout.splitlines()
-    jobs = []
-    while lines and JOB.fullmatch(lines[0]):
-        jobs.append(lines.pop(0))
-    totals = TOTALS.fullmatch(lines.pop(0)) if lines else None
-    left = lines.pop(0) if lines else ""
-    shrunk = "".join(f"{line}\n" for line in lines) if left == "shrunk" else left
-    return Report(ran.returncode, jobs, tuple(map(int, totals.groups())) if totals else (), shrunk, ran.stderr)
-
-
 def fault_of_right(program, port, jobs, *words):
     """Why not all jobs against a server that is right are explained, or None."""
-    report = run_campaign(program, port, "--jobs", str(jobs), *words)
+    report = campaigns.run_campaign(program, port, "--jobs", str(jobs), *words)
     if report.jobs != [f"{job} explained" for job in range(jobs)] or report.totals != (jobs, jobs, 0, 0):
         odd = [line for line in report.jobs if not line.endswith(" explained")]
         return f"{odd[:5]}, {report.totals} with status {report.status}: {report.faults[:300]!r}"
     if report.status or report.shrunk or report.faults != f"mcrace: seed 1, jobs 0 to {jobs - 1}, 4 workers\n":
         return f"status {report.status}, {report.shrunk!r}, {report.faults[:300]!r}"
-    return None
-
-
-def steps_of(script):
-    """The requests of a script."""
-    lines = script.splitlines()
-    return [line for line in lines[lines.index("P") :] if line not in ("P", "A", "B", "end") and not line.endswith(":")]
-
-
-def told_of(report):
-    """What is to be said at once of the jobs that are unexplained, in any order."""
-    found = [line.split()[0] for line in report.jobs if line.split()[1] == "unexplained"]
-    return {f"mcrace: job {job} is unexplained; mcrace generate --seed 1 --job {job}" for job in found}
-
-
-def fault_of_race(program, port, jobs):
-    """Why the race of a server isn't found and told, or None."""
-    for _ in range(MOST_CAMPAIGNS):
-        report = run_campaign(program, port, "--jobs", str(jobs))
-        if report.status:
-            break
-    if report.status != 1 or len(report.jobs) != jobs or not report.totals or not report.totals[2]:
-        return f"{report.totals} with status {report.status}: {report.faults[:300]!r}"
-    told = set(report.faults.splitlines()[1:])
-    expected = told_of(report)
-    if not told <= expected or len(told) != min(10, len(expected)):
-        return f"{report.faults[:500]!r} on standard error"
-    first = next(line.split()[0] for line in report.jobs if line.split()[1] == "unexplained")
-    if f"keys r{first}-0 r{first}-1\n" not in report.shrunk or not report.shrunk.endswith("end\n"):
-        return f"{report.shrunk!r} is left of job {first}"
-    return None
-
-
-def campaign_of_small_script(program, port, *words):
-    """The first campaign after which a small script is left, or the last one. How small depends on how threads meet, too."""
-    for _ in range(MOST_CAMPAIGNS):
-        report = run_campaign(program, port, "--jobs", "300", *words)
-        if report.status == 1 and report.shrunk and len(steps_of(report.shrunk)) <= MOST_LEFT:
-            break
-    return report
-
-
-def fault_of_small_script(program):
-    """Why not at most three requests are left where the server loses each update that it can, or None."""
-    with losing_updates() as port:
-        report = campaign_of_small_script(program, port)
-        if report.status != 1 or not report.shrunk:
-            return f"{report.totals} with status {report.status}: {report.faults[:300]!r}"
-        if len(steps_of(report.shrunk)) > MOST_LEFT:
-            return f"{report.shrunk!r} is left"
-        script = report.shrunk.encode()
-        if not any(servers.play(program, port, script).status == 1 for _ in range(MOST_RUNS)):
-            return f"no run of {report.shrunk!r} is unexplained"
-    return None
-
-
-def fault_of_own_race(program):
-    """Why the race of `serve --racy` isn't found, or None."""
-    with serve_checks.serving(program, "--racy") as (_, port):
-        return fault_of_race(program, port, 1000)
-
-
-def fault_of_shown(program):
-    """Why the histories of unexplained jobs aren't shown as they were judged, or None."""
-    with serve_checks.serving(program, "--racy") as (_, port):
-        for _ in range(MOST_CAMPAIGNS):
-            report = run_campaign(program, port, "--jobs", "1000", "--tries", "3", "--show")
-            if report.status:
-                break
-    if report.status != 1 or not report.totals or not report.totals[2]:
-        return f"{report.totals} with status {report.status}: {report.faults[:300]!r}"
-    found = [line.split()[0] for line in report.jobs if line.split()[1] == "unexplained"]
-    script, *shown = re.split(r"^job (\d+)\n", report.shrunk, flags=re.M)
-    if shown[::2] != found[:10] or not script.endswith("end\n"):
-        return f"{shown[::2]} are shown of {found}"
-    if not all(servers.judged(program, history.encode()) == b"unexplained\n" for history in shown[1::2]):
-        return f"one of {shown[1::2]} isn't judged as unexplained"
-    return None
-
-
-def fault_of_reasons(program, reasons, history):
-    """Why this isn't what is to be said of a history that nothing explains, or None: it is what `judge` says of it, and what stands before
-    the line is explained, and isn't with the line."""
-    judged = subprocess.run([program, "judge", "--why"], input=history, capture_output=True, timeout=servers.SECONDS, text=True).stdout
-    if judged != f"unexplained\n{reasons}":
-        return f"{reasons!r} is said of {history!r}, and {judged!r} by judge"
-    line = re.match(r"why\nline (\d+) ", reasons)
-    if not line:
-        return f"{reasons!r}"
-    lines = history.splitlines(keepends=True)
-    cuts = ["".join([*lines[:count], "end\n"]) for count in (int(line[1]) - 1, int(line[1]))]
-    verdicts = [servers.judged(program, cut.encode()).split()[0] for cut in cuts]
-    return None if verdicts == [b"explained", b"unexplained"] else f"{verdicts} of {cuts}"
-
-
-def fault_of_why(program):
-    """Why it isn't said of each history that is shown from which line on nothing explains it, or None."""
-    with serve_checks.serving(program, "--racy") as (_, port):
-        for _ in range(MOST_CAMPAIGNS):
-            report = run_campaign(program, port, "--jobs", "1000", "--show", "--why")
-            if report.status:
-                break
-    found = [line.split()[0] for line in report.jobs if line.split()[1] == "unexplained"]
-    _, *shown = re.split(r"^job (\d+)\n", report.shrunk, flags=re.M)
-    if report.status != 1 or not found or shown[::2] != found[:10]:
-        return f"{shown[::2]} are shown of {found}, with status {report.status}: {report.faults[:300]!r}"
-    for text in shown[1::2]:
-        reasons, _, rest = text.partition("history 2\n")
-        if fault := fault_of_reasons(program, reasons, f"history 2\n{rest}"):
-            return fault
     return None
 
 
@@ -203,39 +38,10 @@ def fault_of_names(program):
     return None if faults == [None, None] else f"{faults}"
 
 
-def fault_of_named_race(program):
-    """Why a race isn't found under a name, why a key of a history isn't under it, or why one of the script that is left is, or None."""
-    with serve_checks.serving(program, "--racy") as (_, port):
-        for _ in range(MOST_CAMPAIGNS):
-            report = run_campaign(program, port, "--jobs", "1000", "--tries", "3", "--show", "--name", "ci7")
-            if report.status:
-                break
-    script, *shown = re.split(r"^job (\d+)\n", report.shrunk, flags=re.M)
-    if report.status != 1 or not shown:
-        return f"{report.totals} with status {report.status}: {report.faults[:300]!r}"
-    for job, history in zip(shown[::2], shown[1::2]):
-        keys = re.findall(r"^[PAB] begin \w+ (\S+)", history, flags=re.M)
-        if not {f"ci7-r{job}-0", f"ci7-r{job}-1"} >= set(keys) or servers.judged(program, history.encode()) != b"unexplained\n":
-            return f"{history!r} of job {job}"
-    if f"keys r{shown[0]}-0 r{shown[0]}-1\n" not in script or "ci7" in script:
-        return f"{script!r} is left of job {shown[0]}"
-    told = set(report.faults.splitlines()[1:])
-    return None if told <= told_of(report) and told else f"{report.faults[:500]!r} on standard error"
-
-
-def fault_of_named_small_script(program):
-    """Why not at most three requests are left, under a name, where the server loses each update that it can, or None."""
-    with losing_updates() as port:
-        report = campaign_of_small_script(program, port, "--name", "ci7")
-    if report.status != 1 or not report.shrunk or len(steps_of(report.shrunk)) > MOST_LEFT or "ci7" in report.shrunk:
-        return f"{report.totals} with status {report.status}: {report.shrunk!r}, {report.faults[:300]!r}"
-    return None
-
-
 def fault_of_named_requests(program):
     """Why the keys that a server gets aren't under the name, or None. Each request is answered by a bare LF."""
     with servers.Replying(b"6\n") as server:
-        report = run_campaign(program, server.port, "--jobs", "10", "--name", "ci7")
+        report = campaigns.run_campaign(program, server.port, "--jobs", "10", "--name", "ci7")
     form = re.compile(r'mcrace: job (\d+): P: to "delete ci7-r(\d+)-0" came "6\\n": the line ends without CR')
     found = [form.fullmatch(line) for line in report.faults.splitlines()[1:]]
     return None if len(found) == 10 and all(it and it[1] == it[2] for it in found) else f"{report.faults!r}"
@@ -245,7 +51,7 @@ def fault_of_long_key(program):
     """Why a name under which the last job's keys become too long isn't a fault before anything is connected, or None."""
     with socket.create_server(("127.0.0.1", 0)) as server:
         server.settimeout(0.2)
-        report = run_campaign(program, server.getsockname()[1], "--jobs", "11", "--name", "a-name-of-35-bytes-leaves-room-for-")
+        report = campaigns.run_campaign(program, server.getsockname()[1], "--jobs", "11", "--name", "a-name-of-35-bytes-leaves-room-for-")
         try:
             server.accept()
         except TimeoutError:
@@ -260,7 +66,7 @@ def fault_of_long_key(program):
 def fault_of_wrong_replies(program):
     """Why it isn't said at once what came in the place of replies, of the first ten, or None. Each request is answered by a bare LF."""
     with servers.Replying(b"6\n") as server:
-        report = run_campaign(program, server.port, "--jobs", "12")
+        report = campaigns.run_campaign(program, server.port, "--jobs", "12")
     told = report.faults.splitlines()[1:]
     form = re.compile(r'mcrace: job (\d+): P: to "delete r(\d+)-0" came "6\\n": the line ends without CR')
     found = [form.fullmatch(line) for line in told]
@@ -272,7 +78,7 @@ def fault_of_wrong_replies(program):
 def fault_of_late_replies(program, texts, told):
     """Why it isn't said of the first ten jobs what came of a reply to P's first request within the time limit, or None."""
     with servers.Replying(*texts) as server:
-        report = run_campaign(program, server.port, "--jobs", "12", "--timeout", "0.2")
+        report = campaigns.run_campaign(program, server.port, "--jobs", "12", "--timeout", "0.2")
     form = re.compile(rf'mcrace: job (\d+): P: {told} to "delete r(\d+)-0" within 0\.2 s')
     found = [form.fullmatch(line) for line in report.faults.splitlines()[1:]]
     if len(found) != 10 or not all(it and it[1] == it[2] for it in found) or len({it[1] for it in found}) != 10:
@@ -290,7 +96,7 @@ def fault_of_late_branches(program):
     """Why it isn't said once of each branch that no reply came to it within the time limit, or None. With one worker connections come in
     the order P, A, B of one job after the other."""
     with servers.ReplyingInTurn(OF_P, [], []) as server:
-        report = run_campaign(program, server.port, "--jobs", "4", "--workers", "1", "--timeout", "0.2")
+        report = campaigns.run_campaign(program, server.port, "--jobs", "4", "--workers", "1", "--timeout", "0.2")
     form = re.compile(r'mcrace: (job \d+: [AB]): no reply to "\w+ r\d+-[01].*" within 0\.2 s')
     found = [form.fullmatch(line) for line in report.faults.splitlines()[1:]]
     expected = [f"job {job}: {branch}" for job in range(4) for branch in "AB"]
@@ -300,7 +106,7 @@ def fault_of_late_branches(program):
 def fault_of_late_and_wrong(program):
     """Why not ten faults in all are told where one job gets no reply in time and the next one a wrong one, or None."""
     with servers.ReplyingInTurn([], [], [], [b"6\n"], [], []) as server:
-        report = run_campaign(program, server.port, "--jobs", "14", "--workers", "1", "--timeout", "0.2")
+        report = campaigns.run_campaign(program, server.port, "--jobs", "14", "--workers", "1", "--timeout", "0.2")
     late = r'mcrace: job \d*[02468]: P: no reply to "delete r\d+-0" within 0\.2 s\n'
     wrong = r'mcrace: job \d*[13579]: P: to "delete r\d+-0" came "6\\n": the line ends without CR\n'
     told = report.faults.partition("\n")[2]
@@ -313,7 +119,7 @@ def fault_of_none_late(program):
     with serve_checks.serving(program) as (_, port):
         fault = fault_of_right(program, port, 100, "--timeout", "20")
     with servers.ReplyingInTurn(OF_P, [servers.Step.RESET], [servers.Step.RESET]) as server:
-        report = run_campaign(program, server.port, "--jobs", "2", "--workers", "1", "--timeout", "20")
+        report = campaigns.run_campaign(program, server.port, "--jobs", "2", "--workers", "1", "--timeout", "20")
     failed = [f"{job} explained A ReadFailed B ReadFailed" for job in range(2)]
     if (report.jobs, report.faults) != (failed, "mcrace: seed 1, jobs 0 to 1, 1 worker\n"):
         return fault or f"{report.jobs} and {report.faults!r} where connections are reset"
@@ -329,9 +135,9 @@ def fault_of_own_server(program):
 def fault_of_parts(program):
     """Why the lines of the parts of a campaign aren't those of the whole, or why a brief report isn't the totals alone, or None."""
     with serve_checks.serving(program) as (_, port):
-        whole = run_campaign(program, port, "--jobs", "30")
-        parts = [run_campaign(program, port, "--from", first, "--jobs", count) for first, count in (("0", "10"), ("10", "20"))]
-        brief = run_campaign(program, port, "--jobs", "30", "--brief")
+        whole = campaigns.run_campaign(program, port, "--jobs", "30")
+        parts = [campaigns.run_campaign(program, port, "--from", first, "--jobs", count) for first, count in (("0", "10"), ("10", "20"))]
+        brief = campaigns.run_campaign(program, port, "--jobs", "30", "--brief")
     if [line for part in parts for line in part.jobs] != whole.jobs or len(whole.jobs) != 30:
         return f"{whole.jobs} and {[part.jobs for part in parts]}"
     if parts[1].faults != "mcrace: seed 1, jobs 10 to 29, 4 workers\n":
@@ -341,103 +147,47 @@ def fault_of_parts(program):
     return None
 
 
-def reports_of(output):
-    """The job lines and the totals of each report, and the lines that follow the last one."""
-    reports = []
-    jobs = []
-    rest = output.splitlines()
-    while rest and (JOB.fullmatch(rest[0]) or TOTALS.fullmatch(rest[0])):
-        line = rest.pop(0)
-        totals = TOTALS.fullmatch(line)
-        if totals:
-            reports.append((jobs, tuple(map(int, totals.groups()))))
-            jobs = []
-        else:
-            jobs.append(line)
-    return reports, jobs + rest
-
-
-def fault_of_reports(reports, first):
-    """Why these aren't reports of 10,000 jobs and a last one, each job once, in order, from the first on, with right totals, or None."""
-    for jobs, totals in reports:
-        numbers = [int(line.split()[0]) for line in jobs]
-        words = [line.split()[1] for line in jobs]
-        explained, unexplained = words.count("explained"), words.count("unexplained")
-        if numbers != list(range(first, first + len(jobs))):
-            return f"jobs {numbers[:3]} to {numbers[-3:]} after {first} others"
-        if totals != (len(jobs), explained, unexplained, len(jobs) - explained - unexplained):
-            return f"{totals} of {len(jobs)} jobs"
-        first += len(jobs)
-    if any(len(jobs) != MOST_IN_REPORT for jobs, _ in reports[:-1]) or not 0 < len(reports[-1][0]) <= MOST_IN_REPORT:
-        return f"reports of {[len(jobs) for jobs, _ in reports]} jobs"
-    return None
-
-
-def timed(program, port, *words):
-    """What a campaign writes and how many seconds it takes."""
-    begun = time.monotonic()
-    words = [program, "campaign", f"127.0.0.1:{port}", *words]
-    ran = subprocess.run(words, stdin=subprocess.DEVNULL, capture_output=True, timeout=10 * servers.SECONDS, text=True)
-    return ran, time.monotonic() - begun
-
-
 def fault_of_time(program):
     """Why a campaign for two seconds doesn't end in time, or doesn't report whole blocks, or None."""
     with serve_checks.serving(program) as (_, port):
-        ran, passed = timed(program, port, "--for", "2s", "--from", "5")
-    reports, rest = reports_of(ran.stdout)
+        ran, passed = campaigns.timed(program, port, "--for", "2s", "--from", "5")
+    reports, rest = campaigns.reports_of(ran.stdout)
     if ran.returncode or rest or not reports or ran.stderr != "mcrace: seed 1, jobs from 5 on, 4 workers\n":
         return f"status {ran.returncode}, {ran.stdout[:300]!r}, {rest[:3]}, {ran.stderr[:300]!r}"
     if not 2 <= passed < 2 + LATE:
         return f"it took {passed} seconds"
-    return fault_of_reports(reports, 5) or fault_of_blocks(reports)
+    return campaigns.fault_of_reports(reports, 5) or fault_of_blocks(reports)
 
 
 def fault_of_blocks(reports):
     """Why the last report hasn't whole blocks of 64 jobs, or is whole, or None. Jobs are never lacking."""
     jobs = len(reports[-1][0])
-    return f"{jobs} jobs in the last report" if jobs % MOST_IN_BLOCK and jobs != MOST_IN_REPORT else None
+    return f"{jobs} jobs in the last report" if jobs % campaigns.MOST_IN_BLOCK and jobs != campaigns.MOST_IN_REPORT else None
 
 
 def fault_of_several_reports(program):
     """Why a report doesn't end at 10,000 jobs, each with its ranges on standard error, or None. Nothing connects, so jobs are quick."""
     port = servers.free_port()
     for time_given in ("3s", "30s"):
-        ran, _ = timed(program, port, "--for", time_given, "--show")
-        reports, rest = reports_of(ran.stdout)
+        ran, _ = campaigns.timed(program, port, "--for", time_given, "--show")
+        reports, rest = campaigns.reports_of(ran.stdout)
         if len(reports) > 1:
             break
     if ran.returncode != 4 or rest or len(reports) < 2:
         return f"status {ran.returncode}, {len(reports)} reports, {rest[:3]}, {ran.stderr[:300]!r}"
     jobs = sum(len(jobs) for jobs, _ in reports)
-    ends = [*range(MOST_IN_REPORT - 1, jobs - 1, MOST_IN_REPORT), jobs - 1]
+    ends = [*range(campaigns.MOST_IN_REPORT - 1, jobs - 1, campaigns.MOST_IN_REPORT), jobs - 1]
     told = [int(end) for end in re.findall(r"\(jobs \d+ to (\d+)\)", ran.stderr)]
     if told != ends:
         return f"ranges that end with {told}, where reports end with {ends}"
-    return fault_of_reports(reports, 0)
-
-
-def fault_of_stop(program, *words):
-    """Why a campaign doesn't end within a block after the first finding, or None."""
-    with losing_updates() as port:
-        ran, _ = timed(program, port, "--stop-after", "1", *words)
-    reports, rest = reports_of(ran.stdout)
-    if ran.returncode != 1 or len(reports) != 1 or rest[:2] != ["shrunk", "script 1"] or rest.count("shrunk") != 1:
-        return f"status {ran.returncode}, {len(reports)} reports, {rest[:3]}, {ran.stderr[:300]!r}"
-    jobs, totals = reports[0]
-    found = [place for place, line in enumerate(jobs) if line.split()[1] == "unexplained"]
-    if not found or len(jobs) != (found[0] // MOST_IN_BLOCK + 1) * MOST_IN_BLOCK:
-        return f"{totals}, and the first of {found} is unexplained"
-    if f"keys r{found[0]}-0 r{found[0]}-1" not in rest:
-        return f"{rest} is left of job {found[0]}"
-    return fault_of_reports(reports, 0)
+    return campaigns.fault_of_reports(reports, 0)
 
 
 def fault_of_late_stop(program):
     """Why the lines of a campaign that may end, but doesn't, aren't those of the whole, or None."""
     with serve_checks.serving(program) as (_, port):
-        whole = run_campaign(program, port, "--jobs", "150")
-        other = run_campaign(program, port, "--jobs", "150", "--stop-after", "1")
+        whole = campaigns.run_campaign(program, port, "--jobs", "150")
+        other = campaigns.run_campaign(program, port, "--jobs", "150", "--stop-after", "1")
     if whole != other or len(whole.jobs) != 150:
         return f"{whole.totals} and {other.totals}, status {whole.status} and {other.status}"
     return None
@@ -503,7 +253,7 @@ def ports_kept(port):
 def fault_of_ports(program):
     """Why a campaign keeps ports after it closed its connections, or None. A server may be late now and then."""
     with serve_checks.serving(program) as (_, port):
-        report = run_campaign(program, port, "--jobs", "200")
+        report = campaigns.run_campaign(program, port, "--jobs", "200")
         kept = ports_kept(port)
     if report.status or kept > 60:
         return f"{kept} of 600 connections, {report.totals} with status {report.status}: {report.faults[:300]!r}"
@@ -513,7 +263,7 @@ def fault_of_ports(program):
 def fault_of_lost_server(program):
     """Why jobs whose connections are refused from some point on aren't reported so, or None. `serve` ends after 30 connections."""
     with serve_checks.serving(program, "--connections", "30") as (_, port):
-        report = run_campaign(program, port, "--jobs", "40", "--workers", "1")
+        report = campaigns.run_campaign(program, port, "--jobs", "40", "--workers", "1")
     if [line.split()[1:2] for line in report.jobs[:10]] != [["explained"]] * 10 or report.status != 4:
         return f"{report.jobs[:12]} with status {report.status}"
     if not all(" no connection " in line or "ReadFailed" in line or "Ended" in line for line in report.jobs[11:]):
@@ -550,7 +300,7 @@ def requests_of(program, jobs):
     counts = dict.fromkeys(SURE, 0) | {"delete": 2 * jobs}
     for job in range(jobs):
         script = subprocess.run([program, "generate", "--job", str(job)], capture_output=True, timeout=servers.SECONDS, text=True).stdout
-        for step in steps_of(script):
+        for step in campaigns.steps_of(script):
             verb = step.split()[0]
             if verb in SURE:
                 counts[verb] += 1
@@ -560,7 +310,7 @@ def requests_of(program, jobs):
 def fault_of_statistics(program):
     """Why the statistics of a campaign aren't those of its scripts, or None. Each `gets` that hits is followed by a `cas`."""
     with serve_checks.serving(program) as (_, port):
-        report = run_campaign(program, port, "--jobs", "60", "--stats")
+        report = campaigns.run_campaign(program, port, "--jobs", "60", "--stats")
     before, found = servers.statistics_in(report.faults)
     if before != "mcrace: seed 1, jobs 0 to 59, 4 workers\n" or not found or report.status or len(report.jobs) != 60:
         return f"status {report.status}: {report.faults!r}"
@@ -572,20 +322,9 @@ def fault_of_statistics(program):
     return None
 
 
-def fault_of_statistics_of_race(program):
-    """Why smaller scripts are counted, or None."""
-    with serve_checks.serving(program, "--racy") as (_, port):
-        for _ in range(MOST_CAMPAIGNS):
-            report = run_campaign(program, port, "--jobs", "1000", "--stats")
-            if report.shrunk:
-                break
-    _, found = servers.statistics_in(report.faults)
-    return None if report.shrunk and found and found.runs == 1000 else f"status {report.status}: {report.faults[-500:]!r}"
-
-
 def fault_of_no_statistics(program):
     """Why something is said of jobs that got no connection, or None."""
-    report = run_campaign(program, servers.free_port(), "--jobs", "3", "--stats")
+    report = campaigns.run_campaign(program, servers.free_port(), "--jobs", "3", "--stats")
     if "overlapped" in report.faults or report.status != 4:
         return f"status {report.status}: {report.faults!r}"
     return None
@@ -608,13 +347,8 @@ def faults_of(program):
     yield "how far a campaign is, on a terminal", fault_of_progress(program)
     yield "a campaign for a time", fault_of_time(program)
     yield "reports of a campaign for a time", fault_of_several_reports(program)
-    yield "a campaign until a job is unexplained", fault_of_stop(program, "--jobs", "10000")
-    yield "a campaign for a time, or until a job is unexplained", fault_of_stop(program, "--for", "60s")
     yield "a campaign that finds nothing to end it", fault_of_late_stop(program)
-    yield "a campaign against the server with a race", fault_of_own_race(program)
     yield "two campaigns at once, each under a name", fault_of_names(program)
-    yield "a race under a name", fault_of_named_race(program)
-    yield "a small script that shows a race under a name", fault_of_named_small_script(program)
     yield "the keys of requests under a name", fault_of_named_requests(program)
     yield "a key becomes too long under a campaign's name", fault_of_long_key(program)
     yield "wrong replies to jobs", fault_of_wrong_replies(program)
@@ -623,11 +357,7 @@ def faults_of(program):
     yield "no reply to the branches of jobs in time", fault_of_late_branches(program)
     yield "replies to jobs that are wrong, or late", fault_of_late_and_wrong(program)
     yield "replies to jobs in time, and resets", fault_of_none_late(program)
-    yield "the histories of unexplained jobs", fault_of_shown(program)
-    yield "why nothing explains the histories of jobs", fault_of_why(program)
-    yield "a small script that shows a race", fault_of_small_script(program)
     yield "statistics of a campaign", fault_of_statistics(program)
-    yield "statistics of a campaign that shrinks a script", fault_of_statistics_of_race(program)
     yield "no statistics where no job ran", fault_of_no_statistics(program)
     yield "ports of a campaign", fault_of_ports(program)
     yield "a server that goes away", fault_of_lost_server(program)

@@ -1,5 +1,6 @@
 """What tools/run-wrong-bodies does beside `rt ci`, whose output is made up here, on the small repository once that is proved."""
 
+import contextlib
 import pathlib
 import subprocess
 import time
@@ -23,13 +24,14 @@ def run(root, lines, status, is_later=False, beside=1):
     log.write_text(f"rt ci began at {int(began) + 3600 * is_later}\n", encoding="utf-8")
     words = [root / "tools/run-wrong-bodies", "--beside", log, "--jobs", "1", "--jobs-beside", str(beside), "--whole", edit]
     with open(said, "wb") as to, subprocess.Popen(words, stdout=to, stderr=subprocess.STDOUT) as runner:
-        for line in lines:
-            may_begin = beside and line in (PROVED[-1], KEPT[-1])
-            begins.append(begins_after(line, root, runner, BEGINS if may_begin else WOULD_BEGIN))
-        add(log, f"rt ci ended with status {status}\n")
         try:
-            runner.wait(SECONDS)
-        except subprocess.TimeoutExpired:
+            for line in lines:
+                may_begin = beside and line in (PROVED[-1], KEPT[-1])
+                begins.append(begins_after(line, root, runner, BEGINS if may_begin else WOULD_BEGIN))
+            add(log, f"rt ci ended with status {status}\n")
+            with contextlib.suppress(subprocess.TimeoutExpired):
+                runner.wait(SECONDS)
+        finally:
             runner.terminate()
     return said.read_text(encoding="utf-8"), begins
 

@@ -6,6 +6,7 @@ import itertools
 import pathlib
 import re
 import shutil
+import signal
 import socket
 import struct
 import subprocess
@@ -87,6 +88,11 @@ def statistics_in(told):
     lines = [line.removeprefix("mcrace: ").partition(": ") for line in found[5].splitlines()]
     answers = {verb: {what: int(count) for count, _, what in (part.partition(" ") for part in rest.split(", "))} for verb, _, rest in lines}
     return told[: found.start()], Statistics(*(int(found[place]) for place in range(1, 5)), answers)
+
+
+def end_by_sigterm():
+    """Has SIGTERM end this program as `sys.exit` does, so that the servers that it started end too."""
+    signal.signal(signal.SIGTERM, lambda number, _: sys.exit(128 + number))
 
 
 def scripts():

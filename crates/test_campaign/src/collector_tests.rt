@@ -1,13 +1,9 @@
 //! What a collector makes of messages that it wasn't to get, and of those that are missing.
 
 use crate::connectors::Stores;
-use crate::memory::has_memory;
-use crate::store_stream::StoreStream;
+use crate::store_runs::collected_text;
 use crate::watching::Seen;
-use mc_campaign::{Campaign, Collector, JobMessage, Meeting, Report, print_report};
-use mc_lane::{Stream, Wire};
-use mc_protocol::OutOfMemory;
-use mc_run::FreeGate;
+use mc_campaign::{Campaign, Meeting};
 use mc_server::Shared;
 use std::alloc::Global;
 use std::sync::Wait;
@@ -68,50 +64,20 @@ fn collect<R: Threads + Wait + Sync>(
     let store = Shared::new(alloc)?;
     let connector = Stores::honest(rt, alloc, &store);
     let mut watcher = Seen::new(alloc);
-    let text = text_after(rt, alloc, &connector, messages, &mut watcher)?;
+    let text = collected_text(
+        rt,
+        alloc,
+        &connector,
+        CAMPAIGN,
+        None,
+        messages,
+        &mut watcher,
+    )?;
     Ok(Collected {
         text,
         made: connector.count(),
         told: watcher.jobs,
     })
-}
-
-/// The lines of the report after these messages.
-fn text_after<R: Threads + Wait + Sync>(
-    rt: &R,
-    alloc: Global,
-    connector: &Stores<'_, R>,
-    messages: &[(u64, u64)],
-    watcher: &mut Seen,
-) -> Result<Vec<u8>, OutOfMemory> {
-    let report = report_after(rt, alloc, connector, messages, watcher)?;
-    text_of(alloc, &report)
-}
-
-fn text_of<S: Stream>(alloc: Global, report: &Report<S>) -> Result<Vec<u8>, OutOfMemory> {
-    has_memory(report)?;
-    let mut text = Vec::new(alloc);
-    print_report(report, &mut text)?;
-    Ok(text)
-}
-
-fn report_after<'s, R: Threads + Wait + Sync>(
-    rt: &R,
-    alloc: Global,
-    connector: &Stores<'s, R>,
-    messages: &[(u64, u64)],
-    watcher: &mut Seen,
-) -> Result<Report<Wire<StoreStream<'s, R>>>, OutOfMemory> {
-    let mut collector = Collector::new(alloc, CAMPAIGN)?;
-    'messages: for (seed, job) in messages {
-        let campaign = Campaign {
-            seed: *seed,
-            ..CAMPAIGN
-        };
-        let message = JobMessage::run(rt, alloc, campaign, connector, &FreeGate, *job);
-        collector.keep(message, watcher);
-    }
-    collector.finish(rt, alloc, connector, &FreeGate, watcher)
 }
 
 #[test]

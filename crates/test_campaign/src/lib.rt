@@ -27,6 +27,8 @@ mod signal;
 #[cfg(test)]
 mod status_tests;
 #[cfg(test)]
+mod store_runs;
+#[cfg(test)]
 mod store_stream;
 #[cfg(test)]
 mod testers;

@@ -3,17 +3,12 @@
 ghost use Rattle.std.specs.Prelude.{◌≡◌, ◌≤◌, ◌+◌, ◌^◌};
 
 use crate::connectors::Stores;
-use crate::memory::has_memory;
+use crate::store_runs::{collected_text, outcome_of, text_and_status};
 use crate::store_stream::StoreStream;
-use crate::texts::report_text;
 use crate::watching::Seen;
-use mc_campaign::{
-    Campaign, Collector, JobFault, JobMessage, JobOutcome, Meeting, Namespace, Report, Unwatched,
-    keys_fit, run_jobs,
-};
+use mc_campaign::{Campaign, JobFault, JobOutcome, Meeting, Namespace, keys_fit};
 use mc_lane::Wire;
 use mc_protocol::{OutOfMemory, Sections};
-use mc_run::{FreeGate, Lanes};
 use mc_server::Shared;
 use std::alloc::Global;
 use std::sync::Wait;
@@ -95,9 +90,16 @@ fn keys_of_the_last_job_are_the_longest(rt: HostRuntime) {
     assert_eq!(rt; too_long, [Some(false); 6]);
 }
 
-/// Whether the sections sent these requests.
-fn have_sent<R: Wait>(lanes: &Lanes<Wire<StoreStream<'_, R>>>, requests: Sections<&[u8]>) -> bool {
-    lanes.p.sent() == requests.p && lanes.a.sent() == requests.a && lanes.b.sent() == requests.b
+/// Whether the sections of a job sent these requests.
+fn have_sent<R: Wait>(
+    outcome: &JobOutcome<Wire<StoreStream<'_, R>>>,
+    requests: Sections<&[u8]>,
+) -> Result<bool, Fail> {
+    let JobOutcome::Ran { run, .. } = outcome else {
+        return Err(Fail::new("the job didn't run"));
+    };
+    let lanes = &run.lanes;
+    Ok(lanes.p.sent() == requests.p && lanes.a.sent() == requests.a && lanes.b.sent() == requests.b)
 }
 
 /// Whether job 31 under this name sends these requests.
@@ -109,21 +111,8 @@ fn sends<R: Threads + Wait + Sync>(
 ) -> Result<bool, Fail> {
     let store = Shared::new(alloc)?;
     let connector = Stores::honest(rt, alloc, &store);
-    sends_over(rt, alloc, &connector, name, requests)
-}
-
-fn sends_over<R: Threads + Wait + Sync>(
-    rt: &R,
-    alloc: Global,
-    connector: &Stores<'_, R>,
-    name: Option<&Namespace<'_>>,
-    requests: Sections<&[u8]>,
-) -> Result<bool, Fail> {
-    let message = JobMessage::run(rt, alloc, campaign(name, 0, 1), connector, &FreeGate, 31);
-    match message.into_outcome() {
-        JobOutcome::Ran { run, .. } => Ok(have_sent(&run.lanes, requests)),
-        _ => Err(Fail::new("the job didn't run")),
-    }
+    let outcome = outcome_of(rt, alloc, &connector, campaign(name, 0, 1), 31);
+    have_sent(&outcome, requests)
 }
 
 #[test]
@@ -159,13 +148,16 @@ fn fault_over<R: Threads + Wait + Sync>(
     connector: &Stores<'_, R>,
 ) -> Result<JobFault, Fail> {
     let name = named(LONG)?;
-    let campaign = campaign(Some(&name), 0, 11);
-    let message = JobMessage::run(rt, alloc, campaign, connector, &FreeGate, 10);
-    match message.into_outcome() {
+    fault_of(&outcome_of(rt, alloc, connector, campaign(Some(&name), 0, 11), 10))
+}
+
+/// Why a job wasn't made.
+fn fault_of<R: Wait>(outcome: &JobOutcome<Wire<StoreStream<'_, R>>>) -> Result<JobFault, Fail> {
+    match outcome {
         JobOutcome::NotMade(JobFault::OutOfMemory) => {
             Err(Fail::new("there was no memory for the job"))
         }
-        JobOutcome::NotMade(fault) => Ok(fault),
+        JobOutcome::NotMade(fault) => Ok(*fault),
         _ => Err(Fail::new("the job was made")),
     }
 }
@@ -178,40 +170,12 @@ fn are_explained<R: Threads + Wait + Sync>(
     word: &str,
 ) -> Result<bool, Fail> {
     let connector = Stores::honest(rt, alloc, store);
-    let text = text_under(rt, alloc, &connector, word)?;
-    let expected = b"7 explained\n8 explained\n9 explained\n\
+    let name = named(word)?;
+    let (text, status) = text_and_status(rt, alloc, &connector, campaign(Some(&name), 7, 3), 2)?;
+    let expected = b"report\n7 explained\n8 explained\n9 explained\n\
         jobs 3 explained 3 unexplained 0 other 0\n"
         .as_slice();
-    Ok(text.as_slice() == expected)
-}
-
-/// The text of the report on these jobs.
-fn text_under<R: Threads + Wait + Sync>(
-    rt: &R,
-    alloc: Global,
-    connector: &Stores<'_, R>,
-    word: &str,
-) -> Result<Vec<u8>, Fail> {
-    let name = named(word)?;
-    text_of(rt, alloc, connector, &name)
-}
-
-fn text_of<R: Threads + Wait + Sync>(
-    rt: &R,
-    alloc: Global,
-    connector: &Stores<'_, R>,
-    name: &Namespace<'_>,
-) -> Result<Vec<u8>, Fail> {
-    let report = run_jobs(
-        rt,
-        alloc,
-        campaign(Some(name), 7, 3),
-        2,
-        connector,
-        &FreeGate,
-        &mut Unwatched,
-    )?;
-    Ok(report_text(alloc, &report)?)
+    Ok(text.as_slice() == expected && status == 0)
 }
 
 #[test]
@@ -273,21 +237,16 @@ fn connections_after<R: Threads + Wait + Sync>(
 ) -> Result<u64, OutOfMemory> {
     let store = Shared::new(alloc)?;
     let connector = Stores::honest(rt, alloc, &store);
-    let report = report_after(rt, alloc, &connector, name, other)?;
-    has_memory(&report)?;
-    Ok(connector.count())
-}
-
-fn report_after<'s, R: Threads + Wait + Sync>(
-    rt: &R,
-    alloc: Global,
-    connector: &Stores<'s, R>,
-    name: Option<&Namespace<'_>>,
-    other: Option<&Namespace<'_>>,
-) -> Result<Report<Wire<StoreStream<'s, R>>>, OutOfMemory> {
     let mut watcher = Seen::new(alloc);
-    let mut collector = Collector::new(alloc, campaign(name, 0, 1))?;
-    let message = JobMessage::run(rt, alloc, campaign(other, 0, 1), connector, &FreeGate, 0);
-    collector.keep(message, &mut watcher);
-    collector.finish(rt, alloc, connector, &FreeGate, &mut watcher)
+    let campaign = campaign(name, 0, 1);
+    collected_text(
+        rt,
+        alloc,
+        &connector,
+        campaign,
+        other,
+        &[(1, 0)],
+        &mut watcher,
+    )?;
+    Ok(connector.count())
 }

@@ -4,11 +4,9 @@ ghost use Rattle.std.specs.Prelude.{◌≡◌, ◌≤◌, ◌+◌, ◌^◌};
 
 use crate::connectors::Stores;
 use crate::memory::has_memory;
+use crate::store_runs::{text_and_status, text_and_status_of};
 use crate::store_stream::StoreStream;
-use mc_campaign::{
-    Campaign, Meeting, Report, Unwatched, print_brief_report, print_report, report_status,
-    run_campaign, run_jobs,
-};
+use mc_campaign::{Campaign, Meeting, Report, print_brief_report, run_campaign};
 use mc_lane::Wire;
 use mc_protocol::Actor;
 use mc_run::FreeGate;
@@ -20,22 +18,6 @@ use std::thread::Threads;
 
 /// More turns than the history of a job takes.
 const LIMIT: u64 = 1_000_000;
-
-/// What stands before the text of a report.
-const FRONT: &[u8] = b"report\n";
-
-/// The text of a report after that, and its status. Where memory ran out in a job, that is an error.
-fn text_and_status<R: Wait>(
-    alloc: Global,
-    report: &Report<Wire<StoreStream<'_, R>>>,
-) -> Result<(Vec<u8>, u8), Fail> {
-    has_memory(report)?;
-    let mut text = Vec::from_slice(alloc, FRONT)?;
-    match print_report(report, &mut text) {
-        Err(fault) if text.as_slice() == FRONT => Err(Fail::from(fault)),
-        _ => Ok((text, report_status(report))),
-    }
-}
 
 #[test]
 fn tells_what_each_job_came_to(rt: HostRuntime) -> Result<(), Fail> {
@@ -63,7 +45,7 @@ fn told_over<R: Threads + Wait + Sync>(
     connector: &Stores<'_, R>,
 ) -> Result<(Vec<u8>, u8), Fail> {
     let report = run_campaign(rt, alloc, 1, 3, 2, LIMIT, connector, &FreeGate)?;
-    text_and_status(alloc, &report)
+    text_and_status_of(alloc, &report)
 }
 
 /// Connects all sections but A of job 1, and refuses what P of job 2 asks.
@@ -161,34 +143,9 @@ fn comes_to<R: Threads + Wait + Sync>(
 {
     let store = Shared::new(alloc)?;
     let connector = Stores::honest(rt, alloc, &store);
-    let is_reported = comes_to_over(rt, alloc, campaign, workers, &connector, expected)?;
+    let (text, status) = text_and_status(rt, alloc, &connector, campaign, workers)?;
+    let is_reported = text.as_slice() == expected && status == 0;
     Ok(is_reported && are_released(&connector, 3 * campaign.jobs)?)
-}
-
-/// Whether this is the text of the campaign's report, and its status is 0.
-fn comes_to_over<R: Threads + Wait + Sync>(
-    rt: &R,
-    alloc: Global,
-    campaign: Campaign<'_>,
-    workers: u32,
-    connector: &Stores<'_, R>,
-    expected: &[u8],
-) -> Result<bool, Fail>
-    requires jobs { campaign.jobs ≤ 10000 }
-    requires last { campaign.first + campaign.jobs ≤ 2 ^ 64 }
-    requires workers { workers ≤ 16 }
-{
-    let report = run_jobs(
-        rt,
-        alloc,
-        campaign,
-        workers,
-        connector,
-        &FreeGate,
-        &mut Unwatched,
-    )?;
-    let (text, status) = text_and_status(alloc, &report)?;
-    Ok(text.as_slice() == expected && status == 0)
 }
 
 /// Whether the connector has made this number of connections, and all of them are released. More of them are an error: where memory runs

@@ -1,7 +1,8 @@
 //! That two workers run two jobs at once, and the branches of each at once.
 
 use crate::connectors::{Meeting, Signals};
-use mc_campaign::{print_report, run_campaign};
+use crate::texts::report_text;
+use mc_campaign::run_campaign;
 use mc_run::FreeGate;
 use mc_server::Shared;
 use std::test::Fail;
@@ -17,10 +18,10 @@ fn two_workers_run_two_jobs_at_once(rt: HostRuntime) -> Result<(), Fail> {
         signals: &signals,
     };
     let report = run_campaign(&rt, rt.alloc(), 1, 2, 2, 1_000_000, &connector, &FreeGate)?;
-    let mut text = Vec::new(rt.alloc());
-    print_report(&report, &mut text)?;
+    let text = report_text(rt.alloc(), &report);
+    drop(report);
     assert_eq!(rt;
-        text.as_slice(),
+        text?.as_slice(),
         b"0 explained\n1 explained\n\
         jobs 2 explained 2 unexplained 0 other 0\n"
             .as_slice()

@@ -1,5 +1,5 @@
 use Rattle.std.proofs.Common.{◌≡◌}
-use Rattle.test_campaign.proofs.collector_tests.report_after.Given as goal
+use Rattle.test_campaign.proofs.store_runs.collected_text.Given as goal
 
 -- the collector is still that of the campaign
 abbrev pub invariant-messages : goal.invariant-messages
