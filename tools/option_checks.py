@@ -209,8 +209,8 @@ def fault_of_long_key(program):
 def faults_of(program):
     """The name of each check, with why it failed or None."""
     for name, *row in HANGS:
-        yield name, fault_of_hang(program, *row)
-    yield "replies come byte by byte", fault_of_slow_bytes(program)
+        yield name, servers.fault_of_tries(fault_of_hang, program, *row)
+    yield "replies come byte by byte", servers.fault_of_tries(fault_of_slow_bytes, program)
     yield "P's connect isn't answered", fault_of_unanswered(program, ("--timeout", "0.2"))
     yield "none of P's connects is answered", fault_of_unanswered(program, ("--timeout=0.05", "--wait=0.2"))
     for section in "AB":

@@ -51,8 +51,8 @@ HEAD = re.compile(rb"run (\d+)(?: of (\d+))?\nruns (\d+) explained (\d+) unexpla
 
 
 class Runs(Scripted):
-    """A server on a free port that takes the connections of one run after another, in the order P, A, B, and does the steps of each. Once
-    all are done it listens no more. `rests` is what came on each connection after its steps."""
+    """A server on a free port that takes the connections of one run after another, in the order P, A, B, and does the steps of each. It
+    listens no more once it has the last one. `rests` is what came on each connection after its steps."""
 
     def __init__(self, *runs):
         super().__init__([], [], [])
@@ -62,14 +62,15 @@ class Runs(Scripted):
         self.threads = []
 
     def serve(self):
+        talks = [talk for run in self.runs for talk in run]
         with contextlib.suppress(OSError):
-            for talks in self.runs:
-                for talk in talks:
-                    connection = self.listener.accept()[0]
-                    self.taken += 1
-                    self.threads.append(threading.Thread(target=self.take, args=(connection, talk), daemon=True))
-                    self.threads[-1].start()
-        self.listener.close()
+            for talk in talks:
+                connection = self.listener.accept()[0]
+                self.taken += 1
+                if self.taken == len(talks):
+                    self.listener.close()
+                self.threads.append(threading.Thread(target=self.take, args=(connection, talk), daemon=True))
+                self.threads[-1].start()
 
     def take(self, connection, talk):
         with contextlib.suppress(OSError), connection, connection.makefile("rb") as reader:
@@ -125,21 +126,22 @@ ROWS = [
     ("the seventh run has no reply", COUNTER, [*6 * [GOOD], ENDED, GOOD], ("--times", "20"),
      "run 7 of 20\nruns 7 explained 7 unexplained 0 other 0 overlapped 6\n", b"P failed 3 Ended\nA not begun\nB not begun\n",
      b"explained", 4, 7),
-    ("the second run hangs", COUNTER, [GOOD, HANGING, GOOD], ("--times", "3", "--timeout", "0.3"),
-     "run 2 of 3\nruns 2 explained 2 unexplained 0 other 0 overlapped 1\n", b"P failed 2 ReadFailed\nA not begun\nB not begun\n",
-     b"explained", 4, 2),
     ("N is reached before the time is over", COUNTER, 3 * [GOOD], ("--for", "1h", "--times", "2"),
      "run 2 of 2\nruns 2 explained 2 unexplained 0 other 0 overlapped 2\n", DONE, b"explained", 0, 2),
     ("a run is unexplained before the time is over", COUNTER, [GOOD, LOST, GOOD], ("--for", "2m"),
      "run 2\nruns 2 explained 1 unexplained 1 other 0 overlapped 2\n", DONE, b"unexplained", 1, 2),
 ]
 
-# What standard error says of some of these.
-TOLD = {"the second run hangs": b'mcrace: P: no reply to "delete a" within 0.3 s\n'}
+# The same, but for the name, of a server that hangs in the second run.
+HANGS = (
+    COUNTER, [GOOD, HANGING, GOOD], ("--times", "3", "--timeout", "0.3"),
+    "run 2 of 3\nruns 2 explained 2 unexplained 0 other 0 overlapped 1\n", b"P failed 2 ReadFailed\nA not begun\nB not begun\n",
+    b"explained", 4, 2,
+)
 
 
 def fault_of_row(program, told, script, runs, options, head, endings, word, status, count):
-    """Why runs against a server whose runs differ don't end so, or None."""
+    """Why runs against a server whose runs differ don't end so, with this on standard error, or None."""
     with Runs(*runs) as server:
         answer = ran(program, server.port, script, *options, "--reconnect")
         if server.taken != 3 * count:
@@ -337,7 +339,9 @@ def faults_of_statistics(program):
 def faults_of(program):
     """The name of each check, with why it failed or None."""
     for name, *row in ROWS:
-        yield name, fault_of_row(program, TOLD.get(name, b""), *row)
+        yield name, fault_of_row(program, b"", *row)
+    told = b'mcrace: P: no reply to "delete a" within 0.3 s\n'
+    yield "the second run hangs", servers.fault_of_tries(fault_of_row, program, told, *HANGS)
     yield "the server is gone after two runs", fault_of_lost_server(program)
     head = b"run 3 of 3\nruns 3 explained 3 unexplained 0 other 0 overlapped 3\n"
     yield "three runs over the connections of the first", fault_of_kept(program, [THREE_GOOD], ("--times", "3"), head, 3)

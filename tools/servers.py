@@ -23,6 +23,9 @@ ALL_DONE = "P done\nA done\nB done\n"
 
 SECONDS = 60
 
+# What has a time limit is tried as often as this: the machine may stand still for longer, and then what comes at once is late.
+TRIES = 3
+
 # The end of a verdict or the verdict itself, after which the history begins.
 HISTORY = re.compile(rb"^history 2\n", re.M)
 
@@ -88,6 +91,16 @@ def statistics_in(told):
     lines = [line.removeprefix("mcrace: ").partition(": ") for line in found[5].splitlines()]
     answers = {verb: {what: int(count) for count, _, what in (part.partition(" ") for part in rest.split(", "))} for verb, _, rest in lines}
     return told[: found.start()], Statistics(*(int(found[place]) for place in range(1, 5)), answers)
+
+
+def fault_of_tries(find_fault, *given):
+    """What a check that has a time limit finds of these: None once it finds nothing, or what the last of its tries does."""
+    fault = None
+    for _ in range(TRIES):
+        fault = find_fault(*given)
+        if fault is None:
+            break
+    return fault
 
 
 def end_by_sigterm():
