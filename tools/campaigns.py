@@ -27,10 +27,15 @@ class Report:
     faults: str
 
 
-def run_campaign(program, port, *words):
-    """The report of a campaign against the server on this port of 127.0.0.1."""
+def answer(program, port, *words):
+    """What a campaign against the server on this port of 127.0.0.1 writes, and its status."""
     words = [program, "campaign", f"127.0.0.1:{port}", *words]
-    ran = subprocess.run(words, stdin=subprocess.DEVNULL, capture_output=True, timeout=10 * servers.SECONDS, text=True)
+    return subprocess.run(words, stdin=subprocess.DEVNULL, capture_output=True, timeout=10 * servers.SECONDS, text=True)
+
+
+def run_campaign(program, port, *words):
+    """The report of such a campaign."""
+    ran = answer(program, port, *words)
     lines = ran.stdout.splitlines()
     jobs = []
     while lines and JOB.fullmatch(lines[0]):
@@ -41,12 +46,10 @@ def run_campaign(program, port, *words):
     return Report(ran.returncode, jobs, tuple(map(int, totals.groups())) if totals else (), shrunk, ran.stderr)
 
 
-def timed(program, port, *words):
-    """What a campaign writes and how many seconds it takes."""
+def time_campaign(program, port, *words):
+    """What such a campaign writes, with its status, and how many seconds it takes."""
     begun = time.monotonic()
-    words = [program, "campaign", f"127.0.0.1:{port}", *words]
-    ran = subprocess.run(words, stdin=subprocess.DEVNULL, capture_output=True, timeout=10 * servers.SECONDS, text=True)
-    return ran, time.monotonic() - begun
+    return answer(program, port, *words), time.monotonic() - begun
 
 
 def steps_of(script):

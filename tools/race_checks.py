@@ -39,12 +39,18 @@ def told_of(report):
     return {f"mcrace: job {job} is unexplained; mcrace generate --seed 1 --job {job}" for job in found}
 
 
+def campaign_that_finds(program, port, *words, is_found=lambda report: report.status):
+    """The report of the first campaign that finds this, or of the last one: what is found depends on how threads meet."""
+    for _ in range(MOST_CAMPAIGNS):
+        report = campaigns.run_campaign(program, port, *words)
+        if is_found(report):
+            break
+    return report
+
+
 def fault_of_race(program, port, jobs):
     """Why the race of a server isn't found and told, or None."""
-    for _ in range(MOST_CAMPAIGNS):
-        report = campaigns.run_campaign(program, port, "--jobs", str(jobs))
-        if report.status:
-            break
+    report = campaign_that_finds(program, port, "--jobs", str(jobs))
     if report.status != 1 or len(report.jobs) != jobs or not report.totals or not report.totals[2]:
         return f"{report.totals} with status {report.status}: {report.faults[:300]!r}"
     told = set(report.faults.splitlines()[1:])
@@ -63,19 +69,15 @@ def fault_of_own_race(program):
         return fault_of_race(program, port, 1000)
 
 
-def campaign_of_small_script(program, port, *words):
-    """The first campaign after which a small script is left, or the last one. How small depends on how threads meet, too."""
-    for _ in range(MOST_CAMPAIGNS):
-        report = campaigns.run_campaign(program, port, "--jobs", "300", *words)
-        if report.status == 1 and report.shrunk and len(campaigns.steps_of(report.shrunk)) <= MOST_LEFT:
-            break
-    return report
+def is_small(report):
+    """Whether a small script is left after a campaign."""
+    return report.status == 1 and report.shrunk and len(campaigns.steps_of(report.shrunk)) <= MOST_LEFT
 
 
 def fault_of_small_script(program):
     """Why not at most three requests are left where the server loses each update that it can, or None."""
     with losing_updates() as port:
-        report = campaign_of_small_script(program, port)
+        report = campaign_that_finds(program, port, "--jobs", "300", is_found=is_small)
         if report.status != 1 or not report.shrunk:
             return f"{report.totals} with status {report.status}: {report.faults[:300]!r}"
         if len(campaigns.steps_of(report.shrunk)) > MOST_LEFT:
@@ -89,8 +91,8 @@ def fault_of_small_script(program):
 def fault_of_named_small_script(program):
     """Why not at most three requests are left, under a name, where the server loses each update that it can, or None."""
     with losing_updates() as port:
-        report = campaign_of_small_script(program, port, "--name", "ci7")
-    if report.status != 1 or not report.shrunk or len(campaigns.steps_of(report.shrunk)) > MOST_LEFT or "ci7" in report.shrunk:
+        report = campaign_that_finds(program, port, "--jobs", "300", "--name", "ci7", is_found=is_small)
+    if not is_small(report) or "ci7" in report.shrunk:
         return f"{report.totals} with status {report.status}: {report.shrunk!r}, {report.faults[:300]!r}"
     return None
 
@@ -98,7 +100,7 @@ def fault_of_named_small_script(program):
 def fault_of_stop(program, *words):
     """Why a campaign doesn't end within a block after the first finding, or None."""
     with losing_updates() as port:
-        ran, _ = campaigns.timed(program, port, "--stop-after", "1", *words)
+        ran, _ = campaigns.time_campaign(program, port, "--stop-after", "1", *words)
     reports, rest = campaigns.reports_of(ran.stdout)
     if ran.returncode != 1 or len(reports) != 1 or rest[:2] != ["shrunk", "script 1"] or rest.count("shrunk") != 1:
         return f"status {ran.returncode}, {len(reports)} reports, {rest[:3]}, {ran.stderr[:300]!r}"
@@ -114,10 +116,7 @@ def fault_of_stop(program, *words):
 def fault_of_shown(program):
     """Why the histories of unexplained jobs aren't shown as they were judged, or None."""
     with serve_checks.serving(program, "--racy") as (_, port):
-        for _ in range(MOST_CAMPAIGNS):
-            report = campaigns.run_campaign(program, port, "--jobs", "1000", "--tries", "3", "--show")
-            if report.status:
-                break
+        report = campaign_that_finds(program, port, "--jobs", "1000", "--tries", "3", "--show")
     if report.status != 1 or not report.totals or not report.totals[2]:
         return f"{report.totals} with status {report.status}: {report.faults[:300]!r}"
     found = [line.split()[0] for line in report.jobs if line.split()[1] == "unexplained"]
@@ -147,10 +146,7 @@ def fault_of_reasons(program, reasons, history):
 def fault_of_why(program):
     """Why it isn't said of each history that is shown from which line on nothing explains it, or None."""
     with serve_checks.serving(program, "--racy") as (_, port):
-        for _ in range(MOST_CAMPAIGNS):
-            report = campaigns.run_campaign(program, port, "--jobs", "1000", "--show", "--why")
-            if report.status:
-                break
+        report = campaign_that_finds(program, port, "--jobs", "1000", "--show", "--why")
     found = [line.split()[0] for line in report.jobs if line.split()[1] == "unexplained"]
     _, *shown = re.split(r"^job (\d+)\n", report.shrunk, flags=re.M)
     if report.status != 1 or not found or shown[::2] != found[:10]:
@@ -165,10 +161,7 @@ def fault_of_why(program):
 def fault_of_named_race(program):
     """Why a race isn't found under a name, why a key of a history isn't under it, or why one of the script that is left is, or None."""
     with serve_checks.serving(program, "--racy") as (_, port):
-        for _ in range(MOST_CAMPAIGNS):
-            report = campaigns.run_campaign(program, port, "--jobs", "1000", "--tries", "3", "--show", "--name", "ci7")
-            if report.status:
-                break
+        report = campaign_that_finds(program, port, "--jobs", "1000", "--tries", "3", "--show", "--name", "ci7")
     script, *shown = re.split(r"^job (\d+)\n", report.shrunk, flags=re.M)
     if report.status != 1 or not shown:
         return f"{report.totals} with status {report.status}: {report.faults[:300]!r}"
@@ -185,10 +178,7 @@ def fault_of_named_race(program):
 def fault_of_statistics_of_race(program):
     """Why smaller scripts are counted, or None."""
     with serve_checks.serving(program, "--racy") as (_, port):
-        for _ in range(MOST_CAMPAIGNS):
-            report = campaigns.run_campaign(program, port, "--jobs", "1000", "--stats")
-            if report.shrunk:
-                break
+        report = campaign_that_finds(program, port, "--jobs", "1000", "--stats", is_found=lambda report: report.shrunk)
     _, found = servers.statistics_in(report.faults)
     return None if report.shrunk and found and found.runs == 1000 else f"status {report.status}: {report.faults[-500:]!r}"
 
