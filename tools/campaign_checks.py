@@ -150,7 +150,9 @@ def fault_of_parts(program):
 def fault_of_time(program):
     """Why a campaign for two seconds doesn't end in time, or doesn't report whole blocks, or None."""
     with serve_checks.serving(program) as (_, port):
-        ran, passed = campaigns.time_campaign(program, port, "--for", "2s", "--from", "5")
+        begun = time.monotonic()
+        ran = campaigns.answer(program, port, "--for", "2s", "--from", "5")
+        passed = time.monotonic() - begun
     reports, rest = campaigns.reports_of(ran.stdout)
     if ran.returncode or rest or not reports or ran.stderr != "mcrace: seed 1, jobs from 5 on, 4 workers\n":
         return f"status {ran.returncode}, {ran.stdout[:300]!r}, {rest[:3]}, {ran.stderr[:300]!r}"
@@ -169,7 +171,7 @@ def fault_of_several_reports(program):
     """Why a report doesn't end at 10,000 jobs, each with its ranges on standard error, or None. Nothing connects, so jobs are quick."""
     port = servers.free_port()
     for time_given in ("3s", "30s"):
-        ran, _ = campaigns.time_campaign(program, port, "--for", time_given, "--show")
+        ran = campaigns.answer(program, port, "--for", time_given, "--show")
         reports, rest = campaigns.reports_of(ran.stdout)
         if len(reports) > 1:
             break

@@ -2,7 +2,6 @@
 
 import re
 import subprocess
-import time
 from dataclasses import dataclass
 
 import servers
@@ -44,12 +43,6 @@ def run_campaign(program, port, *words):
     left = lines.pop(0) if lines else ""
     shrunk = "".join(f"{line}\n" for line in lines) if left == "shrunk" else left
     return Report(ran.returncode, jobs, tuple(map(int, totals.groups())) if totals else (), shrunk, ran.stderr)
-
-
-def time_campaign(program, port, *words):
-    """What such a campaign writes, with its status, and how many seconds it takes."""
-    begun = time.monotonic()
-    return answer(program, port, *words), time.monotonic() - begun
 
 
 def steps_of(script):

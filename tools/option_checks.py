@@ -214,7 +214,7 @@ def faults_of(program):
     yield "P's connect isn't answered", fault_of_unanswered(program, ("--timeout", "0.2"))
     yield "none of P's connects is answered", fault_of_unanswered(program, ("--timeout=0.05", "--wait=0.2"))
     for section in "AB":
-        yield f"{section}'s connect isn't answered", fault_of_unanswered_branch(program, section)
+        yield f"{section}'s connect isn't answered", servers.fault_of_tries(fault_of_unanswered_branch, program, section)
     yield "the server comes after 300 ms", fault_of_wait(program)
     yield "no server comes", fault_of_vain_wait(program, f"127.0.0.1:{servers.free_port()}", b"Connection refused")
     yield "no address becomes one", fault_of_vain_wait(program, "127.0.0.1", b"write HOST:PORT")

@@ -100,7 +100,7 @@ def fault_of_named_small_script(program):
 def fault_of_stop(program, *words):
     """Why a campaign doesn't end within a block after the first finding, or None."""
     with losing_updates() as port:
-        ran, _ = campaigns.time_campaign(program, port, "--stop-after", "1", *words)
+        ran = campaigns.answer(program, port, "--stop-after", "1", *words)
     reports, rest = campaigns.reports_of(ran.stdout)
     if ran.returncode != 1 or len(reports) != 1 or rest[:2] != ["shrunk", "script 1"] or rest.count("shrunk") != 1:
         return f"status {ran.returncode}, {len(reports)} reports, {rest[:3]}, {ran.stderr[:300]!r}"
