@@ -21,6 +21,6 @@ pub mod Steps
 pub mod Safety
 pub mod Histories
 pub mod Laws
--- What private contracts cite; public ones cite `Held` too.
+-- What private contracts cite.
 pub mod Held
 pub mod Fields

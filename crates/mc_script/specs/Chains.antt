@@ -1,4 +1,4 @@
--- Readings one after another, as long as none of them misses its value. The steps of a script are read with it.
+-- Readings one after another, as long as none of them misses its value. Only private contracts cite it.
 use Rattle.std.specs.Prelude.{Option, Some, None}
 
 infixl 10 ◌>>=◌

@@ -20,6 +20,6 @@ pub mod WellFormed
 pub mod PrintedScript
 pub mod WithoutStep
 pub mod Kinds
--- What private contracts cite; the public `Steps` is made of `Chains`.
+-- What private contracts cite.
 pub mod Chains
 pub mod Reading

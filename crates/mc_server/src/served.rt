@@ -11,7 +11,7 @@ pub enum Why {
     Quit,
     /// A read failed.
     ReadFailed,
-    /// A write failed. What was written before is a front of the answers, or of them and the line that says that memory ran out.
+    /// A write failed. What was written before is the front of the answers.
     WriteFailed,
     /// A request was refused after which nothing can be read: its line is too long, or its body isn't ended as it has to be.
     Refused,
