@@ -172,6 +172,34 @@ fn comes_to_by_any<R: Threads + Wait + Sync>(
     Ok(without && by_one && comes_to(rt, alloc, campaign, 16, expected)?)
 }
 
+// Without turns to search in no history is judged, whoever runs the jobs.
+#[test]
+fn no_job_is_judged_without_turns(rt: HostRuntime) -> Result<(), Fail> {
+    let expected = b"report\n0 undecided\n1 undecided\n2 undecided\n\
+        jobs 3 explained 0 unexplained 0 other 3\n"
+        .as_slice();
+    for workers in [0, 2] {
+        let (text, status) = told_without_turns(&rt, rt.alloc(), workers)?;
+        assert_eq!(rt; text.as_slice(), expected);
+        assert_eq!(rt; status, 4);
+    }
+    Ok(())
+}
+
+/// The text and the status of a report on three jobs, the search for an explanation of which has no turns.
+fn told_without_turns<R: Threads + Wait + Sync>(
+    rt: &R,
+    alloc: Global,
+    workers: u32,
+) -> Result<(Vec<u8>, u8), Fail>
+    requires { workers ≤ 16 }
+{
+    let store = Shared::new(alloc)?;
+    let connector = Stores::honest(rt, alloc, &store);
+    let report = run_campaign(rt, alloc, 1, 3, workers, 0, &connector, &FreeGate)?;
+    text_and_status_of(alloc, &report)
+}
+
 #[test]
 fn jobs_are_run_by_any_number_of_workers(rt: HostRuntime) -> Result<(), Fail> {
     let expected = b"report\n8 explained\n9 explained\n10 explained\n\
