@@ -33,9 +33,8 @@ impl Gate for Counts {
 
 #[test]
 fn the_calls_of_all_jobs_pass_the_gate(rt: HostRuntime) -> Result<(), Fail> {
-    for workers in [0, 2] {
-        assert!(rt; pass(&rt, rt.alloc(), workers)?, "{workers}");
-    }
+    assert!(rt; pass(&rt, rt.alloc(), 0)?);
+    assert!(rt; pass(&rt, rt.alloc(), 2)?);
     Ok(())
 }
 

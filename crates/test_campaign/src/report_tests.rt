@@ -178,26 +178,25 @@ fn no_job_is_judged_without_turns(rt: HostRuntime) -> Result<(), Fail> {
     let expected = b"report\n0 undecided\n1 undecided\n2 undecided\n\
         jobs 3 explained 0 unexplained 0 other 3\n"
         .as_slice();
-    for workers in [0, 2] {
-        let (text, status) = told_without_turns(&rt, rt.alloc(), workers)?;
-        assert_eq!(rt; text.as_slice(), expected);
-        assert_eq!(rt; status, 4);
-    }
+    assert!(rt; is_told_without_turns(&rt, rt.alloc(), 0, expected)?);
+    assert!(rt; is_told_without_turns(&rt, rt.alloc(), 2, expected)?);
     Ok(())
 }
 
-/// The text and the status of a report on three jobs, the search for an explanation of which has no turns.
-fn told_without_turns<R: Threads + Wait + Sync>(
+/// Whether this is the text of a report on three jobs whose search for an explanation has no turns, and its status is 4.
+fn is_told_without_turns<R: Threads + Wait + Sync>(
     rt: &R,
     alloc: Global,
     workers: u32,
-) -> Result<(Vec<u8>, u8), Fail>
+    expected: &[u8],
+) -> Result<bool, Fail>
     requires { workers ≤ 16 }
 {
     let store = Shared::new(alloc)?;
     let connector = Stores::honest(rt, alloc, &store);
     let report = run_campaign(rt, alloc, 1, 3, workers, 0, &connector, &FreeGate)?;
-    text_and_status_of(alloc, &report)
+    let (text, status) = text_and_status_of(alloc, &report)?;
+    Ok(text.as_slice() == expected && status == 4)
 }
 
 #[test]
