@@ -93,42 +93,60 @@ const TWO: u64 = 0xb0a0_b1a1;
 const THREE: u64 = 0xb0a0_b1a1_b2a2;
 
 /// What is served to P, A and B, how the sections end, and what of them passes the gate.
-type Row = ([Served; 3], [Ending; 3], [u64; 3]);
+struct Row {
+    p: Served,
+    a: Served,
+    b: Served,
+    ended: [Ending; 3],
+    passed: [u64; 3],
+}
 
 static ROWS: &[Row] = &[
-    (
-        [P, BRANCH, BRANCH],
-        [Done, Done, Done],
-        [THREE, THREE, THREE],
-    ),
+    Row {
+        p: P,
+        a: BRANCH,
+        b: BRANCH,
+        ended: [Done, Done, Done],
+        passed: [THREE, THREE, THREE],
+    },
     // the last call of a section fails: its write, its read, and by what comes
-    (
-        [P, (TO_BRANCH, 5), BRANCH],
-        [Done, Failed(Fault::WriteFailed), Done],
-        [THREE, THREE, THREE],
-    ),
-    (
-        [P, BRANCH, (TO_BRANCH, 6)],
-        [Done, Done, Failed(Fault::ReadFailed)],
-        [THREE, THREE, THREE],
-    ),
-    (
-        [P, (&[b"6\r\n", b"7\r\n", b"8x\r\n"], NEVER), BRANCH],
-        [Done, Failed(Fault::BadReply), Done],
-        [THREE, THREE, THREE],
-    ),
+    Row {
+        p: P,
+        a: (TO_BRANCH, 5),
+        b: BRANCH,
+        ended: [Done, Failed(Fault::WriteFailed), Done],
+        passed: [THREE, THREE, THREE],
+    },
+    Row {
+        p: P,
+        a: BRANCH,
+        b: (TO_BRANCH, 6),
+        ended: [Done, Done, Failed(Fault::ReadFailed)],
+        passed: [THREE, THREE, THREE],
+    },
+    Row {
+        p: P,
+        a: (&[b"6\r\n", b"7\r\n", b"8x\r\n"], NEVER),
+        b: BRANCH,
+        ended: [Done, Failed(Fault::BadReply), Done],
+        passed: [THREE, THREE, THREE],
+    },
     // an earlier one does
-    (
-        [P, (&[b"6\r\n"], NEVER), (TO_BRANCH, 1)],
-        [Done, Failed(Fault::Ended), Failed(Fault::WriteFailed)],
-        [THREE, TWO, ONE],
-    ),
+    Row {
+        p: P,
+        a: (&[b"6\r\n"], NEVER),
+        b: (TO_BRANCH, 1),
+        ended: [Done, Failed(Fault::Ended), Failed(Fault::WriteFailed)],
+        passed: [THREE, TWO, ONE],
+    },
     // one of P does, and no branch begins
-    (
-        [(TO_P, 4), BRANCH, BRANCH],
-        [Failed(Fault::ReadFailed), NotBegun, NotBegun],
-        [TWO, 0, 0],
-    ),
+    Row {
+        p: (TO_P, 4),
+        a: BRANCH,
+        b: BRANCH,
+        ended: [Failed(Fault::ReadFailed), NotBegun, NotBegun],
+        passed: [TWO, 0, 0],
+    },
 ];
 
 #[test]
@@ -151,24 +169,24 @@ fn first_odd_of<R: Threads + Wait + Sync>(
     alloc: Global,
     code: &Checked,
 ) -> Result<Option<(usize, [Ending; 3], [u64; 3])>, Fail> {
-    for (number, (served, ended, passed)) in ROWS.iter().enumerate() {
-        let found = run_through(rt, alloc, code, served)?;
-        if found != (*ended, *passed) {
+    for (number, row) in ROWS.iter().enumerate() {
+        let found = run_through(rt, alloc, code, row)?;
+        if found != (row.ended, row.passed) {
             return Ok(Some((number, found.0, found.1)));
         }
     }
     Ok(None)
 }
 
-/// How the sections end of a run over such streams, and what passes the gate.
+/// How the sections end of a run over the row's streams, and what passes the gate.
 fn run_through<R: Threads + Wait + Sync>(
     rt: &R,
     alloc: Global,
     code: &Checked,
-    served: &[Served; 3],
+    row: &Row,
 ) -> Result<([Ending; 3], [u64; 3]), Fail> {
     let gate = Passed::new();
-    let given = lanes(alloc, served)?;
+    let given = lanes(alloc, &[row.p, row.a, row.b])?;
     let run = run(rt, alloc, code, given, &gate)?;
     Ok((endings(&run), gate.all()))
 }
