@@ -54,6 +54,10 @@ AreRight c results = All (IsRight c.seed (option_copied c.name)) results
 pub same_campaign : {S : Type 0} (a b : Campaign) (results : List (JobResult S)) → a ≡ b → AreRight a results → AreRight b results
 same_campaign a b results same right = subst (λ (c : Campaign). AreRight c results) same right
 
+pub same_limit : {S : Type 0} (a b : Campaign) (results : List (JobResult S)) → a ≡ b → AreJudgedWithin a.limit results
+    → AreJudgedWithin b.limit results
+same_limit a b results same right = subst (λ (c : Campaign). AreJudgedWithin c.limit results) same right
+
 pub one_more_line : {X : Type 0} (line : X → List ℕ) (front old new : List ℕ) (xs : List X) (i : ℕ) (x : X) → i < length xs
     → x ≡ get_or xs i x → old ≡ front ++ flat_map line (take i xs) → new ≡ old ++ line x
     → new ≡ front ++ flat_map line (take (i + 1) xs)
