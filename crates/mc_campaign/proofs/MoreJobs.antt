@@ -7,7 +7,7 @@ use Rattle.std.proofs.lemmas.List.{map-append, map-id, take_more, flat_map_more}
 use Rattle.std.proofs.lemmas.List.Elements.{All-push}
 use Rattle.std.proofs.lemmas.List.FromFn.{map-range_with_len_more}
 use Rattle.mc_protocol.specs.Lines.{Word}
-use Rattle.mc_campaign.specs.Outcomes.{IsOutcome}
+use Rattle.mc_campaign.specs.Outcomes.{IsJudgedWithin, IsOutcome}
 use Rattle.mc_campaign.specs.declared.campaign.Campaign.{Campaign}
 use Rattle.mc_campaign.specs.declared.outcome.JobResult.{JobResult}
 
@@ -23,6 +23,10 @@ one_more_number number old new x a n is here before =
     ∙ (map-append number old (x ∷ [])
     ∙ (ap (λ xs. xs ++ number x ∷ []) before ∙ (ap (λ y. range_with_len a n ++ y ∷ []) here ∙ sym (range_more a n))))
 
+-- the history of each job that ran was judged within this limit of turns
+abbrev pub AreJudgedWithin : {S : Type 0} → ℕ → List (JobResult S) → Type 0
+AreJudgedWithin limit results = All (λ r. IsJudgedWithin limit r.outcome) results
+
 -- a job of a campaign with this seed and this name, if it has one, came to what its result says
 abbrev pub IsRight : {S : Type 0} → ℕ → Option Word → JobResult S → Type 0
 IsRight seed name r = IsOutcome seed name r.job r.outcome
@@ -32,6 +36,11 @@ pub one_more_outcome : {S : Type 0} (seed : ℕ) (name : Option Word) (job : ℕ
 one_more_outcome seed name job old new r is here right before =
     subst (All (IsRight seed name)) (sym is)
     (All-push (IsRight seed name) old r before (subst (λ (n : ℕ). IsOutcome seed name n r.outcome) (sym here) right))
+
+pub one_more_judged : {S : Type 0} (limit : ℕ) (old new : List (JobResult S)) (r : JobResult S) → new ≡ old ++ r ∷ []
+    → IsJudgedWithin limit r.outcome → AreJudgedWithin limit old → AreJudgedWithin limit new
+one_more_judged limit old new r is right before =
+    subst (AreJudgedWithin limit) (sym is) (All-push (λ one. IsJudgedWithin limit one.outcome) old r before right)
 
 -- the numbers of the jobs
 abbrev pub numbers : {S : Type 0} → List (JobResult S) → List ℕ
@@ -44,6 +53,10 @@ AreRight c results = All (IsRight c.seed (option_copied c.name)) results
 -- what is right of results for a campaign is so for the same campaign
 pub same_campaign : {S : Type 0} (a b : Campaign) (results : List (JobResult S)) → a ≡ b → AreRight a results → AreRight b results
 same_campaign a b results same right = subst (λ (c : Campaign). AreRight c results) same right
+
+pub same_limit : {S : Type 0} (a b : Campaign) (results : List (JobResult S)) → a ≡ b → AreJudgedWithin a.limit results
+    → AreJudgedWithin b.limit results
+same_limit a b results same right = subst (λ (c : Campaign). AreJudgedWithin c.limit results) same right
 
 pub one_more_line : {X : Type 0} (line : X → List ℕ) (front old new : List ℕ) (xs : List X) (i : ℕ) (x : X) → i < length xs
     → x ≡ get_or xs i x → old ≡ front ++ flat_map line (take i xs) → new ≡ old ++ line x

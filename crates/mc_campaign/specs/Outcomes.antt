@@ -2,6 +2,7 @@
 use Rattle.std.specs.Prelude.{◌≡◌, ◌≢◌, ℕ, Option, None}
 use Rattle.mc_protocol.specs.Lines.{Word}
 use Rattle.mc_code.specs.Code.{Code}
+use Rattle.mc_explain.specs.Verdicts.{IsWithin}
 use Rattle.mc_run.specs.Agreement.{LaneRecords}
 use Rattle.mc_run.specs.Judged.{IsJudged}
 use Rattle.mc_campaign.specs.JobCodes.{code_for, IsJobFault}
@@ -26,7 +27,7 @@ abbrev pub IsOutcomeOf : {S : Type 0} → Code → JobOutcome S → Type 0
 IsOutcomeOf c (outcome.NotMade fault) = ⊥
 IsOutcomeOf c (outcome.NoLane actor) = Unit {0}
 IsOutcomeOf c (outcome.NotRun error) = Unit {0}
-IsOutcomeOf c (outcome.Ran run history verdict) = IsJudged c run.world run.lanes history verdict × AreClosed run.lanes
+IsOutcomeOf c (outcome.Ran run history verdict turns) = IsJudged c run.world run.lanes history verdict × AreClosed run.lanes
 
 -- a job of a campaign with this seed and this name, if it has one, may come to this: it has no code, or that which its script has
 -- under the name
@@ -34,8 +35,15 @@ abbrev pub IsOutcome : {S : Type 0} → ℕ → Option Word → ℕ → JobOutco
 IsOutcome seed name job (outcome.NotMade fault) = IsJobFault name seed job fault
 IsOutcome seed name job (outcome.NoLane actor) = Unit {0}
 IsOutcome seed name job (outcome.NotRun error) = Unit {0}
-IsOutcome seed name job (outcome.Ran run history verdict) =
+IsOutcome seed name job (outcome.Ran run history verdict turns) =
     IsJudged (code_for name seed job) run.world run.lanes history verdict × AreClosed run.lanes
+
+-- where the job ran, its history was judged within this limit of turns
+abbrev pub IsJudgedWithin : {S : Type 0} → ℕ → JobOutcome S → Type 0
+IsJudgedWithin limit (outcome.NotMade fault) = Unit {0}
+IsJudgedWithin limit (outcome.NoLane actor) = Unit {0}
+IsJudgedWithin limit (outcome.NotRun error) = Unit {0}
+IsJudgedWithin limit (outcome.Ran run history verdict turns) = IsWithin limit verdict turns
 
 -- that a key becomes too long isn't what kept the job from running
 abbrev pub HasShortKeys : {S : Type 0} → JobOutcome S → Type 0

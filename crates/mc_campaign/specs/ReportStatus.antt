@@ -53,7 +53,7 @@ abbrev pub accuses : {S : Type 0} → JobOutcome S → Bool
 accuses (outcome.NotMade fault) = false
 accuses (outcome.NoLane who) = false
 accuses (outcome.NotRun error) = false
-accuses (outcome.Ran run history found) =
+accuses (outcome.Ran run history found turns) =
     is_unexplained found
     || (ended_badly run.world.endings.p || (ended_badly run.world.endings.a || ended_badly run.world.endings.b))
 
@@ -62,7 +62,7 @@ abbrev pub is_clean : {S : Type 0} → JobOutcome S → Bool
 is_clean (outcome.NotMade fault) = false
 is_clean (outcome.NoLane who) = false
 is_clean (outcome.NotRun error) = false
-is_clean (outcome.Ran run history found) =
+is_clean (outcome.Ran run history found turns) =
     is_explained found && (is_done run.world.endings.p && (is_done run.world.endings.a && is_done run.world.endings.b))
 
 -- ---- all of them

@@ -39,7 +39,7 @@ abbrev pub outcome_words : {S : Type 0} → JobOutcome S → List ℕ
 outcome_words (outcome.NotMade fault) = codes "not made"
 outcome_words (outcome.NoLane who) = codes "no connection " ++ actor_word who
 outcome_words (outcome.NotRun error) = codes "not run"
-outcome_words (outcome.Ran run history found) = verdict_word found ++ failures_words run.world.endings
+outcome_words (outcome.Ran run history found turns) = verdict_word found ++ failures_words run.world.endings
 
 abbrev pub job_line : {S : Type 0} → JobResult S → List ℕ
 job_line r = decimal r.job ++ (codes " " ++ (outcome_words r.outcome ++ codes "\n"))
@@ -56,7 +56,7 @@ abbrev pub standing_of : {S : Type 0} → JobOutcome S → Standing
 standing_of (outcome.NotMade fault) = standing.Other
 standing_of (outcome.NoLane who) = standing.Other
 standing_of (outcome.NotRun error) = standing.Other
-standing_of (outcome.Ran run history found) = standing_by found
+standing_of (outcome.Ran run history found turns) = standing_by found
 
 abbrev pub is_same_standing : Standing → Standing → Bool
 is_same_standing standing.Explained standing.Explained = true

@@ -3,7 +3,7 @@
 ghost use Rattle.std.specs.Prelude.{◌≡◌, ◌≤◌, ◌+◌, ◌^◌, map, true, All, IfOk};
 ghost use Rattle.std.specs.List.{range_with_len};
 ghost use Rattle.std.specs.Option.{option_copied};
-ghost use Rattle.mc_campaign.specs.Outcomes.{IsOutcome};
+ghost use Rattle.mc_campaign.specs.Outcomes.{IsJudgedWithin, IsOutcome};
 
 use crate::job::run_job;
 use crate::namespace::is_same_name;
@@ -75,6 +75,7 @@ impl<'a, S: Stream + Send> Collector<'a, S> {
         ensures jobs { IfOk result (λ report. map (λ r. r.job) report.results ≡ range_with_len self.entry.first self.entry.jobs) }
         ensures outcomes { IfOk result (λ report.
             All (λ r. IsOutcome self.entry.seed (option_copied self.entry.name) r.job r.outcome) report.results) }
+        ensures turns { IfOk result (λ report. All (λ r. IsJudgedWithin self.entry.limit r.outcome) report.results) }
     {
         let Collector { campaign, kept } = self;
         settle_all(rt, alloc, campaign, connector, gate, kept, watcher)
@@ -96,6 +97,7 @@ fn settle_all<S: Stream + Send, C: Connector<S>, G: Gate, R: Threads + Wait + Sy
     ensures jobs { IfOk result (λ report. map (λ r. r.job) report.results ≡ range_with_len campaign.entry.first campaign.entry.jobs) }
     ensures outcomes { IfOk result (λ report.
         All (λ r. IsOutcome campaign.entry.seed (option_copied campaign.entry.name) r.job r.outcome) report.results) }
+    ensures turns { IfOk result (λ report. All (λ r. IsJudgedWithin campaign.entry.limit r.outcome) report.results) }
 {
     let mut kept = kept.into_iter();
     let mut results = Vec::new(alloc);
@@ -110,12 +112,15 @@ fn settle_all<S: Stream + Send, C: Connector<S>, G: Gate, R: Threads + Wait + Sy
     })
 }
 
-/// Whether the message has the seed and the name of the campaign.
+/// Whether the message has the seed, the limit of turns and the name of the campaign.
 fn is_of_campaign<S: Stream + Send>(message: &JobMessage<'_, S>, campaign: Campaign<'_>) -> bool
     ensures seed { result ≡ true → message.now.seed ≡ campaign.entry.seed }
+    ensures limit { result ≡ true → message.now.limit ≡ campaign.entry.limit }
     ensures name { result ≡ true → message.now.name ≡ option_copied campaign.entry.name }
 {
-    message.seed() == campaign.seed && is_same_name(message.name(), campaign.name)
+    message.seed() == campaign.seed
+        && message.limit() == campaign.limit
+        && is_same_name(message.name(), campaign.name)
 }
 
 /// Puts the message at this place, and calls the watcher, where there is one and nothing stands there; else drops it.
@@ -149,6 +154,7 @@ fn settle<S: Stream + Send, C: Connector<S>, G: Gate, R: Threads + Wait + Sync, 
 ) -> JobResult<S>
     ensures job { result.job ≡ job }
     ensures outcome { IsOutcome campaign.entry.seed (option_copied campaign.entry.name) job result.outcome }
+    ensures turns { IsJudgedWithin campaign.entry.limit result.outcome }
 {
     let outcome = match message {
         Some(message) if is_of_campaign(&message, campaign) && message.job() == job => {
@@ -169,7 +175,8 @@ fn run_watched<S: Stream + Send, C: Connector<S>, G: Gate, R: Threads + Wait + S
     job: u64,
     watcher: &mut W,
 ) -> JobOutcome<S>
-    ensures { IsOutcome campaign.entry.seed (option_copied campaign.entry.name) job result }
+    ensures outcome { IsOutcome campaign.entry.seed (option_copied campaign.entry.name) job result }
+    ensures turns { IsJudgedWithin campaign.entry.limit result }
 {
     let outcome = run_job(rt, alloc, campaign, connector, gate, job);
     watcher.ended(job, &outcome);

@@ -3,7 +3,7 @@
 ghost use Rattle.std.specs.Prelude.{◌≡◌, IfOk, None};
 ghost use Rattle.std.specs.Option.{option_copied};
 ghost use Rattle.mc_run.specs.Running.{AreNew, IsNew};
-ghost use Rattle.mc_campaign.specs.Outcomes.{IsOutcome, IsOutcomeOf, closed_lanes};
+ghost use Rattle.mc_campaign.specs.Outcomes.{IsJudgedWithin, IsOutcome, IsOutcomeOf, closed_lanes};
 
 use crate::job_code::generate_under;
 use crate::{Campaign, Connector, JobOutcome};
@@ -28,7 +28,8 @@ pub(crate) fn run_job<S: Stream + Send, C: Connector<S>, G: Gate, R: Threads + W
     gate: &G,
     job: u64,
 ) -> JobOutcome<S>
-    ensures { IsOutcome campaign.entry.seed (option_copied campaign.entry.name) job result }
+    ensures outcome { IsOutcome campaign.entry.seed (option_copied campaign.entry.name) job result }
+    ensures turns { IsJudgedWithin campaign.entry.limit result }
 {
     match generate_under(alloc, campaign.seed, campaign.name, job) {
         Ok(checked) => play_job(rt, alloc, campaign, connector, gate, job, &checked),
@@ -36,8 +37,9 @@ pub(crate) fn run_job<S: Stream + Send, C: Connector<S>, G: Gate, R: Threads + W
     }
 }
 
-/// Connects the sections of a job, runs this code over them, which may be other code than that of the job, judges its history,
-/// closes the lanes, and gives their streams back. It waits for the streams, for the gate and for the threads of the branches.
+/// Connects the sections of a job, runs this code over them, which may be other code than that of the job, judges its history in at most
+/// `limit` turns of the campaign, then closes the lanes, and gives their streams back. It waits for the streams, for the gate and for the
+/// threads of the branches. The connections are held while the history is judged.
 pub fn play_job<S: Stream + Send, C: Connector<S>, G: Gate, R: Threads + Wait + Sync>(
     rt: &R,
     alloc: Global,
@@ -47,7 +49,8 @@ pub fn play_job<S: Stream + Send, C: Connector<S>, G: Gate, R: Threads + Wait + 
     job: u64,
     checked: &Checked,
 ) -> JobOutcome<S>
-    ensures { IsOutcomeOf checked.now.code result }
+    ensures outcome { IsOutcomeOf checked.now.code result }
+    ensures turns { IsJudgedWithin campaign.entry.limit result }
 {
     let lanes = match connect_lanes(alloc, connector, job) {
         Ok(lanes) => lanes,
@@ -68,6 +71,7 @@ pub fn play_job<S: Stream + Send, C: Connector<S>, G: Gate, R: Threads + Wait + 
         run,
         history,
         verdict,
+        turns,
     } = match played {
         Ok(judged) => judged,
         Err(error) => return JobOutcome::NotRun(error),
@@ -78,6 +82,7 @@ pub fn play_job<S: Stream + Send, C: Connector<S>, G: Gate, R: Threads + Wait + 
         run: Run { world, lanes },
         history,
         verdict,
+        turns,
     }
 }
 

@@ -2,7 +2,7 @@
 
 ghost use Rattle.std.specs.Prelude.{◌≡◌};
 ghost use Rattle.std.specs.Option.{option_copied};
-ghost use Rattle.mc_campaign.specs.Outcomes.{IsOutcome};
+ghost use Rattle.mc_campaign.specs.Outcomes.{IsJudgedWithin, IsOutcome};
 
 use crate::job::run_job;
 use crate::{Campaign, Connector, JobOutcome, Namespace};
@@ -13,11 +13,12 @@ use std::marker::Model;
 use std::sync::Wait;
 use std::thread::Threads;
 
-/// What a job came to, with the seed and the name of its campaign. Whoever receives it knows that the job may come to this. Contracts
-/// see the seed, the name, the job and the outcome.
+/// What a job came to, with the seed, the limit of turns and the name of its campaign. Whoever receives it knows that the job may come
+/// to this. Contracts see the seed, the limit, the name, the job and the outcome.
 #[derive(Debug)]
 pub struct JobMessage<'a, S: Stream> {
     seed: u64,
+    limit: u64,
     name: Option<&'a Namespace<'a>>,
     job: u64,
     outcome: JobOutcome<S>,
@@ -28,6 +29,7 @@ impl<'a, S: Stream> Drop for JobMessage<'a, S> {
     fn drop(self) {
         let JobMessage {
             seed: _,
+            limit: _,
             name: _,
             job: _,
             outcome: _,
@@ -41,15 +43,15 @@ impl<'a, S: Stream> Model for JobMessage<'a, S> {
     ghost Value = { Message S };
 
     ghost use Rattle.std.specs.Option.{option_copied};
-    ghost use Rattle.mc_campaign.specs.Outcomes.{IsOutcome};
+    ghost use Rattle.mc_campaign.specs.Outcomes.{IsJudgedWithin, IsOutcome};
 
-    ghost view = { λ m. record { seed = m.seed; name = option_copied m.name; job = m.job; outcome = m.outcome } };
+    ghost view = { λ m. record { seed = m.seed; limit = m.limit; name = option_copied m.name; job = m.job; outcome = m.outcome } };
 
-    ghost invariant = { λ m. IsOutcome m.seed (option_copied m.name) m.job m.outcome };
+    ghost invariant = { λ m. IsOutcome m.seed (option_copied m.name) m.job m.outcome × IsJudgedWithin m.limit m.outcome };
 }
 
 impl<'a, S: Stream + Send> JobMessage<'a, S> {
-    /// Makes the code of a job of the campaign, connects its sections, runs it, closes the lanes, and judges its history. It waits
+    /// Makes the code of a job of the campaign, connects its sections, runs it, judges its history, and closes the lanes. It waits
     /// for the streams, for the gate and for the threads of the branches.
     pub fn run<C: Connector<S>, G: Gate, R: Threads + Wait + Sync>(
         rt: &R,
@@ -60,12 +62,15 @@ impl<'a, S: Stream + Send> JobMessage<'a, S> {
         job: u64,
     ) -> Self
         ensures seed { result.seed ≡ campaign.entry.seed }
+        ensures limit { result.limit ≡ campaign.entry.limit }
         ensures name { result.name ≡ option_copied campaign.entry.name }
         ensures job { result.job ≡ job }
         ensures outcome { IsOutcome campaign.entry.seed (option_copied campaign.entry.name) job result.outcome }
+        ensures turns { IsJudgedWithin campaign.entry.limit result.outcome }
     {
         JobMessage {
             seed: campaign.seed,
+            limit: campaign.limit,
             name: campaign.name,
             job,
             outcome: run_job(rt, alloc, campaign, connector, gate, job),
@@ -77,6 +82,13 @@ impl<'a, S: Stream + Send> JobMessage<'a, S> {
         ensures { result ≡ self.now.seed }
     {
         self.seed
+    }
+
+    /// The most turns in which its campaign judges a history.
+    pub(crate) fn limit(&self) -> u64
+        ensures { result ≡ self.now.limit }
+    {
+        self.limit
     }
 
     /// The name of its campaign, if it has one.
@@ -104,9 +116,11 @@ impl<'a, S: Stream + Send> JobMessage<'a, S> {
     pub fn into_outcome(self) -> JobOutcome<S>
         ensures same { result ≡ self.entry.outcome }
         ensures right { IsOutcome self.entry.seed self.entry.name self.entry.job result }
+        ensures turns { IsJudgedWithin self.entry.limit result }
     {
         let JobMessage {
             seed: _,
+            limit: _,
             name: _,
             job: _,
             outcome,

@@ -25,6 +25,8 @@ pub enum JobOutcome<S: Stream> {
         history: History,
         /// The verdict on the history.
         verdict: Verdict,
+        /// How many turns the search for an explanation used.
+        turns: u64,
     },
 }
 

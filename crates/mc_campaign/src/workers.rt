@@ -4,7 +4,7 @@ ghost use Rattle.std.specs.Prelude.{◌≡◌, ◌≤◌, ◌+◌, ◌^◌, map,
 ghost use Rattle.std.specs.List.{range_with_len};
 ghost use Rattle.std.specs.Option.{option_copied};
 ghost use Rattle.mc_campaign.specs.JobCodes.{NameFits};
-ghost use Rattle.mc_campaign.specs.Outcomes.{HasShortKeys, IsOutcome};
+ghost use Rattle.mc_campaign.specs.Outcomes.{HasShortKeys, IsJudgedWithin, IsOutcome};
 
 use crate::{
     Campaign, CampaignError, Collector, Connector, JobMessage, Meeting, Report, Unwatched, Watcher,
@@ -38,6 +38,7 @@ pub fn run_campaign<S: Stream + Send, C: Connector<S>, G: Gate, R: Threads + Wai
     ensures seed { IfOk result (λ report. report.seed ≡ seed) }
     ensures jobs { IfOk result (λ report. map (λ r. r.job) report.results ≡ range_with_len 0 jobs) }
     ensures outcomes { IfOk result (λ report. All (λ r. IsOutcome seed None r.job r.outcome) report.results) }
+    ensures turns { IfOk result (λ report. All (λ r. IsJudgedWithin limit r.outcome) report.results) }
 {
     let campaign = Campaign {
         seed,
@@ -83,6 +84,7 @@ pub fn run_jobs<
     ensures jobs { IfOk result (λ report. map (λ r. r.job) report.results ≡ range_with_len campaign.entry.first campaign.entry.jobs) }
     ensures outcomes { IfOk result (λ report.
         All (λ r. IsOutcome campaign.entry.seed (option_copied campaign.entry.name) r.job r.outcome) report.results) }
+    ensures turns { IfOk result (λ report. All (λ r. IsJudgedWithin campaign.entry.limit r.outcome) report.results) }
     ensures short { IfOk result (λ report. NameFits (option_copied campaign.entry.name) campaign.entry.first campaign.entry.jobs
         → All (λ r. HasShortKeys r.outcome) report.results) }
 {
@@ -111,6 +113,7 @@ fn run_workers<
     ensures jobs { IfOk result (λ report. map (λ r. r.job) report.results ≡ range_with_len campaign.entry.first campaign.entry.jobs) }
     ensures outcomes { IfOk result (λ report.
         All (λ r. IsOutcome campaign.entry.seed (option_copied campaign.entry.name) r.job r.outcome) report.results) }
+    ensures turns { IfOk result (λ report. All (λ r. IsJudgedWithin campaign.entry.limit r.outcome) report.results) }
 {
     let watcher = &mut *watcher;
     thread::scope(
@@ -123,6 +126,7 @@ fn run_workers<
                 map (λ r. r.job) report.results ≡ range_with_len campaign.entry.first campaign.entry.jobs) }
             ensures outcomes { IfOk result (λ report.
                 All (λ r. IsOutcome campaign.entry.seed (option_copied campaign.entry.name) r.job r.outcome) report.results) }
+            ensures turns { IfOk result (λ report. All (λ r. IsJudgedWithin campaign.entry.limit r.outcome) report.results) }
         {
             run_in_scope(
                 rt, alloc, campaign, workers, connector, gate, watcher, scope,
@@ -156,6 +160,7 @@ fn run_in_scope<
     ensures jobs { IfOk result (λ report. map (λ r. r.job) report.results ≡ range_with_len campaign.entry.first campaign.entry.jobs) }
     ensures outcomes { IfOk result (λ report.
         All (λ r. IsOutcome campaign.entry.seed (option_copied campaign.entry.name) r.job r.outcome) report.results) }
+    ensures turns { IfOk result (λ report. All (λ r. IsJudgedWithin campaign.entry.limit r.outcome) report.results) }
 {
     let collector = Collector::new(alloc, campaign)?;
     let (to_workers, jobs) = unbounded(alloc)?;

@@ -66,7 +66,7 @@ true_verdict : {S : Type 0} (seed : ℕ) (name : Option Word) (job : ℕ) (found
 true_verdict seed name job (outcome.NotMade fault) is = tt
 true_verdict seed name job (outcome.NoLane actor) is = tt
 true_verdict seed name job (outcome.NotRun error) is = tt
-true_verdict seed name job (outcome.Ran run history verdict) is = rw is.0.history is.0.trial.explained
+true_verdict seed name job (outcome.Ran run history verdict turns) is = rw is.0.history is.0.trial.explained
 
 pub true_verdicts : {S : Type 0} (seed : ℕ) (name : Option Word) (results : List (JobResult S))
     → All (λ r. IsOutcome seed name r.job r.outcome) results → All (λ r. HasTrueVerdict r.outcome) results

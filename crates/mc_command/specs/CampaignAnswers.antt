@@ -75,7 +75,7 @@ abbrev pub IsShownOutcome : {S : Type 0} → Bool → JobOutcome S → List ℕ 
 IsShownOutcome why (outcome.NotMade fault) text = text ≡ []
 IsShownOutcome why (outcome.NoLane actor) text = text ≡ []
 IsShownOutcome why (outcome.NotRun error) text = text ≡ []
-IsShownOutcome why (outcome.Ran run history found) text = IsShownRun why history found text
+IsShownOutcome why (outcome.Ran run history found turns) text = IsShownRun why history found text
 
 -- a line with the job's number, and then what it came to
 abbrev pub IsShownJob : {S : Type 0} → Bool → JobResult S → List ℕ → Type 0
@@ -101,7 +101,7 @@ abbrev pub HasTrueVerdict : {S : Type 0} → JobOutcome S → Type 0
 HasTrueVerdict (outcome.NotMade fault) = Unit {0}
 HasTrueVerdict (outcome.NoLane actor) = Unit {0}
 HasTrueVerdict (outcome.NotRun error) = Unit {0}
-HasTrueVerdict (outcome.Ran run history found) = IsTrueOf history found
+HasTrueVerdict (outcome.Ran run history found turns) = IsTrueOf history found
 
 -- ---- all of it
 

@@ -186,6 +186,7 @@ pub fn play_connections<R: Threads + Wait + Clock + Sync, C: Connection>(
                 run,
                 history,
                 verdict,
+                turns: _,
             } = judged;
             let why = why_text(alloc, how, Counted::Printed, &history, &verdict)?;
             let Run { world, lanes } = run;

@@ -1,5 +1,5 @@
 -- Agreement, by what a world that its notes lead to holds.
-use Rattle.std.specs.Prelude.{◌≡◌, ◌↔◌, true, false, Bool, Option, Some, None, is_some, Result, Ok, Err, IfOk, List}
+use Rattle.std.specs.Prelude.{◌≡◌, ◌↔◌, true, Bool, Result, Ok, Err, IfOk, List}
 use Rattle.std.proofs.Common.{refl, sym, ap, subst, ◌∙◌}
 use Rattle.mc_protocol.specs.Sections.{section_of}
 use Rattle.mc_protocol.specs.declared.actor.Actor.{Actor}
@@ -12,7 +12,7 @@ use Rattle.mc_core.specs.Histories.{sections_of, sent_in}
 use Rattle.mc_core.specs.Worlds.{World, log_of, IsEnding}
 use Rattle.mc_core.specs.declared.ending.Ending.{Ending}
 use Rattle.mc_core.specs.declared.ending.Ending.TheVariants as ending
-use Rattle.mc_run.specs.Agreement.{LaneRecords, Agree, AgreesIn, FindsAgreed}
+use Rattle.mc_run.specs.Agreement.{LaneRecords, Agree, AgreesIn}
 use Rattle.mc_run.specs.Recorded.{IsRecordedBy}
 
 -- ---- one section

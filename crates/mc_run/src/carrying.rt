@@ -1,5 +1,5 @@
 //! One call of a section over its lane.
-ghost use Rattle.std.specs.Prelude.{◌≡◌, ◌<◌, length, IfOk};
+ghost use Rattle.std.specs.Prelude.{◌≡◌, ◌≢◌, ◌<◌, length, IfOk};
 ghost use Rattle.mc_core.specs.Logs.{request_of};
 ghost use Rattle.mc_protocol.specs.Texts.{request_text};
 ghost use Rattle.mc_run.specs.Running.{ComesOver};
@@ -53,7 +53,8 @@ fn write_request(alloc: Global, request: &Request) -> Result<Vec<u8>, OutOfMemor
 
 /// Makes the call over a lane. The result is the reply, or the fault that ends the section.
 pub(crate) fn carry<S: Stream>(prepared: &Prepared, lane: &mut Lane<S>) -> Event
-    ensures { ComesOver prepared.now.request lane.old lane.new result }
+    ensures comes { ComesOver prepared.now.request lane.old lane.new result }
+    ensures ended { result ≢ Event.Begin }
 {
     let shape = Shape {
         verb: prepared.request.verb,

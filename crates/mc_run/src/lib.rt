@@ -18,6 +18,7 @@ mod lanes;
 mod laws;
 mod manner;
 mod meeting;
+mod notebook;
 mod recorded;
 mod run;
 mod running;

@@ -93,9 +93,12 @@ pub struct Judged<S: Stream> {
     pub run: Run<S>,
     pub history: History,
     pub verdict: Verdict,
+    /// How many turns the search for an explanation used.
+    pub turns: u64,
 }
 
-/// Runs sound code over three new lanes, as [`run_lanes_with`], and judges what came of it in at most `limit` turns.
+/// Runs sound code over three new lanes, as [`run_lanes_with`], and judges what came of it in at most `limit` turns. The lanes are as
+/// the run left them, and those that no fault closed are open.
 ///
 /// # Errors
 ///
@@ -113,12 +116,14 @@ pub fn play<S: Stream + Send, G: Gate, R: Threads + Wait + Sync>(
     requires new { AreNew lanes }
     ensures judged { IfOk result (λ j. IsJudged checked.now.code j.run.world j.run.lanes j.history j.verdict) }
     ensures grew { IfOk result (λ j. AllGrew lanes j.run.lanes) }
+    ensures turns { IfOk result (λ j. IsWithin limit j.verdict j.turns) }
 {
     let run = run_lanes_with(rt, alloc, checked, lanes, gate, stack, meet)?;
-    let (history, verdict, _) = run.judge(alloc, checked, limit)?;
+    let (history, verdict, turns) = run.judge(alloc, checked, limit)?;
     Ok(Judged {
         run,
         history,
         verdict,
+        turns,
     })
 }

@@ -6,6 +6,7 @@ ghost use Rattle.mc_run.specs.Running.{AllGrew, AreNew, Grew};
 
 use crate::agreement::find_agreed;
 use crate::meeting::Meeting;
+use crate::notebook::Notebook;
 use crate::section::{Part, run_section};
 use crate::{Book, Branch, Gate, Lanes, Manner, Meet, Run, RunError};
 use core::thread::Stack;
@@ -67,7 +68,7 @@ pub fn run_lanes_with<S: Stream + Send, G: Gate, R: Threads + Wait + Sync>(
     ensures grew { IfOk result (λ run. AllGrew lanes run.lanes) }
     ensures held { IfOk result (λ run. IsHeldBy checked.now.code run.world) }
 {
-    let book = Mutex::new(Book::new(alloc, checked)?);
+    let book = Mutex::new(Notebook::new(Book::new(alloc, checked)?));
     let Lanes { p, a, b } = lanes;
     let p = run_section(rt, alloc, &book, gate, Part::new(Actor::P, p));
     let Some((a, b)) = run_branches(rt, alloc, &book, gate, (a, b), stack, meet) else {
@@ -86,7 +87,7 @@ pub fn run_lanes_with<S: Stream + Send, G: Gate, R: Threads + Wait + Sync>(
 fn run_branches<S: Stream + Send, G: Gate, R: Threads + Wait + Sync>(
     rt: &R,
     alloc: Global,
-    book: &Mutex<Book<'_>>,
+    book: &Mutex<Notebook<'_>>,
     gate: &G,
     lanes: (Lane<S>, Lane<S>),
     stack: Stack,
@@ -113,7 +114,7 @@ fn run_branches<S: Stream + Send, G: Gate, R: Threads + Wait + Sync>(
 }
 
 /// Whether the section has a call to make.
-fn has_calls<R: Wait>(rt: &R, book: &Mutex<Book<'_>>, actor: Actor) -> bool {
+fn has_calls<R: Wait>(rt: &R, book: &Mutex<Notebook<'_>>, actor: Actor) -> bool {
     book.lock(rt).upcoming(actor).is_some()
 }
 
@@ -122,7 +123,7 @@ fn has_calls<R: Wait>(rt: &R, book: &Mutex<Book<'_>>, actor: Actor) -> bool {
 fn run_both<S: Stream + Send, G: Gate, R: Threads + Wait + Sync>(
     rt: &R,
     alloc: Global,
-    book: &Mutex<Book<'_>>,
+    book: &Mutex<Notebook<'_>>,
     gate: &G,
     apart: Part<'_, S>,
     here: Part<'_, S>,

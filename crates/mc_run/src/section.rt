@@ -2,9 +2,10 @@
 ghost use Rattle.std.specs.Prelude.{◌≡◌};
 ghost use Rattle.mc_run.specs.Running.{Grew};
 
+use crate::Gate;
 use crate::carrying::{Prepared, carry, prepare};
 use crate::meeting::Seat;
-use crate::{Book, Gate};
+use crate::notebook::Notebook;
 use mc_history::Event;
 use mc_lane::{Lane, Stream};
 use mc_protocol::{Actor, Fault, REQUESTS_LIMIT};
@@ -49,7 +50,7 @@ impl<'m, S: Stream> Part<'m, S> {
 pub(crate) fn run_section<S: Stream, G: Gate, R: Wait>(
     rt: &R,
     alloc: Global,
-    book: &Mutex<Book<'_>>,
+    book: &Mutex<Notebook<'_>>,
     gate: &G,
     part: Part<'_, S>,
 ) -> Lane<S>
@@ -81,7 +82,7 @@ pub(crate) fn run_section<S: Stream, G: Gate, R: Wait>(
 fn prepare_next<S: Stream, R: Wait>(
     rt: &R,
     alloc: Global,
-    book: &Mutex<Book<'_>>,
+    book: &Mutex<Notebook<'_>>,
     actor: Actor,
     lane: &mut Lane<S>,
 ) -> Option<Prepared>
@@ -92,7 +93,7 @@ fn prepare_next<S: Stream, R: Wait>(
     match prepare(alloc, code, call, lane) {
         Ok(prepared) => Some(prepared),
         Err(_) => {
-            let _ = book.lock(rt).note(actor, Event::Fail(Fault::Memory));
+            book.lock(rt).note_result(actor, Event::Fail(Fault::Memory));
             None
         }
     }
@@ -102,7 +103,7 @@ fn prepare_next<S: Stream, R: Wait>(
 /// while the lane or the gate is called. What the call was made of is freed by the caller, after the reply is noted.
 fn run_call<S: Stream, G: Gate, R: Wait>(
     rt: &R,
-    book: &Mutex<Book<'_>>,
+    book: &Mutex<Notebook<'_>>,
     gate: &G,
     place: (Actor, u32),
     prepared: &Prepared,
@@ -111,13 +112,13 @@ fn run_call<S: Stream, G: Gate, R: Wait>(
     ensures { Grew lane.old lane.new }
 {
     let (actor, index) = place;
-    let begins = book.lock(rt).begin(actor, prepared.call);
+    let begins = book.lock(rt).note_begin(actor, prepared);
     if !begins {
         return false;
     }
     gate.before(actor, index);
     let event = carry(prepared, lane);
-    let noted = book.lock(rt).note(actor, event);
+    let noted = book.lock(rt).note_result(actor, event);
     gate.after(actor, index);
-    noted.is_ok()
+    noted
 }

@@ -9,6 +9,8 @@ mod collector_tests;
 #[cfg(test)]
 mod connectors;
 #[cfg(test)]
+mod gate_tests;
+#[cfg(test)]
 mod meeting_tests;
 #[cfg(test)]
 mod memory;

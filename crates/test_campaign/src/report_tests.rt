@@ -172,6 +172,33 @@ fn comes_to_by_any<R: Threads + Wait + Sync>(
     Ok(without && by_one && comes_to(rt, alloc, campaign, 16, expected)?)
 }
 
+// Without turns to search in no history is judged, whoever runs the jobs.
+#[test]
+fn no_job_is_judged_without_turns(rt: HostRuntime) -> Result<(), Fail> {
+    let expected = b"report\n0 undecided\n1 undecided\n2 undecided\n\
+        jobs 3 explained 0 unexplained 0 other 3\n"
+        .as_slice();
+    assert!(rt; is_told_without_turns(&rt, rt.alloc(), 0, expected)?);
+    assert!(rt; is_told_without_turns(&rt, rt.alloc(), 2, expected)?);
+    Ok(())
+}
+
+/// Whether this is the text of a report on three jobs whose search for an explanation has no turns, and its status is 4.
+fn is_told_without_turns<R: Threads + Wait + Sync>(
+    rt: &R,
+    alloc: Global,
+    workers: u32,
+    expected: &[u8],
+) -> Result<bool, Fail>
+    requires { workers ≤ 16 }
+{
+    let store = Shared::new(alloc)?;
+    let connector = Stores::honest(rt, alloc, &store);
+    let report = run_campaign(rt, alloc, 1, 3, workers, 0, &connector, &FreeGate)?;
+    let (text, status) = text_and_status_of(alloc, &report)?;
+    Ok(text.as_slice() == expected && status == 4)
+}
+
 #[test]
 fn jobs_are_run_by_any_number_of_workers(rt: HostRuntime) -> Result<(), Fail> {
     let expected = b"report\n8 explained\n9 explained\n10 explained\n\

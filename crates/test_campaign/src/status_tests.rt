@@ -157,6 +157,7 @@ fn ran(
         run: run(alloc, world)?,
         history,
         verdict: verdict(alloc, word),
+        turns: 0,
     })
 }
 

@@ -10,6 +10,8 @@ mod canned;
 #[cfg(test)]
 mod driven;
 #[cfg(test)]
+mod failing_run_tests;
+#[cfg(test)]
 mod invocation_tests;
 #[cfg(test)]
 mod limit_tests;

@@ -1,5 +1,5 @@
-//! Tests of `mc_run`: what lists of events lead to, what runs over three lanes come to, and the verdict on either; and which
-//! worlds and lanes agree.
+//! Tests of `mc_run`: what lists of events lead to, what runs over three lanes come to, and the verdict on either; what passes their
+//! gate; and which worlds and lanes agree.
 #![tactic(auto)]
 
 #[cfg(test)]
@@ -12,6 +12,8 @@ mod branch_rows;
 mod carried;
 #[cfg(test)]
 mod counter;
+#[cfg(test)]
+mod gate_tests;
 #[cfg(test)]
 mod lanes;
 #[cfg(test)]

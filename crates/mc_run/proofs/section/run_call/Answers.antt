@@ -7,4 +7,4 @@ pub returns-then-not-begins : goal.returns-then-not-begins
 returns-then-not-begins g c = none
 
 pub returns : goal.returns
-returns g c = grew_by _ _ _ _ c.carry-event.ensures
+returns g c = grew_by _ _ _ _ c.carry-event.ensures.comes

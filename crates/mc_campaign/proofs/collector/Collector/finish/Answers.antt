@@ -1,7 +1,7 @@
 use Rattle.std.proofs.Common.{◌≡◌, IfOk, subst}
 use Rattle.std.specs.List.{range_with_len}
 use Rattle.mc_campaign.specs.declared.campaign.Campaign.{Campaign}
-use Rattle.mc_campaign.proofs.MoreJobs.{AreRight, numbers}
+use Rattle.mc_campaign.proofs.MoreJobs.{AreJudgedWithin, AreRight, numbers}
 use Rattle.mc_campaign.proofs.collector.Collector.finish.Goals as goal
 
 pub returns-clause-seed : goal.returns-clause-seed
@@ -16,3 +16,8 @@ returns-clause-jobs g c =
 pub returns-clause-outcomes : goal.returns-clause-outcomes
 returns-clause-outcomes g c =
     subst (λ (k : Campaign). IfOk c.settle_all.result (λ report. AreRight k report.results)) c.self.view_is c.settle_all.ensures.outcomes
+
+pub returns-clause-turns : goal.returns-clause-turns
+returns-clause-turns g c =
+    subst (λ (k : Campaign). IfOk c.settle_all.result (λ report. AreJudgedWithin k.limit report.results)) c.self.view_is
+    c.settle_all.ensures.turns
