@@ -128,6 +128,13 @@ fn leave_lines(alloc: Global, text: &str, steps: &[(Actor, usize, usize)]) -> Re
     each_leaves_line(alloc, &script, text, steps)
 }
 
+// One step, which two labels and a flag stand around: few enough allocations that each of them can be refused.
+#[test]
+fn leaves_the_other_lines_of_one_step(rt: HostRuntime) -> Result<(), Fail> {
+    assert!(rt; leave_lines(rt.alloc(), MARKS, &[(Actor::A, 1, 12)])?);
+    Ok(())
+}
+
 #[test]
 fn leaves_the_other_lines(rt: HostRuntime) -> Result<(), Fail> {
     assert!(rt; leave_lines(rt.alloc(), MARKS, &STEPS_OF_MARKS)?);

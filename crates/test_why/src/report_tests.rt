@@ -100,6 +100,19 @@ fn printed_of(alloc: Global, row: &Row) -> Result<Vec<u8>, Fail> {
     Ok(printed)
 }
 
+fn is_printed_as_found(alloc: Global, row: &Row) -> Result<bool, Fail> {
+    let printed = printed_of(alloc, row)?;
+    Ok(printed.as_slice() == row.3.as_bytes())
+}
+
+// One history with what explains the part before, a request that has acted and one that comes next: few enough allocations that each of
+// them can be refused.
+#[test]
+fn prints_one_finding(rt: HostRuntime) -> Result<(), Fail> {
+    assert!(rt; is_printed_as_found(rt.alloc(), &PRINTED[7])?);
+    Ok(())
+}
+
 #[test]
 fn prints_what_is_found(rt: HostRuntime) -> Result<(), Fail> {
     for row in &PRINTED {

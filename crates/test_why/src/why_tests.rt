@@ -167,6 +167,13 @@ fn is_found(alloc: Global, row: &Row) -> Result<bool, Fail> {
     }
 }
 
+// One history, where both branches might come next: few enough allocations that each of them can be refused.
+#[test]
+fn finds_why_nothing_explains_one_history(rt: HostRuntime) -> Result<(), Fail> {
+    assert!(rt; is_found(rt.alloc(), &NOTED[6])?);
+    Ok(())
+}
+
 #[test]
 fn finds_why_nothing_explains_each_history_with_notes(rt: HostRuntime) -> Result<(), Fail> {
     for row in &NOTED {
