@@ -24,7 +24,9 @@ static SERVED: [Served; 3] = [
 ];
 
 /// The lines that stand first, and the last one.
-const OF_P: &str = "history 2\nP begin delete a\nP reply NOT_FOUND\nP begin set a 0 =5\nP reply STORED\n";
+const OF_P: &str =
+    "history 2\nP begin delete a\nP reply NOT_FOUND\nP begin set a 0 =5\nP reply STORED\n";
+
 const END: &str = "end\n";
 
 /// The lines of the branches, in each order that their threads may have.

@@ -3,9 +3,9 @@
 ghost use Rattle.std.specs.Prelude.{IfOk};
 ghost use Rattle.mc_core.specs.Held.{IsHeldBy};
 
+use crate::closed_lanes::send_nothing_when_closed;
 use crate::counter::counter;
 use crate::lanes::{BothBegin, NEVER, Served, endings, lanes, run};
-use crate::closed_lanes::send_nothing_when_closed;
 use crate::verdict::is_written;
 use Ending::{Done, Failed, NotBegun};
 use mc_core::Ending;

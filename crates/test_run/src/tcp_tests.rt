@@ -119,11 +119,7 @@ fn run_at<R: Net<Stream = TcpStream> + Threads + Wait + Sync>(
     judged(alloc, counter, run)
 }
 
-fn judged(
-    alloc: Global,
-    counter: &Checked,
-    run: Run<Wire<TcpStream>>,
-) -> Result<Judged, Fail>
+fn judged(alloc: Global, counter: &Checked, run: Run<Wire<TcpStream>>) -> Result<Judged, Fail>
     requires { IsHeldBy counter.now.code run.world }
 {
     let are_done = [Actor::P, Actor::A, Actor::B]

@@ -1,5 +1,5 @@
 //! A server with a race: its `incr` reads, and writes later.
-use crate::lines::{is_reply, reply_in, request_in};
+use crate::lines::{answers, call, is_reply, reply_in, request_in};
 use mc_model::WordsFault;
 use mc_protocol::{Reply, Request};
 use mc_server::{Between, Caller, FreeBetween, Racy, StoreFault};
@@ -52,18 +52,6 @@ impl<'s> Between for Meantime<'s> {
     }
 }
 
-/// Whether a caller is answered so.
-fn answers<R: Wait + AllocGlobal, C: Caller>(
-    rt: &R,
-    caller: &C,
-    line: &str,
-    reply: &str,
-) -> Result<bool, Fail> {
-    let request = request_in(rt.alloc(), line)?;
-    let answer = caller.call(rt, &request)?;
-    Ok(is_reply(rt.alloc(), &answer, reply)?)
-}
-
 /// Requests and their replies, where nothing else happens.
 static ROWS: &[(&str, &str)] = &[
     ("incr a 1", "NOT_FOUND"),
@@ -75,6 +63,12 @@ static ROWS: &[(&str, &str)] = &[
     ("incr a 1", "NOT_A_NUMBER"),
     ("gets a", "HIT 7 =4x 4"),
 ];
+
+#[test]
+fn is_made_of_stores(rt: HostRuntime) -> Result<(), Fail> {
+    Racy::new(rt.alloc(), FreeBetween)?;
+    Ok(())
+}
 
 #[test]
 fn answers_as_others_do_where_nothing_happens_between(rt: HostRuntime) -> Result<(), Fail> {
@@ -118,7 +112,11 @@ fn call_twice<R: Threads + Wait + Sync, C: Caller + Sync>(
     caller: &C,
     request: &Request,
 ) -> Result<(Reply, Reply), StoreFault> {
-    let (a, b) = join(rt, || caller.call(rt, request), || caller.call(rt, request));
+    let (a, b) = join(
+        rt,
+        || call(rt, caller, request),
+        || call(rt, caller, request),
+    );
     Ok((a?, b?))
 }
 
@@ -186,7 +184,7 @@ fn call_between<R: Threads + Wait + Sync, C: Caller + Sync>(
 ) -> Result<(Reply, Reply), StoreFault> {
     let (a, b) = join(
         rt,
-        || racy.call(rt, increment),
+        || call(rt, racy, increment),
         || call_after_a_read(rt, racy, other, gate),
     );
     Ok((a?, b?))
@@ -199,7 +197,7 @@ fn call_after_a_read<R: Wait, C: Caller>(
     gate: Meantime<'_>,
 ) -> Result<Reply, StoreFault> {
     wait_for(gate.read, 1, gate.missed);
-    let answer = racy.call(rt, request);
+    let answer = call(rt, racy, request);
     gate.done.store(1, Ordering::SeqCst);
     answer
 }

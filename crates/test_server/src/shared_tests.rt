@@ -1,7 +1,6 @@
 //! What stores answer that threads share, and which store a key is in.
-use crate::lines::{is_reply, request_in};
-use mc_server::{Caller, FreeBetween, Racy, Shared, shard_of};
-use std::sync::Wait;
+use crate::lines::answers;
+use mc_server::{FreeBetween, Racy, Shared, shard_of};
 use std::test::Fail;
 
 /// Keys, and the stores that they are in. The byte of `a` is 97, and that of `k` 107.
@@ -41,18 +40,6 @@ static ROWS: &[(&str, &str)] = &[
     ("set b 0 =2", "STORED"),
     ("gets b", "HIT 0 =2 3"),
 ];
-
-/// Whether a caller is answered so.
-fn answers<R: Wait + AllocGlobal, C: Caller>(
-    rt: &R,
-    caller: &C,
-    line: &str,
-    reply: &str,
-) -> Result<bool, Fail> {
-    let request = request_in(rt.alloc(), line)?;
-    let answer = caller.call(rt, &request)?;
-    Ok(is_reply(rt.alloc(), &answer, reply)?)
-}
 
 #[test]
 fn each_store_counts_its_own_numbers(rt: HostRuntime) -> Result<(), Fail> {
