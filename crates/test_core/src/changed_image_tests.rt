@@ -10,9 +10,12 @@ use mc_core::World;
 use mc_model::Sent;
 use mc_protocol::Actor::*;
 use mc_protocol::{Actor, Fault, OutOfMemory, render_request};
-use mc_verify::{Checked, RefusalKind, verify};
+use mc_verify::{Checked, Refusal, RefusalKind, verify};
 use std::alloc::{AllocError, Global};
 use std::test::Fail;
+
+/// Sound code, or the refusal with the code as it was.
+type Answer = Result<Checked, (Refusal, Code)>;
 
 /// The image of two increments of one counter.
 static IMAGE: &[u8] = b"MCR1\x01\x01a\x00\x00\x02\x00\x1a\x01\x00\x0a\x01\x00\x0a\x04\x0a\
@@ -92,16 +95,25 @@ fn is_kept(
     if let Some(byte) = bytes.get_mut(offset) {
         *byte = value;
     }
-    match decode(alloc, &bytes) {
-        Ok(code) => is_kept_by(alloc, code),
+    is_kept_by_image(alloc, &bytes)
+}
+
+fn is_kept_by_image(alloc: Global, image: &[u8]) -> Result<Option<bool>, ImageFault> {
+    match answer_to(alloc, image) {
+        Ok(answer) => is_kept_by(alloc, &answer),
         Err(fault) if fault.kind == ImageKind::OutOfMemory => Err(fault),
         Err(_) => Ok(None),
     }
 }
 
-fn is_kept_by(alloc: Global, code: Code) -> Result<Option<bool>, ImageFault> {
-    match verify(alloc, code) {
-        Ok(checked) => Ok(Some(keeps_budgets(alloc, &checked)?)),
+/// What `verify` answers to the code of the image.
+fn answer_to(alloc: Global, image: &[u8]) -> Result<Answer, ImageFault> {
+    Ok(verify(alloc, decode(alloc, image)?))
+}
+
+fn is_kept_by(alloc: Global, answer: &Answer) -> Result<Option<bool>, ImageFault> {
+    match answer {
+        Ok(checked) => Ok(Some(keeps_budgets(alloc, checked)?)),
         Err((refusal, _)) if refusal.kind == RefusalKind::OutOfMemory => {
             Err(ImageFault::from(AllocError))
         }

@@ -7,7 +7,6 @@ use crate::counter::counter;
 use crate::lanes::{NEVER, Served, lanes, run};
 use mc_explain::print_history;
 use mc_lane::MemoryStream;
-use mc_model::History;
 use mc_protocol::OutOfMemory;
 use mc_run::{FreeGate, Run};
 use mc_verify::Checked;
@@ -63,6 +62,7 @@ fn is_printed_of_a_run_of<R: Threads + Wait + Sync>(
     Ok(is_printed(&printed_of(alloc, counter, &run)?))
 }
 
+/// What is in the buffer once the history is printed. A print that finds no memory leaves the buffer as it is, and is made once more.
 fn printed_of(
     alloc: Global,
     counter: &Checked,
@@ -71,20 +71,10 @@ fn printed_of(
     requires { IsHeldBy counter.now.code run.now.world }
 {
     let history = run.world.history(alloc, counter)?;
-    printed_after_front(alloc, &history)
-}
-
-/// What is in the buffer once the history is printed. A print that finds no memory leaves the buffer as it is, and another one with memory
-/// prints the same.
-fn printed_after_front(alloc: Global, history: &History) -> Result<Vec<u8>, OutOfMemory> {
     let mut text = Vec::from_slice(alloc, FRONT)?;
-    if print_history(history, &mut text).is_ok() {
-        return Ok(text);
+    if print_history(&history, &mut text).is_err() && text.as_slice() == FRONT {
+        print_history(&history, &mut text)?;
     }
-    if text.as_slice() != FRONT {
-        return Ok(text);
-    }
-    print_history(history, &mut text)?;
     Ok(text)
 }
 
