@@ -98,7 +98,7 @@ fn lanes<N: Net<Stream = TcpStream>>(
 
 /// What came of a run.
 #[derive(Drop)]
-struct Judged {
+struct Outcome {
     /// Whether all sections are done.
     are_done: bool,
     /// The numbers that A and B were answered.
@@ -113,13 +113,13 @@ fn run_at<R: Net<Stream = TcpStream> + Threads + Wait + Sync>(
     alloc: Global,
     counter: &Checked,
     address: SocketAddr,
-) -> Result<Judged, Fail> {
+) -> Result<Outcome, Fail> {
     let given = lanes(rt, alloc, address)?;
     let run = run(rt, alloc, counter, given, &FreeGate)?;
     judged(alloc, counter, run)
 }
 
-fn judged(alloc: Global, counter: &Checked, run: Run<Wire<TcpStream>>) -> Result<Judged, Fail>
+fn judged(alloc: Global, counter: &Checked, run: Run<Wire<TcpStream>>) -> Result<Outcome, Fail>
     requires { IsHeldBy counter.now.code run.world }
 {
     let are_done = [Actor::P, Actor::A, Actor::B]
@@ -127,7 +127,7 @@ fn judged(alloc: Global, counter: &Checked, run: Run<Wire<TcpStream>>) -> Result
         .all(|section| run.world.ending(*section) == Ending::Done);
     let numbers = [Actor::A, Actor::B].map(|branch| number_of(run.world.notes(), branch));
     let (_, found, _) = run.judge(alloc, counter, 1_000_000)?;
-    Ok(Judged {
+    Ok(Outcome {
         are_done,
         numbers,
         verdict: text(alloc, &found)?,
@@ -151,10 +151,10 @@ fn number_of(notes: &[(Actor, Event)], section: Actor) -> Option<u64> {
 fn run_against<
     R: Net<Listener = TcpListener, Stream = TcpStream> + Threads + Wait + Clock + Sync,
     C: Caller,
->(rt: &R, alloc: Global, counter: &Checked, caller: &C) -> Result<Option<Judged>, Fail> {
+>(rt: &R, alloc: Global, counter: &Checked, caller: &C) -> Result<Option<Outcome>, Fail> {
     let listener = TcpListener::bind(rt, FREE_PORT)?;
-    let (listened, judged) = run_beside(rt, alloc, counter, caller, &listener)?;
-    Ok((judged.are_done && listened == ALL).then_some(judged))
+    let (listened, outcome) = run_beside(rt, alloc, counter, caller, &listener)?;
+    Ok((outcome.are_done && listened == ALL).then_some(outcome))
 }
 
 /// What comes of the listener, and of a run against it.
@@ -167,7 +167,7 @@ fn run_beside<
     counter: &Checked,
     caller: &C,
     listener: &TcpListener,
-) -> Result<(Listened, Judged), Fail> {
+) -> Result<(Listened, Outcome), Fail> {
     let address = listener.local_addr()?;
     let (listened, ran) = join(
         rt,
@@ -204,7 +204,7 @@ fn is_explained<R: Net<Listener = TcpListener, Stream = TcpStream> + Threads + W
 ) -> Result<bool, Fail> {
     let shared = Shared::new(alloc)?;
     match run_against(rt, alloc, counter, &shared)? {
-        Some(judged) => Ok(judged.verdict.starts_with(b"P 0\nP 1\n")),
+        Some(outcome) => Ok(outcome.verdict.starts_with(b"P 0\nP 1\n")),
         None => Ok(false),
     }
 }
@@ -223,8 +223,8 @@ fn is_unexplained_by_a_race<
 }
 
 /// Whether both branches were answered 6, which nothing explains.
-fn are_both_six(judged: &Judged) -> bool {
-    judged.numbers == [Some(6), Some(6)] && judged.verdict.as_slice() == b"unexplained".as_slice()
+fn are_both_six(outcome: &Outcome) -> bool {
+    outcome.numbers == [Some(6), Some(6)] && outcome.verdict.as_slice() == b"unexplained".as_slice()
 }
 
 /// Whether both increments are answered 6, which nothing explains, by a server whose increments both read first, and neither waits for too
@@ -242,7 +242,7 @@ fn is_unexplained<
 >(rt: &R, alloc: Global, counter: &Checked, increments: &Increments) -> Result<bool, Fail> {
     let racy = Racy::new(alloc, BothRead { increments })?;
     match run_against(rt, alloc, counter, &racy)? {
-        Some(judged) => Ok(are_both_six(&judged)),
+        Some(outcome) => Ok(are_both_six(&outcome)),
         None => Ok(false),
     }
 }
