@@ -63,7 +63,8 @@ def calls(root):
 
 
 def listed(root):
-    """What stands after each function's name in the list: the crate of tests and the test; or None where it takes no memory."""
+    """What stands after each function's name, and of what it is one if that is said: the crate of tests and the test; or None where it
+    takes no memory."""
     lines = (root / FILE).read_text(encoding="utf-8").splitlines()
     parts = [it.partition(": ") for it in lines if it.strip() and not it.startswith("#")]
     return {name: None if told.startswith("none, ") else tuple(told.split(" ")) for name, _, told in parts}
@@ -71,6 +72,6 @@ def listed(root):
 
 def faults(root):
     """What is wrong with the list: a call that it lacks, or one that is no such call."""
-    wanted, found = calls(root), set(listed(root))
+    wanted, found = calls(root), {it.partition(" of ")[0] for it in listed(root)}
     lacking = [f"{FILE} lacks {it}, whose answer can say want of memory" for it in sorted(wanted - found)]
     return lacking + [f"{FILE} has {it}, which is no public function whose answer can say it" for it in sorted(found - wanted)]

@@ -1,5 +1,7 @@
 //! What a collector makes of messages that it wasn't to get, and of those that are missing.
 
+ghost use Rattle.std.specs.Prelude.{◌≤◌};
+
 use crate::connectors::Stores;
 use crate::store_runs::collected_text;
 use crate::watching::Seen;
@@ -55,12 +57,15 @@ struct Collected {
     told: Vec<u64>,
 }
 
-/// What comes of a collector after these messages. Where memory ran out in a job, that is an error.
+/// What comes of a collector of the campaign's first jobs after these messages. Where memory ran out in a job, that is an error.
 fn collect<R: Threads + Wait + Sync>(
     rt: &R,
     alloc: Global,
+    jobs: u64,
     messages: &[(u64, u64)],
-) -> Result<Collected, Fail> {
+) -> Result<Collected, Fail>
+    requires { jobs ≤ 3 }
+{
     let store = Shared::new(alloc)?;
     let connector = Stores::honest(rt, alloc, &store);
     let mut watcher = Seen::new(alloc);
@@ -68,7 +73,7 @@ fn collect<R: Threads + Wait + Sync>(
         rt,
         alloc,
         &connector,
-        CAMPAIGN,
+        Campaign { jobs, ..CAMPAIGN },
         None,
         messages,
         &mut watcher,
@@ -83,7 +88,7 @@ fn collect<R: Threads + Wait + Sync>(
 #[test]
 fn each_job_stands_in_the_report_once(rt: HostRuntime) -> Result<(), Fail> {
     for (messages, connections, told) in ROWS {
-        let collected = collect(&rt, rt.alloc(), messages)?;
+        let collected = collect(&rt, rt.alloc(), 3, messages)?;
         assert_eq!(rt; collected.text.as_slice(), ALL_EXPLAINED);
         assert_eq!(rt; collected.made, *connections);
         assert_eq!(rt; collected.told.as_slice(), *told);
@@ -91,10 +96,14 @@ fn each_job_stands_in_the_report_once(rt: HostRuntime) -> Result<(), Fail> {
     Ok(())
 }
 
+// One job: few enough allocations that each of them can be refused.
 #[test]
-fn runs_the_jobs_whose_messages_are_lost(rt: HostRuntime) -> Result<(), Fail> {
-    let collected = collect(&rt, rt.alloc(), &[(1, 2)])?;
-    assert_eq!(rt; collected.text.as_slice(), ALL_EXPLAINED);
-    assert_eq!(rt; collected.made, 9);
+fn runs_the_job_whose_message_is_lost(rt: HostRuntime) -> Result<(), Fail> {
+    let collected = collect(&rt, rt.alloc(), 1, &[])?;
+    assert_eq!(rt;
+        collected.text.as_slice(),
+        b"0 explained\njobs 1 explained 1 unexplained 0 other 0\n".as_slice()
+    );
+    assert_eq!(rt; collected.made, 3);
     Ok(())
 }

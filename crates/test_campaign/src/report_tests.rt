@@ -75,7 +75,7 @@ fn released_with_faults<R: Threads + Wait + Sync>(rt: &R, alloc: Global) -> Resu
 
 #[test]
 fn brief_report_leaves_out_what_is_right(rt: HostRuntime) -> Result<(), Fail> {
-    let text = brief_text(&rt, rt.alloc())?;
+    let text = brief_text(&rt, rt.alloc(), 3)?;
     assert_eq!(rt;
         text.as_slice(),
         b"1 no connection A\njobs 3 explained 2 unexplained 0 other 1\n".as_slice()
@@ -83,22 +83,38 @@ fn brief_report_leaves_out_what_is_right(rt: HostRuntime) -> Result<(), Fail> {
     Ok(())
 }
 
-/// The text of a brief report on three jobs, where A of the second gets no connection.
-fn brief_text<R: Threads + Wait + Sync>(rt: &R, alloc: Global) -> Result<Vec<u8>, Fail> {
+// Two jobs: few enough allocations that each of them can be refused.
+#[test]
+fn brief_report_leaves_out_one_job(rt: HostRuntime) -> Result<(), Fail> {
+    let text = brief_text(&rt, rt.alloc(), 2)?;
+    assert_eq!(rt;
+        text.as_slice(),
+        b"1 no connection A\njobs 2 explained 1 unexplained 0 other 1\n".as_slice()
+    );
+    Ok(())
+}
+
+/// The text of a brief report on so many jobs, where A of the second gets no connection.
+fn brief_text<R: Threads + Wait + Sync>(rt: &R, alloc: Global, jobs: u64) -> Result<Vec<u8>, Fail>
+    requires { jobs ≤ 10000 }
+{
     let store = Shared::new(alloc)?;
     let connector = Stores {
         closed: Some((1, Actor::A)),
         ..Stores::honest(rt, alloc, &store)
     };
-    brief_text_over(rt, alloc, &connector)
+    brief_text_over(rt, alloc, &connector, jobs)
 }
 
 fn brief_text_over<R: Threads + Wait + Sync>(
     rt: &R,
     alloc: Global,
     connector: &Stores<'_, R>,
-) -> Result<Vec<u8>, Fail> {
-    let report = run_campaign(rt, alloc, 1, 3, 0, LIMIT, connector, &FreeGate)?;
+    jobs: u64,
+) -> Result<Vec<u8>, Fail>
+    requires { jobs ≤ 10000 }
+{
+    let report = run_campaign(rt, alloc, 1, jobs, 0, LIMIT, connector, &FreeGate)?;
     Ok(brief_text_of(alloc, &report)?)
 }
 
@@ -205,6 +221,14 @@ fn jobs_are_run_by_any_number_of_workers(rt: HostRuntime) -> Result<(), Fail> {
         jobs 3 explained 3 unexplained 0 other 0\n"
         .as_slice();
     assert!(rt; comes_to_by_any(&rt, rt.alloc(), campaign(8, 3), expected)?);
+    Ok(())
+}
+
+// One job and one worker: few enough allocations that each of them can be refused.
+#[test]
+fn one_job_is_run_by_one_worker(rt: HostRuntime) -> Result<(), Fail> {
+    let expected = b"report\n8 explained\njobs 1 explained 1 unexplained 0 other 0\n".as_slice();
+    assert!(rt; comes_to(&rt, rt.alloc(), campaign(8, 1), 1, expected)?);
     Ok(())
 }
 

@@ -90,6 +90,13 @@ fn outputs_are_those_of_the_reference(rt: HostRuntime) {
     }
 }
 
+// One of these: few enough allocations that each of them can be refused.
+#[test]
+fn first_script_is_as_worked_by_hand(rt: HostRuntime) -> Result<(), Fail> {
+    assert!(rt; text_of(rt.alloc(), 1, 0)?.as_slice() == FIRST_JOB);
+    Ok(())
+}
+
 #[test]
 fn scripts_are_as_worked_by_hand(rt: HostRuntime) -> Result<(), Fail> {
     for (seed, job, text) in [

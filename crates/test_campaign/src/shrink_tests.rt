@@ -267,6 +267,13 @@ fn holds(alloc: Global, row: &Row) -> Result<bool, Fail> {
     Ok(is_left && tester.asked == row.asked)
 }
 
+// One round: few enough allocations that each of them can be refused.
+#[test]
+fn drops_the_last_step_in_one_round(rt: HostRuntime) -> Result<(), Fail> {
+    assert!(rt; holds(rt.alloc(), &ROWS[1])?);
+    Ok(())
+}
+
 #[test]
 fn drops_steps_from_the_last_to_the_first(rt: HostRuntime) -> Result<(), Fail> {
     for (index, row) in ROWS.iter().enumerate() {

@@ -5,11 +5,14 @@ use mc_campaign::{Report, generate_script, print_report};
 use mc_lane::Stream;
 use mc_protocol::OutOfMemory;
 use mc_script::print;
-use std::alloc::Global;
+use std::alloc::{AllocError, Global};
 
-/// The text of a job's script.
+/// The text of a job's script. A call that finds no memory is made once more.
 pub(crate) fn text_of(alloc: Global, seed: u64, job: u64) -> Result<Vec<u8>, OutOfMemory> {
-    let script = generate_script(alloc, seed, job)?;
+    let script = match generate_script(alloc, seed, job) {
+        Err(AllocError) => generate_script(alloc, seed, job)?,
+        Ok(script) => script,
+    };
     let mut text = Vec::new(alloc);
     print(alloc, &script, &mut text)?;
     Ok(text)

@@ -5,6 +5,8 @@
 #![tactic(auto)]
 
 #[cfg(test)]
+mod changed_image_tests;
+#[cfg(test)]
 mod given;
 #[cfg(test)]
 mod history_tests;

@@ -11,6 +11,8 @@ mod branch_rows;
 #[cfg(test)]
 mod carried;
 #[cfg(test)]
+mod closed_lanes;
+#[cfg(test)]
 mod counter;
 #[cfg(test)]
 mod gate_tests;
@@ -22,6 +24,8 @@ mod meet_tests;
 mod meets;
 #[cfg(test)]
 mod prefix_rows;
+#[cfg(test)]
+mod printing_tests;
 #[cfg(test)]
 mod run_tests;
 #[cfg(test)]

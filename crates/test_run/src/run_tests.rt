@@ -3,14 +3,14 @@
 ghost use Rattle.std.specs.Prelude.{IfOk};
 ghost use Rattle.mc_core.specs.Held.{IsHeldBy};
 
+use crate::closed_lanes::send_nothing_when_closed;
 use crate::counter::counter;
 use crate::lanes::{BothBegin, NEVER, Served, endings, lanes, run};
 use crate::verdict::is_written;
 use Ending::{Done, Failed, NotBegun};
 use mc_core::Ending;
-use mc_lane::{Lane, MemoryStream};
-use mc_protocol::{Fault, OutOfMemory, Verb};
-use mc_reader::Shape;
+use mc_lane::MemoryStream;
+use mc_protocol::{Fault, OutOfMemory};
 use mc_run::{FreeGate, Lanes, Run, agrees};
 use mc_verify::Checked;
 use std::alloc::Global;
@@ -173,6 +173,22 @@ static ROWS: &[Row] = &[
 fn comes_to_what_its_streams_answer(rt: HostRuntime) -> Result<(), Fail> {
     assert_eq!(rt; first_odd(&rt, rt.alloc())?, None);
     Ok(())
+}
+
+// One row, in which A's stream fails: few enough allocations that each of them can be refused.
+#[test]
+fn comes_to_what_the_streams_of_one_row_answer(rt: HostRuntime) -> Result<(), Fail> {
+    assert_eq!(rt; fit_counter(&rt, rt.alloc(), &ROWS[4])?, [true; 5]);
+    Ok(())
+}
+
+fn fit_counter<R: Threads + Wait + Sync>(
+    rt: &R,
+    alloc: Global,
+    row: &Row,
+) -> Result<[bool; 5], Fail> {
+    let counter = counter(alloc)?;
+    fit(rt, alloc, &counter, row)
 }
 
 /// The first row that a run doesn't fit, and what of it is as the row has it.
@@ -365,27 +381,4 @@ fn agree_exchanged(
 fn have_sent(lanes: &Lanes<MemoryStream>, sent: [&[u8]; 3]) -> bool {
     let [p, a, b] = sent;
     lanes.p.sent() == p && lanes.a.sent() == a && lanes.b.sent() == b
-}
-
-/// Whether no lane that is closed sends anything in one more call.
-fn send_nothing_when_closed(lanes: Lanes<MemoryStream>) -> bool {
-    let Lanes {
-        mut p,
-        mut a,
-        mut b,
-    } = lanes;
-    !sends_when_closed(&mut p) && !sends_when_closed(&mut a) && !sends_when_closed(&mut b)
-}
-
-/// Whether a lane that is closed sends anything in one more call.
-fn sends_when_closed(lane: &mut Lane<MemoryStream>) -> bool {
-    if !lane.is_closed() {
-        return false;
-    }
-    let before = lane.sent().len();
-    let shape = Shape {
-        verb: Verb::Incr,
-        key: b"a",
-    };
-    lane.call(INCREMENT, shape) != Err(Fault::Closed) || lane.sent().len() != before
 }

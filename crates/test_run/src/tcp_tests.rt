@@ -7,9 +7,9 @@ ghost use Rattle.mc_run.specs.Running.{AreNew, IsNew};
 use crate::counter::counter;
 use crate::lanes::run;
 use crate::verdict::text;
-use mc_core::Ending;
+use mc_core::{Ending, Event};
 use mc_lane::{Lane, Wire};
-use mc_protocol::Actor;
+use mc_protocol::{Actor, Reply};
 use mc_run::{FreeGate, Lanes, Run};
 use mc_server::{Between, Caller, Listened, Racy, Shared, listen};
 use mc_verify::Checked;
@@ -96,41 +96,65 @@ fn lanes<N: Net<Stream = TcpStream>>(
     })
 }
 
-/// Whether all sections of a run against the server at this address are done, and the verdict. The lanes are closed.
+/// What came of a run.
+#[derive(Drop)]
+struct Outcome {
+    /// Whether all sections are done.
+    are_done: bool,
+    /// The numbers that A and B were answered.
+    numbers: [Option<u64>; 2],
+    /// The text of the verdict.
+    verdict: Vec<u8>,
+}
+
+/// What comes of a run against the server at this address. The lanes are closed.
 fn run_at<R: Net<Stream = TcpStream> + Threads + Wait + Sync>(
     rt: &R,
     alloc: Global,
     counter: &Checked,
     address: SocketAddr,
-) -> Result<(bool, Vec<u8>), Fail> {
+) -> Result<Outcome, Fail> {
     let given = lanes(rt, alloc, address)?;
     let run = run(rt, alloc, counter, given, &FreeGate)?;
     judged(alloc, counter, run)
 }
 
-fn judged(
-    alloc: Global,
-    counter: &Checked,
-    run: Run<Wire<TcpStream>>,
-) -> Result<(bool, Vec<u8>), Fail>
+fn judged(alloc: Global, counter: &Checked, run: Run<Wire<TcpStream>>) -> Result<Outcome, Fail>
     requires { IsHeldBy counter.now.code run.world }
 {
     let are_done = [Actor::P, Actor::A, Actor::B]
         .iter()
         .all(|section| run.world.ending(*section) == Ending::Done);
+    let numbers = [Actor::A, Actor::B].map(|branch| number_of(run.world.notes(), branch));
     let (_, found, _) = run.judge(alloc, counter, 1_000_000)?;
-    Ok((are_done, text(alloc, &found)?))
+    Ok(Outcome {
+        are_done,
+        numbers,
+        verdict: text(alloc, &found)?,
+    })
 }
 
-/// The verdict on a run against a server that answers by this caller and serves three connections. Nothing, where a section isn't done or
+/// The first number that the section was answered.
+fn number_of(notes: &[(Actor, Event)], section: Actor) -> Option<u64> {
+    for (actor, event) in notes {
+        if let Event::Reply(Reply::Number(number)) = event {
+            if *actor == section {
+                return Some(*number);
+            }
+        }
+    }
+    None
+}
+
+/// What comes of a run against a server that answers by this caller and serves three connections. Nothing, where a section isn't done or
 /// a connection isn't served.
-fn verdict_against<
+fn run_against<
     R: Net<Listener = TcpListener, Stream = TcpStream> + Threads + Wait + Clock + Sync,
     C: Caller,
->(rt: &R, alloc: Global, counter: &Checked, caller: &C) -> Result<Option<Vec<u8>>, Fail> {
+>(rt: &R, alloc: Global, counter: &Checked, caller: &C) -> Result<Option<Outcome>, Fail> {
     let listener = TcpListener::bind(rt, FREE_PORT)?;
-    let (listened, (are_done, verdict)) = run_beside(rt, alloc, counter, caller, &listener)?;
-    Ok((are_done && listened == ALL).then_some(verdict))
+    let (listened, outcome) = run_beside(rt, alloc, counter, caller, &listener)?;
+    Ok((outcome.are_done && listened == ALL).then_some(outcome))
 }
 
 /// What comes of the listener, and of a run against it.
@@ -143,7 +167,7 @@ fn run_beside<
     counter: &Checked,
     caller: &C,
     listener: &TcpListener,
-) -> Result<(Listened, (bool, Vec<u8>)), Fail> {
+) -> Result<(Listened, Outcome), Fail> {
     let address = listener.local_addr()?;
     let (listened, ran) = join(
         rt,
@@ -179,8 +203,8 @@ fn is_explained<R: Net<Listener = TcpListener, Stream = TcpStream> + Threads + W
     counter: &Checked,
 ) -> Result<bool, Fail> {
     let shared = Shared::new(alloc)?;
-    match verdict_against(rt, alloc, counter, &shared)? {
-        Some(verdict) => Ok(verdict.starts_with(b"P 0\nP 1\n")),
+    match run_against(rt, alloc, counter, &shared)? {
+        Some(outcome) => Ok(outcome.verdict.starts_with(b"P 0\nP 1\n")),
         None => Ok(false),
     }
 }
@@ -198,7 +222,13 @@ fn is_unexplained_by_a_race<
     is_unexplained_in_time(rt, alloc, &counter)
 }
 
-/// Whether nothing explains a run against a server whose increments both read first, and neither waits for too long.
+/// Whether both branches were answered 6, which nothing explains.
+fn are_both_six(outcome: &Outcome) -> bool {
+    outcome.numbers == [Some(6), Some(6)] && outcome.verdict.as_slice() == b"unexplained".as_slice()
+}
+
+/// Whether both increments are answered 6, which nothing explains, by a server whose increments both read first, and neither waits for too
+/// long.
 fn is_unexplained_in_time<
     R: Net<Listener = TcpListener, Stream = TcpStream> + Threads + Wait + Clock + Sync,
 >(rt: &R, alloc: Global, counter: &Checked) -> Result<bool, Fail> {
@@ -211,8 +241,8 @@ fn is_unexplained<
     R: Net<Listener = TcpListener, Stream = TcpStream> + Threads + Wait + Clock + Sync,
 >(rt: &R, alloc: Global, counter: &Checked, increments: &Increments) -> Result<bool, Fail> {
     let racy = Racy::new(alloc, BothRead { increments })?;
-    match verdict_against(rt, alloc, counter, &racy)? {
-        Some(verdict) => Ok(verdict.as_slice() == b"unexplained".as_slice()),
+    match run_against(rt, alloc, counter, &racy)? {
+        Some(outcome) => Ok(are_both_six(&outcome)),
         None => Ok(false),
     }
 }

@@ -3,7 +3,7 @@
 use crate::printed::{is_printed_as, text_of};
 use mc_protocol::{Actor, OutOfMemory};
 use mc_script::{Script, parse, without};
-use std::alloc::Global;
+use std::alloc::{AllocError, Global};
 use std::test::Fail;
 
 // Every mark, as it is printed.
@@ -81,7 +81,7 @@ fn less_line(alloc: Global, text: &str, number: usize) -> Result<String, OutOfMe
     Ok(rest)
 }
 
-// What is printed of the script less this step. Nothing is where it has no such step.
+// What is printed of the script less this step. Nothing is where it has no such step. A call that finds no memory is made once more.
 fn printed_less(
     alloc: Global,
     script: &Script,
@@ -91,7 +91,10 @@ fn printed_less(
     if script.steps(actor).len() <= step {
         return Ok(Vec::new(alloc));
     }
-    let less = without(alloc, script, actor, step)?;
+    let less = match without(alloc, script, actor, step) {
+        Err(AllocError) => without(alloc, script, actor, step)?,
+        Ok(less) => less,
+    };
     text_of(alloc, &less, b"")
 }
 
@@ -126,6 +129,13 @@ fn each_leaves_line(
 fn leave_lines(alloc: Global, text: &str, steps: &[(Actor, usize, usize)]) -> Result<bool, Fail> {
     let script = parse(alloc, text.as_bytes())?;
     each_leaves_line(alloc, &script, text, steps)
+}
+
+// One step, which two labels and a flag stand around: few enough allocations that each of them can be refused.
+#[test]
+fn leaves_the_other_lines_of_one_step(rt: HostRuntime) -> Result<(), Fail> {
+    assert!(rt; leave_lines(rt.alloc(), MARKS, &[(Actor::A, 1, 12)])?);
+    Ok(())
 }
 
 #[test]

@@ -4,7 +4,7 @@ use mc_explain::{Verdict, judge, parse_history};
 use mc_model::History;
 use mc_protocol::OutOfMemory;
 use mc_why::{Finding, print_why, request_place, why_unexplained};
-use std::alloc::Global;
+use std::alloc::{AllocError, Global};
 use std::test::Fail;
 
 // The text of a history that nothing explains, the limit of each search, the number of the line, and what is printed.
@@ -90,14 +90,40 @@ fn found_of(alloc: Global, history: &History, limit: u64) -> Result<Option<Findi
     }
 }
 
+// Prints what was found. A call that finds no memory leaves the buffer as it is, and is made once more.
+fn print_again(
+    finding: &Finding,
+    history: &History,
+    line: u64,
+    printed: &mut Vec<u8>,
+) -> Result<(), OutOfMemory> {
+    match print_why(finding, history, line, printed) {
+        Err(AllocError) => print_why(finding, history, line, printed),
+        Ok(()) => Ok(()),
+    }
+}
+
 fn printed_of(alloc: Global, row: &Row) -> Result<Vec<u8>, Fail> {
     let (text, limit, line, _) = row;
     let (history, _) = parse_history(alloc, text.as_bytes())?;
     let mut printed = Vec::new(alloc);
     if let Some(finding) = found_of(alloc, &history, *limit)? {
-        print_why(&finding, &history, *line, &mut printed)?;
+        print_again(&finding, &history, *line, &mut printed)?;
     }
     Ok(printed)
+}
+
+fn is_printed_as_found(alloc: Global, row: &Row) -> Result<bool, Fail> {
+    let printed = printed_of(alloc, row)?;
+    Ok(printed.as_slice() == row.3.as_bytes())
+}
+
+// One history with what explains the part before, a request that has acted and one that comes next: few enough allocations that each of
+// them can be refused.
+#[test]
+fn prints_one_finding(rt: HostRuntime) -> Result<(), Fail> {
+    assert!(rt; is_printed_as_found(rt.alloc(), &PRINTED[7])?);
+    Ok(())
 }
 
 #[test]

@@ -4,7 +4,7 @@ use mc_explain::{Verdict, judge, parse_history, print_explanation};
 use mc_model::{History, print_reply_words};
 use mc_protocol::{Actor, OutOfMemory};
 use mc_why::{Answer, Cause, Finding, why_unexplained};
-use std::alloc::Global;
+use std::alloc::{AllocError, Global};
 use std::test::Fail;
 
 // The text of a history that nothing explains, the limit of each search, and what is to be found.
@@ -146,11 +146,14 @@ fn lines_of(alloc: Global, finding: &Finding) -> Result<Vec<u8>, Fail> {
     }
 }
 
-// What is found of the history, once it is known that nothing explains it.
+// What is found of the history, once it is known that nothing explains it. A call that finds no memory is made once more.
 fn found_of(alloc: Global, history: &History, limit: u64) -> Result<Option<Finding>, OutOfMemory> {
     let (verdict, _) = judge(alloc, history, u64::MAX)?;
     match verdict {
-        Verdict::Unexplained => Ok(Some(why_unexplained(alloc, history, limit)?)),
+        Verdict::Unexplained => match why_unexplained(alloc, history, limit) {
+            Err(AllocError) => Ok(Some(why_unexplained(alloc, history, limit)?)),
+            Ok(finding) => Ok(Some(finding)),
+        },
         Verdict::Explained(_) | Verdict::Undecided => Ok(None),
     }
 }
@@ -165,6 +168,13 @@ fn is_found(alloc: Global, row: &Row) -> Result<bool, Fail> {
         }
         None => Ok(false),
     }
+}
+
+// One history, where both branches might come next: few enough allocations that each of them can be refused.
+#[test]
+fn finds_why_nothing_explains_one_history(rt: HostRuntime) -> Result<(), Fail> {
+    assert!(rt; is_found(rt.alloc(), &NOTED[6])?);
+    Ok(())
 }
 
 #[test]
