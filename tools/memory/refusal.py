@@ -1,6 +1,6 @@
 """Commands whose allocations are refused, and how they may end then."""
 
-import pathlib
+import itertools
 import re
 import subprocess
 import sys
@@ -54,33 +54,38 @@ class Sweep:
         is_timed = any(it.startswith(TIME_LIMITS) for it in self.words)
         self.tries = TRIES if is_timed else 1
 
-    def run(self, **settings):
-        return ran(self.words, self.made, self.given, **settings)
-
-    def count(self, **settings):
-        """How often a run allocates."""
+    def run(self, failing=None):
+        """How a run ended, and how often it allocated."""
         with tempfile.NamedTemporaryFile("w+") as count:
-            ended = self.run(COUNT_ALLOCATIONS=count.name, **settings)
-            said = count.read()
-        if ended is None or not said:
-            raise NoCount(f"{self.name} ends without counting its allocations")
-        return int(said)
+            more = {"FAIL_ALLOCATION": failing} if failing else {}
+            ended = ran(self.words, self.made, self.given, COUNT_ALLOCATIONS=count.name, **more)
+            return ended, int(count.read() or -1)
 
-    def odd_runs(self, numbers):
-        """The runs that don't end as they may, as lines to print; and how many end as with memory."""
-        whole, odd, same = self.run(), [], 0
-        for failing in [f"{number}{sign}" for number in numbers for sign in ("", "+")]:
+    def count(self):
+        """How often a run with memory allocates."""
+        ended, count = self.run()
+        if ended is None or count < 0:
+            raise NoCount(f"{self.name} ends without counting its allocations")
+        return count
+
+    def odd_runs(self, numbers, until_none=False):
+        """The runs that don't end as they may, as lines to print; and how many end as with memory. It
+        may go on until the first of the numbers that no run meets."""
+        (whole, _), odd, same = self.run(), [], 0
+        for number, sign in itertools.product(numbers, ("", "+")):
             for _ in range(self.tries):
-                ended = self.run(FAIL_ALLOCATION=failing)
+                ended, met = self.run(f"{number}{sign}")
                 is_odd = ended is None or not self.may_end(whole, ended)
                 if not is_odd:
                     break
-                whole = self.run()
+                whole, _ = self.run()
+            if until_none and not is_odd and met < number:
+                return odd, same, number - 1
             if is_odd:
-                odd.append(f"{self.name}, allocation {failing}: {shown(ended)}; "
+                odd.append(f"{self.name}, allocation {number}{sign}: {shown(ended)}; "
                            f"with memory {shown(whole)}")
             same += not is_odd and ended[0] == whole[0]
-        return odd, same
+        return odd, same, max(numbers, default=0)
 
 
 def shown(ended):
