@@ -61,8 +61,8 @@ void forget(void) {
     memset(used[--keys], 0, sizeof *cache);
 }
 
-// Stands in a command between its look at the item and its write. Where this is the command that races, it unlocks the cache for the
-// window, and notes whether another connection wrote meanwhile.
+// Stands in a command between its look at the item and its write. Where this is the command that
+// races, it unlocks the cache for the window, and notes whether another connection wrote meanwhile.
 static void open_window(const char *verb, const struct item *at, int *raced) {
   uint64_t seen = at->version;
   if (strcmp(race, verb))
@@ -120,7 +120,8 @@ static const char *append(struct item *at, const struct request *request, int *r
   return "STORED\r\n";
 }
 
-static const char *change_number(struct item *at, const struct request *request, char *room, int *raced) {
+static const char *change_number(struct item *at, const struct request *request, char *room,
+                                 int *raced) {
   struct item seen = *at;
   uint64_t number = strtoull(seen.body, 0, 10);
   if (!seen.there)
@@ -151,7 +152,8 @@ static const char *get(const struct item *at, const struct request *request, cha
     return "END\r\n";
   if (!strcmp(request->verb, "gets"))
     snprintf(unique, sizeof unique, " %" PRIu64, at->version);
-  snprintf(room, LONGEST, "VALUE %s %u %zu%s\r\n%s\r\nEND\r\n", at->key, at->flags, strlen(at->body), unique, at->body);
+  snprintf(room, LONGEST, "VALUE %s %u %zu%s\r\n%s\r\nEND\r\n", at->key, at->flags,
+           strlen(at->body), unique, at->body);
   return room;
 }
 
@@ -176,7 +178,8 @@ const char *act(const struct request *request, char *room, int *raced) {
 }
 
 static int stores(const char *verb) {
-  return !strcmp(verb, "set") || !strcmp(verb, "add") || !strcmp(verb, "cas") || !strcmp(verb, "append");
+  return !strcmp(verb, "set") || !strcmp(verb, "add") || !strcmp(verb, "cas") ||
+         !strcmp(verb, "append");
 }
 
 size_t understood(const char *text, size_t got, struct request *request) {
@@ -187,7 +190,9 @@ size_t understood(const char *text, size_t got, struct request *request) {
     return 0;
   if (!stores(request->verb))
     return line;
-  if (sscanf(text, "%*s %*s %u %*s %zu %" SCNu64, &request->flags, &request->size, &request->number) < 2 || request->size >= BODY)
+  if (sscanf(text, "%*s %*s %u %*s %zu %" SCNu64, &request->flags, &request->size,
+             &request->number) < 2 ||
+      request->size >= BODY)
     stop("a request that stores");
   return got >= line + request->size + 2 ? line + request->size + 2 : 0;
 }

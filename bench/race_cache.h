@@ -43,10 +43,12 @@ struct item *place_of(const char *key);
 // Leaves no item.
 void forget(void);
 
-// Does what is asked, and answers the reply, which may stand in the room of LONGEST bytes. Where the command is the one that races, the
-// lock is given back for the window, and `raced` becomes 1 where another connection wrote to the item meanwhile.
+// Does what is asked, and answers the reply, which may stand in the room of LONGEST bytes. Where
+// the command is the one that races, the lock is given back for the window, and `raced` becomes 1
+// where another connection wrote to the item meanwhile.
 const char *act(const struct request *request, char *room, int *raced);
 
-// Reads the request that the text begins with, of so many bytes and a 0 after them, and answers its bytes; 0 where it hasn't come whole.
+// Reads the request that the text begins with, of so many bytes and a 0 after them, and answers its
+// bytes; 0 where it hasn't come whole.
 size_t understood(const char *text, size_t got, struct request *request);
 #endif

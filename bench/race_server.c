@@ -1,29 +1,32 @@
-// A cache server that is right but for one race, so that programs can be compared by how often they run into it.
+// A cache server that is right but for one race, so that programs can be compared by how often they
+// run into it.
 //
-// usage: race_servers RACE WINDOW DELAY [shared]
+// usage: race_server RACE WINDOW DELAY [shared]
 //
-// RACE is incr, decr, cas, add, append or delete: of this command the server looks at the item DELAY µs after the request came, and acts
-// WINDOW µs later on what it saw then, whatever another connection did meanwhile: an increment or an append is lost, a cas number wins
-// twice, an item is added or deleted twice. A decrement loses an increment too, which itself has no race. Or it is late: a set over an
-// item is answered at once, and takes effect WINDOW µs later.
+// RACE is incr, decr, cas, add, append or delete: of this command the server looks at the item
+// DELAY µs after the request came, and acts WINDOW µs later on what it saw then, whatever another
+// connection did meanwhile: an increment or an append is lost, a cas number wins twice, an item is
+// added or deleted twice. A decrement loses an increment too, which itself has no race. Or it is
+// late: a set over an item is answered at once, and takes effect WINDOW µs later.
 //
 // Or it is none: the server is right, and acts DELAY µs after each request came.
 //
 // It listens on a free port of 127.0.0.1, which it prints.
 //
-// With `shared` it is a server as others are: any number of connections, each on a thread of its own, and one cache, of 32,768 keys at
-// most. A line on standard input, while nobody is connected, empties the cache, and is answered by `end`.
+// With `shared` it is a server as others are: any number of connections, each on a thread of its
+// own, and one cache, of 32,768 keys at most. A line on standard input, while nobody is connected,
+// empties the cache, and is answered by `end`.
 //
-// Without it a run is three connections, that of P first, then A's, then B's, and nothing is kept from one run for the next. A line on
-// standard input asks for a report, while no run is under way: for each run since the last report a line
-// FIRST OVERLAP DISTANCE SHOWN LATE, and then `end`:
+// Without it a run is three connections, that of P first, then A's, then B's, and nothing is kept
+// from one run for the next. A line on standard input asks for a report, while no run is under way:
+// for each run since the last report a line FIRST OVERLAP SHOWN LATE, and then `end`:
 //
-//   FIRST     the branch whose first request came first, A or B, or - where one of them sent none
-//   OVERLAP   1 where the other's first request came before the reply to that one was sent, else 0
-//   DISTANCE  the µs from the coming of B's first request to that of A's
-//   SHOWN     1 where the race happened, which the replies then show; of the late set, where a get that came after STORED had been sent
-//             showed the old value, which a client sees that was fast enough
-//   LATE      the µs from the sending of STORED to the coming of the last get that showed the old value; - where there is no such get
+//   FIRST    the branch whose first request came first, A or B, or - where one of them sent none
+//   OVERLAP  1 where the other's first request came before the reply to that one was sent, else 0
+//   SHOWN    1 where the race happened, which the replies then show; of the late set, where a get
+//            that came after STORED had been sent showed the old value
+//   LATE     the µs from the sending of STORED to the coming of the last get that showed the old
+//            value; - where there is no such get
 #define _GNU_SOURCE
 #include "race_cache.h"
 
@@ -51,7 +54,8 @@ struct run {
   int shown, effective;
 };
 
-// A connection, and the run that it belongs to. `first` is the first visit of a branch, of P and of a shared server null.
+// A connection, and the run that it belongs to. `first` is the first visit of a branch, of P and of
+// a shared server null.
 struct talk {
   int connection;
   struct run *run;
@@ -143,12 +147,15 @@ static void converse(struct talk *talk) {
   }
 }
 
-// Takes the connections of one section, one after another. A thread that is there already answers the first request as soon as a later one.
+// Takes the connections of one section, one after another. A thread that is there already answers
+// the first request as soon as a later one.
 static void *serve(void *own) {
   int section = (int)(intptr_t)own;
   struct ticket it;
   while (read(tickets[section][0], &it, sizeof it) == sizeof it) {
-    struct talk talk = {.connection = it.connection, .run = it.run, .first = section == P ? 0 : &it.run->first[section]};
+    struct talk talk = {.connection = it.connection,
+                        .run = it.run,
+                        .first = section == P ? 0 : &it.run->first[section]};
     converse(&talk);
     close(it.connection);
     open_connections--;
@@ -217,8 +224,9 @@ static void *welcome_shared(void *unused) {
 static void report_run(const struct run *run) {
   struct visit a = run->first[A], b = run->first[B];
   int both = a.came && b.came, late = run->last_old && run->stored;
-  printf("%c %d %.1f %d ", !both ? '-' : a.came < b.came ? 'A' : 'B', both && a.came < b.left && b.came < a.left,
-         both ? a.came - b.came : 0, run->shown || (late && run->stored < run->last_old));
+  int overlapped = both && a.came < b.left && b.came < a.left;
+  printf("%s %d %d ", !both ? "-" : a.came < b.came ? "A" : "B", overlapped,
+         run->shown || (late && run->stored < run->last_old));
   if (late)
     printf("%.1f\n", run->last_old - run->stored);
   else
