@@ -6,13 +6,13 @@
 // it takes a calloc for a thread, and where that fails it wants to find ENOMEM.
 //
 // Watching: what the two branches of a run allocate, free, send and receive is noted in one order
-// over both threads, and written to the file that ALLOCATIONS_SEEN names: lines of a thread, what it
-// did, and a number. Thread 0 is the program's own, thread 1 the one that it makes. With
+// over both threads, and written to the file that ALLOCATIONS_SEEN names: lines of a thread, what
+// it did, and a number. Thread 0 is the program's own, thread 1 the one that it makes. With
 // HOLD_THREAD=T, HOLD_REQUEST=K and HOLD_CALL=N, thread T is held at its Nth call that allocates or
 // frees after the reply before its Kth request (for its first request: after the prologue, which is
-// the first connection, with PROLOGUE_REPLIES replies). It goes on once the other thread has received
-// a reply and sent its next request, or after HOLD_MILLISECONDS; until it is held, the other thread
-// gets no reply.
+// the first connection, with PROLOGUE_REPLIES replies). It goes on once the other thread has
+// received a reply and sent its next request, or after HOLD_MILLISECONDS; until it is held, the
+// other thread gets no reply.
 //
 // A program with threads ends by _exit, at which no destructor runs.
 typedef __SIZE_TYPE__ size_t;
@@ -44,7 +44,8 @@ static struct note {
 static _Atomic long allocations;
 static _Atomic int noted, threads, prologue = -1, prologue_replies;
 
-// Of each thread: requests sent, replies received, and calls between its last reply and next request.
+// Of each thread: requests sent, replies received, and calls between its last reply and next
+// request.
 static _Atomic int sent[THREADS], received[THREADS], calls[THREADS];
 
 // Whether the held thread came to its call, or past it.

@@ -69,8 +69,8 @@ class Sweep:
         return count
 
     def odd_runs(self, numbers, until_none=False):
-        """The runs that don't end as they may, as lines to print; and how many end as with memory. It
-        may go on until the first of the numbers that no run meets."""
+        """The runs that don't end as they may, as lines to print; and how many end as with memory.
+        It may go on until the first of the numbers that no run meets."""
         (whole, _), odd, same = self.run(), [], 0
         for number, sign in itertools.product(numbers, ("", "+")):
             for _ in range(self.tries):
@@ -99,8 +99,8 @@ def program_may_end(whole, ended):
 
 def lines_of_report(output):
     """A campaign's lines, those of jobs without memory like those without a connection."""
-    return re.sub(rb"^(\d+) (?:not made|not run|no connection [PAB])$", rb"\1 no connection", output,
-                  flags=re.M)
+    other = rb"^(\d+) (?:not made|not run|no connection [PAB])$"
+    return re.sub(other, rb"\1 no connection", output, flags=re.M)
 
 
 def campaign_may_end(whole, ended):
@@ -159,7 +159,8 @@ def sweeps_at_servers(program, made, folder, ending):
     script.write_bytes(SCRIPT)
     for name, texts, options in AT_SERVERS:
         port = ending.enter_context(Server(texts)).port
-        yield Sweep(name, [program, "run", f"127.0.0.1:{port}", *options], run_may_end, made, script)
+        words = [program, "run", f"127.0.0.1:{port}", *options]
+        yield Sweep(name, words, run_may_end, made, script)
 
 
 def sweeps_of_tests(made, crates=()):

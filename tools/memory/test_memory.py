@@ -44,11 +44,9 @@ pub fn length(text: &Text) -> usize {
 pub fn words(text: &Text) -> Option<WordsFault> {
     None
 }
-"""
-COPIES, NONE = "test_small texts::copies: mc_small::Text::copy", "none, asked for: mc_small::Writer::write"
-LACKS, HAS = f"{calls.FILE} lacks mc_small::", f"{calls.FILE} has mc_small::"
-# The list, and how what is wrong with it begins.
-LISTS = [
+""" COPIES, NONE = "test_small texts::copies: mc_small::Text::copy", "none, asked for:
+mc_small::Writer::write" LACKS, HAS = f"{calls.FILE} lacks mc_small::", f"{calls.FILE} has
+mc_small::" # The list, and how what is wrong with it begins. LISTS = [
     (f"{COPIES} mc_small::words\n{NONE}\n", []),
     (f"{COPIES}\n{NONE}\n", [LACKS + "words"]),
     (f"{COPIES} mc_small::words\n", [LACKS + "Writer::write"]),

@@ -6,11 +6,12 @@ byte of a request nothing may be allocated or freed; between the last byte of a 
 only the body of a hit may be allocated.
 
 The notes can't be seen while the program runs, but the history that it prints has their order. So
-each call of a branch that allocates or frees is held, in a run of its own, until the other branch has
-received a reply and sent its next request, whose Begin was thus noted while the call was held. If
-the held branch's own Begin stands before that, it was noted before the call; if the last reply of
-the held branch stands after it, the call was made before that reply was noted. Where the other
-branch sends nothing meanwhile, it waits for the held one, as it may before the first requests alone.
+each call of a branch that allocates or frees is held, in a run of its own, until the other branch
+has received a reply and sent its next request, whose Begin was thus noted while the call was held.
+If the held branch's own Begin stands before that, it was noted before the call; if the last reply
+of the held branch stands after it, the call was made before that reply was noted. Where the other
+branch sends nothing meanwhile, it waits for the held one, as it may before the first requests
+alone.
 """
 
 import re
@@ -91,7 +92,8 @@ class Watched:
         return next((it for it in self.seen[:at][::-1] if it.thread == self.seen[at].thread), None)
 
     def sent_while_held(self, thread):
-        """Which request of this thread was sent, after a reply, while the other was held; or None."""
+        """Which request of this thread was sent, after a reply, while the other was held; or
+        None."""
         requests, held, received = 0, False, False
         for it in self.seen:
             held = it.done == "held" or held and it.done != "released"
