@@ -17,7 +17,6 @@ import time
 
 ROOT = pathlib.Path(__file__).resolve().parents[1]
 BENCH = ROOT / "bench"
-FILES = {"race_server": ["race_server.c", "race_cache.c"]}
 NOT_MET = 3
 
 sys.path.append(str(ROOT / "oracle"))
@@ -103,8 +102,7 @@ def status_of(process, name):
 def compiled(name, folder):
     """The program in C of this name, built into the folder."""
     program = pathlib.Path(folder) / name
-    files = [BENCH / it for it in FILES.get(name, [f"{name}.c"])]
-    words = ["cc", "-O2", "-Wall", "-Werror", "-pthread", "-o", program, *files]
+    words = ["cc", "-O2", "-Wall", "-Werror", "-pthread", "-o", program, BENCH / f"{name}.c"]
     subprocess.run(words, check=True)
     return str(program)
 
