@@ -3,19 +3,19 @@
 //
 // usage: race_server RACE WINDOW DELAY [shared]
 //
-// RACE is incr, decr, cas, add, append or delete: of this command the server looks at the item DELAY
-// µs after the request came, and acts WINDOW µs later on what it saw then, whatever another
+// RACE is incr, decr, cas, add, append or delete: of this command the server looks at the item
+// DELAY µs after the request came, and acts WINDOW µs later on what it saw then, whatever another
 // connection did meanwhile: an increment or an append is lost, a cas number wins twice, an item is
 // added or deleted twice. A decrement loses an increment too, which itself has no race. Or it is
-// late: a set over an item is answered at once, and takes effect WINDOW µs later. Or it is none: the
-// server is right, and acts DELAY µs after each request came.
+// late: a set over an item is answered at once, and takes effect WINDOW µs later. Or it is none:
+// the server is right, and acts DELAY µs after each request came.
 //
 // It listens on a free port of 127.0.0.1, which it prints. With `shared` any number of connections
 // have one cache, of 32,768 keys at most; a line on standard input, while nobody is connected,
-// empties it, and is answered by `end`. Without it a run is three connections, that of P first, then
-// A's, then B's, and nothing is kept from one run for the next. A line on standard input asks for a
-// report, while no run is under way: for each run since the last one a line FIRST OVERLAP SHOWN
-// LATE, and then `end`:
+// empties it, and is answered by `end`. Without it a run is three connections, that of P first,
+// then A's, then B's, and nothing is kept from one run for the next. A line on standard input asks
+// for a report, while no run is under way: for each run since the last one a line FIRST OVERLAP
+// SHOWN LATE, and then `end`:
 //
 //   FIRST    the branch whose first request came first, A or B, or - where one of them sent none
 //   OVERLAP  1 where the other's first request came before the reply to that one was sent, else 0
