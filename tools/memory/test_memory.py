@@ -17,7 +17,6 @@ LIBRARY = """mod texts;
 pub use texts::{Fault, Marked, Text, WordsFault, Writer, length, words};
 """
 TEXTS = """pub enum Fault {
-    Long,
     Memory,
 }
 pub struct Marked<K> {
@@ -44,29 +43,25 @@ pub fn length(text: &Text) -> usize {
 pub fn words(text: &Text) -> Option<WordsFault> {
     None
 }
-""" COPIES, NONE = "test_small texts::copies: mc_small::Text::copy", "none, asked for:
-mc_small::Writer::write" LACKS, HAS = f"{calls.FILE} lacks mc_small::", f"{calls.FILE} has
-mc_small::" # The list, and how what is wrong with it begins. LISTS = [
+"""
+COPIES = "test_small texts::copies: mc_small::Text::copy"
+NONE = "none, it is asked for: mc_small::Writer::write"
+LACKS, HAS = f"{calls.FILE} lacks mc_small::", f"{calls.FILE} has mc_small::"
+# The list, and how what is wrong with it begins.
+LISTS = [
     (f"{COPIES} mc_small::words\n{NONE}\n", []),
     (f"{COPIES}\n{NONE}\n", [LACKS + "words"]),
     (f"{COPIES} mc_small::words\n", [LACKS + "Writer::write"]),
     (f"{COPIES} mc_small::words mc_small::length\n{NONE}\n", [HAS + "length"]),
 ]
 UNEQUAL = "assertion `left == right` failed\n  left: "
-# How a run of a test ended, what it wrote to standard error, and whether a test may end so.
-ENDS = [
-    (0, "", True),
-    (101, "error: OutOfMemory\nthe test failed: its result gives status 1\n", True),
-    (101, "error: NoThread\nthe test failed: its result gives status 1\n", True),
-    (-6, UNEQUAL + "Err(ScriptFault { kind: OutOfMemory, line: 0 })\n right: Ok(1)\n", True),
-    (-6, UNEQUAL + "Ok(2)\n right: Ok(1)\n", False),
-    (-6, UNEQUAL + "Ok(2)\n right: Err(OutOfMemory)\n", False),
-    (-6, UNEQUAL + "Err(NoThread)\n right: Ok(1)\n", False),
-    (-6, "assertion failed: is_found(rt.alloc(), requests)?\n", False),
-    (101, "error: Refused\nthe test failed: its result gives status 1\n", False),
-    (-11, "", False),
-    (-6, "index out of bounds\n", False),
-]
+# How a run of a test may end: its status, and what it wrote to standard error; and how it may not.
+MAY_END = [(0, ""), (101, "error: OutOfMemory\n"), (101, "error: NoThread\n"),
+           (-6, UNEQUAL + "Err(ScriptFault { kind: OutOfMemory, line: 0 })\n right: Ok(1)\n")]
+MAY_NOT_END = [(-6, UNEQUAL + "Ok(2)\n right: Ok(1)\n"), (-11, ""), (-6, "index out of bounds\n"),
+               (-6, UNEQUAL + "Ok(2)\n right: Err(OutOfMemory)\n"), (101, "error: Refused\n"),
+               (-6, UNEQUAL + "Err(NoThread)\n right: Ok(1)\n"),
+               (-6, "assertion failed: is_found(rt.alloc(), requests)?\n")]
 
 
 class Memory(unittest.TestCase):
@@ -82,9 +77,10 @@ class Memory(unittest.TestCase):
                 self.assertEqual([it.partition(",")[0] for it in found], wanted)
 
     def test_ends(self):
-        for status, said, may in ENDS:
+        for status, said in MAY_END + MAY_NOT_END:
             with self.subTest(said):
-                self.assertEqual(refusal.test_may_end(None, (status, b"", said.encode())), may)
+                may_end = refusal.test_may_end(None, (status, b"", said.encode()))
+                self.assertEqual(may_end, (status, said) in MAY_END)
 
 
 if __name__ == "__main__":
