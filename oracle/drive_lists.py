@@ -237,7 +237,7 @@ def main():
             seen[" ".join([*(it[2:].split(" ")[0] for it in world.lines()[1:]), word])] += 1
     for words, count in sorted(seen.items()):
         print(f"{count:8} {words}")
-    print(f"{seen.total()} compared, {odd} differ")
+    print(f"{sum(seen.values())} compared, {odd} differ")
     return 1 if odd else 0
 
 

@@ -4,7 +4,6 @@ import contextlib
 import itertools
 import os
 import pathlib
-import signal
 import socket
 import subprocess
 import threading
@@ -25,36 +24,17 @@ def library(folder):
     return made
 
 
-class NoEnd(Exception):
-    pass
-
-
-def stop(*_):
-    raise NoEnd
-
-
-def ran(words, made, given=os.devnull, **settings):
+def ran(words, made, given="/dev/null", **settings):
     """The status, the output, and standard error of a program with the library before it and these
-    variables; None where it doesn't end. The handler of SIGALRM must be `stop`."""
+    variables; None where it doesn't end."""
     more = {name: str(value) for name, value in settings.items()}
-    (output, out), (faults, err) = os.pipe(), os.pipe()
-    actions = [(os.POSIX_SPAWN_OPEN, 0, str(given), os.O_RDONLY, 0),
-               (os.POSIX_SPAWN_DUP2, out, 1), (os.POSIX_SPAWN_DUP2, err, 2)]
     environment = {**os.environ, "LD_PRELOAD": str(made), **more}
-    child = os.posix_spawn(words[0], words, environment, file_actions=actions)
-    os.close(out)
-    os.close(err)
-    signal.alarm(SECONDS)
-    try:
-        with open(output, "rb") as written, open(faults, "rb") as said:
-            found = written.read(), said.read()
-        return os.waitstatus_to_exitcode(os.waitpid(child, 0)[1]), *found
-    except NoEnd:
-        os.kill(child, signal.SIGKILL)
-        os.waitpid(child, 0)
-        return None
-    finally:
-        signal.alarm(0)
+    with open(given, "rb") as file, contextlib.suppress(subprocess.TimeoutExpired):
+        # closing no descriptors lets Python start it without a copy of itself
+        ended = subprocess.run(words, stdin=file, capture_output=True, env=environment,
+                               timeout=SECONDS, close_fds=False)
+        return ended.returncode, ended.stdout, ended.stderr
+    return None
 
 
 class Server:
