@@ -1,6 +1,7 @@
 """The races of race_server.c: their scripts, the same requests as bytes, which replies show that
 the race happened, and the programs that play them."""
 
+import collections
 import contextlib
 import re
 import statistics
@@ -12,23 +13,16 @@ from common import ran, stop
 STORING = ("set", "add", "cas", "append")
 # The runs that a program plays before it is another's turn.
 ROUND = 100
-# From here on a client can know that a reply came before its own request, in µs.
+# Where a get that showed the old value came so long after STORED, in µs, a client can know it.
 CLEARLY = 20
 DONE = ["P done", "A done", "B done"]
 TOTALS = re.compile(r"runs (\d+) explained (\d+) unexplained (\d+) other (\d+) overlapped \d+")
 
 
-@dataclass(frozen=True)
-class Reply:
-    """A reply to the plain program; the times in µs. In the text each end of a line is a |."""
-
-    sent: float
-    answered: float
-    text: str
-
-    @property
-    def body(self):
-        return self.text.split("|")[1]
+# A reply to the plain program; the times in µs. In the text each end of a line is a |.
+Reply = collections.namedtuple("Reply", "sent answered text")
+# A run as the server saw it; `late` is in µs or None.
+Visit = collections.namedtuple("Visit", "first overlapped shown late")
 
 
 @dataclass(frozen=True)
@@ -80,6 +74,10 @@ def request_of(line):
     return f"{' '.join(words)}|{body[1:]}|"
 
 
+def body_of(reply):
+    return reply.text.split("|")[1]
+
+
 def both_end_with(text):
     """Whether the last requests of both branches were answered by this."""
     return lambda a, b: a[-1].text == b[-1].text == text
@@ -104,12 +102,12 @@ def lose_an_increment(a, b):
 def lack_an_append(a, b):
     """Each branch appends and then gets. These are all pairs where no append is lost."""
     whole = [("56", "567"), ("567", "567"), ("576", "576"), ("576", "57")]
-    return (a[-1].body, b[-1].body) not in whole
+    return (body_of(a[-1]), body_of(b[-1])) not in whole
 
 
 def show_an_old_value(a, b):
     """B stores 6 over 5. Whether a get of A that was sent after B's reply was read showed 5."""
-    return any(b[0].answered < it.sent and it.body == "5" for it in a)
+    return any(b[0].answered < it.sent and body_of(it) == "5" for it in a)
 
 
 def winner(body, times=1):
@@ -147,21 +145,6 @@ def race_of(name):
 
 
 # ---- the server
-
-
-@dataclass(frozen=True)
-class Visit:
-    """A run as the server saw it; the times in µs."""
-
-    first: str
-    overlapped: bool
-    shown: bool
-    late: object
-
-    @property
-    def is_clear(self):
-        """Whether a get came so long after STORED that a client can know it, and showed the old."""
-        return self.late is not None and self.late >= CLEARLY
 
 
 def visit_of(line):
@@ -280,7 +263,8 @@ class Tally:
 
     def clear_share(self):
         """Of the runs that clearly broke the recorded order, the share that was found."""
-        clear = [found for found, it in zip(self.found, self.visits) if it.is_clear]
+        clear = [found for found, it in zip(self.found, self.visits)
+                 if it.late is not None and it.late >= CLEARLY]
         return statistics.fmean(clear) if clear else 0
 
 
