@@ -35,6 +35,12 @@ def legal(verb):
     return ["deleted" if verb == "delete" else "touched", "notfound"]
 
 
+def send(templates, at, place_of):
+    """The request of this template, which goes to the place of each class of its replies."""
+    may = legal(templates[at].verb)
+    return Send(at, [place_of(name) if name in may else NO_ENTRY for name in CLASSES])
+
+
 def request_text(code, template):
     """The request's text, with the longest number that it may have."""
     number = template.number
