@@ -1,131 +1,31 @@
-"""The histories that `bench/judge` measures: a cache of its own, what it answers, and the kinds of histories."""
+"""The histories that `bench/judge` and `bench/instructions` measure, by their kinds."""
 
-GREATEST = 2**64 - 1
+import common  # which finds the model
+from model import GREATEST, Cache, Notes
 
-
-# ---- a cache, and what it answers
-
-
-class Server:
-    """A cache that answers requests, given as tuples of words, with words."""
-
-    def __init__(self, rng, pads):
-        self.items = {}
-        self.number = rng.randrange(1, 1000)
-        self.rng = rng
-        self.pads = pads
-
-    def put(self, key, flags, body):
-        # a server may skip numbers, and never gives one twice
-        self.number += self.rng.randrange(1, 4)
-        self.items[key] = (flags, body, self.number)
-
-    def answer(self, request):
-        verb, key, *fields = request
-        item = self.items.get(key)
-        return getattr(self, "on_" + verb)(key, item, *fields)
-
-    def store(self, key, flags, body):
-        self.put(key, flags, body)
-        return ("STORED",)
-
-    def on_set(self, key, item, flags, body):
-        return self.store(key, flags, body)
-
-    def on_add(self, key, item, flags, body):
-        return ("NOT_STORED",) if item else self.store(key, flags, body)
-
-    def on_replace(self, key, item, flags, body):
-        return self.store(key, flags, body) if item else ("NOT_STORED",)
-
-    def on_append(self, key, item, flags, body):
-        return self.store(key, item[0], item[1] + body) if item else ("NOT_STORED",)
-
-    def on_prepend(self, key, item, flags, body):
-        return self.store(key, item[0], body + item[1]) if item else ("NOT_STORED",)
-
-    def on_cas(self, key, item, flags, body, number):
-        if not item:
-            return ("NOT_FOUND",)
-        return self.store(key, flags, body) if item[2] == number else ("EXISTS",)
-
-    def on_get(self, key, item):
-        return ("HIT", item[0], item[1]) if item else ("MISS",)
-
-    def on_gets(self, key, item):
-        return ("HIT", *item) if item else ("MISS",)
-
-    def on_delete(self, key, item):
-        if not item:
-            return ("NOT_FOUND",)
-        del self.items[key]
-        return ("DELETED",)
-
-    def on_touch(self, key, item):
-        return ("TOUCHED",) if item else ("NOT_FOUND",)
-
-    def on_incr(self, key, item, amount):
-        return self.count(key, item, lambda old: (old + amount) & GREATEST)
-
-    def on_decr(self, key, item, amount):
-        return self.count(key, item, lambda old: max(old - amount, 0))
-
-    def count(self, key, item, new):
-        if not item:
-            return ("NOT_FOUND",)
-        flags, body, _ = item
-        digits = body.rstrip(b" ")
-        if not digits.isdigit() or int(digits) > GREATEST:
-            return ("NOT_A_NUMBER",)
-        number = new(int(digits))
-        decimal = b"%d" % number
-        self.put(key, flags, decimal.ljust(len(body)) if self.pads else decimal)
-        return ("NUMBER", number)
-
-
-# ---- histories and their texts
-
-
-def body_word(body):
-    return "=" + "".join(chr(b) if 33 <= b <= 126 and b != 37 else "%%%02x" % b for b in body)
-
-
-def words_of(words):
-    return " ".join(body_word(word) if isinstance(word, bytes) else str(word) for word in words)
-
-
-class Notes(list):
-    """What was noted in order: section, `begin` or `reply`, and the request or the reply."""
-
-
-def text_of(history):
-    """The text of a history: a list of section, request and reply, where None is a reply that never came; or notes."""
-    if isinstance(history, Notes):
-        lines = ["history 2"]
-        lines += [f"{actor} {word} {words_of(words)}" for actor, word, words in history]
-    else:
-        lines = ["history 1"]
-        for actor, request, reply in history:
-            lines.append(f"{actor} {words_of(request)} -> {words_of(reply) if reply else '?'}")
-    lines.append("end")
-    return "".join(line + "\n" for line in lines).encode()
+STORED, TOUCHED, NOT_FOUND = ("STORED",), ("TOUCHED",), ("NOT_FOUND",)
+CLEARED = ("P", ("delete", "a"), NOT_FOUND)
+EMPTY = ("P", ("set", "a", 0, b""), STORED)
+# A hit that no server gives here: nothing stores this body.
+NEVER = ("A", ("get", "a"), ("HIT", 0, b"never"))
+VERBS = "set add replace append prepend cas cas get get gets gets incr incr decr decr delete touch"
 
 
 class Run:
-    """Three sections over one server, with what each of them was answered."""
+    """Three sections over one cache, with what each of them was answered."""
 
     def __init__(self, rng, keys, pads=False):
-        self.rng = rng
-        self.keys = keys
-        self.server = Server(rng, pads)
-        self.history = []
+        self.rng, self.keys, self.history = rng, keys, []
+        first = rng.randrange(1, 1000)
+        both = ("incr", "decr") if pads else ()
+        self.cache = Cache(first, lambda: rng.randrange(1, 4), both)
         # of each section the number that it was shown last of a key
         self.shown = {"P": {}, "A": {}, "B": {}}
         for key in keys:
             self.send("P", ("delete", key))
 
     def send(self, actor, request):
-        reply = self.server.answer(request)
+        reply = self.cache.answer(request)
         self.history.append((actor, request, reply))
         if request[0] == "gets" and reply[0] == "HIT":
             self.shown[actor][request[1]] = reply[3]
@@ -135,7 +35,7 @@ class Run:
         return self.shown[actor].get(key, self.shown["P"].get(key))
 
     def branch_out(self, counts, make):
-        """Lets A and B send as many requests as the two `counts` say, in a random order; `make` makes one for a section."""
+        """Lets A and B send so many requests in a random order; `make` makes one for a section."""
         left = dict(zip("AB", counts))
         while left["A"] or left["B"]:
             actor = self.rng.choice([actor for actor in "AB" for _ in range(left[actor])])
@@ -143,17 +43,15 @@ class Run:
             left[actor] -= 1
 
 
-def decimal_body(rng, below=100):
-    return b"%d" % rng.randrange(below)
+def decimal_body(rng):
+    return b"%d" % rng.randrange(100)
 
 
 def any_request(run, actor):
     """Any of the twelve commands on any key, a cas only where a number was shown."""
     rng = run.rng
     key = rng.choice(run.keys)
-    verb = rng.choice(
-        "set add replace append prepend cas cas get get gets gets incr incr decr decr delete touch".split()
-    )
+    verb = rng.choice(VERBS.split())
     if verb == "cas":
         number = run.number(actor, key)
         return ("cas", key, 0, decimal_body(rng), number) if number else ("gets", key)
@@ -164,15 +62,11 @@ def any_request(run, actor):
     return (verb, key, 0, decimal_body(rng))
 
 
-# ---- the kinds
-
-
-def no_request(rng):
-    return []
+# ---- the kinds of which there are several histories
 
 
 def job(rng):
-    """As a campaign's job: two keys, one or both of them set, and one to three pieces in each branch."""
+    """As a campaign's job: two keys, one or both set, and up to three pieces in each branch."""
     run = Run(rng, ["r7-0", "r7-1"])
     run.send("P", ("set", "r7-0", 0, decimal_body(rng)))
     if rng.randrange(2):
@@ -196,7 +90,8 @@ def changed_24(rng):
     places = []
     while not places:
         history = random_24(rng)
-        places = [i for i, (actor, _, reply) in enumerate(history) if actor != "P" and reply[0] in ("NUMBER", "HIT")]
+        places = [at for at, (actor, _, reply) in enumerate(history)
+                  if actor != "P" and reply[0] in ("NUMBER", "HIT")]
     place = rng.choice(places)
     actor, request, reply = history[place]
     if reply[0] == "NUMBER":
@@ -213,7 +108,8 @@ def keys_24(rng):
 
 
 def numbers_24(rng):
-    """Both branches store one body at one key and ask for its number, so that only numbers tell the versions apart."""
+    """Both branches store one body at one key and ask for its number, so that only numbers tell the
+    versions apart."""
     run = Run(rng, ["a"])
 
     def make(run, actor):
@@ -225,153 +121,105 @@ def numbers_24(rng):
     return run.history
 
 
+# ---- the kinds of one history, which has no explanation
+
+
+def branches(a, b, last):
+    """These pairs of requests and replies in A and in B, and after A's one that no order gives."""
+    return [*(("A", *it) for it in a), ("A", *last), *(("B", *it) for it in b)]
+
+
 def misses(count):
-    """`count` misses in each branch, and after A's a hit that no order gives: an order for each merge of the two."""
-
-    def make(rng):
-        get = ("get", "a")
-        branches = [("A", get, ("MISS",))] * count + [("A", get, ("HIT", 0, b"1"))] + [("B", get, ("MISS",))] * count
-        return [("P", ("delete", "a"), ("NOT_FOUND",))] + branches
-
-    return make
+    """Misses in each branch, and a hit: every merge of the two is an order."""
+    miss = (("get", "a"), ("MISS",))
+    return [CLEARED, *branches(count * [miss], count * [miss], (miss[0], ("HIT", 0, b"1")))]
 
 
-def bodies(rng):
+def bodies():
     """The same with 12 touches, while the cache holds a body of 32,768 bytes."""
-    touch = ("touch", "a")
-    prefix = [("P", ("delete", "a"), ("NOT_FOUND",)), ("P", ("set", "a", 0, b"x" * 32768), ("STORED",))]
-    branches = [("A", touch, ("TOUCHED",))] * 12 + [("A", touch, ("NOT_FOUND",))] + [("B", touch, ("TOUCHED",))] * 12
-    return prefix + branches
+    touch = (("touch", "a"), TOUCHED)
+    large = ("P", ("set", "a", 0, b"x" * 32768), STORED)
+    return [CLEARED, large, *branches(12 * [touch], 12 * [touch], (touch[0], NOT_FOUND))]
 
 
-CLEARED = ("delete", "a"), ("NOT_FOUND",)
+def stores(count):
+    """Each request stores a body of its own."""
+    stored = [("A", ("set", "a", 0, b"a%d" % at), STORED) for at in range(count - 1)]
+    stored += [("B", ("set", "a", 0, b"b%d" % at), STORED) for at in range(count)]
+    return [CLEARED, *stored, NEVER]
 
 
-def never(key):
-    """A hit that no server gives here: nothing stores this body."""
-    return ("get", key), ("HIT", 0, b"never")
+def appends(size):
+    """Seven appends of so many bytes in each branch: another body for each order."""
+    words = [(actor, b"%c%d" % (ord(actor), at)) for actor in "AB" for at in range(7)]
+    joined = [(actor, ("append", "a", 0, word * (size // len(word))), STORED)
+              for actor, word in words]
+    return [CLEARED, EMPTY, *joined, NEVER]
 
 
-def hopeless_stores(count):
-    """`count` requests in each branch, all on one key: each stores a body of its own, and A's last is a hit that no order gives."""
-
-    def make(rng):
-        stored = [("A", ("set", "a", 0, b"a%d" % i), ("STORED",)) for i in range(count - 1)]
-        stored += [("B", ("set", "a", 0, b"b%d" % i), ("STORED",)) for i in range(count)]
-        return [("P", *CLEARED), *stored, ("A", *never("a"))]
-
-    return make
-
-
-def joins(word, size):
-    return ("append", "a", 0, word * (size // len(word)))
-
-
-def hopeless_appends(count, size):
-    """`count` appends of `size` bytes in each branch, and after A's a hit that no order gives: another body for each order."""
-
-    def make(rng):
-        prefix = [("P", *CLEARED), ("P", ("set", "a", 0, b""), ("STORED",))]
-        branches = [(actor, joins(b"%c%d" % (ord(actor), i), size)) for actor in "AB" for i in range(count)]
-        return prefix + [(actor, request, ("STORED",)) for actor, request in branches] + [("A", *never("a"))]
-
-    return make
-
-
-def grown(make_branch):
-    """Appends in P make a body of 975,000 bytes; then both branches send 12 requests, and A a hit that no order gives."""
-
-    def make(rng):
-        prefix = [("P", *CLEARED), ("P", ("set", "a", 0, b"x" * 65000), ("STORED",))]
-        prefix += [("P", ("append", "a", 0, b"x" * 65000), ("STORED",))] * 14
-        return prefix + [(actor, *make_branch(actor)) for actor in "AB" for _ in range(12)] + [("A", *never("a"))]
-
-    return make
-
-
-def touched(actor):
-    return ("touch", "a"), ("TOUCHED",)
-
-
-def appended(actor):
-    return ("append", "a", 0, actor.encode()), ("STORED",)
+def grown(make):
+    """Appends in P make a body of 975,000 bytes; then both branches send 12 requests."""
+    large = [("P", (verb, "a", 0, b"x" * 65000), STORED) for verb in ["set"] + 14 * ["append"]]
+    return [CLEARED, *large, *((actor, *make(actor)) for actor in "AB" for _ in range(12)), NEVER]
 
 
 def alike(verb):
-    """23 requests in each branch, A's join one byte and B's two; then a hit that no order gives. Many orders make one body."""
-
-    def make(rng):
-        joined = [(actor, (verb, "a", 0, word), ("STORED",)) for actor, word in (("A", b"x"), ("B", b"xx")) for _ in range(23)]
-        return [("P", *CLEARED), ("P", ("set", "a", 0, b""), ("STORED",)), *joined, ("A", *never("a"))]
-
-    return make
+    """23 requests in each branch, A's join one byte and B's two: many orders make one body."""
+    words = [(actor, word) for actor, word in (("A", b"x"), ("B", b"xx")) for _ in range(23)]
+    joined = [(actor, (verb, "a", 0, word), STORED) for actor, word in words]
+    return [CLEARED, EMPTY, *joined, NEVER]
 
 
-def alike_pairs(rng):
+def alike_pairs():
     """The same appends in pairs that overlap, and a last hit of A that is one byte short."""
     notes = Notes()
-
-    def note(actors, request, reply):
-        for actor in actors:
-            notes.append((actor, "begin", request(actor)))
-        for actor in actors:
-            notes.append((actor, "reply", reply))
-
-    note("P", lambda actor: CLEARED[0], CLEARED[1])
-    note("P", lambda actor: ("set", "a", 0, b""), ("STORED",))
-    for _ in range(23):
-        note("AB", lambda actor: ("append", "a", 0, b"x" if actor == "A" else b"xx"), ("STORED",))
-    note("A", lambda actor: ("get", "a"), ("HIT", 0, b"x" * (3 * 23 - 1)))
+    both = [("A", ("append", "a", 0, b"x")), ("B", ("append", "a", 0, b"xx"))]
+    short = ("A", ("get", "a")), ("HIT", 0, b"x" * (3 * 23 - 1))
+    rounds = [([CLEARED[:2]], NOT_FOUND), ([EMPTY[:2]], STORED), *(23 * [(both, STORED)])]
+    for sent, reply in [*rounds, ([short[0]], short[1])]:
+        notes += [(actor, "begin", request) for actor, request in sent]
+        notes += [(actor, "reply", reply) for actor, _ in sent]
     return notes
 
 
-def alike_pads(rng):
-    """Six spaces that A appends to a number, and six decrements of B by 0, which keep the spaces or drop them."""
-    prefix = [("P", *CLEARED), ("P", ("set", "a", 0, b"9"), ("STORED",))]
-    spaces = [("A", ("append", "a", 0, b" "), ("STORED",))] * 6
-    counts = [("B", ("decr", "a", 0), ("NUMBER", 9))] * 6
-    return prefix + spaces + [("A", *never("a"))] + counts
+def alike_pads():
+    """Six spaces that A appends to a number, and six decrements of B by 0."""
+    prefix = [CLEARED, ("P", ("set", "a", 0, b"9"), STORED)]
+    spaces = 6 * [("A", ("append", "a", 0, b" "), STORED)]
+    return [*prefix, *spaces, NEVER, *(6 * [("B", ("decr", "a", 0), ("NUMBER", 9))])]
 
 
 class Kind:
-    """A kind of histories."""
+    """A kind of histories: how they are made from a generator of random numbers; whether all are
+    the same; whether a server gave all replies, or none could; and a limit of its own."""
 
     def __init__(self, name, make, one=False, honest=True, impossible=False, limit=None):
-        self.name = name
-        # makes a history from a generator of random numbers
-        self.make = make
-        # all histories of the kind are the same
-        self.one = one
-        # a server gave all replies, so there is an explanation
-        self.honest = honest
-        # there is none
-        self.impossible = impossible
-        # a limit in place of `--limit`, where a turn costs much
-        self.limit = limit
+        self.name, self.make, self.one, self.limit = name, make, one, limit
+        self.honest, self.impossible = honest, impossible
 
 
-def hopeless(name, make):
+def hopeless(name, history, limit=None):
     """One history that has no explanation."""
-    return Kind(name, make, one=True, honest=False, impossible=True)
+    return Kind(name, lambda _: history, one=True, honest=False, impossible=True, limit=limit)
 
 
 KINDS = [
-    Kind("start", no_request, one=True),
+    Kind("start", lambda _: [], one=True),
     Kind("job", job),
     Kind("random", random_24),
     Kind("changed", changed_24, honest=False),
     Kind("keys", keys_24),
     Kind("numbers", numbers_24),
-    Kind("misses-6", misses(6), one=True, honest=False, impossible=True),
-    Kind("misses-12", misses(12), one=True, honest=False, impossible=True),
-    Kind("bodies", bodies, one=True, honest=False, impossible=True, limit=10_000),
-    *(hopeless(f"stores-{count}", hopeless_stores(count)) for count in (8, 16, 24)),
-    hopeless("appends-6", hopeless_appends(7, 6)),
-    hopeless("appends-60000", hopeless_appends(7, 60_000)),
+    hopeless("misses-6", misses(6)),
+    hopeless("misses-12", misses(12)),
+    hopeless("bodies", bodies(), limit=10_000),
+    *(hopeless(f"stores-{count}", stores(count)) for count in (8, 16, 24)),
+    hopeless("appends-6", appends(6)),
+    hopeless("appends-60000", appends(60_000)),
     hopeless("alike-appends", alike("append")),
     hopeless("alike-prepends", alike("prepend")),
-    hopeless("alike-pairs", alike_pairs),
-    hopeless("alike-pads", alike_pads),
-    hopeless("grown-touched", grown(touched)),
-    hopeless("grown-appended", grown(appended)),
+    hopeless("alike-pairs", alike_pairs()),
+    hopeless("alike-pads", alike_pads()),
+    hopeless("grown-touched", grown(lambda _: (("touch", "a"), TOUCHED))),
+    hopeless("grown-appended", grown(lambda actor: (("append", "a", 0, actor.encode()), STORED))),
 ]

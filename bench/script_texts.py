@@ -1,23 +1,14 @@
-"""The texts that `bench/script` measures: scripts of each kind, and texts that are none, all of a size."""
+"""The texts that `bench/script` measures: scripts of each kind, and texts that are none."""
+
+import collections
 
 LETTERS = "abcdefghijklmnopqrstuvwxyz0123456789-"
-
-SCRIPT = "script"
-
-HEAD = """script 1
-keys a
-flags f
-vars v
-budget P 1 1
-budget A 1 1
-budget B 1 1
-"""
-
+HEAD = "script 1\nkeys a\nflags f\nvars v\nbudget P 1 1\nbudget A 1 1\nbudget B 1 1\n"
 # Steps whose requests have as many jumps as any may have, all to one label.
 STEPS = 64
 
-
-# ---- parts
+# A kind of texts: the text of a size, and what the parser says of it.
+Kind = collections.namedtuple("Kind", "name make answer", defaults=("script",))
 
 
 def with_sections(p="", a="", b=""):
@@ -28,13 +19,12 @@ def names():
     """All names, the shorter ones first."""
     shorter = [""]
     while True:
-        longer = [name + letter for name in shorter for letter in LETTERS]
-        yield from longer
-        shorter = longer
+        shorter = [name + letter for name in shorter for letter in LETTERS]
+        yield from shorter
 
 
 def short_labels(size):
-    """Lines of labels with the shortest names that there are, at most `size` bytes in all, and the last label."""
+    """Lines of labels with the shortest names, at most so many bytes in all, and the last label."""
     lines, last = [], ""
     for name in names():
         if size < len(name) + 2:
@@ -45,9 +35,9 @@ def short_labels(size):
 
 
 def long_labels(size):
-    """The same with names of 20 bytes that differ in the last of them alone, from the greatest to the least."""
+    """The same with names of 20 bytes that differ in the last of them, from the greatest down."""
     count = size // 22
-    return "".join(f"{count - i:020}:\n" for i in range(count)), f"{1:020}"
+    return "".join(f"{count - at:020}:\n" for at in range(count)), f"{1:020}"
 
 
 def uses_of(label):
@@ -55,25 +45,12 @@ def uses_of(label):
     return f"set a 0 = {jumps}\n" * STEPS
 
 
-def filled(text, size, piece):
-    """The text, and after it as many of the pieces as the size has room for."""
-    return text + piece * ((size - len(text.encode())) // len(piece))
+def filled(text, piece, tail=""):
+    """Texts of a size: the text, as many of the pieces as there is room for, and the tail."""
+    def make(size):
+        return text + piece * ((size - len(text + tail)) // len(piece)) + tail
 
-
-# ---- kinds
-
-
-class Kind:
-    """A kind of texts: the text of a size, and what the parser says of it."""
-
-    def __init__(self, name, make, answer=SCRIPT):
-        self.name = name
-        self.make = make
-        self.answer = answer
-
-
-def start(size):
-    return with_sections()
+    return make
 
 
 def labels(size):
@@ -87,19 +64,13 @@ def labels_in_each(size):
 
 def last_label(size, made=short_labels):
     # The uses stand above the labels, so their length is settled first: that of the last name.
-    room = size - len(with_sections(a=uses_of(made(size)[1])))
-    lines, last = made(room)
+    lines, last = made(size - len(with_sections(a=uses_of(made(size)[1]))))
     return with_sections(a=uses_of(last) + lines)
-
-
-def last_long_label(size):
-    return last_label(size, long_labels)
 
 
 def unknown_label(size):
     """As `last`, but the last jump of the last step names a label that isn't there."""
-    text = last_label(size)
-    begin, _, end = text.rpartition("notfound:")
+    begin, _, end = last_label(size).rpartition("notfound:")
     name, _, lines = end.partition("\n")
     return f"{begin}notfound:{name[:-1]}.\n{lines}"
 
@@ -114,63 +85,24 @@ def label_twice(size):
     return with_sections(a=lines + lines[lines.rindex("\n", 0, -1) + 1 :])
 
 
-def blank_lines(size):
-    return filled(with_sections(), size, "\n")
-
-
-def comments(size):
-    return filled(with_sections(), size, "#\n")
-
-
-def spaces(size):
-    return filled(with_sections(), size - 1, " ") + "\n"
-
-
-def one_word(size):
-    return filled("", size, "a")
-
-
-def key_word(size):
-    return filled("script 1\nkeys ", size, "a")
-
-
-def digits(size):
-    return filled(f"{HEAD}P\nincr a ", size, "0")
-
-
-def key_words(size):
-    return filled("script 1\nkeys", size, " a")
-
-
-def flag_marks(size):
-    return filled(f"{HEAD}P\nget a", size, " ?f")
-
-
-def jump_mark(size):
-    return with_sections(filled("get a hit:", size - len(with_sections()) - 1, ":") + "\n")
-
-
-def steps(size):
-    return filled(f"{HEAD}P\n", size, "halt\n")
-
-
 KINDS = [
-    Kind("start", start),
+    Kind("start", lambda _: with_sections()),
     Kind("labels", labels),
     Kind("labels-each", labels_in_each),
-    Kind("last", last_label),
-    Kind("last-long", last_long_label),
+    # read as scripts, which `asm` has no room for
+    Kind("last", last_label, "TooManyTemplates"),
+    Kind("last-long", lambda size: last_label(size, long_labels), "TooManyTemplates"),
     Kind("unknown", unknown_label, "UnknownLabel"),
     Kind("above", label_above, "BackwardLabel"),
     Kind("twice", label_twice, "Duplicate"),
-    Kind("blank", blank_lines),
-    Kind("comments", comments),
-    Kind("spaces", spaces),
-    Kind("word", one_word, "Header"),
-    Kind("key", key_word, "Name"),
-    Kind("digits", digits, "Number"),
-    Kind("keys", key_words, "Duplicate"),
-    Kind("flags", flag_marks, "Duplicate"),
-    Kind("jump", jump_mark, "UnknownLabel"),
-    Kind("steps", steps, "TooMany"),
+    Kind("blank", filled(with_sections(), "\n")),
+    Kind("comments", filled(with_sections(), "#\n")),
+    Kind("spaces", filled(with_sections(), " ", "\n")),
+    Kind("word", filled("", "a"), "Header"),
+    Kind("key", filled("script 1\nkeys ", "a"), "Name"),
+    Kind("digits", filled(f"{HEAD}P\nincr a ", "0"), "Number"),
+    Kind("keys", filled("script 1\nkeys", " a"), "Duplicate"),
+    Kind("flags", filled(f"{HEAD}P\nget a", " ?f"), "Duplicate"),
+    Kind("jump", filled(f"{HEAD}P\nget a hit:", ":", "\nA\nB\nend\n"), "UnknownLabel"),
+    Kind("steps", filled(f"{HEAD}P\n", "halt\n"), "TooMany"),
 ]

@@ -4,14 +4,16 @@
 usage: generate_scripts.py [--seed N] [--job N]
        generate_scripts.py --sum JOBS [--seed N]
 
-With --sum it prints a checksum of the texts of the jobs from 0 on, one after the other: FNV-1a of 64 bits, which a test of
-`crates/test_campaign` compares with that of the program's texts. It was written from these rules alone, and checks its outputs against
-those of PCG's C code.
+With --sum it prints a checksum of the texts of the jobs from 0 on, one after the other: FNV-1a of
+64 bits, which a test of `crates/test_campaign` compares with that of the program's texts. It was
+written from these rules alone, and checks its outputs against those of PCG's C code.
 
-The outputs are those of PCG XSH RR 64/32 from the seed, on the sequence with the job's number; draw(n) is the next one modulo n. The
-keys are `r<job>-0` and `r<job>-1`, the flag is `f`, the variable `v`, and each section may send 24 requests and 8192 bytes. P sets key
-0 to draw(100), with `+f`; and where draw(2) is 1, it sets key 1 to draw(100). A has 1 + draw(3) pieces, and then B. For each piece, of
-which the first has the index 0, its row is draw(8), then its key is draw(2), and then its argument is drawn:
+The outputs are those of PCG XSH RR 64/32 from the seed, on the sequence with the job's number;
+draw(n) is the next one modulo n. The keys are `r<job>-0` and `r<job>-1`, the flag is `f`, the
+variable `v`, and each section may send 24 requests and 8192 bytes. P sets key 0 to draw(100), with
+`+f`; and where draw(2) is 1, it sets key 1 to draw(100). A has 1 + draw(3) pieces, and then B. For
+each piece, of which the first has the index 0, its row is draw(8), then its key is draw(2), and
+then its argument is drawn:
 
     0, 1    `set`, `add` KEY 0 =draw(100)
     2       `append` KEY 0 =draw(10)
@@ -67,9 +69,7 @@ def script(seed, job):
     """The text of a job's script."""
     pcg = Pcg(seed, job)
 
-    def key_of(index):
-        return f"r{job}-{index}"
-
+    key_of = f"r{job}-{{}}".format
     lines = ["script 1", f"keys {key_of(0)} {key_of(1)}", "flags f", "vars v"]
     lines += [f"budget {section} 24 8192" for section in "PAB"]
     lines += ["P", f"set {key_of(0)} 0 ={pcg.draw(100)} +f"]
@@ -90,7 +90,8 @@ def checksum(data):
 
 
 def main():
-    parser = argparse.ArgumentParser(description=__doc__, formatter_class=argparse.RawDescriptionHelpFormatter)
+    form = argparse.RawDescriptionHelpFormatter
+    parser = argparse.ArgumentParser(description=__doc__, formatter_class=form)
     parser.add_argument("--seed", type=int, default=1)
     parser.add_argument("--job", type=int, default=0)
     parser.add_argument("--sum", type=int, metavar="JOBS")
@@ -100,7 +101,8 @@ def main():
     if options.sum is None:
         print(script(options.seed, options.job), end="")
     else:
-        print(hex(checksum("".join(script(options.seed, job) for job in range(options.sum)).encode())))
+        texts = "".join(script(options.seed, job) for job in range(options.sum))
+        print(hex(checksum(texts.encode())))
 
 
 if __name__ == "__main__":

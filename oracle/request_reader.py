@@ -1,6 +1,6 @@
-"""A reader of requests as memcached's protocol.txt has them, and as this project settles what it leaves open (docs/DECISIONS.md).
-
-It reads a stream that lies there whole, line by line, and shares no code with the program.
+"""A reader of requests as memcached's protocol.txt has them, and as this project settles what it
+leaves open (docs/DECISIONS.md). It reads a stream that lies there whole, line by line, and shares
+no code with the program.
 """
 
 LINE_LIMIT = 2048
@@ -36,7 +36,8 @@ def spelled(data):
 
 def one(verb, key, silent, flags=0, value=0, body=b""):
     """The line of one request."""
-    return verb + spelled(key) + b" %d %d" % (flags, value) + spelled(body) + (b" silent" if silent else b" answered")
+    end = b" silent" if silent else b" answered"
+    return verb + spelled(key) + b" %d %d" % (flags, value) + spelled(body) + end
 
 
 def storage(words, stream, start):
@@ -114,7 +115,7 @@ def of_line(words, stream, start):
 
 
 def asks(stream):
-    """A line for each thing that is asked of the stream, with the place in the stream where it ends."""
+    """A line for each thing that is asked of the stream, with the place in it where it ends."""
     at = 0
     while at < len(stream):
         feed = stream.find(b"\n", at, at + LINE_LIMIT)

@@ -1,14 +1,19 @@
 #!/usr/bin/env python3
-"""Walks each run that stands in the cases and in the examples as what a refusal shows: it must show the fault.
+"""Compares each refusal of code that stands in the cases, the examples and the tests of mc_verify
+with what a second verifier says.
 
 usage: shown_cases.py PROGRAM
 
-The program only assembles the scripts. Of the cases in `cases/check/forced-runs.cases` it is also looked at that there is no other run:
-but for replies of one sort, which lead to the same place and show the same, just one shows the fault. It prints each case that is wrong,
-and last `N passed, M failed`.
+The program only assembles the scripts. A run that a refusal shows must show the fault; a fault of
+structure, which no run shows, must be the first that there is (`verifier.py`). Of the cases in
+`cases/check/forced-runs.cases` it is also looked at that there is no other run: but for replies of
+one sort, which lead to the same place and show the same, just one shows the fault. It prints each
+refusal that is wrong, and last `N passed, M failed`.
 """
 
+import ast
 import pathlib
+import re
 import subprocess
 import sys
 
@@ -19,24 +24,51 @@ ROOT = pathlib.Path(__file__).resolve().parents[1]
 sys.path.append(str(ROOT / "tools"))
 
 import cases
-from codes import SECTIONS, code_of
+from model import SECTIONS, code_of
 from shown_runs import run_in, runs_apart, shows
-from verify_walks import NAMES
+from verifier import NAMES, OF_STRUCTURE, structure_faults
 
 FORCED = "cases/check/forced-runs.cases"
-# The kinds of faults that no run shows.
-OF_STRUCTURE = 4
+# What the tests of mc_verify have: images of sound code, and rows of what is changed of the one
+# above and what that is refused for.
+TESTS = ROOT / "crates/test_verify/src"
+BYTES = r'b"((?:[^"\\]|\\.)*)"'
+STATIC = re.compile(rf"static \w+: &\[u8\] =\s*{BYTES};|static \w+: &\[Row\] = &\[\n(.*?)^\];",
+                    re.S | re.M)
+ROW = re.compile(r"\(\s*&\[(.*?)\],\s*(\w+),\s*([PAB]),\s*(\d+),?\s*\)", re.S)
+EDIT = re.compile(rf"\(\s*(\d+),\s*(\d+),\s*{BYTES},?\s*\)", re.S)
+
+
+def literal(text):
+    """The bytes of a literal, of which a line may be continued on the next."""
+    return ast.literal_eval('b"' + re.sub(r"\\\n\s*", "", text) + '"')
+
+
+def rows():
+    """Each image of the tests with a fault of structure, with its refusal, and where it stands."""
+    for path in sorted(TESTS.glob("*_tables.rt")):
+        image = b""
+        for data, body in STATIC.findall(path.read_text(encoding="utf-8")):
+            image = literal(data) if data else image
+            for edits, kind, section, place in ROW.findall(body):
+                changed = image
+                for start, end, new in reversed(EDIT.findall(edits)):
+                    changed = changed[: int(start)] + literal(new) + changed[int(end) :]
+                number = NAMES.index(kind) + 1
+                refusal = f"refused verify {number} {kind} {section} {place}\n"
+                yield f"{path.name}: {edits}", changed, refusal
 
 
 def expected_answers():
-    """Each input that `check`, `drive` or `run` is given, with what must be printed, and where that stands."""
+    """Each input that is refused, with what must be printed, and where that stands."""
     for path in sorted((ROOT / "cases").rglob("*.cases")):
         for it in cases.cases_in(path):
             if it.words and it.words[0] in ("check", "drive", "run"):
                 yield it.name, it.input, it.output.decode(errors="replace")
     for path in sorted((ROOT / "examples").glob("*.script")):
-        printed, _, _ = path.with_suffix(".checked").read_text(encoding="utf-8").rpartition("exit status")
-        yield str(path.relative_to(ROOT)), path.read_bytes(), printed
+        checked = path.with_suffix(".checked").read_text(encoding="utf-8")
+        yield path.name, path.read_bytes(), checked.rpartition("exit status")[0]
+    yield from rows()
 
 
 def image_in(program, given):
@@ -49,21 +81,24 @@ def image_in(program, given):
     return subprocess.run([program, "asm"], input=script, capture_output=True, check=True).stdout
 
 
-def odd_run(program, name, given, printed):
-    """What is wrong with the run of this answer; None where it shows the fault."""
+def odd_refusal(program, name, given, printed):
+    """What is wrong with this refusal; None where it is right."""
     # After the run stands what `--why` says of it.
     first, *rest = printed.removesuffix("\n").split("\n")
     if "end" in rest:
         rest = rest[: rest.index("end") + 1]
     _, _, kind, word, section, place = first.split(" ")
     fault = int(kind), SECTIONS.index(section), int(place)
+    code = code_of(image_in(program, given))
     if word != NAMES[fault[0] - 1] or not printed.endswith("\n"):
         return f"no refusal: {first}"
+    of_structure = min(structure_faults(code), default=None)
     if fault[0] <= OF_STRUCTURE:
-        return f"lines after {first}" if rest else None
-    run, code = run_in(rest), code_of(image_in(program, given))
-    if run is None or not shows(code, fault, run):
-        return f"{rest} doesn't show {first}"
+        is_first = of_structure == fault and not rest
+        return None if is_first else f"{first} and {rest}, where {of_structure} is the first fault"
+    run = run_in(rest)
+    if of_structure or run is None or not shows(code, fault, run):
+        return f"{rest} doesn't show {first}, or {of_structure} is before it"
     others = list(runs_apart(code, fault)) if name.startswith(FORCED) else [run]
     return None if len(others) == 1 else f"{len(others)} runs show {first}: {others}"
 
@@ -72,7 +107,7 @@ def main():
     passed = failed = 0
     for name, given, printed in expected_answers():
         if printed.startswith("refused verify "):
-            fault = odd_run(sys.argv[1], name, given, printed)
+            fault = odd_refusal(sys.argv[1], name, given, printed)
             passed, failed = passed + (fault is None), failed + (fault is not None)
             if fault:
                 print(f"failed: {name}: {fault}")

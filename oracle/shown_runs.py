@@ -1,12 +1,13 @@
-"""Whether a run shows the fault that code is refused for: the second verifier's half of what a refusal shows.
+"""Whether a run shows the fault that code is refused for.
 
-A run is a list of calls, each the section that makes it and the class of its reply. It is walked by the code, call by call, from P's
-first instruction on; what stands at its end is what the fault says, or it isn't.
+A run is a list of calls, each the section that makes it and the class of its reply. It is walked
+by the code, call by call, from P's first instruction on; what stands at its end is what the fault
+says, or it isn't.
 """
 
 import itertools
 
-from codes import CLASSES, SECTIONS, Bind, Goto, Send, legal, text_of
+from model import CLASSES, SECTIONS, Bind, Goto, Send, legal, request_text
 
 FLAG_MAY_BE_CLEAR, FLAG_MAY_BE_SET = 8, 9
 
@@ -21,7 +22,8 @@ class Walk:
         self.go_to(0)
 
     def go_to(self, place):
-        """Goes from the place to the next request or halt, over binds; those that find no number are kept until the next reply."""
+        """Goes from the place to the next request or halt, over binds; those that find no number
+        are kept until the next reply."""
         self.unfound = []
         while isinstance(it := self.instructions[place], (Goto, Bind)):
             if isinstance(it, Bind) and self.last is None:
@@ -42,7 +44,7 @@ class Walk:
         if template is None or name not in legal(template.verb):
             return False
         self.requests += 1
-        self.size += len(text_of(self.code, template))
+        self.size += len(request_text(self.code, template))
         self.last = shown_by(template, name)
         self.go_to(self.entry(name))
         return True
@@ -52,7 +54,8 @@ class Walk:
         return self.instructions[self.place].next[CLASSES.index(name)]
 
     def replies(self):
-        """One reply of each sort that the next request may have; those that lead to one place and show the same are one sort."""
+        """One reply of each sort that the next request may have; those that lead to one place and
+        show the same are one sort."""
         template = self.request()
         names = [] if template is None else legal(template.verb)
         sorts = {(self.entry(name), shown_by(template, name)): name for name in reversed(names)}
@@ -61,15 +64,18 @@ class Walk:
 
 def shown_by(template, name):
     """The kind of number that a reply to the template's request shows."""
-    return "value" if name == "number" else ("cas", template.key) if (template.verb, name) == ("gets", "hit") else None
+    if name == "number":
+        return "value"
+    return ("cas", template.key) if (template.verb, name) == ("gets", "hit") else None
 
 
 def shows(code, fault, run):
-    """Whether the run shows the fault, of one of the kinds 5 to 11, of code that has none of the kinds 1 to 4."""
+    """Whether the run shows the fault, of a kind from 5 to 11, of code without those of 1 to 4."""
     kind, actor, place = fault
     of_p = list(itertools.takewhile(lambda call: call[0] == 0, run))
     rest = run[len(of_p) :]
-    may_go = [] if actor == 0 else [1, 2] if kind in (FLAG_MAY_BE_CLEAR, FLAG_MAY_BE_SET) else [actor]
+    of_branches = [1, 2] if kind in (FLAG_MAY_BE_CLEAR, FLAG_MAY_BE_SET) else [actor]
+    may_go = of_branches if actor else []
     if any(section not in may_go for section, _ in rest):
         return False
     walks = {0: Walk(code, 0, [None] * code.vars)}
@@ -105,16 +111,19 @@ def stands(code, fault, walk, flags):
     if kind in (5, 6):
         has = None if template.variable is None else walk.kinds[template.variable]
         wants = ("cas", template.key) if template.verb == "cas" else "value"
-        return template.variable is not None and (has is None if kind == 5 else has not in (None, wants))
-    if kind in (FLAG_MAY_BE_CLEAR, FLAG_MAY_BE_SET):
-        return bool(template.require_set & ~flags if kind == FLAG_MAY_BE_CLEAR else template.require_clear & flags)
-    cost = walk.requests + 1 if kind == 10 else walk.size + len(text_of(code, template))
+        is_so = has is None if kind == 5 else has not in (None, wants)
+        return template.variable is not None and is_so
+    if kind == FLAG_MAY_BE_CLEAR:
+        return bool(template.require_set & ~flags)
+    if kind == FLAG_MAY_BE_SET:
+        return bool(template.require_clear & flags)
+    cost = walk.requests + 1 if kind == 10 else walk.size + len(request_text(code, template))
     return cost > code.budgets[actor][kind - 10]
 
 
 def runs_apart(code, fault, run=()):
-    """The runs that begin with this one and show the fault, each once for all replies of one sort. For small code alone: it goes
-    through every path and every merge."""
+    """The runs that begin with this one and show the fault, each once for all replies of one sort.
+    For small code alone: it goes through every path and every merge."""
     if shows(code, fault, list(run)):
         yield run
     of_p = [call for call in run if call[0] == 0]
@@ -129,7 +138,7 @@ def runs_apart(code, fault, run=()):
 
 
 def run_in(lines):
-    """The run that these lines of an answer tell, from the one after the refusal to `end`; None where they tell none."""
+    """The run that these lines tell, from the one after the refusal to `end`; None if none."""
     if lines[-1:] != ["end"]:
         return None
     calls = [line.split(" ") for line in lines[:-1]]

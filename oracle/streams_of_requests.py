@@ -1,16 +1,20 @@
 """Streams of requests at random, many of them spoiled."""
 
-VERBS = (b"set", b"add", b"replace", b"append", b"prepend", b"cas", b"get", b"gets", b"incr", b"decr", b"delete", b"touch")
+from model import VERBS
+
+VERBS = [it.encode() for it in VERBS]
 OTHERS = (b"quit", b"version", b"SET", b"setx", b"", b"gat", b"\x00")
 NUMBERS = (b"0", b"1", b"7", b"00012", b"65535", b"4294967295")
-ODD_NUMBERS = (b"-0", b"-1", b"4294967296", b"18446744073709551615", b"18446744073709551616", b"1x", b"+1")
+ODD_NUMBERS = (b"-0", b"-1", b"4294967296", b"18446744073709551615", b"18446744073709551616",
+               b"1x", b"+1")
 TIMES = (b"0",) * 15 + (b"-0", b"00", b"60", b"-1", b"x")
 SIZES = (0, 0, 1, 2, 3, 5, 20, 100)
 LARGE = (2_000, 65_535, 65_536, 65_537)
-# More bytes than a line may announce, and as many as it may: these take all that is left of a stream.
+# More bytes than a line may announce, and as many as it may: these take all that is left.
 TOO_MANY = (b"2147483648", b"4294967296")
 ENDLESS = (b"2147483647", b"0002147483647")
-PARTS = (b"\r", b"\n", b"\r\n", b" ", b"  ", b"0", b"noreply", b"\x00", b"\x7f", b"\xff", b"get ", b"quit\r\n", b"-")
+PARTS = (b"\r", b"\n", b"\r\n", b" ", b"  ", b"0", b"noreply", b"\x00", b"\x7f", b"\xff", b"get ",
+         b"quit\r\n", b"-")
 
 
 def key(draw):
@@ -30,14 +34,17 @@ def line(draw):
     block = None
     if verb in VERBS[:6]:
         size = draw.choice(SIZES if draw.random() < 0.998 else LARGE)
-        block = (draw.randbytes(size) if draw.random() < 0.2 else bytes(draw.choices(b"abc \x80\xff", k=size))) + b"\r\n"
+        is_any = draw.random() < 0.2
+        block = draw.randbytes(size) if is_any else bytes(draw.choices(b"abc \x80\xff", k=size))
+        block += b"\r\n"
         words = [verb, key(draw), number(draw), draw.choice(TIMES), b"%d" % size]
         if draw.random() < 0.01:
             words[4] = draw.choice(TOO_MANY if draw.random() < 0.97 else ENDLESS)
         if verb == b"cas":
             words.append(number(draw))
     elif verb in (b"get", b"gets"):
-        words = [verb] + [key(draw) for _ in range(draw.choice((0, 1, 1, 1, 2, 3) if draw.random() < 0.97 else (40,)))]
+        counts = (0, 1, 1, 1, 2, 3) if draw.random() < 0.97 else (40,)
+        words = [verb] + [key(draw) for _ in range(draw.choice(counts))]
     elif verb == b"delete":
         words = [verb, key(draw)] + draw.choice(([], [], [b"0"], [b"00"], [b"60"]))
     elif verb == b"touch":
@@ -71,7 +78,8 @@ def spoiled(draw, text):
 
 
 def stream(draw, size):
-    """At least so many bytes of requests, some of them spoiled, and now and then a line that is too long."""
+    """At least so many bytes of requests, some of them spoiled, and now and then a line that is too
+    long."""
     texts, length = [], 0
     while length < size:
         text = request(draw)

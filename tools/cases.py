@@ -1,7 +1,10 @@
 """Cases as data: what the program is given, and what it must answer. cases/README.md has the form.
 
-A file of cases is read whole before any of its cases runs, and a line that the form doesn't have is a fault of the file.
+A file of cases is read whole before any of its cases runs, and a line that the form doesn't have is
+a fault of the file.
 """
+
+from __future__ import annotations
 
 import pathlib
 import re
@@ -10,7 +13,8 @@ from dataclasses import dataclass, field
 
 ROOT = pathlib.Path(__file__).resolve().parents[1]
 
-# How a line of input or output begins: `-` for no LF at its end, `x` for hexadecimal, `*N` for N times.
+# How a line of input or output begins: `-` for no LF at its end, `x` for hexadecimal, `*N` for N
+# times.
 BYTES = re.compile(r"([<>])(-|x)?(?:\*(\d+))?(?: (.*))?\Z", re.S)
 
 # The most bytes of an input of which each front is read.
@@ -44,7 +48,8 @@ class Case:
     output: bytes
     # Texts that stand in the output, where it isn't compared whole.
     parts: list
-    # The first line of standard error, empty where it may be any; or None, where nothing is written there.
+    # The first line of standard error, empty where it may be any; or None, where nothing is written
+    # there.
     faults: str | None
     # Texts that stand in standard error.
     told: list
@@ -101,7 +106,7 @@ def case_of(name, own, frame, where):
     status = frame.status if own.status is None else own.status
     output = frame.output if own.output is None else own.output
     if words is None or status is None:
-        raise BadFile(f"{where}: a case needs a line `$` and a line `=`, of its own or of its frame")
+        raise BadFile(f"{where}: a case or its frame needs a line `$` and a line `=`")
     given = b"".join([*frame.before, *own.before, *(frame.after or [])])
     faults = frame.faults if own.faults is None else own.faults
     parts, fails = [*frame.parts, *own.parts], frame.fails | own.fails
@@ -109,10 +114,11 @@ def case_of(name, own, frame, where):
     if told and faults is None:
         raise BadFile(f"{where}: a case with lines `!~` has a line `!` too")
     if parts and (output is not None or fails):
-        raise BadFile(f"{where}: a case with lines `~` has no line of output, and no line `<!` or `>!`")
+        raise BadFile(f"{where}: a case with lines `~` has no line of output, `<!` or `>!`")
     if fails and len(given) > MOST_FAILING:
-        raise BadFile(f"{where}: a case with a line `<!` or `>!` has at most {MOST_FAILING} bytes of input")
-    return Case(name, words, given, b"".join(output or []), parts, faults, told, status, "<!" in fails, ">!" in fails)
+        raise BadFile(f"{where}: with `<!` or `>!` an input has at most {MOST_FAILING} bytes")
+    return Case(name, words, given, b"".join(output or []), parts, faults, told, status,
+                "<!" in fails, ">!" in fails)
 
 
 def cases_in(path):

@@ -3,8 +3,9 @@
 # Patterns such as !(NAME) are read only after this.
 shopt -s extglob
 
-# Prints one hash, SHA-256 in hexadecimal, of all that the program is built from: crates.txt, and the sources, definitions
-# and proofs of each crate that is no crate of tests, by their names and texts. $1 is the top of the repository.
+# Prints one hash, SHA-256 in hexadecimal, of all that the program is built from: crates.txt, and
+# the sources, definitions and proofs of each crate that is no crate of tests, by their names and
+# texts. $1 is the top of the repository.
 source_hash() (
     cd "$1" || exit 1
     LC_ALL=C
@@ -15,14 +16,16 @@ source_hash() (
     }
 )
 
-# Prints the same hash. It is remembered in the folder in which the program is built, and as long as no file or folder of the crates has
-# changed since, by the times that the system keeps and nobody can set, nothing is read again. So a run of ./mcrace waits for one process.
-# What changed in the second before is taken for changed, since times are not exact.
+# Prints the same hash. It is remembered in the folder in which the program is built, and as long as
+# no file or folder of the crates has changed since, by the times that the system keeps and nobody
+# can set, nothing is read again. So a run of ./mcrace waits for one process. What changed in the
+# second before is taken for changed, since times are not exact.
 hash_at_hand() (
     cd "$1" || exit 1
     known=crates/mcrace/out/known-sources
     if { read -r hash <"$known"; } 2>/dev/null &&
-        [ -z "$(find crates.txt crates '(' -name out -o -name wrong-bodies ')' -prune -o -cnewer "$known" -print -quit)" ]; then
+        [ -z "$(find crates.txt crates '(' -name out -o -name wrong-bodies ')' -prune \
+            -o -cnewer "$known" -print -quit)" ]; then
         echo "$hash"
         exit
     fi
@@ -30,11 +33,13 @@ hash_at_hand() (
     hash=$(source_hash .)
     echo "$hash"
     {
-        mkdir -p "${known%/*}" && echo "$hash" >"$known.$$" && touch --date="$before" "$known.$$" && mv "$known.$$" "$known"
+        mkdir -p "${known%/*}" && echo "$hash" >"$known.$$" &&
+            touch --date="$before" "$known.$$" && mv "$known.$$" "$known"
     } 2>/dev/null
 )
 
-# Prints a crate and all crates of this repository below it. $1 is the top of the repository, $2 the crate.
+# Prints a crate and all crates of this repository below it. $1 is the top of the repository, $2 the
+# crate.
 crates_below() {
     awk -F: -v wanted="$2" '
         /^[a-z]/ { split($1, name, " "); below[name[1]] = $2 }

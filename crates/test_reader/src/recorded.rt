@@ -1,4 +1,4 @@
-//! What a real memcached answered: `oracle/ask-memcached/replies.py` records it and says which requests were sent, in the same
+//! What a real memcached answered: `oracle/ask-memcached/ask.py` records it and says which requests were sent, in the same
 //! order; a reply that a verb had before is left out. What each text says was written by hand from `protocol.txt`.
 use crate::wanted::{Row, Wanted};
 use mc_protocol::Verb;

@@ -1,4 +1,4 @@
-//! The same of sound code with as many keys, or as many instructions, as there may be. `oracle/verify_images.py` writes this file.
+//! The same of sound code with as many keys, or as many instructions, as there may be. `oracle/shown_cases.py` compares it.
 
 use crate::row::Row;
 use mc_protocol::Actor::*;

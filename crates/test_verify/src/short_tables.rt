@@ -1,4 +1,4 @@
-//! Sound code with a few instructions, what is changed of it, and what it is refused for then. `oracle/verify_images.py` writes this file.
+//! Sound code with a few instructions, what is changed of it, and what it is refused for then. `oracle/shown_cases.py` compares it.
 
 use crate::row::Row;
 use mc_protocol::Actor::*;

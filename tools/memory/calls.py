@@ -1,0 +1,87 @@
+"""The public calls of the libraries, and the list of those whose answer can say want of memory.
+
+It goes by the layout that `rt fmt` gives: an item begins and ends at its own indent.
+"""
+
+import re
+
+FILE = "tools/memory/calls.txt"
+# What the program does, and the line that it reads: refused on each case and example.
+PROGRAM = {"mc_command", "mc_line"}
+# The words of answers that say it: of std, of what ended a connection, and a count in which threads
+# are that weren't made.
+WORDS = {"OutOfMemory", "AllocError", "Memory", "Listened"}
+DECLARED = re.compile(r"^pub (?:enum|struct) (\w+)[^;{]*\{(.*?)^\}", re.S | re.M)
+ALIAS = re.compile(r"^pub type (\w+)[^=]*= ([^;]*);", re.M)
+BLOCK = re.compile(r"^(impl|pub trait)\b([^{]*)\{\n(.*?)^\}", re.S | re.M)
+FUNCTION = re.compile(r"^pub (?:const |unsafe )*fn (\w+)(.*?)(?:^\{$|\{$|(\{\}))", re.S | re.M)
+METHOD = re.compile(r"^    (pub )?(?:const |unsafe )*fn (\w+)(.*?)(?:^    \{$|;$|(\{\}|\{)$)",
+                    re.S | re.M)
+ANSWER = re.compile(r"->\s*(.*?)(?:\b(?:where|ensures|requires)\b|\{|;|\Z)", re.S)
+
+
+def libraries(root):
+    """The folders of the libraries below the program's own two."""
+    found = sorted(it.parents[1] for it in root.glob("crates/*/src/lib.rt"))
+    return [it for it in found if it.name not in PROGRAM and not it.name.startswith("test_")]
+
+
+def types_that_say_so(texts):
+    """The types that have want of memory among their values, and those with such a type in them."""
+    declared = {}
+    for name, body in (it for text in texts for it in DECLARED.findall(text) + ALIAS.findall(text)):
+        declared[name] = set(re.findall(r"\b[A-Z]\w+", re.sub(r"//.*", "", body)))
+    found, size = set(WORDS), 0
+    while len(found) > size:
+        size = len(found)
+        found |= {name for name, words in declared.items() if words & found}
+    return found
+
+
+def public_calls(folder):
+    """What a library offers, and what its public traits ask for: names, and texts up to the body.
+    Laws, whose bodies are empty, are left out."""
+    root = (folder / "src/lib.rt").read_text(encoding="utf-8")
+    used = re.findall(r"^pub use ([^;]*);", root, re.M)
+    names = {it for text in used for it in re.findall(r"(\w+)(?=\s*(?:[,}]|\Z))", text)}
+    for path in sorted(folder.glob("src/**/*.rt")):
+        text = path.read_text(encoding="utf-8")
+        is_public = path.stem == "lib" or f"\npub mod {path.stem};" in root
+        for name, rest, is_law in FUNCTION.findall(text):
+            if (name in names or is_public) and not is_law:
+                yield name, rest
+        for kind, head, body in BLOCK.findall(text):
+            owner = re.match(r"(?:<.*?>)?\s*(\w+)", head)[1]
+            if " for " in head or owner not in names and not (is_public and kind == "impl"):
+                continue
+            for public, name, rest, end in METHOD.findall(body):
+                if kind == "pub trait" or public and end != "{}":
+                    yield f"{owner}::{name}", rest
+
+
+def calls(root):
+    """The public calls whose answer can say want of memory, by crate and name."""
+    folders = libraries(root)
+    types = types_that_say_so(it.read_text(encoding="utf-8")
+                              for folder in folders for it in folder.glob("src/*.rt"))
+    return {f"{folder.name}::{name}" for folder in folders for name, text in public_calls(folder)
+            if (answer := ANSWER.search(text)) and types & set(re.findall(r"\w+", answer[1]))}
+
+
+def listed(root):
+    """Each call of the list with its test, or with None if it takes no memory."""
+    found = []
+    for line in (root / FILE).read_text(encoding="utf-8").splitlines():
+        if line.strip() and not line.startswith("#"):
+            test, _, names = line.rpartition(": ")
+            found += [(it, None if test.startswith("none, ") else test) for it in names.split()]
+    return found
+
+
+def faults(root):
+    """What is wrong with the list: a call that it lacks, or one that is no such call."""
+    wanted, found = calls(root), {call for call, _ in listed(root)}
+    lacking = [f"{FILE} lacks {it}, whose answer can say want of memory"
+               for it in sorted(wanted - found)]
+    return lacking + [f"{FILE} has {it}, which is no public function whose answer can say it"
+                      for it in sorted(found - wanted)]
