@@ -13,6 +13,7 @@ import subprocess
 import sys
 import threading
 import time
+import unittest
 from dataclasses import dataclass
 
 from .program import PROGRAM, ROOT, SECONDS
@@ -68,6 +69,14 @@ def memcached():
         return None
     words = [program, "-t", "1", "-u", "nobody", "-l", "127.0.0.1", "-p", str(port)]
     return started(words, port)
+
+
+def need_memcached():
+    """The same; the test is skipped if there is none."""
+    server = memcached()
+    if server is None:
+        raise unittest.SkipTest("memcached is not installed; on Debian: apt-get install memcached")
+    return server
 
 
 def losing_updates(*seconds):

@@ -1,0 +1,128 @@
+"""The program at a terminal: what it says before it reads what is typed there, and how far it is."""
+
+import contextlib
+import os
+import pty
+import subprocess
+
+from . import servers
+from .program import COUNTER, PROGRAM, SECONDS, LiveTest
+
+# Ctrl-D on a line of its own.
+END = b"\x04"
+
+NOBODY = "127.0.0.1:1"
+HISTORY = b"history 2\nP begin delete a\nP reply NOT_FOUND\nend\n"
+UNREACHED = "mcrace: 127.0.0.1:1: Connection refused (os error 111)\n"
+
+# A command line, what is typed, what the output begins with, what is said to be read, what else is
+# told, and the status.
+TYPED = [
+    ("judge", HISTORY, b"explained\nP 0\nend\n", "a history", "", 0),
+    ("judge --limit 5", b"", b"refused history 1 Header line 1\n", "a history", "", 3),
+    ("check", COUNTER, b"accepted\nP 2 26\n", "a script or an image", "", 0),
+    ("asm", COUNTER, b"MCR1", "a script", "", 0),
+    ("drive", COUNTER + b"steps\nend\n", b"skipped 0\nP running\n", "a script", "", 4),
+    (f"run {NOBODY}", COUNTER, b"no connection P\n", "a script", UNREACHED, 4),
+    (f"run {NOBODY} --name ci7", b"", b"refused script 1 Header line 1\n", "a script", "", 3),
+]
+
+# Command lines that read nothing, with the statuses of theirs.
+UNREAD = [("--version", 0), ("judge --help", 0), ("generate", 0), ("serve 0 --connections 0", 0)]
+
+# Command lines with a fault, after which nothing is read.
+FAULTY = ["", "judge x", "run", f"run {NOBODY} --timeout 0", f"rnu {NOBODY}"]
+
+
+class Typed(LiveTest):
+    """Standard error says what is read, and nothing if nothing is or if it isn't typed."""
+
+    def type(self, line, text=b""):
+        """The output, standard error and the status if the text is typed, with its end."""
+        ours, theirs = pty.openpty()
+        streams = {"stdout": subprocess.PIPE, "stderr": subprocess.PIPE}
+        try:
+            with subprocess.Popen([PROGRAM, *line.split()], stdin=theirs, **streams) as process:
+                os.close(theirs)
+                os.write(ours, text + END)
+                output, faults = process.communicate(timeout=SECONDS)
+                return output, faults.decode(), process.returncode
+        finally:
+            os.close(ours)
+
+    def test_typed(self):
+        for line, text, begin, what, told, status in TYPED:
+            with self.subTest(line):
+                output, faults, ended = self.type(line, text)
+                told = f"mcrace: reading {what} from the terminal; Ctrl-D ends it\n{told}"
+                self.assertEqual((output[: len(begin)], faults, ended), (begin, told, status))
+
+    def test_terminal_for_the_output_alone(self):
+        for line, text, _, _, told, status in TYPED:
+            with self.subTest(line):
+                ours, theirs = pty.openpty()
+                words = [PROGRAM, *line.split()]
+                streams = {"stdout": theirs, "stderr": subprocess.PIPE}
+                ran = subprocess.run(words, input=text, timeout=SECONDS, **streams)
+                os.close(ours)
+                os.close(theirs)
+                self.assertEqual((ran.stderr.decode(), ran.returncode), (told, status))
+
+    def test_nothing_is_read(self):
+        for line, status in UNREAD:
+            with self.subTest(line):
+                _, *found = self.type(line)
+                self.assertEqual(found, ["", status])
+
+    def test_faulty_lines(self):
+        for line in FAULTY:
+            with self.subTest(line):
+                output, faults, status = self.type(line)
+                self.assertEqual((output, status), (b"", 2))
+                self.assertTrue(faults)
+                self.assertNotIn("reading", faults)
+
+
+class Progress(LiveTest):
+    """How far a campaign is, is told in one line, if standard error is a terminal that can."""
+
+    def told(self, *more, **environment):
+        """What is said of 2,000 jobs, with line ends as they were written."""
+        ours, theirs = pty.openpty()
+        known = {it: os.environ[it] for it in os.environ if it not in ("TERM", "COLUMNS")}
+        words = [PROGRAM, "campaign", f"127.0.0.1:{self.port}", "--jobs", "2000", *more]
+        streams = {"stdin": subprocess.DEVNULL, "stdout": subprocess.PIPE, "stderr": theirs}
+        told = b""
+        with subprocess.Popen(words, env={**known, **environment}, **streams) as process:
+            os.close(theirs)
+            # The other end of a terminal is gone with whoever had it.
+            with contextlib.suppress(OSError):
+                while piece := os.read(ours, 4096):
+                    told += piece
+            process.stdout.read()
+        os.close(ours)
+        told = told.decode().replace("\r\n", "\n")
+        begin = "mcrace: seed 1, jobs 0 to 1999, 4 workers\n"
+        self.assertEqual(told[: len(begin)], begin)
+        return told[len(begin) :]
+
+    def setUp(self):
+        self.port = self.enter(servers.serving())[1]
+
+    def test_wide(self):
+        first, *lines, last = self.told().split("\r\x1b[K")
+        self.assertEqual((first, last), ("", ""))
+        self.assertTrue(lines)
+        for line in lines:
+            form = r"^\d+ of 2000 jobs, \d+ a second, 0 unexplained, \d+ s left$"
+            self.assertRegex(line, form)
+
+    def test_narrow(self):
+        for line in self.told(COLUMNS="20").split("\r\x1b[K"):
+            self.assertLessEqual(len(line), 20)
+
+    def test_quiet(self):
+        self.assertEqual(self.told("--quiet"), "")
+
+    def test_dumb(self):
+        self.assertEqual(self.told(TERM="dumb"), "")
