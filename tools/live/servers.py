@@ -259,3 +259,47 @@ class Replying(Talking):
         with contextlib.suppress(OSError):
             for talk in itertools.cycle(self.talks):
                 self.begin(self.accept(), talk)
+
+
+class Carrying:
+    """A proxy before the server on a port. It carries between clients and the server, and makes no
+    fault."""
+
+    def __init__(self, port):
+        self.behind, self.count = port, 0
+        self.listener = socket.create_server(("127.0.0.1", 0))
+        self.port = self.listener.getsockname()[1]
+        threading.Thread(target=self.accept, daemon=True).start()
+
+    def accept(self):
+        with contextlib.suppress(OSError):
+            while True:
+                client, _ = self.listener.accept()
+                self.count += 1
+                self.begin()
+                server = socket.create_connection(("127.0.0.1", self.behind))
+                for way in ((client, server, self.request), (server, client, self.reply)):
+                    threading.Thread(target=self.carry, args=way, daemon=True).start()
+
+    def carry(self, source, target, changed):
+        with contextlib.suppress(OSError):
+            for piece in self.pieces(source):
+                target.sendall(changed(piece))
+        with contextlib.suppress(OSError):
+            self.end(target)
+
+    def pieces(self, source):
+        while piece := source.recv(65_536):
+            yield piece
+
+    def begin(self):
+        """A connection is opened."""
+
+    def end(self, target):
+        target.shutdown(socket.SHUT_WR)
+
+    def request(self, piece):
+        return piece
+
+    def reply(self, piece):
+        return piece
