@@ -88,15 +88,15 @@ class Mutator:
         """Drops, doubles or exchanges lines."""
         lines = bytes(text).split(b"\n")
         at, other = drawn.randrange(len(lines)), drawn.randrange(len(lines))
-        match drawn.randrange(4):
-            case 0:
-                del lines[at]
-            case 1:
-                lines.insert(other, lines[at])
-            case 2:
-                lines[at], lines[other] = lines[other], lines[at]
-            case _:
-                lines[at:at] = [lines[at]] * drawn.choice([2, 24, 25, 64, 128, 1001])
+        kind = drawn.randrange(4)
+        if kind == 0:
+            del lines[at]
+        elif kind == 1:
+            lines.insert(other, lines[at])
+        elif kind == 2:
+            lines[at], lines[other] = lines[other], lines[at]
+        else:
+            lines[at:at] = [lines[at]] * drawn.choice([2, 24, 25, 64, 128, 1001])
         text[:] = b"\n".join(lines)[: 4 * MOST_BYTES]
 
     def take_line(self, text, drawn):
