@@ -10,7 +10,7 @@ import threading
 import time
 
 from . import servers
-from .program import LiveTest
+from .program import LiveTest, rows
 
 SECONDS = 30
 
@@ -263,15 +263,13 @@ class Versions(servers.Carrying):
 class Memccapable(LiveTest):
     """Its tests that ask for nothing that the server doesn't have, each at a server of its own."""
 
-    def check(self, test):
+    @rows((test, test) for test in CAPABLE)
+    def test_capable(self, test):
+        if shutil.which("memccapable") is None:
+            self.skipTest("memccapable is not installed; on Debian it is in libmemcached-tools")
         with servers.serving() as (_, port):
             at = Versions(port).port if test in WAITS else port
             words = ["memccapable", "-h", "127.0.0.1", "-p", str(at), "-v", "-a"]
             words += ["-T", f"ascii {test}"]
             ran = subprocess.run(words, capture_output=True, text=True, timeout=4 * SECONDS)
         self.assertEqual((ran.returncode, "[pass]" in ran.stdout), (0, True), ran)
-
-    def test_capable(self):
-        if shutil.which("memccapable") is None:
-            self.skipTest("memccapable is not installed; on Debian it is in libmemcached-tools")
-        self.check_rows(self.check, [(test, test) for test in CAPABLE])

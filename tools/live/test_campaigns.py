@@ -9,7 +9,7 @@ import time
 
 from . import servers
 from .campaigns import MOST_IN_BLOCK, MOST_IN_REPORT, CampaignTest, campaign, steps_of
-from .program import LiveTest, run, statistics_in, three_times
+from .program import LiveTest, rows, run, statistics_in, three_times
 from .servers import Replying, Step, answers
 
 # By how many seconds a campaign for a time may end late: it ends its block, and the program begins
@@ -160,17 +160,14 @@ class WrongServers(CampaignTest):
         self.assert_told_of_ten(found, form)
         self.assertEqual(found.status, 1)
 
+    @rows([("none", [], "no reply"), ("a part", [b"NOT_F"], 'no more than "NOT_F"')])
     @three_times
-    def check_late(self, texts, told):
+    def test_late_replies(self, texts, told):
         with Replying(answers(*texts)) as server:
             found = campaign(server.port, "--jobs 12 --timeout 0.2")
         self.assert_told_of_ten(found, rf'job (\d+): P: {told} to "delete r\1-0" within 0\.2 s')
         self.assertEqual(found.jobs, [f"{job} explained P ReadFailed" for job in range(12)])
         self.assertEqual(found.status, 4)
-
-    def test_late_replies(self):
-        rows = [("none", [], "no reply"), ("a part", [b"NOT_F"], 'no more than "NOT_F"')]
-        self.check_rows(self.check_late, rows)
 
     @three_times
     def test_late_branches(self):

@@ -9,10 +9,11 @@ import threading
 import time
 
 from . import servers
-from .program import COUNTER, PROGRAM, SECONDS, LiveTest, play, run, three_times
+from .program import COUNTER, PROGRAM, SECONDS, LiveTest, play, rows, run, three_times
 from .servers import A, B, P, Scripted, Step
 
 REFUSED = "Connection refused (os error 111)"
+NOBODY = "127.0.0.1:1"
 
 # Open files of a process that has its standard input, output and error, and P's connection.
 WITH_P = 4
@@ -37,7 +38,8 @@ class NoConnections(LiveTest):
     def test_nobody_listens(self):
         self.assert_no_connection("P", REFUSED, play(servers.free_port()))
 
-    def check_descriptors(self, section, files):
+    @rows([("A", "A", WITH_P), ("B", "B", WITH_P + 1)])
+    def test_no_descriptor(self, section, files):
         def limit():
             resource.setrlimit(resource.RLIMIT_NOFILE, (files, files))
 
@@ -45,24 +47,19 @@ class NoConnections(LiveTest):
             found = play(server.port, preexec_fn=limit)
         self.assert_no_connection(section, "Too many open files", found)
 
-    def test_no_descriptor(self):
-        self.check_rows(self.check_descriptors, [("A", "A", WITH_P), ("B", "B", WITH_P + 1)])
-
-    def check_target(self, target, told):
+    @rows(NO_TARGETS)
+    def test_no_such_server(self, target, told):
         answer = run(["run", target], COUNTER)
         self.assertEqual((answer.stdout, answer.returncode), (b"no connection P\n", 4), answer)
         self.assertIn(told, answer.stderr.decode())
 
-    def test_no_such_server(self):
-        self.check_rows(self.check_target, NO_TARGETS)
-
-    def test_nobody_listens_at_a_branch_s_own_server(self):
-        for section in "AB":
-            nobody = f"127.0.0.1:{servers.free_port()}"
-            with self.subTest(section), Scripted((P, A, B)) as server:
-                found = play(server.port, f"--{section.lower()}", nobody)
-                told = f"mcrace: {nobody}: {REFUSED}\n"
-                self.assert_answer(found, f"no connection {section}\n".encode(), 4, told)
+    @rows([("A", "A"), ("B", "B")])
+    def test_nobody_listens_at_a_branch_s_own_server(self, section):
+        nobody = f"127.0.0.1:{servers.free_port()}"
+        with Scripted((P, A, B)) as server:
+            found = play(server.port, f"--{section.lower()}", nobody)
+        told = f"mcrace: {nobody}: {REFUSED}\n"
+        self.assert_answer(found, f"no connection {section}\n".encode(), 4, told)
 
     def test_script_is_read_first(self):
         """A script with a fault is refused before anything is connected."""
@@ -81,7 +78,8 @@ class Waits(LiveTest):
         told = f"mcrace: 127.0.0.1:{port}: connection timed out\n"
         self.assert_answer(found, f"no connection {section}\n".encode(), 4, told)
 
-    def check_unanswered(self, *options):
+    @rows([("one", "--timeout", "0.2"), ("none of several", "--timeout=0.05", "--wait=0.2")])
+    def test_connect_of_p_is_not_answered(self, *options):
         with servers.unanswering() as port:
             began = time.monotonic()
             found = play(port, *options)
@@ -89,20 +87,14 @@ class Waits(LiveTest):
         self.assert_times_out(found, "P", port)
         self.assert_took(took, 0.2, 5.2)
 
-    def test_connect_of_p_is_not_answered(self):
-        rows = [("one", "--timeout", "0.2"), ("none of several", "--timeout=0.05", "--wait=0.2")]
-        self.check_rows(self.check_unanswered, rows)
-
+    @rows([("A", "A"), ("B", "B")])
     @three_times
-    def check_unanswered_branch(self, section):
+    def test_connect_of_a_branch_is_not_answered(self, section):
+        """A branch's own server is tried once, whatever `--wait` says."""
         with servers.unanswering() as port, Scripted((P, A, B)) as server:
             own = f"--{section.lower()}", f"127.0.0.1:{port}"
             found = play(server.port, *own, "--timeout", "0.2", "--wait", "50")
         self.assert_times_out(found, section, port)
-
-    def test_connect_of_a_branch_is_not_answered(self):
-        """A branch's own server is tried once, whatever `--wait` says."""
-        self.check_rows(self.check_unanswered_branch, [("A", "A"), ("B", "B")])
 
     def test_server_comes_late(self):
         port, done = servers.free_port(), threading.Event()
@@ -120,18 +112,14 @@ class Waits(LiveTest):
         self.assert_done(found)
         self.assert_took(took, 0, 10)
 
-    def check_vain(self, target, told):
+    @rows([("no server", NOBODY, REFUSED), ("no address", "127.0.0.1", "write HOST:PORT")])
+    def test_no_server_comes(self, target, told):
         began = time.monotonic()
         answer = run(["run", target, "--wait=0.3"], COUNTER)
         took = time.monotonic() - began
         self.assertEqual((answer.stdout, answer.returncode), (b"no connection P\n", 4), answer)
         self.assertRegex(answer.stderr.decode(), rf"^mcrace: [^\n]*{re.escape(told)}[^\n]*\n$")
         self.assert_took(took, 0.3, 5.3)
-
-    def test_no_server_comes(self):
-        rows = [("no server", f"127.0.0.1:{servers.free_port()}", REFUSED),
-                ("no address", "127.0.0.1", "write HOST:PORT")]
-        self.check_rows(self.check_vain, rows)
 
 
 class Interrupts(LiveTest):

@@ -10,7 +10,7 @@ import re
 import time
 
 from . import servers
-from .program import SECONDS, LiveTest
+from .program import SECONDS, LiveTest, rows
 
 CONNECTIONS = int(os.environ.get("MCRACE_CONNECTIONS", 10_000))
 
@@ -79,16 +79,14 @@ class Holdings(LiveTest):
         stream.sendall(request)
         self.assertTrue(self.read(stream, len(reply)) == reply, f"the answer to {request[:40]!r}")
 
-    def check_idle(self, asked, answered):
+    @rows(BEFORE)
+    def test_connections_that_wait(self, asked, answered):
         self.setUp()
         self.ask(self.connect(), SET_HELD, b"STORED\r\n")
         held = kilobytes(self.process)
         for _ in range(IDLE):
             self.ask(self.connect(), asked, answered)
         self.assertLessEqual((kilobytes(self.process) - held) / IDLE, MOST_IDLE, "kilobytes each")
-
-    def test_connections_that_wait(self):
-        self.check_rows(self.check_idle, BEFORE)
 
     def test_answer_of_64_megabytes(self):
         """All is stored over a connection that is closed then. What the server holds is looked at

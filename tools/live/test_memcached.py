@@ -1,7 +1,7 @@
 """Scripts by `mcrace run` against a real memcached."""
 
 from . import servers
-from .program import LiveTest, play, scripts
+from .program import LiveTest, play, rows, scripts
 
 # The branches race anew each time.
 TIMES = 10
@@ -10,7 +10,8 @@ TIMES = 10
 class Scripts(LiveTest):
     """Each section is done, the verdict is `explained`, and the history is judged again."""
 
-    def check_script(self, script):
+    @rows([(script.name, script) for script in scripts()])
+    def test_scripts(self, script):
         for _ in range(TIMES):
             found = play(self.port, script=script.read_bytes())
             self.assert_done(found)
@@ -19,10 +20,6 @@ class Scripts(LiveTest):
 
     def setUp(self):
         self.port = self.enter(servers.need_memcached())
-
-    def test_scripts(self):
-        rows = [(script.name, script) for script in scripts()]
-        self.check_rows(self.check_script, rows)
 
 
 class ScriptsAtServe(Scripts):

@@ -3,7 +3,7 @@
 import socket
 import time
 
-from .program import COUNTER, NO_BRANCH, LiveTest, play, three_times
+from .program import COUNTER, NO_BRANCH, LiveTest, play, rows, three_times
 from .servers import A, B, P, Request, Scripted, Step, answers
 
 READ = [Step.READ]
@@ -57,7 +57,7 @@ class TimeLimits(LiveTest):
     """A play that hangs is ended by its time limit, and its history is judged."""
 
     @three_times
-    def check_hang(self, talks, endings, told, script=COUNTER):
+    def assert_ended(self, talks, endings, told, script=COUNTER):
         with Scripted(talks) as server:
             began = time.monotonic()
             found = play(server.port, "--timeout", "0.2", script=script)
@@ -67,16 +67,15 @@ class TimeLimits(LiveTest):
         self.assert_judged_again(found)
         self.assert_took(took, 0.2, 5.2)
 
-    def check_hang_in_hit(self, text, shown):
+    @rows(HANGS)
+    def test_hangs(self, *row):
+        self.assert_ended(*row)
+
+    @rows(HANGS_IN_HITS)
+    def test_hangs_in_hits(self, text, shown):
         told = f'P: no more than "{shown}" to "get a" within 0.2 s'
         talks = answers(b"NOT_FOUND\r\n", text), [], []
-        self.check_hang(talks, P_FAILED, [told], READER)
-
-    def test_hangs(self):
-        self.check_rows(self.check_hang, HANGS)
-
-    def test_hangs_in_hits(self):
-        self.check_rows(self.check_hang_in_hit, HANGS_IN_HITS)
+        self.assert_ended(talks, P_FAILED, [told], READER)
 
     @three_times
     def test_slow_bytes(self):
@@ -94,6 +93,9 @@ AMPLE = COUNTER.replace(b"2 26", b"24 8192").replace(b"1 10", b"24 8192")
 LONG_KEY = COUNTER.replace(b" a\n", b" ab\n").replace(b" a ", b" ab ")
 LONG_KEY = LONG_KEY.replace(b"2 26", b"2 28").replace(b"1 10", b"1 11")
 
+NAMED = [(f"{len(name)} bytes", name, COUNTER) for name in NAMES]
+NAMED += [(f"{len(name)} bytes, greatest budgets", name, AMPLE) for name in NAMES]
+
 
 def talks_under(name):
     """What the counter's connections do, each request with its key under this name."""
@@ -110,7 +112,8 @@ def talks_under(name):
 class Names(LiveTest):
     """The keys that are sent and noted are under the name."""
 
-    def check_name(self, name, script):
+    @rows(NAMED)
+    def test_names(self, name, script):
         with Scripted(talks_under(name)) as server:
             found = play(server.port, "--name", name, script=script)
         self.assert_done(found)
@@ -119,11 +122,6 @@ class Names(LiveTest):
         lines += [f"{branch} begin incr {key} 1" for branch in "AB"]
         self.assertLessEqual(set(lines), set(found.history.decode().splitlines()))
         self.assert_judged_again(found)
-
-    def test_names(self):
-        rows = [(f"{len(name)} bytes", name, COUNTER) for name in NAMES]
-        rows += [(f"{len(name)} bytes, greatest budgets", name, AMPLE) for name in NAMES]
-        self.check_rows(self.check_name, rows)
 
     def test_lost_update(self):
         p, a, b = talks_under("ci7")

@@ -4,7 +4,7 @@ import re
 
 from . import servers
 from .campaigns import MOST_IN_BLOCK, CampaignTest, campaign, steps_of
-from .program import judged, play, run, statistics_in
+from .program import judged, play, rows, run, statistics_in
 
 # How often a campaign is run until it finds a race that depends on how threads meet.
 MOST_CAMPAIGNS = 50
@@ -142,7 +142,9 @@ class LostUpdates(RacesTest):
     def test_small_script_under_a_name(self):
         self.assertNotIn("ci7", self.find_small("--jobs 300 --name ci7"))
 
-    def check_stop(self, options):
+    @rows([("of 10,000 jobs", "--jobs 10000"), ("60 s", "--for 60s")])
+    def test_stop(self, options):
+        """It ends within a block after the first finding."""
         found = campaign(self.port, f"--stop-after 1 {options}")
         self.assertEqual((found.status, len(found.reports)), (1, 1), found.faults)
         self.assertEqual(found.rest[:2], ["shrunk", "script 1"])
@@ -151,7 +153,3 @@ class LostUpdates(RacesTest):
         self.assertEqual(len(found.jobs), (first // MOST_IN_BLOCK + 1) * MOST_IN_BLOCK)
         self.assert_left(found, first)
         self.assert_reports(found.reports, 0)
-
-    def test_stop(self):
-        """It ends within a block after the first finding."""
-        self.check_rows(self.check_stop, [("of 10,000 jobs", "--jobs 10000"), ("60 s", "--for 60s")])

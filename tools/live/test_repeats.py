@@ -10,7 +10,7 @@ import subprocess
 import time
 
 from . import servers
-from .program import ALL_DONE, COUNTER, NO_BRANCH, PROGRAM, LiveTest, judged, run, three_times
+from .program import ALL_DONE, COUNTER, NO_BRANCH, PROGRAM, LiveTest, judged, rows, run, three_times
 from .servers import P, Scripted, Step, answers, answers_both
 
 # A alone has a request.
@@ -122,20 +122,22 @@ class RunsTest(LiveTest):
 class Repeats(RunsTest):
     """Servers whose runs differ."""
 
-    def check_row(self, script, rows, options, which, counts, endings, word, status, told=""):
-        with Scripted(*rows) as server:
+    def assert_written(self, script, served, options, which, counts, endings, *rest):
+        word, status, told = (*rest, "")[:3]
+        with Scripted(*served) as server:
             answer = runs(server.port, options + " --reconnect", script)
         self.assertEqual(server.taken, 3 * counts[0], answer)
         self.assert_begins(answer, head(which, counts) + endings + word + "\n", status)
         self.assert_history(answer)
         self.assertEqual(answer.stderr.decode(), told)
 
-    def test_rows(self):
-        self.check_rows(self.check_row, ROWS)
+    @rows(ROWS)
+    def test_rows(self, *row):
+        self.assert_written(*row)
 
     @three_times
     def test_second_run_hangs(self):
-        self.check_row(*HANG, 'mcrace: P: no reply to "delete a" within 0.3 s\n')
+        self.assert_written(*HANG, 'mcrace: P: no reply to "delete a" within 0.3 s\n')
 
     def test_server_is_gone_after_two_runs(self):
         with Scripted(GOOD, GOOD) as server:
@@ -144,45 +146,38 @@ class Repeats(RunsTest):
         self.assertEqual((answer.stdout.decode(), answer.returncode), (wanted, 4), answer)
         self.assertIn(b"Connection refused", answer.stderr)
 
-    def check_kept(self, rows, connections):
-        with Scripted(*rows) as server:
+    @rows([("all of the first run", [THREE_GOOD], 3), ("surplus", [SURPLUS, GOOD_TWICE], 6)])
+    def test_connections_are_kept(self, served, connections):
+        """Not those on which more came than the replies."""
+        with Scripted(*served) as server:
             answer = runs(server.port, "--times 3")
         self.assertEqual(server.taken, connections, answer)
         wanted = head("3 of 3", (3, 3, 0, 0, 3)) + ALL_DONE + "explained\n"
         self.assert_begins(answer, wanted, 0)
         self.assert_history(answer)
 
-    def test_connections_are_kept(self):
-        """Not those on which more came than the replies."""
-        rows = [("all of the first run", [THREE_GOOD], 3), ("surplus", [SURPLUS, GOOD_TWICE], 6)]
-        self.check_rows(self.check_kept, rows)
-
-    def check_end(self, options, rest):
+    @rows([("of several", "--times 1", b"quit\r\n"), ("one run", "", b"")])
+    def test_ends_of_connections(self, options, rest):
+        """Only a run of several asks the server to close."""
         with Scripted(GOOD) as server:
             runs(server.port, options)
             server.wait()
         self.assertEqual(server.rests, 3 * [rest])
 
-    def test_ends_of_connections(self):
-        """Only a run of several asks the server to close."""
-        rows = [("of several", "--times 1", b"quit\r\n"), ("one run", "", b"")]
-        self.check_rows(self.check_end, rows)
-
-    def check_remark(self, options, rows, of_runs):
-        with Scripted(*rows) as server:
+    @rows(REMARKS)
+    def test_remarks_on_runs_that_are_not_written(self, options, served, of_runs):
+        with Scripted(*served) as server:
             answer = runs(server.port, options + " --reconnect")
         told = r'A: after its last reply came 8 bytes more: "STORED\r\n"'
         wanted = "".join(f"mcrace: {it}{told}\n" for it in of_runs)
         self.assertEqual(answer.stderr.decode(), wanted)
 
-    def test_remarks_on_runs_that_are_not_written(self):
-        self.check_rows(self.check_remark, REMARKS)
-
 
 class ManyRuns(RunsTest):
     """Runs at `mcrace serve`."""
 
-    def check_many(self, options, least, most):
+    @rows(MANY)
+    def test_right_server(self, options, least, most):
         with servers.serving() as (_, port):
             began = time.monotonic()
             answer = runs(port, options)
@@ -193,9 +188,6 @@ class ManyRuns(RunsTest):
         self.assertTrue(0 < overlapped <= count, answer)
         self.assert_history(answer)
         self.assert_took(took, least, most)
-
-    def test_right_server(self):
-        self.check_rows(self.check_many, MANY)
 
     def test_server_with_a_race(self):
         """They end with the first run that is unexplained."""

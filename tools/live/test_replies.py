@@ -3,7 +3,7 @@
 import re
 
 from . import servers
-from .program import ALL_DONE, B_ALONE, COUNTED, NO_BRANCH, LiveTest, play
+from .program import ALL_DONE, B_ALONE, COUNTED, NO_BRANCH, LiveTest, play, rows
 from .servers import A, B, P, Request, Scripted, Step, answers, answers_both
 
 # The bytes of every request of the counter are looked at.
@@ -108,19 +108,15 @@ class Replies(LiveTest):
         )
         self.assert_judged_again(found)
 
-    def check_row(self, talks, *wanted):
+    @rows(ROWS)
+    def test_rows(self, talks, *wanted):
         with Scripted(talks) as server:
             self.assert_play(play(server.port), *wanted)
 
-    def check_hits(self, steps, *wanted):
+    @rows(HITS)
+    def test_hits(self, steps, *wanted):
         with Scripted((steps, [], [])) as server:
             self.assert_play(play(server.port, script=READER), *wanted)
-
-    def test_rows(self):
-        self.check_rows(self.check_row, ROWS)
-
-    def test_hits(self):
-        self.check_rows(self.check_hits, HITS)
 
     def test_bytes_after_the_last_reply(self):
         """They came after P's last reply, and were not received with it."""

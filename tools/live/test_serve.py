@@ -9,7 +9,7 @@ import subprocess
 import time
 
 from . import servers
-from .program import ALL_DONE, SECONDS, LiveTest, play, run
+from .program import ALL_DONE, SECONDS, LiveTest, play, rows, run
 
 # Open files of a process that has its standard input, output and error, and a listener.
 WITH_LISTENER = 4
@@ -43,24 +43,21 @@ class Serve(LiveTest):
         answer = run(["serve", str(port), "--connections", "0"])
         self.assert_answer(answer, f"listening 127.0.0.1:{port}\n".encode(), 0)
 
-    def check_three_connections(self, *words):
+    @rows([("right",), ("with a race", "--racy")])
+    def test_three_connections(self, *words):
         with servers.serving("--connections", "3", *words) as (process, port):
             found = play(port, "--meet", "never")
             self.assertEqual(found.endings, ALL_DONE, found)
             self.assertTrue(found.status == 0 or words, found)
             self.assert_ends(process, 0)
 
-    def test_three_connections(self):
-        self.check_rows(self.check_three_connections, [("right",), ("with a race", "--racy")])
-
-    def test_signals(self):
-        for number in (signal.SIGINT, signal.SIGTERM):
-            with self.subTest(number), servers.serving() as (process, port):
-                with servers.connect(port) as idle:
-                    idle.sendall(b"get a\r\n")
-                    idle.recv(100)
-                    process.send_signal(number)
-                    self.assert_ends(process, -number)
+    @rows([("ctrl-C", signal.SIGINT), ("SIGTERM", signal.SIGTERM)])
+    def test_signals(self, number):
+        with servers.serving() as (process, port), servers.connect(port) as idle:
+            idle.sendall(b"get a\r\n")
+            idle.recv(100)
+            process.send_signal(number)
+            self.assert_ends(process, -number)
 
     def test_failed_accepts_end_it(self):
         began = time.monotonic()

@@ -1,7 +1,7 @@
 """What `--stats` says at the end of runs."""
 
 from . import servers
-from .program import COUNTER, LiveTest, Statistics, statistics_in
+from .program import COUNTER, LiveTest, Statistics, rows, statistics_in
 from .servers import P, Scripted, Step, answers_both
 from .test_repeats import CALM, ENDED, ONE_BRANCH, SURPLUS, numbers_in, runs
 
@@ -42,14 +42,12 @@ READS = (
 class StatisticsOfRuns(LiveTest):
     """At servers whose runs differ, and where nothing ran."""
 
-    def check_row(self, script, rows, options, *wanted):
-        with Scripted(*rows) as server:
+    @rows(ROWS)
+    def test_rows(self, script, served, options, *wanted):
+        with Scripted(*served) as server:
             answer = runs(server.port, options + " --reconnect --stats", script)
         found = statistics_in(answer.stderr.decode())
         self.assertEqual(found, ("", Statistics(*wanted)), answer)
-
-    def test_rows(self):
-        self.check_rows(self.check_row, ROWS)
 
     def test_they_come_last(self):
         """They stand after what is said of the last run."""

@@ -11,7 +11,7 @@ import socket
 import mutations
 
 from . import servers
-from .program import LiveTest
+from .program import LiveTest, rows
 from .streams import KEYS, Rounds, stream
 
 STREAMS = 200
@@ -149,13 +149,11 @@ class FaultyServers(LiveTest):
     def setUp(self):
         self.port = self.enter(servers.serving())[1]
 
-    def check_fault(self, kind, patience, told):
+    @rows(FAULTY)
+    def test_faults(self, kind, patience, told):
         fault = Rounds(kind(self.port).port, 1, patience).fault(MOST_SECONDS)
         self.assertIsNotNone(fault, kind.__doc__)
         self.assertRegex(fault, told)
-
-    def test_faults(self):
-        self.check_rows(self.check_fault, FAULTY)
 
     def test_no_fault(self):
         rounds = Rounds(servers.Carrying(self.port).port, 1)

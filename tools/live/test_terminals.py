@@ -6,7 +6,7 @@ import pty
 import subprocess
 
 from . import servers
-from .program import COUNTER, PROGRAM, SECONDS, LiveTest
+from .program import COUNTER, PROGRAM, SECONDS, LiveTest, rows
 
 # Ctrl-D on a line of its own.
 END = b"\x04"
@@ -50,37 +50,32 @@ class Typed(LiveTest):
         finally:
             os.close(ours)
 
-    def test_typed(self):
-        for line, text, begin, what, told, status in TYPED:
-            with self.subTest(line):
-                output, faults, ended = self.type(line, text)
-                told = f"mcrace: reading {what} from the terminal; Ctrl-D ends it\n{told}"
-                self.assertEqual((output[: len(begin)], faults, ended), (begin, told, status))
+    @rows((row[0], *row) for row in TYPED)
+    def test_typed(self, line, text, begin, what, told, status):
+        output, faults, ended = self.type(line, text)
+        told = f"mcrace: reading {what} from the terminal; Ctrl-D ends it\n{told}"
+        self.assertEqual((output[: len(begin)], faults, ended), (begin, told, status))
 
-    def test_terminal_for_the_output_alone(self):
-        for line, text, _, _, told, status in TYPED:
-            with self.subTest(line):
-                ours, theirs = pty.openpty()
-                words = [PROGRAM, *line.split()]
-                streams = {"stdout": theirs, "stderr": subprocess.PIPE}
-                ran = subprocess.run(words, input=text, timeout=SECONDS, **streams)
-                os.close(ours)
-                os.close(theirs)
-                self.assertEqual((ran.stderr.decode(), ran.returncode), (told, status))
+    @rows((row[0], *row) for row in TYPED)
+    def test_terminal_for_the_output_alone(self, line, text, _, what, told, status):
+        ours, theirs = pty.openpty()
+        streams = {"stdout": theirs, "stderr": subprocess.PIPE}
+        words = [PROGRAM, *line.split()]
+        ran = subprocess.run(words, input=text, timeout=SECONDS, **streams)
+        os.close(ours)
+        os.close(theirs)
+        self.assertEqual((ran.stderr.decode(), ran.returncode), (told, status), what)
 
-    def test_nothing_is_read(self):
-        for line, status in UNREAD:
-            with self.subTest(line):
-                _, *found = self.type(line)
-                self.assertEqual(found, ["", status])
+    @rows((row[0], *row) for row in UNREAD)
+    def test_nothing_is_read(self, line, status):
+        self.assertEqual(self.type(line)[1:], ("", status))
 
-    def test_faulty_lines(self):
-        for line in FAULTY:
-            with self.subTest(line):
-                output, faults, status = self.type(line)
-                self.assertEqual((output, status), (b"", 2))
-                self.assertTrue(faults)
-                self.assertNotIn("reading", faults)
+    @rows((line, line) for line in FAULTY)
+    def test_faulty_lines(self, line):
+        output, faults, status = self.type(line)
+        self.assertEqual((output, status), (b"", 2))
+        self.assertTrue(faults)
+        self.assertNotIn("reading", faults)
 
 
 class Progress(LiveTest):
