@@ -138,11 +138,16 @@ def ending_all():
     ctypes.CDLL(None).prctl(PR_SET_CHILD_SUBREAPER, 1, 0, 0, 0)
     signals = (signal.SIGINT, signal.SIGTERM, signal.SIGHUP)
     heeded = [it for it in signals if signal.getsignal(it) != signal.SIG_IGN]
+
+    def end(number, _):
+        for it in heeded:
+            signal.signal(it, signal.SIG_IGN)
+        end_all()
+        sys.exit(128 + number)
+
     for number in heeded:
-        signal.signal(number, lambda number, _: sys.exit(128 + number))
+        signal.signal(number, end)
     try:
         yield
     finally:
-        for number in heeded:
-            signal.signal(number, signal.SIG_IGN)
         end_all()

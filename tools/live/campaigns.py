@@ -11,7 +11,6 @@ JOB = re.compile(
 )
 
 TOTALS = re.compile(r"jobs (\d+) explained (\d+) unexplained (\d+) other (\d+)")
-
 # The most jobs of a block, and of a report, if a campaign runs in blocks.
 MOST_IN_BLOCK = 64
 MOST_IN_REPORT = 10_000

@@ -19,7 +19,6 @@ from dataclasses import dataclass
 from .program import PROGRAM, ROOT, SECONDS
 
 LISTENING = re.compile(rb"listening 127\.0\.0\.1:(\d+)\n")
-
 WITH_BLOCK = (b"set", b"add", b"replace", b"append", b"prepend", b"cas")
 
 

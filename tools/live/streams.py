@@ -24,29 +24,21 @@ from . import servers
 
 # How many requests a stream has.
 REQUESTS = 60
-
 KEYS = [b"a", b"b", b"key-of-some-length", b"k" * 200]
 STORING = [b"set", b"set", b"add", b"replace", b"append", b"prepend"]
-
 # Requests that memcached refuses by the same line. If a get names a key that is too long, memcached
 # drops replies that it holds back.
 WRONG = [b"no-such-command\r\n", b"\r\n", b"incr %b 1\r\n" % (251 * b"k"), b"set a 0 0 x\r\n"]
-
 # What ends the replies to a stream.
 LAST = b"get end-of-the-stream\r\n"
-
 # How many connections a round has, and of what.
 CONNECTIONS, SOURCES, MOST_CUTS, MOST_RUBBISH = 6, 60, 8, 3_000
-
 # The most bytes that are told of what is wrong.
 MOST_TOLD = 100
-
 ENDINGS = ["close", "reset", "leave", "end", "end", "end"]
-
 # How many keys are kept in a round, and for how many rounds they are looked at after each; all are
 # looked at in the end.
 KEPT, LOOKED_AT = 3, 5
-
 LARGE = b"x" * 65_536
 
 # Beside the streams that memcached is sent too: what is at a limit or beyond it, and ends of a

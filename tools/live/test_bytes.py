@@ -13,7 +13,6 @@ from . import servers
 from .program import LiveTest, rows
 
 SECONDS = 30
-
 # Seconds between the two pieces of a request, so that the server reads them one by one.
 APART = 0.001
 
@@ -43,7 +42,6 @@ TALK = [
 
 ASKED = b"".join(request for request, _ in TALK)
 ANSWERED = b"".join(reply for _, reply in TALK)
-
 TOO_LONG = [b"x" * 2048, b"get " + b"a " * 1022 + b"\r\n", b"delete a noreply" + b" " * 2048]
 
 
@@ -136,7 +134,6 @@ class OwnBytes(LiveTest):
 
 # The bytes of rubbish, and what goes out at once of it.
 RUBBISH, PIECE = 10_000_000, 65_536
-
 # The longest that a request of the client may take.
 PATIENCE = 5
 
@@ -192,8 +189,8 @@ def send_rubbish(port, ended):
 
 
 class UnderFire(LiveTest):
-    """While others send half requests, send slowly, never read their replies, reset their
-    connections or send rubbish, a client is served, and nothing is lost that it was acknowledged."""
+    """While others send half requests, send slowly, never read their replies, reset connections or
+    send rubbish, a client is served, and nothing is lost that it was acknowledged."""
 
     def set(self, stream, reader, count):
         """How many seconds it took to set a key."""
@@ -230,10 +227,8 @@ class UnderFire(LiveTest):
 # the server doesn't have these.
 STORING = ["set", "add", "replace", "cas", "delete", "incr", "decr", "append", "prepend"]
 CAPABLE = ["quit", "get", "gets", "mget", *STORING, *(f"{it} noreply" for it in STORING)]
-
 # These wait for the reply to a `version`, which the proxy answers.
 WAITS = {"set", "add", "replace", "cas", *(f"{it} noreply" for it in STORING)}
-
 MARK = b"mark-of-the-proxy"
 MARKED = b"VALUE %b 0 0\r\n" % MARK
 

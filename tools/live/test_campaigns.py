@@ -15,13 +15,10 @@ from .servers import Replying, Step, answers
 # By how many seconds a campaign for a time may end late: it ends its block, and the program begins
 # and ends.
 LATE = 3
-
 # What answers each request of P of a generated script.
 OF_P = answers(b"NOT_FOUND\r\n", b"NOT_FOUND\r\n", b"STORED\r\n", b"STORED\r\n")
-
 # What /proc/net/tcp calls a connection of which this side was the first to close.
 TIME_WAIT = "06"
-
 # The verbs whose requests a generated script always sends.
 SURE = ("set", "add", "append", "incr", "decr", "gets", "delete")
 
@@ -52,7 +49,7 @@ class RightServers(CampaignTest):
         self.assertEqual((found.jobs, found.faults), (failed, told))
 
     def test_parts(self):
-        """The lines of the parts are those of the whole, and a brief report has the totals alone."""
+        """The lines of parts are those of the whole, and a brief report has the totals alone."""
         port = self.enter(servers.serving())[1]
         whole = campaign(port, "--jobs 30")
         parts = [campaign(port, it) for it in ("--from 0 --jobs 10", "--from 10 --jobs 20")]
@@ -199,8 +196,8 @@ class WrongServers(CampaignTest):
         self.assertEqual(found.status, 4)
         for line in found.jobs[11:]:
             self.assertRegex(line, " no connection |ReadFailed|Ended")
-        told = rf"mcrace: 127\.0\.0\.1:{port}: Connection refused \(os error 111\) \(jobs \d+ to 39\)\n"
-        self.assertRegex(found.faults, told)
+        told = rf"mcrace: 127\.0\.0\.1:{port}: Connection refused \(os error 111\)"
+        self.assertRegex(found.faults, rf"{told} \(jobs \d+ to 39\)\n")
 
 
 class StatisticsOfCampaigns(CampaignTest):
@@ -236,9 +233,9 @@ class StatisticsOfCampaigns(CampaignTest):
 
 
 class Selftest(LiveTest):
-    """`mcrace selftest` passes."""
+    """`mcrace selftest` passes ten times."""
 
-    def test_ten_times(self):
+    def test_selftest(self):
         for _ in range(10):
             answer = run(["selftest"])
             self.assertEqual((answer.returncode, answer.stdout.splitlines()[-1:]), (0, [b"ok"]))

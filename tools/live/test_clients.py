@@ -8,7 +8,6 @@ from . import servers
 from .program import LiveTest
 
 SECONDS = 20
-
 EVERY_BYTE = bytes(range(256))
 LONGEST = EVERY_BYTE * 256
 LENGTHS = [*range(300), 1023, 1024, 2047, 2048, 4095, 4096, 16384, 65535, 65536]
@@ -43,30 +42,6 @@ CALLS = {
 }
 
 
-class Adapter:
-    """A client by the names of its methods that both have: `set_many` and `get_many` too."""
-
-    def __init__(self, client):
-        self.client = client
-
-    def call(self, method, *given):
-        return getattr(self.client, method)(*given)
-
-
-class Pylibmc(Adapter):
-    """It raises an exception if a key isn't there, where pymemcache answers None."""
-
-    NAMES = {"set_many": "set_multi", "get_many": "get_multi"}
-
-    def call(self, method, *given):
-        import pylibmc
-
-        try:
-            return super().call(self.NAMES.get(method, method), *given)
-        except pylibmc.NotFound:
-            return None
-
-
 def side_by_side(count, work):
     threads = [threading.Thread(target=work) for _ in range(count)]
     for thread in threads:
@@ -88,71 +63,74 @@ class ClientTests:
         cls.port = server.__enter__()[1]
         cls.addClassCleanup(server.__exit__, None, None, None)
 
+    def call(self, method, *given):
+        return getattr(self.client, method)(*given)
+
     def setUp(self):
         self.client = self.connect()
         for key in ("a", "b", "c"):
-            self.client.call("delete", key)
+            self.client.delete(key)
 
     def test_calls(self):
         for name, calls in CALLS.items():
             with self.subTest(name):
                 self.setUp()
                 for method, *given, wanted in calls:
-                    self.assertEqual(self.client.call(method, *given), wanted, (method, given))
+                    self.assertEqual(self.call(method, *given), wanted, (method, given))
 
     def test_swaps_by_number(self):
-        self.client.call("set", "a", b"1")
-        body, number = self.client.call("gets", "a")
+        self.call("set", "a", b"1")
+        body, number = self.call("gets", "a")
         self.assertEqual(body, b"1")
-        self.assertIs(self.client.call("cas", "a", b"2", number), True)
-        self.assertIs(self.client.call("cas", "a", b"3", number), False)
-        self.assertEqual(self.client.call("get", "a"), b"2")
-        self.assertIsNone(self.client.call("cas", "b", b"3", number))
+        self.assertIs(self.call("cas", "a", b"2", number), True)
+        self.assertIs(self.call("cas", "a", b"3", number), False)
+        self.assertEqual(self.call("get", "a"), b"2")
+        self.assertIsNone(self.call("cas", "b", b"3", number))
 
     def test_counts_by_cas_loops(self):
         """Four clients each add 50 by gets and cas, and none is lost."""
-        self.client.call("set", "a", b"0")
+        self.call("set", "a", b"0")
 
         def add():
             client = self.connect()
             for _ in range(50):
                 swapped = False
                 while not swapped:
-                    body, number = client.call("gets", "a")
-                    swapped = client.call("cas", "a", b"%d" % (int(body) + 1), number)
+                    body, number = client.gets("a")
+                    swapped = client.cas("a", b"%d" % (int(body) + 1), number)
 
         side_by_side(4, add)
-        self.assertEqual(self.client.call("get", "a"), b"200")
+        self.assertEqual(self.call("get", "a"), b"200")
 
     def test_counts_together(self):
         """Four clients each incr 200 times, and each number is answered once."""
-        self.client.call("set", "a", b"0")
+        self.call("set", "a", b"0")
         answered = []
 
         def add():
             client = self.connect()
-            answered.extend([client.call("incr", "a", 1) for _ in range(200)])
+            answered.extend([client.incr("a", 1) for _ in range(200)])
 
         side_by_side(4, add)
         self.assertEqual(sorted(answered), [*range(1, 801)])
 
     def test_every_byte(self):
         for body in (EVERY_BYTE, EVERY_BYTE[::-1], b"\r\n", b"END\r\n", b"\0" * 1000):
-            self.client.call("set", "a", body)
-            self.assertEqual(self.client.call("get", "a"), body)
+            self.call("set", "a", body)
+            self.assertEqual(self.call("get", "a"), body)
 
     def test_bodies_of_all_lengths(self):
         for length in LENGTHS:
-            self.assertIs(self.client.call("set", "a", LONGEST[:length]), True)
-            self.assertEqual(self.client.call("get", "a"), LONGEST[:length])
+            self.assertIs(self.call("set", "a", LONGEST[:length]), True)
+            self.assertEqual(self.call("get", "a"), LONGEST[:length])
 
     def test_two_hundred_keys(self):
         """One line asks for all, and has at most 2,048 bytes."""
         many = {f"key-{i}": b"%d" % i for i in range(200)}
-        self.assertEqual(self.client.call("set_many", many), [])
-        self.assertEqual(self.client.call("get_many", [*many]), many)
+        self.assertEqual(self.call("set_many", many), [])
+        self.assertEqual(self.call("get_many", [*many]), many)
         for key in many:
-            self.client.call("delete", key)
+            self.client.delete(key)
 
 
 class WithPymemcache(ClientTests, LiveTest):
@@ -167,7 +145,7 @@ class WithPymemcache(ClientTests, LiveTest):
         return getattr(base, kind)(("127.0.0.1", self.port), **named)
 
     def connect(self):
-        return Adapter(self.base(no_delay=True))
+        return self.base(no_delay=True)
 
     def test_flags(self):
         class WithFlags:
@@ -179,14 +157,14 @@ class WithPymemcache(ClientTests, LiveTest):
             def deserialize(self, key, body, flags):
                 return body, flags
 
-        client = self.client.client
+        client = self.client
         client.serde = WithFlags()
         for flags in (0, 1, 2**31, 2**32 - 1):
             client.set("a", (b"1", flags))
             self.assertEqual(client.get("a"), (b"1", flags))
 
     def test_many_numbers(self):
-        client = self.client.client
+        client = self.client
         client.set_many({"a": b"1", "b": b"2"})
         found = client.gets_many(["a", "b", "c"])
         self.assertEqual({key: it[0] for key, it in found.items()}, {"a": b"1", "b": b"2"})
@@ -216,11 +194,19 @@ class WithPylibmc(ClientTests, LiveTest):
 
     def connect(self):
         named = {"binary": False, "behaviors": {"cas": True, "tcp_nodelay": True}}
-        return Pylibmc(self.library.Client([f"127.0.0.1:{self.port}"], **named))
+        return self.library.Client([f"127.0.0.1:{self.port}"], **named)
+
+    def call(self, method, *given):
+        """It raises an exception if a key isn't there, where pymemcache answers None."""
+        names = {"set_many": "set_multi", "get_many": "get_multi"}
+        try:
+            return super().call(names.get(method, method), *given)
+        except self.library.NotFound:
+            return None
 
     def test_flags(self):
         """Numbers and texts are stored with flags of pylibmc's own, which say what they are."""
-        client = self.client.client
+        client = self.client
         for key, value in (("a", 41), ("b", True), ("c", "m")):
             client.set(key, value)
             self.assertEqual(client.get(key), value)
@@ -228,6 +214,6 @@ class WithPylibmc(ClientTests, LiveTest):
         self.assertEqual(client.get("c"), "mn")
 
     def test_counts_by_one(self):
-        client = self.client.client
+        client = self.client
         client.set("a", "9")
         self.assertEqual(client.incr("a"), 10)

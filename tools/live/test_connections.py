@@ -14,7 +14,6 @@ from .servers import A, B, P, Scripted, Step
 
 REFUSED = "Connection refused (os error 111)"
 NOBODY = "127.0.0.1:1"
-
 # Open files of a process that has its standard input, output and error, and P's connection.
 WITH_P = 4
 
@@ -125,31 +124,22 @@ class Waits(LiveTest):
 class Interrupts(LiveTest):
     """Ctrl-C ends what waits."""
 
-    def assert_interrupted(self, process):
+    @rows([("run", COUNTER, b""), ("campaign", b"", b"mcrace: seed 1, jobs 0 to 99, 4 workers\n")])
+    def test_waiting(self, given, first_line):
+        """The first line of a campaign is there at once."""
+        command = "run" if given else "campaign"
+        streams = {it: subprocess.PIPE for it in ("stdin", "stdout", "stderr")}
+        server = self.enter(Scripted(([Step.READ], [], [])))
+        words = [PROGRAM, command, f"127.0.0.1:{server.port}"]
+        process = self.enter(subprocess.Popen(words, **streams))
+        self.addCleanup(process.kill)
+        process.stdin.write(given)
+        process.stdin.close()
+        process.stdin = None
+        if first_line:
+            self.assertEqual(process.stderr.readline(), first_line)
         time.sleep(0.2)
         self.assertIsNone(process.poll(), "it ended before")
         process.send_signal(signal.SIGINT)
         output, _ = process.communicate(timeout=5)
         self.assertEqual((output, process.returncode), (b"", -signal.SIGINT))
-
-    def interrupt(self, command, given, first_line=b""):
-        with Scripted(([Step.READ], [], [])) as server:
-            streams = {it: subprocess.PIPE for it in ("stdin", "stdout", "stderr")}
-            words = [PROGRAM, command, f"127.0.0.1:{server.port}"]
-            with subprocess.Popen(words, **streams) as process:
-                try:
-                    process.stdin.write(given)
-                    process.stdin.close()
-                    process.stdin = None
-                    if first_line:
-                        self.assertEqual(process.stderr.readline(), first_line)
-                    self.assert_interrupted(process)
-                finally:
-                    process.kill()
-
-    def test_run(self):
-        self.interrupt("run", COUNTER)
-
-    def test_campaign(self):
-        """Its first line is there at once."""
-        self.interrupt("campaign", b"", b"mcrace: seed 1, jobs 0 to 99, 4 workers\n")

@@ -13,10 +13,8 @@ from . import servers
 from .program import SECONDS, LiveTest, rows
 
 CONNECTIONS = int(os.environ.get("MCRACE_CONNECTIONS", 10_000))
-
 # Connections that wait for their client, and the most kilobytes that each of them may take.
 IDLE, MOST_IDLE = 500, 16
-
 # What they did before.
 HIT = b"VALUE held 0 100\r\n%b\r\nEND\r\n" % (b"x" * 100)
 SET_HELD = b"set held 0 0 100\r\n%b\r\n" % (b"x" * 100)
@@ -29,14 +27,11 @@ BEFORE = [
 # each several times.
 KEYS = [b"%c" % code for code in range(33, 127)]
 NAMED, BODY_BYTES = 1_000, 65_536
-
 # The most that the server may hold for their answer, in kilobytes.
 MOST_HELD = 256
-
 # What is read at once of it, and after how many reads the server is looked at. Each look takes
 # longer than all of those reads, so the client is slow: the server waits for it most of the time.
 PIECE, LOOKS_APART = 16_384, 16
-
 # Connections one after another: what is left of the first ones is what the server needs anyway.
 # Kilobytes that may be left of the others.
 FIRST, MOST_LEFT = 1_000, 1_024
@@ -55,6 +50,8 @@ def descriptors_and_threads(process):
 
 class Holdings(LiveTest):
     """Each test has a server of its own."""
+
+    seconds = 8
 
     def setUp(self):
         self.process, self.port = self.enter(servers.serving())

@@ -8,10 +8,8 @@ from .servers import A, B, P, Request, Scripted, Step, answers
 
 READ = [Step.READ]
 SIX = answers(b"6\r\n")
-
 P_FAILED = "P failed 2 ReadFailed\n" + NO_BRANCH
 A_FAILED = "P done\nA failed 2 ReadFailed\nB done\n"
-
 OF_P = 'P: no reply to "delete a" within 0.2 s'
 OF_A = 'A: no reply to "incr a 1" within 0.2 s'
 OF_B = 'B: no reply to "incr a 1" within 0.2 s'
@@ -87,12 +85,10 @@ class TimeLimits(LiveTest):
 
 # Names of 1, 3 and 38 bytes.
 NAMES = ["x", "ci7", 38 * "a"]
-
 # The counter with the greatest budgets, and with a key of two bytes.
 AMPLE = COUNTER.replace(b"2 26", b"24 8192").replace(b"1 10", b"24 8192")
 LONG_KEY = COUNTER.replace(b" a\n", b" ab\n").replace(b" a ", b" ab ")
 LONG_KEY = LONG_KEY.replace(b"2 26", b"2 28").replace(b"1 10", b"1 11")
-
 NAMED = [(f"{len(name)} bytes", name, COUNTER) for name in NAMES]
 NAMED += [(f"{len(name)} bytes, greatest budgets", name, AMPLE) for name in NAMES]
 

@@ -8,13 +8,10 @@ from .program import judged, play, rows, run, statistics_in
 
 # How often a campaign is run until it finds a race that depends on how threads meet.
 MOST_CAMPAIGNS = 50
-
 # The most requests that are left of a script that shows a race of two increments.
 MOST_LEFT = 3
-
 # How often a shrunk script is run until it is unexplained.
 MOST_RUNS = 50
-
 # How long the server that loses updates waits for the other one of two. A job with one alone waits
 # as long, and a campaign has many.
 SECONDS_OF_GATE = 0.03
@@ -121,12 +118,17 @@ class Races(RacesTest):
         self.assertEqual(stats and stats.runs, 1000, found.faults)
 
 
-class LostUpdates(RacesTest):
-    """The example server loses each update that it can: a small script is left, and a campaign may
-    end at the first one."""
+class LosingEach(RacesTest):
+    """The example server loses each update that it can."""
 
     def setUp(self):
         self.port = self.enter(servers.losing_updates(SECONDS_OF_GATE))
+
+
+class SmallScripts(LosingEach):
+    """A small script is left."""
+
+    seconds = 10
 
     def find_small(self, options):
         found = campaign_that_finds(self.port, options, is_small)
@@ -134,17 +136,22 @@ class LostUpdates(RacesTest):
         self.assertLessEqual(len(steps_of(found.shrunk)), MOST_LEFT, found.shrunk)
         return found.shrunk
 
-    def test_small_script(self):
+    def test_no_name(self):
         script = self.find_small("--jobs 300").encode()
         runs = (play(self.port, script=script) for _ in range(MOST_RUNS))
         self.assertTrue(any(it.status == 1 for it in runs), script)
 
-    def test_small_script_under_a_name(self):
+    def test_name(self):
         self.assertNotIn("ci7", self.find_small("--jobs 300 --name ci7"))
+
+
+class FirstFindings(LosingEach):
+    """A campaign may end within a block after the first finding."""
+
+    seconds = 9
 
     @rows([("of 10,000 jobs", "--jobs 10000"), ("60 s", "--for 60s")])
     def test_stop(self, options):
-        """It ends within a block after the first finding."""
         found = campaign(self.port, f"--stop-after 1 {options}")
         self.assertEqual((found.status, len(found.reports)), (1, 1), found.faults)
         self.assertEqual(found.rest[:2], ["shrunk", "script 1"])

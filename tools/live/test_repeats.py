@@ -1,21 +1,15 @@
 """What `mcrace run` does with `--times`, `--for` and `--keep-going`: at servers whose runs differ,
 and at `mcrace serve`."""
 
-import contextlib
-import os
-import pty
 import re
-import signal
-import subprocess
 import time
 
 from . import servers
-from .program import ALL_DONE, COUNTER, NO_BRANCH, PROGRAM, LiveTest, judged, rows, run, three_times
+from .program import ALL_DONE, COUNTER, NO_BRANCH, LiveTest, judged, rows, run, three_times
 from .servers import P, Scripted, Step, answers, answers_both
 
 # A alone has a request.
 ONE_BRANCH = COUNTER.replace(b"B\nincr a 1\n", b"B\n").replace(b"budget B 1 10", b"budget B 0 0")
-
 # Runs of the counter: the steps of P, A and B. In the first three a request of A and one of B are
 # outstanding at once.
 GOOD = (P, answers_both(b"6\r\n"), answers_both(b"7\r\n"))
@@ -23,15 +17,12 @@ LOST = (P, answers_both(b"6\r\n"), answers_both(b"6\r\n"))
 WORSE = (P, answers_both(b"9\r\n"), answers_both(b"9\r\n"))
 ENDED = ([Step.READ, Step.END], [], [])
 HANGING = ([Step.READ], [], [])
-
 # Two and three good runs over the same connections, and a good one with more bytes in the packet of
 # A's reply.
 GOOD_TWICE, THREE_GOOD = (tuple(count * steps for steps in GOOD) for count in (2, 3))
 SURPLUS = (P, answers_both(b"6\r\nSTORED\r\n"), answers_both(b"7\r\n"))
-
 # A run of which A alone has a request.
 CALM = (P, answers(b"6\r\n"), [])
-
 P_ENDED = "P failed 3 Ended\n" + NO_BRANCH
 P_FAILED = "P failed 2 ReadFailed\n" + NO_BRANCH
 
@@ -199,28 +190,3 @@ class ManyRuns(RunsTest):
         self.assertEqual(found, (count, 100_000, count - 1, 1, 0), answer)
         self.assertLessEqual(overlapped, count)
         self.assert_history(answer)
-
-    def test_interrupt(self):
-        """Ctrl-C ends many runs, and how far they were is left on the terminal."""
-        ours, theirs = pty.openpty()
-        known = {it: os.environ[it] for it in os.environ if it not in ("TERM", "COLUMNS")}
-        streams = {"stdin": subprocess.PIPE, "stdout": subprocess.PIPE, "stderr": theirs}
-        told = b""
-        with servers.serving() as (_, port):
-            words = [PROGRAM, "run", f"127.0.0.1:{port}", "--times", "1000000"]
-            with subprocess.Popen(words, **streams, env=known) as process:
-                os.close(theirs)
-                process.stdin.write(COUNTER)
-                process.stdin.close()
-                while told.count(b" unexplained, ") < 3 and process.poll() is None:
-                    told += os.read(ours, 4096)
-                process.send_signal(signal.SIGINT)
-                output = process.stdout.read()
-                # The other end of a terminal is gone with whoever had it.
-                with contextlib.suppress(OSError):
-                    while piece := os.read(ours, 4096):
-                        told += piece
-        os.close(ours)
-        self.assertEqual((output, process.returncode), (b"", -signal.SIGINT))
-        last = told.decode().split("\r\x1b[K")[-1]
-        self.assertRegex(last, r"^\d+ of 1000000 runs, \d+ a second, 0 unexplained, \d+ s left$")

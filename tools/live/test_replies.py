@@ -8,16 +8,14 @@ from .servers import A, B, P, Request, Scripted, Step, answers, answers_both
 
 # The bytes of every request of the counter are looked at.
 INCREMENT = Request(b"incr a 1\r\n")
-WHOLE_P = [Request(b"delete a\r\n"), b"NOT_FOUND\r\n", Request(b"set a 0 0 1\r\n5\r\n"), b"STORED\r\n"]
+WHOLE_P = [Request(b"delete a\r\n"), b"NOT_FOUND\r\n"]
+WHOLE_P += [Request(b"set a 0 0 1\r\n5\r\n"), b"STORED\r\n"]
 WHOLE_A = [INCREMENT, Step.MEET, b"6\r\n"]
 WHOLE_B = [INCREMENT, Step.MEET, b"7\r\n"]
-
 ENDS = [Step.READ, Step.END]
 SIX = answers(b"6\r\n")
-
 NOTHING = "explained\nend\n"
 A_ALONE = "explained\nP 0\nP 1\nA 2\nend\n"
-
 P_ENDED = "P failed 3 Ended\n" + NO_BRANCH
 P_BAD = "P failed 4 BadReply\n" + NO_BRANCH
 P_ERROR = "P failed 5 ErrorLine\n" + NO_BRANCH
@@ -76,7 +74,6 @@ ROWS = [
 # P asks for a body five times.
 READER = b"script 1\nkeys a\nbudget P 6 100\nbudget A 0 0\nbudget B 0 0\nP\n%bA\nB\nend\n"
 READER %= 5 * b"get a\n"
-
 MISS = b"NOT_FOUND\r\n"
 FIRST = "explained\nP 0\nend\n"
 FULL_HIT = b"VALUE a 0 65536\r\n" + 65_536 * b"x" + b"\r\nEND\r\n"

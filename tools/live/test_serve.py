@@ -13,7 +13,6 @@ from .program import ALL_DONE, SECONDS, LiveTest, play, rows, run
 
 # Open files of a process that has its standard input, output and error, and a listener.
 WITH_LISTENER = 4
-
 # How many accepts in a row may fail, and how many seconds it rests after each.
 MOST_FAILED, REST = 100, 0.01
 

@@ -15,11 +15,8 @@ from .program import LiveTest, rows
 from .streams import KEYS, Rounds, stream
 
 STREAMS = 200
-
 SECONDS = float(os.environ.get("MCRACE_SECONDS", 5))
-
 SHOWN = re.compile(rb"^(VALUE (\S+) \d+ \d+) (\d+)\r$", re.M)
-
 END = b"VALUE end-of-the-stream 0 1\r\n.\r\nEND\r\n"
 
 
@@ -74,13 +71,10 @@ class ChangedStreams(LiveTest):
 
 # The longest that a server may leave a client without an answer whose fault is that it does so.
 PATIENCE = 3
-
 # The longest until a fault is found, and how long none is.
 MOST_SECONDS, WITHOUT_FAULT = 60, 2
-
 # The fault shows from this connection on.
 FROM = 20
-
 KEPT = re.compile(rb"set (kept-[0-9a-f]+-\d+) ")
 
 
@@ -145,6 +139,8 @@ FAULTY = [
 
 class FaultyServers(LiveTest):
     """Changed streams find each fault of a server that has one, and none in one that has none."""
+
+    seconds = 9
 
     def setUp(self):
         self.port = self.enter(servers.serving())[1]

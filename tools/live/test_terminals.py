@@ -1,8 +1,9 @@
-"""The program at a terminal: what it says before it reads what is typed there, and how far it is."""
+"""The program at a terminal: what it says before it reads what is typed, and how far it is."""
 
 import contextlib
 import os
 import pty
+import signal
 import subprocess
 
 from . import servers
@@ -10,7 +11,6 @@ from .program import COUNTER, PROGRAM, SECONDS, LiveTest, rows
 
 # Ctrl-D on a line of its own.
 END = b"\x04"
-
 NOBODY = "127.0.0.1:1"
 HISTORY = b"history 2\nP begin delete a\nP reply NOT_FOUND\nend\n"
 UNREACHED = "mcrace: 127.0.0.1:1: Connection refused (os error 111)\n"
@@ -29,7 +29,6 @@ TYPED = [
 
 # Command lines that read nothing, with the statuses of theirs.
 UNREAD = [("--version", 0), ("judge --help", 0), ("generate", 0), ("serve 0 --connections 0", 0)]
-
 # Command lines with a fault, after which nothing is read.
 FAULTY = ["", "judge x", "run", f"run {NOBODY} --timeout 0", f"rnu {NOBODY}"]
 
@@ -79,33 +78,42 @@ class Typed(LiveTest):
 
 
 class Progress(LiveTest):
-    """How far a campaign is, is told in one line, if standard error is a terminal that can."""
+    """How far a command is, is told in one line, if standard error is a terminal that can."""
 
-    def told(self, *more, **environment):
-        """What is said of 2,000 jobs, with line ends as they were written."""
+    def setUp(self):
+        self.server = f"127.0.0.1:{self.enter(servers.serving())[1]}"
+
+    def watch(self, line, text=b"", is_interrupted=False, **environment):
+        """The output, what is said at a terminal, with line ends as they were written, and the
+        status. The command is interrupted, if it is, once it has said thrice how far it is."""
         ours, theirs = pty.openpty()
         known = {it: os.environ[it] for it in os.environ if it not in ("TERM", "COLUMNS")}
-        words = [PROGRAM, "campaign", f"127.0.0.1:{self.port}", "--jobs", "2000", *more]
-        streams = {"stdin": subprocess.DEVNULL, "stdout": subprocess.PIPE, "stderr": theirs}
-        told = b""
+        streams = {"stdin": subprocess.PIPE, "stdout": subprocess.PIPE, "stderr": theirs}
+        words, told = [PROGRAM, *line.split()], b""
         with subprocess.Popen(words, env={**known, **environment}, **streams) as process:
             os.close(theirs)
+            process.stdin.write(text)
+            process.stdin.close()
             # The other end of a terminal is gone with whoever had it.
             with contextlib.suppress(OSError):
                 while piece := os.read(ours, 4096):
                     told += piece
-            process.stdout.read()
+                    if is_interrupted and told.count(b" unexplained, ") >= 3:
+                        process.send_signal(signal.SIGINT)
+            output = process.stdout.read()
         os.close(ours)
-        told = told.decode().replace("\r\n", "\n")
+        return output, told.decode().replace("\r\n", "\n"), process.returncode
+
+    def of_campaign(self, *more, **environment):
+        """What is said of 2,000 jobs after the first line."""
+        line = f"campaign {self.server} --jobs 2000 {' '.join(more)}"
+        told = self.watch(line, **environment)[1]
         begin = "mcrace: seed 1, jobs 0 to 1999, 4 workers\n"
         self.assertEqual(told[: len(begin)], begin)
         return told[len(begin) :]
 
-    def setUp(self):
-        self.port = self.enter(servers.serving())[1]
-
     def test_wide(self):
-        first, *lines, last = self.told().split("\r\x1b[K")
+        first, *lines, last = self.of_campaign().split("\r\x1b[K")
         self.assertEqual((first, last), ("", ""))
         self.assertTrue(lines)
         for line in lines:
@@ -113,11 +121,19 @@ class Progress(LiveTest):
             self.assertRegex(line, form)
 
     def test_narrow(self):
-        for line in self.told(COLUMNS="20").split("\r\x1b[K"):
-            self.assertLessEqual(len(line), 20)
+        lines = self.of_campaign(COLUMNS="20").split("\r\x1b[K")
+        self.assertEqual([line for line in lines if len(line) > 20], [])
 
     def test_quiet(self):
-        self.assertEqual(self.told("--quiet"), "")
+        self.assertEqual(self.of_campaign("--quiet"), "")
 
     def test_dumb(self):
-        self.assertEqual(self.told(TERM="dumb"), "")
+        self.assertEqual(self.of_campaign(TERM="dumb"), "")
+
+    def test_interrupt(self):
+        """Ctrl-C ends many runs, and how far they were is left."""
+        line = f"run {self.server} --times 1000000"
+        output, told, status = self.watch(line, COUNTER, is_interrupted=True)
+        self.assertEqual((output, status), (b"", -signal.SIGINT))
+        last = told.split("\r\x1b[K")[-1]
+        self.assertRegex(last, r"^\d+ of 1000000 runs, \d+ a second, 0 unexplained, \d+ s left$")
