@@ -138,16 +138,20 @@ def ending_all():
     ctypes.CDLL(None).prctl(PR_SET_CHILD_SUBREAPER, 1, 0, 0, 0)
     signals = (signal.SIGINT, signal.SIGTERM, signal.SIGHUP)
     heeded = [it for it in signals if signal.getsignal(it) != signal.SIG_IGN]
+    received = []
 
     def end(number, _):
         for it in heeded:
             signal.signal(it, signal.SIG_IGN)
-        end_all()
-        sys.exit(128 + number)
+        received.append(number)
+        # a test of `unittest` ends by no other exception
+        raise KeyboardInterrupt
 
     for number in heeded:
         signal.signal(number, end)
     try:
         yield
+    except KeyboardInterrupt:
+        sys.exit(128 + received[0])
     finally:
         end_all()

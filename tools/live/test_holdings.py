@@ -10,7 +10,7 @@ import re
 import time
 
 from . import servers
-from .program import SECONDS, LiveTest, rows
+from .program import PROGRAM, SECONDS, LiveTest, rows
 
 CONNECTIONS = int(os.environ.get("MCRACE_CONNECTIONS", 10_000))
 # Connections that wait for their client, and the most kilobytes that each of them may take.
@@ -54,6 +54,8 @@ class Holdings(LiveTest):
     seconds = 8
 
     def setUp(self):
+        # Once all of it is in memory, the kernel maps many of its pages at once, and few later.
+        PROGRAM.read_bytes()
         self.process, self.port = self.enter(servers.serving())
         self.most = self.reads = 0
 

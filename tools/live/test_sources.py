@@ -6,20 +6,18 @@ import shutil
 import subprocess
 import tempfile
 import time
-import unittest
 
-from .program import ROOT
+from .program import ROOT, LiveTest
 
 # The hash, the remembered one, and this once more.
 HASHES = '. "$1"; source_hash "$2"; hash_at_hand "$2"; hash_at_hand "$2"'
 
 
-class RememberedHash(unittest.TestCase):
+class RememberedHash(LiveTest):
     """It is that of the sources at hand after each kind of change, and if nothing changed."""
 
     def setUp(self):
-        self.root = pathlib.Path(tempfile.mkdtemp())
-        self.addCleanup(shutil.rmtree, self.root)
+        self.root = pathlib.Path(self.enter(tempfile.TemporaryDirectory()))
         self.source = self.root / "crates/some/src/lib.rt"
         self.source.parent.mkdir(parents=True)
         self.crates, self.added = self.root / "crates.txt", self.source.with_name("added.antt")
