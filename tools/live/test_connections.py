@@ -10,7 +10,7 @@ import time
 
 from . import servers
 from .program import COUNTER, PROGRAM, SECONDS, LiveTest, play, rows, run, three_times
-from .servers import A, B, P, Scripted, Step
+from .servers import A, B, P, Replying, Scripted, Step
 
 REFUSED = "Connection refused (os error 111)"
 NOBODY = "127.0.0.1:1"
@@ -129,7 +129,7 @@ class Interrupts(LiveTest):
         """The first line of a campaign is there at once."""
         command = "run" if given else "campaign"
         streams = {it: subprocess.PIPE for it in ("stdin", "stdout", "stderr")}
-        server = self.enter(Scripted(([Step.READ], [], [])))
+        server = self.enter(Replying([Step.READ]))
         words = [PROGRAM, command, f"127.0.0.1:{server.port}"]
         process = self.enter(subprocess.Popen(words, **streams))
         self.addCleanup(process.kill)

@@ -10,7 +10,7 @@ import re
 import time
 
 from . import servers
-from .program import PROGRAM, SECONDS, LiveTest, rows
+from .program import SECONDS, LiveTest, rows
 
 CONNECTIONS = int(os.environ.get("MCRACE_CONNECTIONS", 10_000))
 # Connections that wait for their client, and the most kilobytes that each of them may take.
@@ -38,10 +38,11 @@ FIRST, MOST_LEFT = 1_000, 1_024
 
 
 def kilobytes(process):
-    """The resident memory of a process by its pages. `VmRSS` and `VmHWM` are counters, which may be
-    hundreds of kilobytes behind."""
+    """The resident memory of a process by its pages, but for those of its program and libraries, of
+    which the kernel maps some early or late. `VmRSS` and `VmHWM` are counters, which may be hundreds
+    of kilobytes behind."""
     text = pathlib.Path(f"/proc/{process.pid}/smaps_rollup").read_text(encoding="ascii")
-    return int(re.search(r"^Rss:\s+(\d+)", text, re.M)[1])
+    return int(re.search(r"^Anonymous:\s+(\d+)", text, re.M)[1])
 
 
 def descriptors_and_threads(process):
@@ -54,8 +55,6 @@ class Holdings(LiveTest):
     seconds = 8
 
     def setUp(self):
-        # Once all of it is in memory, the kernel maps many of its pages at once, and few later.
-        PROGRAM.read_bytes()
         self.process, self.port = self.enter(servers.serving())
         self.most = self.reads = 0
 
