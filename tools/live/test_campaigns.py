@@ -205,13 +205,9 @@ class StatisticsOfCampaigns(CampaignTest):
 
     def requests(self, jobs):
         """How many requests of each verb the scripts of so many jobs have, and P's deletes."""
-        counts = dict.fromkeys(SURE, 0)
-        counts["delete"] = 2 * jobs
-        for job in range(jobs):
-            script = run(["generate", "--job", str(job)]).stdout.decode()
-            for verb in (step.split()[0] for step in steps_of(script)):
-                counts[verb] = counts.get(verb, 0) + 1
-        return {verb: counts[verb] for verb in SURE}
+        scripts = (run(["generate", "--job", str(job)]).stdout.decode() for job in range(jobs))
+        verbs = [step.split()[0] for script in scripts for step in steps_of(script)]
+        return {it: verbs.count(it) + (2 * jobs if it == "delete" else 0) for it in SURE}
 
     def test_sums(self):
         """They are those of the scripts. Each `gets` that hits is followed by a `cas`."""

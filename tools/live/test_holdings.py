@@ -38,9 +38,9 @@ FIRST, MOST_LEFT = 1_000, 1_024
 
 
 def kilobytes(process):
-    """The resident memory of a process by its pages, but for those of its program and libraries, of
-    which the kernel maps some early or late. `VmRSS` and `VmHWM` are counters, which may be hundreds
-    of kilobytes behind."""
+    """The resident memory of a process by its pages, but for those of its program and libraries:
+    when the kernel maps these depends on the page cache. `VmRSS` and `VmHWM` are counters, which
+    may be hundreds of kilobytes behind."""
     text = pathlib.Path(f"/proc/{process.pid}/smaps_rollup").read_text(encoding="ascii")
     return int(re.search(r"^Anonymous:\s+(\d+)", text, re.M)[1])
 

@@ -1,9 +1,10 @@
-"""What `mcrace run` makes of replies: the endings, the verdict, the status and what it tells."""
+"""What `mcrace run` makes of replies: the endings, the verdict, the status and what it tells, of
+servers that are wrong and that are right."""
 
 import re
 
 from . import servers
-from .program import ALL_DONE, B_ALONE, COUNTED, NO_BRANCH, LiveTest, play, rows
+from .program import ALL_DONE, B_ALONE, COUNTED, NO_BRANCH, LiveTest, play, rows, scripts
 from .servers import A, B, P, Request, Scripted, Step, answers, answers_both
 
 # The bytes of every request of the counter are looked at.
@@ -174,3 +175,29 @@ class LosingServers(LiveTest):
         self.assertIn(b"A reply NOT_FOUND", lines)
         self.assertIn(b"B reply NUMBER 6", lines)
         self.assertNotIn(b"NOT_FOUND", alike.history.replace(b"P reply NOT_FOUND", b""))
+
+
+# The branches race anew each time.
+TIMES = 10
+
+
+class Scripts(LiveTest):
+    """Each section is done, the verdict is `explained`, and the history is judged again."""
+
+    @rows([(script.name, script) for script in scripts()])
+    def test_scripts(self, script):
+        for _ in range(TIMES):
+            found = play(self.port, script=script.read_bytes())
+            self.assert_done(found)
+            self.assertEqual(found.verdict.split("\n")[0], "explained")
+            self.assert_judged_again(found)
+
+    def setUp(self):
+        self.port = self.enter(servers.need_memcached())
+
+
+class ScriptsAtServe(Scripts):
+    """The same at `mcrace serve`."""
+
+    def setUp(self):
+        self.port = self.enter(servers.serving())[1]
