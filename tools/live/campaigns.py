@@ -1,0 +1,101 @@
+"""What `mcrace campaign` writes: its reports, read as data."""
+
+import re
+from dataclasses import dataclass
+
+from .program import SECONDS, LiveTest, run
+
+JOB = re.compile(
+    r"\d+ (?:explained|unexplained|undecided)(?: [PAB] \w+)*|\d+ no connection [PAB]"
+    r"|\d+ not (?:run|made)"
+)
+
+TOTALS = re.compile(r"jobs (\d+) explained (\d+) unexplained (\d+) other (\d+)")
+# The most jobs of a block, and of a report, if a campaign runs in blocks.
+MOST_IN_BLOCK = 64
+MOST_IN_REPORT = 10_000
+
+
+@dataclass
+class Campaign:
+    """What a campaign answered: its status, the job lines and the totals of each report, the lines
+    that follow the last one, and standard error."""
+
+    status: int
+    reports: list
+    rest: list
+    faults: str
+
+    @property
+    def jobs(self):
+        return [line for jobs, _ in self.reports for line in jobs]
+
+    @property
+    def totals(self):
+        """The totals of the one report that there is."""
+        return self.reports[0][1] if len(self.reports) == 1 else None
+
+    @property
+    def unexplained(self):
+        """The numbers of the unexplained jobs, as texts."""
+        return [line.split()[0] for line in self.jobs if line.split()[1] == "unexplained"]
+
+    @property
+    def told(self):
+        """The lines of standard error after the first, which says what is run."""
+        return self.faults.splitlines()[1:]
+
+    @property
+    def shrunk(self):
+        """The script that is left, with the histories that are shown after it; or empty."""
+        return "".join(f"{line}\n" for line in self.rest[1:]) if self.rest[:1] == ["shrunk"] else ""
+
+
+def campaign(port, options=""):
+    """What a campaign against the server on this port of 127.0.0.1 answers."""
+    words = ["campaign", f"127.0.0.1:{port}", *options.split()]
+    ran = run(words, seconds=10 * SECONDS)
+    reports, jobs, rest = [], [], ran.stdout.decode().splitlines()
+    while rest and (JOB.fullmatch(rest[0]) or TOTALS.fullmatch(rest[0])):
+        line = rest.pop(0)
+        totals = TOTALS.fullmatch(line)
+        if totals:
+            reports.append((jobs, tuple(map(int, totals.groups()))))
+            jobs = []
+        else:
+            jobs.append(line)
+    return Campaign(ran.returncode, reports, jobs + rest, ran.stderr.decode())
+
+
+def steps_of(script):
+    """The requests of a script."""
+    lines = script.splitlines()
+    steps = lines[lines.index("P") :]
+    return [line for line in steps if line not in ("P", "A", "B", "end") and line[-1:] != ":"]
+
+
+class CampaignTest(LiveTest):
+    """What tests of campaigns have in common."""
+
+    def assert_right(self, port, jobs, options=""):
+        """All jobs against a server that is right are explained, and nothing else is said."""
+        found = campaign(port, f"--jobs {jobs} {options}")
+        self.assertEqual(found.faults, f"mcrace: seed 1, jobs 0 to {jobs - 1}, 4 workers\n")
+        odd = [line for line in found.jobs if not line.endswith(" explained")]
+        self.assertEqual((odd, found.status, found.rest), ([], 0, []))
+        self.assertEqual(found.jobs, [f"{job} explained" for job in range(jobs)])
+        self.assertEqual(found.totals, (jobs, jobs, 0, 0))
+
+    def assert_reports(self, reports, first):
+        """They are of 10,000 jobs each, but the last one, each job once, in order, from the first
+        on, with right totals."""
+        sizes = [len(jobs) for jobs, _ in reports]
+        for jobs, totals in reports:
+            numbers = [int(line.split()[0]) for line in jobs]
+            words = [line.split()[1] for line in jobs]
+            self.assertEqual(numbers, [*range(first, first + len(jobs))])
+            right, wrong = words.count("explained"), words.count("unexplained")
+            self.assertEqual(totals, (len(jobs), right, wrong, len(jobs) - right - wrong))
+            first += len(jobs)
+        self.assertEqual(sizes[:-1], (len(sizes) - 1) * [MOST_IN_REPORT])
+        self.assertTrue(0 < sizes[-1] <= MOST_IN_REPORT, sizes)

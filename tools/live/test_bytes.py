@@ -1,0 +1,270 @@
+"""What a client that writes its own bytes does with `mcrace serve`: pipelines, requests that come
+in pieces, and while others do ill; and memccapable."""
+
+import contextlib
+import random
+import shutil
+import socket
+import subprocess
+import threading
+import time
+
+from . import servers
+from .program import LiveTest, rows
+
+SECONDS = 30
+# Seconds between the two pieces of a request, so that the server reads them one by one.
+APART = 0.001
+
+# Each request with its reply, in this order, beginning with no key.
+TALK = [
+    (b"delete a\r\n", b"NOT_FOUND\r\n"),
+    (b"set a 5 0 3\r\nx\r\n\r\n", b"STORED\r\n"),
+    (b"get a b\r\n", b"VALUE a 5 3\r\nx\r\n\r\nEND\r\n"),
+    (b"add a 0 0 1\r\n1\r\n", b"NOT_STORED\r\n"),
+    (b"append a 9 0 0\r\n\r\n", b"STORED\r\n"),
+    (b"prepend a 9 0 2\r\nyz\r\n", b"STORED\r\n"),
+    (b"get a\n", b"VALUE a 5 5\r\nyzx\r\n\r\nEND\r\n"),
+    (b"incr a 1\r\n", b"CLIENT_ERROR cannot increment or decrement non-numeric value\r\n"),
+    (b"replace a 0 0 2\r\n10\r\n", b"STORED\r\n"),
+    (b"incr a 5\r\n", b"15\r\n"),
+    (b"decr a 6\r\n", b"9\r\n"),
+    (b"touch a 0\r\n", b"TOUCHED\r\n"),
+    (b"touch b 0\r\n", b"NOT_FOUND\r\n"),
+    (b"set a 0 0 1 noreply\r\n7\r\n", b""),
+    (b"get  a \r\n", b"VALUE a 0 1\r\n7\r\nEND\r\n"),
+    (b"cas b 0 0 1 7\r\n1\r\n", b"NOT_FOUND\r\n"),
+    (b"incr b 1\r\n", b"NOT_FOUND\r\n"),
+    (b"replace b 0 0 1\r\n1\r\n", b"NOT_STORED\r\n"),
+    (b"delete a\r\n", b"DELETED\r\n"),
+    (b"get a\r\n", b"END\r\n"),
+]
+
+ASKED = b"".join(request for request, _ in TALK)
+ANSWERED = b"".join(reply for _, reply in TALK)
+TOO_LONG = [b"x" * 2048, b"get " + b"a " * 1022 + b"\r\n", b"delete a noreply" + b" " * 2048]
+
+
+def read(stream, length):
+    """Just these many bytes, or fewer at the end."""
+    got = bytearray()
+    while len(got) < length:
+        piece = stream.recv(min(65536, length - len(got)))
+        if not piece:
+            break
+        got += piece
+    return bytes(got)
+
+
+class OwnBytes(LiveTest):
+    """Requests one by one and in pipelines, cut anywhere."""
+
+    def setUp(self):
+        self.port = self.enter(servers.serving())[1]
+
+    def connect(self):
+        stream = servers.connect(self.port)
+        stream.sendall(b"delete a noreply\r\ndelete b noreply\r\nget a b\r\n")
+        self.assertEqual(read(stream, 5), b"END\r\n")
+        return stream
+
+    def assert_answers(self, stream, request, reply):
+        stream.sendall(request)
+        self.assertEqual(read(stream, len(reply)), reply)
+
+    def test_one_by_one(self):
+        with self.connect() as stream:
+            for request, reply in TALK:
+                self.assert_answers(stream, request, reply)
+
+    def test_all_at_once(self):
+        with self.connect() as stream:
+            self.assert_answers(stream, ASKED, ANSWERED)
+
+    def test_cut_at_each_byte(self):
+        with self.connect() as stream:
+            for cut in range(1, len(ASKED)):
+                stream.sendall(ASKED[:cut])
+                time.sleep(APART)
+                self.assert_answers(stream, ASKED[cut:], ANSWERED)
+
+    def test_byte_by_byte(self):
+        with self.connect() as stream:
+            for at in range(len(ASKED)):
+                stream.sendall(ASKED[at : at + 1])
+            self.assertEqual(read(stream, len(ANSWERED)), ANSWERED)
+
+    def test_pipeline_of_a_thousand(self):
+        with self.connect() as stream:
+            self.assert_answers(stream, b"set a 0 0 1\r\n0\r\n", b"STORED\r\n")
+            wanted = b"".join(b"%d\r\n" % number for number in range(1, 1001))
+            self.assert_answers(stream, b"incr a 1\r\n" * 1000, wanted)
+            self.assert_answers(stream, b"delete a\r\n", b"DELETED\r\n")
+
+    def test_quit(self):
+        with self.connect() as stream:
+            stream.sendall(b"get a\r\nquit\r\nget a\r\n")
+            self.assertEqual(read(stream, 1000), b"END\r\n")
+
+    def test_client_ends_after_each_byte(self):
+        """What it began isn't answered, and doesn't happen."""
+        for cut in range(len(ASKED)):
+            with self.connect() as stream:
+                stream.sendall(ASKED[:cut])
+                stream.shutdown(socket.SHUT_WR)
+                wanted, end = b"", 0
+                for request, reply in TALK:
+                    end += len(request)
+                    wanted += reply if end <= cut else b""
+                self.assertEqual(read(stream, len(ANSWERED)), wanted)
+
+    def test_line_too_long(self):
+        """The server closes the connection after one."""
+        for line in TOO_LONG:
+            with self.connect() as stream:
+                stream.sendall(line)
+                self.assertEqual(read(stream, 1000), b"CLIENT_ERROR line too long\r\n")
+
+    def test_client_leaves_in_a_request(self):
+        for cut in (3, 14, 20):
+            with self.connect() as stream:
+                stream.sendall(b"set a 0 0 100\r\n0123456789"[:cut])
+        self.test_one_by_one()
+
+
+# The bytes of rubbish, and what goes out at once of it.
+RUBBISH, PIECE = 10_000_000, 65_536
+# The longest that a request of the client may take.
+PATIENCE = 5
+
+
+def leave_in_requests(port, ended):
+    """Each time a little more of a request, and then it is gone."""
+    text, count = b"set left 0 0 1000\r\n" + b"y" * 500, 0
+    while not ended.is_set():
+        with servers.connect(port) as stream:
+            stream.sendall(text[: count % len(text)])
+        count += 1
+
+
+def send_slowly(port, ended):
+    with servers.connect(port) as stream:
+        while not ended.is_set():
+            for at in range(9):
+                stream.sendall(b"get slow\n"[at : at + 1])
+                time.sleep(0.005)
+
+
+def never_read(port, ended):
+    """It asks for more than fits anywhere, and reads nothing."""
+    with servers.connect(port) as stream:
+        stream.sendall(b"set large 0 0 65536\r\n%b\r\n" % (b"x" * 65_536))
+        stream.setblocking(False)
+        while not ended.is_set():
+            with contextlib.suppress(BlockingIOError):
+                stream.send(b"get large\r\n" * 1000)
+            time.sleep(0.001)
+
+
+def reset(port, ended):
+    while not ended.is_set():
+        with servers.connect(port) as stream:
+            stream.sendall(b"get large\r\nset reset 0 0 5\r\nab")
+            servers.reset_at_close(stream)
+
+
+def send_rubbish(port, ended):
+    """So many bytes in all, over a new connection if one is closed. Its replies are dropped."""
+    lots, left = random.Random(1), RUBBISH
+    while left > 0 and not ended.is_set():
+        with servers.connect(port) as stream, contextlib.suppress(OSError):
+            stream.setblocking(False)
+            piece = lots.randbytes(PIECE)
+            while left > 0 and not ended.is_set():
+                with contextlib.suppress(BlockingIOError):
+                    left -= stream.send(piece)
+                with contextlib.suppress(BlockingIOError):
+                    if not stream.recv(PIECE):
+                        break
+
+
+class UnderFire(LiveTest):
+    """While others send half requests, send slowly, never read their replies, reset connections or
+    send rubbish, a client is served, and nothing is lost that it was acknowledged."""
+
+    def set(self, stream, reader, count):
+        """How many seconds it took to set a key."""
+        began = time.monotonic()
+        stream.sendall(b"set kept-%d 0 0 10\r\n%010d\r\n" % (count, count))
+        self.assertEqual(reader.readline(), b"STORED\r\n")
+        return time.monotonic() - began
+
+    def test_served(self):
+        port, ended = self.enter(servers.serving())[1], threading.Event()
+        fires = leave_in_requests, send_slowly, never_read, never_read, reset, send_rubbish
+        threads = [threading.Thread(target=it, args=(port, ended), daemon=True) for it in fires]
+        for thread in threads:
+            thread.start()
+        slowest, count, end = 0.0, 0, time.monotonic() + SECONDS
+        with servers.connect(port) as stream, stream.makefile("rb") as reader:
+            while (threads[-1].is_alive() or count < 500) and time.monotonic() < end:
+                slowest = max(slowest, self.set(stream, reader, count))
+                count += 1
+                time.sleep(0.001)
+            is_left = threads[-1].is_alive()
+            ended.set()
+            for thread in threads:
+                thread.join(SECONDS)
+            for i in range(count):
+                stream.sendall(b"get kept-%d\r\n" % i)
+                found = b"".join(reader.readline() for _ in range(3))
+                self.assertEqual(found, b"VALUE kept-%d 0 10\r\n%010d\r\nEND\r\n" % (i, i))
+        self.assertFalse(is_left, f"rubbish is left after {count} sets")
+        self.assertLessEqual(slowest, PATIENCE)
+
+
+# The tests of memccapable. Those of `flush_all`, `verbosity`, `stats` and `version` are left out:
+# the server doesn't have these.
+STORING = ["set", "add", "replace", "cas", "delete", "incr", "decr", "append", "prepend"]
+CAPABLE = ["quit", "get", "gets", "mget", *STORING, *(f"{it} noreply" for it in STORING)]
+# These wait for the reply to a `version`, which the proxy answers.
+WAITS = {"set", "add", "replace", "cas", *(f"{it} noreply" for it in STORING)}
+MARK = b"mark-of-the-proxy"
+MARKED = b"VALUE %b 0 0\r\n" % MARK
+
+
+class Versions(servers.Carrying):
+    """A proxy that answers `version`, which the server doesn't know. In its place the server gets a
+    key of the proxy's own, and the version is answered once that came: then all before it was."""
+
+    def __init__(self, port):
+        super().__init__(port)
+        with servers.connect(port) as server:
+            server.sendall(b"set %b 0 0 0\r\n\r\n" % MARK)
+            server.recv(100)
+
+    def pieces(self, source):
+        with source.makefile("rb") as lines:
+            for line in lines:
+                yield line + lines.readline() + lines.readline() if line == MARKED else line
+
+    def request(self, piece):
+        return b"get %b\r\n" % MARK if piece == b"version\r\n" else piece
+
+    def reply(self, piece):
+        return b"VERSION 0\r\n" if piece.startswith(MARKED) else piece
+
+
+class Memccapable(LiveTest):
+    """Its tests that ask for nothing that the server doesn't have, each at a server of its own."""
+
+    @rows((test, test) for test in CAPABLE)
+    def test_capable(self, test):
+        if shutil.which("memccapable") is None:
+            self.skipTest("memccapable is not installed; on Debian it is in libmemcached-tools")
+        with servers.serving() as (_, port):
+            at = Versions(port).port if test in WAITS else port
+            words = ["memccapable", "-h", "127.0.0.1", "-p", str(at), "-v", "-a"]
+            words += ["-T", f"ascii {test}"]
+            ran = subprocess.run(words, capture_output=True, text=True, timeout=4 * SECONDS)
+        self.assertEqual((ran.returncode, "[pass]" in ran.stdout), (0, True), ran)

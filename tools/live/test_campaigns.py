@@ -1,0 +1,237 @@
+"""What `mcrace campaign` reports of servers that are right, that answer wrongly or late, or that go
+away; and `mcrace selftest`."""
+
+import concurrent.futures
+import pathlib
+import re
+import socket
+import time
+
+from . import servers
+from .campaigns import MOST_IN_BLOCK, MOST_IN_REPORT, CampaignTest, campaign, steps_of
+from .program import LiveTest, rows, run, statistics_in, three_times
+from .servers import Replying, Step, answers
+
+# By how many seconds a campaign for a time may end late: it ends its block, and the program begins
+# and ends.
+LATE = 3
+# What answers each request of P of a generated script.
+OF_P = answers(b"NOT_FOUND\r\n", b"NOT_FOUND\r\n", b"STORED\r\n", b"STORED\r\n")
+# What /proc/net/tcp calls a connection of which this side was the first to close.
+TIME_WAIT = "06"
+# The verbs whose requests a generated script always sends.
+SURE = ("set", "add", "append", "incr", "decr", "gets", "delete")
+
+
+class RightServers(CampaignTest):
+    """All jobs are explained, but if a verdict may take no turn."""
+
+    def test_memcached(self):
+        self.assert_right(self.enter(servers.need_memcached()), 300)
+
+    def test_serve(self):
+        self.assert_right(self.enter(servers.serving())[1], 300)
+
+    def test_in_time(self):
+        self.assert_right(self.enter(servers.serving())[1], 100, "--timeout 20")
+
+    def test_no_turns_for_the_verdicts(self):
+        found = campaign(self.enter(servers.serving())[1], "--jobs 30 --limit 0")
+        self.assertEqual(found.jobs, [f"{job} undecided" for job in range(30)])
+        self.assertEqual((found.totals, found.status, found.rest), ((30, 0, 0, 30), 4, []))
+
+    def test_resets_are_not_told_as_late(self):
+        reset = [Step.READ, Step.RESET]
+        with Replying(OF_P, reset, reset) as server:
+            found = campaign(server.port, "--jobs 2 --workers 1 --timeout 20")
+        failed = [f"{job} explained A ReadFailed B ReadFailed" for job in range(2)]
+        told = "mcrace: seed 1, jobs 0 to 1, 1 worker\n"
+        self.assertEqual((found.jobs, found.faults), (failed, told))
+
+    def test_parts(self):
+        """The lines of parts are those of the whole, and a brief report has the totals alone."""
+        port = self.enter(servers.serving())[1]
+        whole = campaign(port, "--jobs 30")
+        parts = [campaign(port, it) for it in ("--from 0 --jobs 10", "--from 10 --jobs 20")]
+        brief = campaign(port, "--jobs 30 --brief")
+        self.assertEqual(len(whole.jobs), 30, whole)
+        self.assertEqual([line for part in parts for line in part.jobs], whole.jobs)
+        self.assertEqual(parts[1].faults, "mcrace: seed 1, jobs 10 to 29, 4 workers\n")
+        self.assertEqual((brief.jobs, brief.totals, brief.status), ([], whole.totals, 0))
+
+    def test_ports(self):
+        """It keeps no ports after it closed its connections. A server may be late now and then."""
+        port = self.enter(servers.serving())[1]
+        found = campaign(port, "--jobs 200")
+        lines = pathlib.Path("/proc/net/tcp").read_text(encoding="ascii").splitlines()[1:]
+        peers = [fields[2] for fields in map(str.split, lines) if fields[3] == TIME_WAIT]
+        kept = sum(int(peer.partition(":")[2], 16) == port for peer in peers)
+        self.assertEqual(found.status, 0, found)
+        self.assertLessEqual(kept, 60, "of 600 connections")
+
+
+class Times(CampaignTest):
+    """Campaigns for a time, and some that may end early."""
+
+    def test_time(self):
+        port = self.enter(servers.serving())[1]
+        began = time.monotonic()
+        found = campaign(port, "--for 2s --from 5")
+        took = time.monotonic() - began
+        self.assertEqual((found.status, found.rest), (0, []), found.faults)
+        self.assertEqual(found.faults, "mcrace: seed 1, jobs from 5 on, 4 workers\n")
+        self.assert_took(took, 2, 2 + LATE)
+        self.assert_reports(found.reports, 5)
+        last = len(found.reports[-1][0])
+        self.assertTrue(last % MOST_IN_BLOCK == 0 or last == MOST_IN_REPORT, last)
+
+    def test_several_reports(self):
+        """One ends at 10,000 jobs, each with its ranges on standard error. Nothing connects, so
+        jobs are quick."""
+        port = servers.free_port()
+        for seconds in (3, 30):
+            found = campaign(port, f"--for {seconds}s --show")
+            if len(found.reports) > 1:
+                break
+        self.assertEqual((found.status, found.rest), (4, []), found.faults[:300])
+        self.assertGreater(len(found.reports), 1)
+        last = len(found.jobs) - 1
+        ends = [*range(MOST_IN_REPORT - 1, last, MOST_IN_REPORT), last]
+        told = re.findall(r"\(jobs \d+ to (\d+)\)", found.faults)
+        self.assertEqual([*map(int, told)], ends)
+        self.assert_reports(found.reports, 0)
+
+    def test_nothing_to_end_it(self):
+        """The lines of a campaign that may end early, but doesn't, are those of the whole."""
+        port = self.enter(servers.serving())[1]
+        whole = campaign(port, "--jobs 150")
+        self.assertEqual(campaign(port, "--jobs 150 --stop-after 1"), whole)
+        self.assertEqual(len(whole.jobs), 150)
+
+
+class CampaignNames(CampaignTest):
+    """Campaigns under names."""
+
+    def test_two_at_once(self):
+        """They have the same jobs, and each has a name of its own."""
+        port = self.enter(servers.serving())[1]
+        with concurrent.futures.ThreadPoolExecutor() as threads:
+            names = "--name ci7", "--name ci8"
+            list(threads.map(lambda name: self.assert_right(port, 300, name), names))
+
+    def test_requests(self):
+        """Each request is answered by a bare LF."""
+        with Replying(answers(b"6\n")) as server:
+            found = campaign(server.port, "--jobs 10 --name ci7")
+        form = r'mcrace: job (\d+): P: to "delete ci7-r\1-0" came "6\\n": the line ends without CR'
+        self.assertEqual(len(found.told), 10, found)
+        for line in found.told:
+            self.assertRegex(line, f"^{form}$")
+
+    def test_key_becomes_too_long(self):
+        """Under this name the last job's keys do, before anything is connected."""
+        with socket.create_server(("127.0.0.1", 0)) as server:
+            port = server.getsockname()[1]
+            found = campaign(port, "--jobs 11 --name a-name-of-35-bytes-leaves-room-for-")
+            server.settimeout(0.2)
+            with self.assertRaises(socket.timeout):
+                server.accept()
+        self.assertEqual((found.status, found.reports, found.rest), (2, [], []))
+        self.assertIn("the key 'r10-0' has 41 bytes with it", found.faults)
+
+
+class WrongServers(CampaignTest):
+    """Servers that answer wrongly or late, or that go away."""
+
+    def assert_told_of_ten(self, found, form):
+        """It is said of ten jobs, of each once, in this form, whose first group is the job."""
+        told = [re.fullmatch(f"mcrace: {form}", line) for line in found.told]
+        self.assertTrue(all(told), found.faults)
+        self.assertEqual((len(told), len({it[1] for it in told})), (10, 10), found.faults)
+
+    def test_wrong_replies(self):
+        """It is said at once what came, of the first ten. Each request is answered by a bare LF."""
+        with Replying(answers(b"6\n")) as server:
+            found = campaign(server.port, "--jobs 12")
+        form = r'job (\d+): P: to "delete r\1-0" came "6\\n": the line ends without CR'
+        self.assert_told_of_ten(found, form)
+        self.assertEqual(found.status, 1)
+
+    @rows([("none", [], "no reply"), ("a part", [b"NOT_F"], 'no more than "NOT_F"')])
+    @three_times
+    def test_late_replies(self, texts, told):
+        with Replying(answers(*texts)) as server:
+            found = campaign(server.port, "--jobs 12 --timeout 0.2")
+        self.assert_told_of_ten(found, rf'job (\d+): P: {told} to "delete r\1-0" within 0\.2 s')
+        self.assertEqual(found.jobs, [f"{job} explained P ReadFailed" for job in range(12)])
+        self.assertEqual(found.status, 4)
+
+    @three_times
+    def test_late_branches(self):
+        """It is said once of each branch. With one worker connections come in the order P, A, B of
+        one job after the other."""
+        with Replying(OF_P, [], []) as server:
+            found = campaign(server.port, "--jobs 4 --workers 1 --timeout 0.2")
+        form = re.compile(r'mcrace: (job \d+: [AB]): no reply to "\w+ r\d+-[01].*" within 0\.2 s')
+        told = [it and it[1] for it in map(form.fullmatch, found.told)]
+        self.assertEqual(told, [f"job {job}: {branch}" for job in range(4) for branch in "AB"])
+
+    @three_times
+    def test_late_and_wrong(self):
+        """Ten faults in all are told if one job gets no reply and the next one a wrong one."""
+        with Replying([], [], [], answers(b"6\n"), [], []) as server:
+            found = campaign(server.port, "--jobs 14 --workers 1 --timeout 0.2")
+        late = r'mcrace: job \d*[02468]: P: no reply to "delete r\d+-0" within 0\.2 s'
+        wrong = (
+            r'mcrace: job \d*[13579]: P: to "delete r\d+-0" came "6\\n": '
+            "the line ends without CR"
+        )
+        self.assertRegex("\n".join(found.told), f"^{late}\n{wrong}(?:\n{late}\n{wrong}){{4}}$")
+
+    def test_server_goes_away(self):
+        """`serve` ends after 30 connections, and later ones are refused."""
+        port = self.enter(servers.serving("--connections", "30"))[1]
+        found = campaign(port, "--jobs 40 --workers 1")
+        self.assertEqual([line.split()[1] for line in found.jobs[:10]], 10 * ["explained"])
+        self.assertEqual(found.status, 4)
+        for line in found.jobs[11:]:
+            self.assertRegex(line, " no connection |ReadFailed|Ended")
+        told = rf"mcrace: 127\.0\.0\.1:{port}: Connection refused \(os error 111\)"
+        self.assertRegex(found.faults, rf"{told} \(jobs \d+ to 39\)\n")
+
+
+class StatisticsOfCampaigns(CampaignTest):
+    """What `--stats` says at the end of a campaign."""
+
+    def requests(self, jobs):
+        """How many requests of each verb the scripts of so many jobs have, and P's deletes."""
+        scripts = (run(["generate", "--job", str(job)]).stdout.decode() for job in range(jobs))
+        verbs = [step.split()[0] for script in scripts for step in steps_of(script)]
+        return {it: verbs.count(it) + (2 * jobs if it == "delete" else 0) for it in SURE}
+
+    def test_sums(self):
+        """They are those of the scripts. Each `gets` that hits is followed by a `cas`."""
+        found = campaign(self.enter(servers.serving())[1], "--jobs 60 --stats")
+        before, stats = statistics_in(found.faults)
+        self.assertEqual(before, "mcrace: seed 1, jobs 0 to 59, 4 workers\n")
+        self.assertEqual((found.status, len(found.jobs)), (0, 60))
+        sums = {verb: sum(classes.values()) for verb, classes in stats.answers.items()}
+        self.assertEqual({verb: sums.get(verb, 0) for verb in SURE}, self.requests(60))
+        self.assertEqual(sums.get("cas", 0), stats.answers["gets"].get("hit", 0))
+        self.assertEqual(stats.runs, 60)
+        self.assertTrue(0 <= stats.a_first <= stats.answered <= 60, stats)
+        self.assertTrue(0 < stats.overlapped <= 60, stats)
+
+    def test_no_job_ran(self):
+        found = campaign(servers.free_port(), "--jobs 3 --stats")
+        self.assertNotIn("overlapped", found.faults)
+        self.assertEqual(found.status, 4)
+
+
+class Selftest(LiveTest):
+    """`mcrace selftest` passes ten times."""
+
+    def test_selftest(self):
+        for _ in range(10):
+            answer = run(["selftest"])
+            self.assertEqual((answer.returncode, answer.stdout.splitlines()[-1:]), (0, [b"ok"]))

@@ -1,0 +1,219 @@
+"""What pymemcache and pylibmc do with `mcrace serve`: one set of tests over two adapters."""
+
+import importlib
+import threading
+import unittest
+
+from . import servers
+from .program import LiveTest
+
+SECONDS = 20
+EVERY_BYTE = bytes(range(256))
+LONGEST = EVERY_BYTE * 256
+LENGTHS = [*range(300), 1023, 1024, 2047, 2048, 4095, 4096, 16384, 65535, 65536]
+
+# Calls, each with what it answers, beginning with no key.
+CALLS = {
+    "sets and gets": [
+        ("get", "a", None), ("set", "a", b"1", True), ("get", "a", b"1"), ("set", "a", b"", True),
+        ("get", "a", b""), ("set", "a", LONGEST, True), ("get", "a", LONGEST),
+    ],
+    "adds and replaces": [
+        ("replace", "a", b"1", False), ("add", "a", b"2", True), ("add", "a", b"3", False),
+        ("get", "a", b"2"), ("replace", "a", b"4", True), ("get", "a", b"4"),
+    ],
+    "appends and prepends": [
+        ("append", "a", b"x", False), ("prepend", "a", b"x", False), ("set", "a", b"m", True),
+        ("append", "a", b"yz", True), ("prepend", "a", b"kl", True), ("get", "a", b"klmyz"),
+    ],
+    "counts": [
+        ("incr", "a", 1, None), ("decr", "a", 1, None), ("set", "a", b"9", True),
+        ("incr", "a", 1, 10), ("incr", "a", 5, 15), ("decr", "a", 20, 0),
+        ("set", "a", b"%d" % (2**64 - 1), True), ("incr", "a", 2, 1),
+    ],
+    "deletes and touches": [
+        ("delete", "a", False), ("touch", "a", 0, False), ("set", "a", b"1", True),
+        ("touch", "a", 0, True), ("delete", "a", True), ("get", "a", None),
+    ],
+    "many keys": [
+        ("set_many", {"a": b"1", "b": b"2"}, []),
+        ("get_many", ["a", "b", "c"], {"a": b"1", "b": b"2"}),
+    ],
+}
+
+
+def side_by_side(count, work):
+    threads = [threading.Thread(target=work) for _ in range(count)]
+    for thread in threads:
+        thread.start()
+    for thread in threads:
+        thread.join()
+
+
+class ClientTests:
+    """What both clients do, each verb, all bodies, and several at once."""
+
+    @classmethod
+    def setUpClass(cls):
+        try:
+            cls.library = importlib.import_module(cls.needs)
+        except ImportError:
+            raise unittest.SkipTest(f"{cls.needs} is not installed") from None
+        server = servers.serving()
+        cls.port = server.__enter__()[1]
+        cls.addClassCleanup(server.__exit__, None, None, None)
+
+    def call(self, method, *given):
+        return getattr(self.client, method)(*given)
+
+    def setUp(self):
+        self.client = self.connect()
+        for key in ("a", "b", "c"):
+            self.client.delete(key)
+
+    def test_calls(self):
+        for name, calls in CALLS.items():
+            with self.subTest(name):
+                self.setUp()
+                for method, *given, wanted in calls:
+                    self.assertEqual(self.call(method, *given), wanted, (method, given))
+
+    def test_swaps_by_number(self):
+        self.call("set", "a", b"1")
+        body, number = self.call("gets", "a")
+        self.assertEqual(body, b"1")
+        self.assertIs(self.call("cas", "a", b"2", number), True)
+        self.assertIs(self.call("cas", "a", b"3", number), False)
+        self.assertEqual(self.call("get", "a"), b"2")
+        self.assertIsNone(self.call("cas", "b", b"3", number))
+
+    def test_counts_by_cas_loops(self):
+        """Four clients each add 50 by gets and cas, and none is lost."""
+        self.call("set", "a", b"0")
+
+        def add():
+            client = self.connect()
+            for _ in range(50):
+                swapped = False
+                while not swapped:
+                    body, number = client.gets("a")
+                    swapped = client.cas("a", b"%d" % (int(body) + 1), number)
+
+        side_by_side(4, add)
+        self.assertEqual(self.call("get", "a"), b"200")
+
+    def test_counts_together(self):
+        """Four clients each incr 200 times, and each number is answered once."""
+        self.call("set", "a", b"0")
+        answered = []
+
+        def add():
+            client = self.connect()
+            answered.extend([client.incr("a", 1) for _ in range(200)])
+
+        side_by_side(4, add)
+        self.assertEqual(sorted(answered), [*range(1, 801)])
+
+    def test_every_byte(self):
+        for body in (EVERY_BYTE, EVERY_BYTE[::-1], b"\r\n", b"END\r\n", b"\0" * 1000):
+            self.call("set", "a", body)
+            self.assertEqual(self.call("get", "a"), body)
+
+    def test_bodies_of_all_lengths(self):
+        for length in LENGTHS:
+            self.assertIs(self.call("set", "a", LONGEST[:length]), True)
+            self.assertEqual(self.call("get", "a"), LONGEST[:length])
+
+    def test_two_hundred_keys(self):
+        """One line asks for all, and has at most 2,048 bytes."""
+        many = {f"key-{i}": b"%d" % i for i in range(200)}
+        self.assertEqual(self.call("set_many", many), [])
+        self.assertEqual(self.call("get_many", [*many]), many)
+        for key in many:
+            self.client.delete(key)
+
+
+class WithPymemcache(ClientTests, LiveTest):
+    """pymemcache, which is Python's own."""
+
+    needs = "pymemcache"
+
+    def base(self, kind="Client", **more):
+        from pymemcache.client import base
+
+        named = {"connect_timeout": SECONDS, "timeout": SECONDS, "default_noreply": False, **more}
+        return getattr(base, kind)(("127.0.0.1", self.port), **named)
+
+    def connect(self):
+        return self.base(no_delay=True)
+
+    def test_flags(self):
+        class WithFlags:
+            """Stores a pair of a body and flags, and gives it back."""
+
+            def serialize(self, key, pair):
+                return pair
+
+            def deserialize(self, key, body, flags):
+                return body, flags
+
+        client = self.client
+        client.serde = WithFlags()
+        for flags in (0, 1, 2**31, 2**32 - 1):
+            client.set("a", (b"1", flags))
+            self.assertEqual(client.get("a"), (b"1", flags))
+
+    def test_many_numbers(self):
+        client = self.client
+        client.set_many({"a": b"1", "b": b"2"})
+        found = client.gets_many(["a", "b", "c"])
+        self.assertEqual({key: it[0] for key, it in found.items()}, {"a": b"1", "b": b"2"})
+
+    def test_no_replies(self):
+        client = self.base(default_noreply=True)
+        client.delete("a")
+        client.set("a", b"1")
+        client.append("a", b"2", noreply=True)
+        client.incr("a", 1, noreply=True)
+        self.assertEqual(client.get("a"), b"13")
+        client.delete("a")
+        self.assertIsNone(client.get("a"))
+
+    def test_pool(self):
+        pool = self.base("PooledClient", max_pool_size=16)
+        pool.set("b", b"x")
+        found = []
+        side_by_side(16, lambda: found.append(pool.get("b")))
+        self.assertEqual(found, [b"x"] * 16)
+
+
+class WithPylibmc(ClientTests, LiveTest):
+    """pylibmc, which is libmemcached, by the text protocol."""
+
+    needs = "pylibmc"
+
+    def connect(self):
+        named = {"binary": False, "behaviors": {"cas": True, "tcp_nodelay": True}}
+        return self.library.Client([f"127.0.0.1:{self.port}"], **named)
+
+    def call(self, method, *given):
+        """It raises an exception if a key isn't there, where pymemcache answers None."""
+        names = {"set_many": "set_multi", "get_many": "get_multi"}
+        try:
+            return super().call(names.get(method, method), *given)
+        except self.library.NotFound:
+            return None
+
+    def test_flags(self):
+        """Numbers and texts are stored with flags of pylibmc's own, which say what they are."""
+        client = self.client
+        for key, value in (("a", 41), ("b", True), ("c", "m")):
+            client.set(key, value)
+            self.assertEqual(client.get(key), value)
+        self.assertTrue(client.append("c", "n"))
+        self.assertEqual(client.get("c"), "mn")
+
+    def test_counts_by_one(self):
+        client = self.client
+        client.set("a", "9")
+        self.assertEqual(client.incr("a"), 10)

@@ -1,0 +1,145 @@
+"""What `mcrace run` does if it gets no connection, and how it ends by ctrl-C."""
+
+import re
+import resource
+import signal
+import socket
+import subprocess
+import threading
+import time
+
+from . import servers
+from .program import COUNTER, PROGRAM, SECONDS, LiveTest, play, rows, run, three_times
+from .servers import A, B, P, Replying, Scripted, Step
+
+REFUSED = "Connection refused (os error 111)"
+NOBODY = "127.0.0.1:1"
+# Open files of a process that has its standard input, output and error, and P's connection.
+WITH_P = 4
+
+# A target that is no server's: its name, what it is, and what is told of it.
+NO_TARGETS = [
+    ("a name that isn't one", "no-such-host.invalid:11211", "lookup"),
+    ("no port", "127.0.0.1", "mcrace: 127.0.0.1: write HOST:PORT\n"),
+    ("a port alone", "11311", "mcrace: 11311: write HOST:PORT\n"),
+    ("a port above 65535", "host:65536", "mcrace: host:65536: write HOST:PORT\n"),
+]
+
+
+class NoConnections(LiveTest):
+    """Nobody listens, no descriptor is left, or there is no such server."""
+
+    def assert_no_connection(self, section, told, found):
+        output = f"no connection {section}\n".encode()
+        self.assertEqual((found.output, found.status), (output, 4), found)
+        self.assertIn(told, found.faults)
+
+    def test_nobody_listens(self):
+        self.assert_no_connection("P", REFUSED, play(servers.free_port()))
+
+    @rows([("A", "A", WITH_P), ("B", "B", WITH_P + 1)])
+    def test_no_descriptor(self, section, files):
+        def limit():
+            resource.setrlimit(resource.RLIMIT_NOFILE, (files, files))
+
+        with Scripted((P, A, B)) as server:
+            found = play(server.port, preexec_fn=limit)
+        self.assert_no_connection(section, "Too many open files", found)
+
+    @rows(NO_TARGETS)
+    def test_no_such_server(self, target, told):
+        answer = run(["run", target], COUNTER)
+        self.assertEqual((answer.stdout, answer.returncode), (b"no connection P\n", 4), answer)
+        self.assertIn(told, answer.stderr.decode())
+
+    @rows([("A", "A"), ("B", "B")])
+    def test_nobody_listens_at_a_branch_s_own_server(self, section):
+        nobody = f"127.0.0.1:{servers.free_port()}"
+        with Scripted((P, A, B)) as server:
+            found = play(server.port, f"--{section.lower()}", nobody)
+        told = f"mcrace: {nobody}: {REFUSED}\n"
+        self.assert_answer(found, f"no connection {section}\n".encode(), 4, told)
+
+    def test_script_is_read_first(self):
+        """A script with a fault is refused before anything is connected."""
+        with socket.create_server(("127.0.0.1", 0)) as server:
+            found = play(server.getsockname()[1], script=b"script 2\n")
+            server.settimeout(0)
+            with self.assertRaises(BlockingIOError):
+                server.accept()
+        self.assertEqual(found.status, 3, found)
+
+
+class Waits(LiveTest):
+    """Connects with a time limit, and waits for a server that comes late, or for none."""
+
+    def assert_times_out(self, found, section, port):
+        told = f"mcrace: 127.0.0.1:{port}: connection timed out\n"
+        self.assert_answer(found, f"no connection {section}\n".encode(), 4, told)
+
+    @rows([("one", "--timeout", "0.2"), ("none of several", "--timeout=0.05", "--wait=0.2")])
+    def test_connect_of_p_is_not_answered(self, *options):
+        with servers.unanswering() as port:
+            began = time.monotonic()
+            found = play(port, *options)
+            took = time.monotonic() - began
+        self.assert_times_out(found, "P", port)
+        self.assert_took(took, 0.2, 5.2)
+
+    @rows([("A", "A"), ("B", "B")])
+    @three_times
+    def test_connect_of_a_branch_is_not_answered(self, section):
+        """A branch's own server is tried once, whatever `--wait` says."""
+        with servers.unanswering() as port, Scripted((P, A, B)) as server:
+            own = f"--{section.lower()}", f"127.0.0.1:{port}"
+            found = play(server.port, *own, "--timeout", "0.2", "--wait", "50")
+        self.assert_times_out(found, section, port)
+
+    def test_server_comes_late(self):
+        port, done = servers.free_port(), threading.Event()
+
+        def come_late():
+            time.sleep(0.3)
+            with Scripted((P, A, B), port=port):
+                done.wait(SECONDS)
+
+        threading.Thread(target=come_late, daemon=True).start()
+        began = time.monotonic()
+        found = play(port, "--wait", "20")
+        took = time.monotonic() - began
+        done.set()
+        self.assert_done(found)
+        self.assert_took(took, 0, 10)
+
+    @rows([("no server", NOBODY, REFUSED), ("no address", "127.0.0.1", "write HOST:PORT")])
+    def test_no_server_comes(self, target, told):
+        began = time.monotonic()
+        answer = run(["run", target, "--wait=0.3"], COUNTER)
+        took = time.monotonic() - began
+        self.assertEqual((answer.stdout, answer.returncode), (b"no connection P\n", 4), answer)
+        self.assertRegex(answer.stderr.decode(), rf"^mcrace: [^\n]*{re.escape(told)}[^\n]*\n$")
+        self.assert_took(took, 0.3, 5.3)
+
+
+class Interrupts(LiveTest):
+    """Ctrl-C ends what waits."""
+
+    @rows([("run", COUNTER, b""), ("campaign", b"", b"mcrace: seed 1, jobs 0 to 99, 4 workers\n")])
+    def test_waiting(self, given, first_line):
+        """The first line of a campaign is there at once."""
+        command = "run" if given else "campaign"
+        streams = {it: subprocess.PIPE for it in ("stdin", "stdout", "stderr")}
+        server = self.enter(Replying([Step.READ]))
+        words = [PROGRAM, command, f"127.0.0.1:{server.port}"]
+        process = self.enter(subprocess.Popen(words, **streams))
+        self.addCleanup(process.kill)
+        process.stdin.write(given)
+        process.stdin.close()
+        process.stdin = None
+        if first_line:
+            self.assertEqual(process.stderr.readline(), first_line)
+        time.sleep(0.2)
+        self.assertIsNone(process.poll(), "it ended before")
+        process.send_signal(signal.SIGINT)
+        output, _ = process.communicate(timeout=5)
+        self.assertEqual((output, process.returncode), (b"", -signal.SIGINT))

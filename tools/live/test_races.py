@@ -1,0 +1,162 @@
+"""Campaigns against servers that lose updates: what is found, told at once, shrunk and shown."""
+
+import re
+
+from . import servers
+from .campaigns import MOST_IN_BLOCK, CampaignTest, campaign, steps_of
+from .program import judged, play, rows, run, statistics_in
+
+# How often a campaign is run until it finds a race that depends on how threads meet.
+MOST_CAMPAIGNS = 50
+# The most requests that are left of a script that shows a race of two increments.
+MOST_LEFT = 3
+# How often a shrunk script is run until it is unexplained.
+MOST_RUNS = 50
+# How long the server that loses updates waits for the other one of two. A job with one alone waits
+# as long, and a campaign has many.
+SECONDS_OF_GATE = 0.03
+
+
+def campaign_that_finds(port, options, is_found=lambda found: found.status):
+    """The first campaign that finds this, or the last one: what is found depends on how threads
+    meet."""
+    for _ in range(MOST_CAMPAIGNS):
+        found = campaign(port, options)
+        if is_found(found):
+            break
+    return found
+
+
+def is_small(found):
+    """Whether a small script is left after a campaign."""
+    return found.status == 1 and found.shrunk and len(steps_of(found.shrunk)) <= MOST_LEFT
+
+
+class RacesTest(CampaignTest):
+    """What tests of races have in common."""
+
+    def find_race(self, options):
+        """A campaign that finds the race of `mcrace serve --racy`."""
+        port = self.enter(servers.serving("--racy"))[1]
+        found = campaign_that_finds(port, options)
+        self.assertEqual(found.status, 1, found.faults)
+        self.assertTrue(found.unexplained, found.totals)
+        return found
+
+    def assert_told(self, found):
+        """The unexplained jobs are told at once, in any order, the first ten."""
+        begin = "mcrace: job {0} is unexplained; mcrace generate --seed 1 --job {0}"
+        wanted = {begin.format(job) for job in found.unexplained}
+        self.assertLessEqual(set(found.told), wanted)
+        self.assertEqual(len(set(found.told)), min(10, len(wanted)))
+
+    def assert_left(self, found, job):
+        """What is left is of this job, under no name."""
+        self.assertIn(f"keys r{job}-0 r{job}-1\n", found.shrunk)
+        self.assertNotIn("ci7", found.shrunk.partition("\njob ")[0])
+
+    def shown_of(self, found):
+        """The script that is left, and the jobs that are shown with what is shown of each."""
+        script, *shown = re.split(r"^job (\d+)\n", found.shrunk, flags=re.M)
+        self.assertTrue(script.endswith("end\n"), script)
+        self.assertEqual(shown[::2], found.unexplained[:10])
+        return script, [*zip(shown[::2], shown[1::2])]
+
+
+class Races(RacesTest):
+    """The race of `mcrace serve --racy` is found, told and shown."""
+
+    def test_found(self):
+        found = self.find_race("--jobs 1000")
+        self.assertEqual(len(found.jobs), 1000)
+        self.assert_told(found)
+        self.assert_left(found, found.unexplained[0])
+        self.assertTrue(found.shrunk.endswith("end\n"), found.shrunk)
+
+    def test_histories(self):
+        """They are shown as they were judged."""
+        _, shown = self.shown_of(self.find_race("--jobs 1000 --tries 3 --show"))
+        for _, history in shown:
+            self.assertEqual(judged(history.encode()), "unexplained\n", history)
+
+    def test_name(self):
+        """The keys of the histories are under the name, and those of the script aren't."""
+        found = self.find_race("--jobs 1000 --tries 3 --show --name ci7")
+        _, shown = self.shown_of(found)
+        for job, history in shown:
+            keys = re.findall(r"^[PAB] begin \w+ (\S+)", history, flags=re.M)
+            self.assertLessEqual(set(keys), {f"ci7-r{job}-0", f"ci7-r{job}-1"})
+            self.assertEqual(judged(history.encode()), "unexplained\n", history)
+        self.assert_left(found, shown[0][0])
+        self.assert_told(found)
+
+    def assert_reasons(self, reasons, history):
+        """This is what `judge` says of it too; what stands before the line that it names is
+        explained, and isn't with the line."""
+        answer = run(["judge", "--why"], history.encode()).stdout.decode()
+        self.assertEqual(answer, f"unexplained\n{reasons}", history)
+        line = int(re.match(r"why\nline (\d+) ", reasons)[1])
+        lines = history.splitlines(keepends=True)
+        cuts = ["".join([*lines[:count], "end\n"]) for count in (line - 1, line)]
+        verdicts = [judged(cut.encode()).split()[0] for cut in cuts]
+        self.assertEqual(verdicts, ["explained", "unexplained"], cuts)
+
+    def test_reasons(self):
+        """It is said of each history that is shown from which line on nothing explains it."""
+        _, shown = self.shown_of(self.find_race("--jobs 1000 --show --why"))
+        for _, text in shown:
+            reasons, _, rest = text.partition("history 2\n")
+            self.assert_reasons(reasons, f"history 2\n{rest}")
+
+    def test_statistics(self):
+        """Smaller scripts aren't counted."""
+        port = self.enter(servers.serving("--racy"))[1]
+        options = "--jobs 1000 --stats"
+        found = campaign_that_finds(port, options, is_found=lambda it: it.shrunk)
+        self.assertTrue(found.shrunk, found.totals)
+        _, stats = statistics_in(found.faults)
+        self.assertEqual(stats and stats.runs, 1000, found.faults)
+
+
+class LosingEach(RacesTest):
+    """The example server loses each update that it can."""
+
+    def setUp(self):
+        self.port = self.enter(servers.losing_updates(SECONDS_OF_GATE))
+
+
+class SmallScripts(LosingEach):
+    """A small script is left."""
+
+    seconds = 10
+
+    def find_small(self, options):
+        found = campaign_that_finds(self.port, options, is_small)
+        self.assertEqual(found.status, 1, found.faults)
+        self.assertLessEqual(len(steps_of(found.shrunk)), MOST_LEFT, found.shrunk)
+        return found.shrunk
+
+    def test_no_name(self):
+        script = self.find_small("--jobs 300").encode()
+        runs = (play(self.port, script=script) for _ in range(MOST_RUNS))
+        self.assertTrue(any(it.status == 1 for it in runs), script)
+
+    def test_name(self):
+        self.assertNotIn("ci7", self.find_small("--jobs 300 --name ci7"))
+
+
+class FirstFindings(LosingEach):
+    """A campaign may end within a block after the first finding."""
+
+    seconds = 9
+
+    @rows([("of 10,000 jobs", "--jobs 10000"), ("60 s", "--for 60s")])
+    def test_stop(self, options):
+        found = campaign(self.port, f"--stop-after 1 {options}")
+        self.assertEqual((found.status, len(found.reports)), (1, 1), found.faults)
+        self.assertEqual(found.rest[:2], ["shrunk", "script 1"])
+        self.assertEqual(found.rest.count("shrunk"), 1)
+        first = int(found.unexplained[0])
+        self.assertEqual(len(found.jobs), (first // MOST_IN_BLOCK + 1) * MOST_IN_BLOCK)
+        self.assert_left(found, first)
+        self.assert_reports(found.reports, 0)

@@ -1,0 +1,157 @@
+"""The replies of `mcrace serve` to streams of requests: as memcached's, and to changed ones.
+
+The environment may say for how many seconds streams are changed (MCRACE_SECONDS, 5), what is drawn
+(MCRACE_SEED, by the commit), and the number of the first round (MCRACE_ROUND, 0).
+"""
+
+import os
+import re
+import socket
+
+import mutations
+
+from . import servers
+from .program import LiveTest, rows
+from .streams import KEYS, Rounds, stream
+
+STREAMS = 200
+SECONDS = float(os.environ.get("MCRACE_SECONDS", 5))
+SHOWN = re.compile(rb"^(VALUE (\S+) \d+ \d+) (\d+)\r$", re.M)
+END = b"VALUE end-of-the-stream 0 1\r\n.\r\nEND\r\n"
+
+
+def without_numbers(replies):
+    """The replies with each cas unique as its order among those that were shown before; two keys
+    may have the same one."""
+    order = {}
+
+    def number(shown):
+        return b"%b %d\r" % (shown[1], order.setdefault((shown[2], shown[3]), len(order)))
+
+    return SHOWN.sub(number, replies)
+
+
+class BesideMemcached(LiveTest):
+    """The replies of both are the same bytes, but for cas uniques."""
+
+    def ask(self, connection, text):
+        connection.sendall(text)
+        got = b""
+        while not got.endswith(END):
+            piece = connection.recv(65536)
+            self.assertTrue(piece, f"the connection ended after {got[-200:]!r}")
+            got += piece
+        return without_numbers(got)
+
+    def test_streams(self):
+        ports = self.enter(servers.serving())[1], self.enter(servers.need_memcached())
+        both = [servers.connect(port) for port in ports]
+        for connection in both:
+            connection.sendall(b"set end-of-the-stream 0 0 1\r\n.\r\n")
+            self.assertEqual(connection.recv(100), b"STORED\r\n")
+            connection.sendall(b"".join(b"delete %b noreply\r\n" % key for key in KEYS))
+        for number in range(STREAMS):
+            ours, theirs = (self.ask(connection, stream(number)) for connection in both)
+            at = next((i for i, it in enumerate(zip(ours, theirs)) if it[0] != it[1]), 0)
+            shown = ours[max(0, at - 60) : at + 60], theirs[max(0, at - 60) : at + 60]
+            self.assertTrue(ours == theirs, f"stream {number}: {shown}")
+
+
+class ChangedStreams(LiveTest):
+    """After changed streams the server answers, and has lost nothing that it acknowledged."""
+
+    def test_rounds(self):
+        port = self.enter(servers.serving())[1]
+        rounds = Rounds(port, int(os.environ.get("MCRACE_SEED", mutations.seed_of_commit())))
+        fault = rounds.fault(SECONDS, int(os.environ.get("MCRACE_ROUND", 0)))
+        self.assertIsNone(fault)
+        self.assertGreater(rounds.count, 0)
+        print(f"{rounds.count} rounds of changed streams")
+
+
+# The longest that a server may leave a client without an answer whose fault is that it does so.
+PATIENCE = 3
+# The longest until a fault is found, and how long none is.
+MOST_SECONDS, WITHOUT_FAULT = 60, 2
+# The fault shows from this connection on.
+FROM = 20
+KEPT = re.compile(rb"set (kept-[0-9a-f]+-\d+) ")
+
+
+class Losing(servers.Carrying):
+    """It loses the key that was stored last."""
+
+    kept = None
+
+    def begin(self):
+        if self.kept and self.count > FROM:
+            with servers.connect(self.behind) as stream:
+                stream.sendall(b"delete %b\r\n" % self.kept)
+                stream.recv(100)
+
+    def request(self, piece):
+        for found in KEPT.finditer(piece):
+            self.kept = found[1]
+        return piece
+
+
+class Ending(servers.Carrying):
+    """It ends."""
+
+    def begin(self):
+        if self.count > FROM:
+            self.listener.close()
+            raise ConnectionAbortedError
+
+
+class Silent(servers.Carrying):
+    """It answers nothing any more."""
+
+    def reply(self, piece):
+        return b"" if self.count > FROM else piece
+
+
+class Holding(servers.Carrying):
+    """It doesn't end a connection that its client has ended."""
+
+    def end(self, target):
+        if self.count <= FROM:
+            target.shutdown(socket.SHUT_WR)
+
+
+class Rambling(servers.Carrying):
+    """It writes what no document has."""
+
+    def reply(self, piece):
+        return piece.replace(b"ERROR\r\n", b"ERROR!\r\n")
+
+
+# A server with a fault, how long it may leave a client without an answer, and how the fault is
+# told. A connection that an ending server has taken ends or is reset.
+FAULTY = [
+    ("a lost key", Losing, 20, "answers b'get kept-"),
+    ("an end", Ending, 20, "refused|reset by peer|Broken pipe|b'' answers"),
+    ("silence", Silent, PATIENCE, "timed out"),
+    ("a connection that is held", Holding, PATIENCE, "isn't ended"),
+    ("other words", Rambling, 20, "it wrote b'ERROR!"),
+]
+
+
+class FaultyServers(LiveTest):
+    """Changed streams find each fault of a server that has one, and none in one that has none."""
+
+    seconds = 9
+
+    def setUp(self):
+        self.port = self.enter(servers.serving())[1]
+
+    @rows(FAULTY)
+    def test_faults(self, kind, patience, told):
+        fault = Rounds(kind(self.port).port, 1, patience).fault(MOST_SECONDS)
+        self.assertIsNotNone(fault, kind.__doc__)
+        self.assertRegex(fault, told)
+
+    def test_no_fault(self):
+        rounds = Rounds(servers.Carrying(self.port).port, 1)
+        self.assertIsNone(rounds.fault(WITHOUT_FAULT))
+        self.assertGreater(rounds.count, 0)
