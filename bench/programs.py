@@ -34,7 +34,7 @@ def built(name, libraries, words=()):
     needed = set().union(*(below(it, listed) for it in libraries))
     with tempfile.TemporaryDirectory() as folder:
         copy = pathlib.Path(folder)
-        skipped = shutil.ignore_patterns("incremental", "must-fail", "wrong-bodies")
+        skipped = shutil.ignore_patterns("incremental", "must-fail", "mutants")
         for crate in needed:
             shutil.copytree(ROOT / "crates" / crate, copy / "crates" / crate, ignore=skipped)
         put(ROOT / "bench/programs" / name, copy / "crates" / name)
