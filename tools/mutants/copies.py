@@ -79,22 +79,21 @@ class Twins:
         return any(it[: len(place)] == place for it in names for place in places)
 
 
-def make(batch, in_twins, crate, items, sources, folder):
-    """Makes the copy in a new folder. The mutants in `in_twins`, each with the number of its twin,
-    are of this batch, and the others stand in their functions. Answers the name of each mutant's
-    function, as `rattle` has it, or of its twin."""
+def make(batch, has_twins, crate, items, sources, folder):
+    """Makes a copy of the sources in a new folder, with these mutants in twins, or with a single
+    one in its function. Answers the names of these functions as `rattle` has them."""
     shutil.copytree(sources, folder)
-    in_place = [it for it in batch if str(it) not in in_twins]
-    take_bodies([it for it in items if it not in [of.item for of in in_place]], crate, folder)
-    names = {str(it): it.function for it in in_place}
-    for mutant in in_place:
+    if not has_twins:
+        (mutant,) = batch
+        take_bodies([it for it in items if it != mutant.item], crate, folder)
         mutants.apply(mutant, folder)
         leave_out_offers(mutant.item, mutant.item.path, sources, folder)
+        return [mutant.function]
+    take_bodies(items, crate, folder)
     # From the last line up, so that the lines of those to come are still those of the sources.
-    for mutant in sorted(batch, key=lambda it: -it.item.last):
-        if str(mutant) in in_twins:
-            names[str(mutant)] = add_twin(mutant, in_twins[str(mutant)], crate, sources, folder)
-    return names
+    for at, mutant in sorted(enumerate(batch), key=lambda it: -it[1].item.last):
+        add_twin(mutant, f"{mutant.item.name}_twin_{at}", crate, sources, folder)
+    return [f"{it.function}_twin_{at}" for at, it in enumerate(batch)]
 
 
 def take_bodies(items, crate, folder):
@@ -146,10 +145,9 @@ def leave_out_offers(item, path, sources, folder):
             file.write(TEXT_OF_NO_OFFER)
 
 
-def add_twin(mutant, number, crate, sources, folder):
-    """Adds the mutant as a twin with this number, and answers its name."""
+def add_twin(mutant, twin, crate, sources, folder):
+    """Adds the mutant as a twin of this name."""
     item = mutant.item
-    twin = f"{item.name}_twin_{number}"
     lines = read(sources / item.file).split("\n")
     for at, line in mutant.changed[item.file].items():
         lines[at] = line
@@ -160,7 +158,6 @@ def add_twin(mutant, number, crate, sources, folder):
     (folder / item.file).write_text("\n".join(copy), encoding="utf-8")
     copy_proof(item, twin, crate, sources, folder)
     leave_out_offers(item, (*item.path[:-1], twin), sources, folder)
-    return mutant.function.rpartition("::")[0] + f"::{twin}"
 
 
 def copy_proof(item, twin, crate, sources, folder):

@@ -13,7 +13,6 @@ ITEM = re.compile(
 )
 OF_TESTS = re.compile(r"#\[cfg\(test\)\]\n *(?:pub )?mod (\w+);")
 CLAUSE = re.compile(r" *(requires|ensures|ghost)\b")
-QUOTE_MARK = re.compile(r"'\\?\"'")
 
 
 @dataclass
@@ -57,15 +56,16 @@ class Item:
 
 
 def ends(lines, first, indent):
-    """The last line of the item that begins at this one. A value below its `=` is indented."""
-    is_below = lines[first].endswith("=")
+    """The last line of the item that begins at this one. A value below its `=` is indented, and a
+    string of several lines may look like anything."""
+    end = '";' if lines[first].count('"') % 2 else ";" if lines[first].endswith("=") else None
     for at in range(first, len(lines)):
         line = lines[at]
-        if is_below and line.endswith(";"):
+        if end and at > first and line.endswith(end):
             return at
-        if at > first and line.startswith(indent + "}"):
+        if not end and at > first and line.startswith(indent + "}"):
             return at
-        if is_at(line, indent) and line.endswith(("{}", ";", " }")):
+        if not end and is_at(line, indent) and line.endswith(("{}", ";", " }")):
             return at
     return len(lines) - 1
 
@@ -78,7 +78,7 @@ def is_at(line, indent):
 
 def without_angles(text):
     """The text without what stands in angle brackets."""
-    while (fewer := re.sub(r"<[^<>]*>", "", text.replace("->", ""))) != text:
+    while (fewer := re.sub(r"<[^<>]*>", "", text)) != text:
         text = fewer
     return text
 
@@ -92,14 +92,10 @@ def owner_of(header):
     """The name that `rattle` gives a block: its type, and of a trait's block the trait and its
     arguments."""
     text = re.sub(r"\A *(?:unsafe )?(impl|(?:pub(?:\([^)]*\))? )?trait)", "", header)
-    text = text.partition(" where ")[0].rstrip(" {}")
+    text = text.partition(" where ")[0].rstrip(" {}").replace("->", "")
     if text.startswith("<"):
-        depth, at = 0, 0
-        for at, sign in enumerate(text):
-            depth += (sign == "<") - (sign == ">" and text[at - 1] != "-")
-            if depth == 0:
-                break
-        text = text[at + 1 :]
+        depth = [text[: at + 1].count("<") - text[: at + 1].count(">") for at in range(len(text))]
+        text = text[depth.index(0) + 1 :]
     trait, found, of = text.partition(" for ")
     if not found:
         return "".join(words_of(text.partition(":")[0])[:1]), False
@@ -107,35 +103,6 @@ def owner_of(header):
     types = [it for it in arguments if not it.strip().startswith("'")]
     names = [*words_of(of)[-1:], *words_of(trait)[:1]]
     return "".join(names + [word for it in types for word in words_of(it)[:1]]), True
-
-
-def is_in_text(line, begins_so):
-    """Whether a string goes on after this line, and where in it one ends that began above."""
-    inside, at, ended = begins_so, 0, len(line) if begins_so else 0
-    while at < len(line):
-        if inside and line[at] == "\\":
-            at += 1
-        elif line[at] == '"':
-            inside = not inside
-            ended = min(ended, at + 1)
-        elif not inside and line.startswith("//", at):
-            break
-        elif not inside and (quoted := QUOTE_MARK.match(line, at)):
-            at = quoted.end() - 1
-        at += 1
-    return inside, ended
-
-
-def without_texts(lines):
-    """As many lines, without what stands in strings of several lines, which may look like items."""
-    found, inside, indent = [], False, ""
-    for line in lines:
-        was_inside = inside
-        inside, ended = is_in_text(line, inside)
-        found.append(indent + line[ended:] if was_inside else line)
-        if not was_inside:
-            indent = line[: len(line) - len(line.lstrip())]
-    return found
 
 
 def block_items(lines, file, module, first, last, indent="", owner="", of_trait=(False, False)):
@@ -189,7 +156,7 @@ def items_of(folder):
         of_tests |= {(*module, it) for it in OF_TESTS.findall(texts[module][1])}
     for module, (file, text) in texts.items():
         if not any(module[: len(it)] == it for it in of_tests):
-            lines = without_texts(text.split("\n"))
+            lines = text.split("\n")
             found += block_items(lines, file, module, 0, len(lines) - 1)
     # A type's own methods are named by the module that declares the type, wherever they stand.
     declared = {it.path for it in found if it.kind in ("struct", "enum")}

@@ -33,54 +33,41 @@ def read(path):
     return path.read_text(encoding="utf-8", errors="surrogateescape")
 
 
-def without_comments(path, lines):
-    """The text of these lines without blank ones and those of a comment alone. In a string of
-    several lines they stay."""
-    mark, kept, is_inside = "--" if path.suffix == ".antt" else "//", [], False
-    for line in lines:
-        if is_inside or line.strip() and not line.lstrip().startswith(mark):
-            kept.append(line)
-        if mark == "//":
-            is_inside, _ = functions.is_in_text(line, is_inside)
-    return "\n".join(kept)
+def text_of(crate, path, items=()):
+    """A file's name and text, without the bodies of these items that are its and without lines
+    that are a comment or blank."""
+    place, lines = path.relative_to(crate.folder).as_posix(), read(path).split("\n")
+    for item in [it for it in items if it.file == place and it.can_lose_body(lines)]:
+        lines[item.body + 1 : item.last] = [""] * (item.last - item.body - 1)
+    mark = "--" if path.suffix == ".antt" else "//"
+    left = [it for it in lines if it.strip() and not it.lstrip().startswith(mark)]
+    return "\n".join([place, *left])
 
 
 class Sums:
     """The sums of a repository's crates."""
 
     def __init__(self, root, kit):
-        tools = [it for it in sorted((root / "tools/mutants").iterdir()) if it.suffix == ".py"]
-        runner = [read(it) for it in (*tools, root / "tools/mutants/run")]
+        runner = [read(it) for it in sorted(root.glob("tools/mutants/*.py"))]
         prover = hashlib.sha256((kit / "bin/rattle").read_bytes()).hexdigest()
-        self.judge = sum_of(read(kit / "KIT-ID"), prover, *runner)
+        self.judge = sum_of(read(kit / "KIT-ID"), prover, read(root / "tools/mutants/run"), *runner)
         self.declared = {}
 
     def of(self, crate):
         """The sum of all that the outcomes of the crate's mutants rest on."""
-        own = [self.text_of(crate, it) for it in crate.sources() if it.is_file()]
+        own = sorted(text_of(crate, it) for it in crate.sources() if it.is_file())
         below = [self.of_declared(it) for it in crate.below()]
-        text = read(crate.folder / mutants.FILE)
-        return sum_of(self.judge, crate.line, text, *sorted(own), *below)
-
-    def text_of(self, crate, path, bodies=()):
-        """A file's name and text, without comments and without the bodies of these items."""
-        lines = read(path).split("\n")
-        for item in bodies:
-            lines[item.body + 1 : item.last] = [""] * (item.last - item.body - 1)
-        place = path.relative_to(crate.folder).as_posix()
-        return f"{place}\n{without_comments(path, lines)}"
+        file = crate.folder / mutants.FILE
+        text = read(file) if file.is_file() else ""
+        return sum_of(self.judge, crate.line, text, *own, *below)
 
     def of_declared(self, crate):
-        """A sum of what the proofs of crates above can rest on."""
+        """The sum of what the proofs of crates above can rest on."""
         if crate.name not in self.declared:
-            items, found = functions.items_of(crate.folder), [crate.line]
-            for path in sorted(it for it in crate.sources() if it.is_file()):
-                if path.name not in OF_PROOFS:
-                    place = path.relative_to(crate.folder).as_posix()
-                    lines = read(path).split("\n")
-                    of = [it for it in items if it.file == place and it.can_lose_body(lines)]
-                    found.append(self.text_of(crate, path, of))
-            self.declared[crate.name] = sum_of(*found)
+            items = functions.items_of(crate.folder)
+            files = [it for it in crate.sources() if it.is_file() and it.name not in OF_PROOFS]
+            texts = sorted(text_of(crate, it, items) for it in files)
+            self.declared[crate.name] = sum_of(crate.line, *texts)
         return self.declared[crate.name]
 
 
