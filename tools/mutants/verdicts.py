@@ -11,8 +11,6 @@ GOAL_LINE = re.compile(r"note: (?:\./)?src/\S+: .*? \(`([^`]+)`\)(.*)")
 PROOF_ERROR = re.compile(r"(?:\./)?proofs/(\S+)/(\w+)\.antt:\d+:\d+: error: (.*)")
 WRITTEN = re.compile(r"(?m)^pub (\S+) :")
 NOT_PROVED = "`search` did not prove "
-# What is said of a function that is proved: the second if others have holes for their proofs.
-PROVED = ("proved", "no holes")
 
 
 @dataclass
@@ -93,7 +91,7 @@ def killed_by(answer, function):
             return GOAL, f"{name}: {goals[0][0]}{goals[0][1]}"
         if NOT_PROVED in words:
             return GOAL, f"{name}: {words}"
-        if errors and not words.startswith(PROVED):
+        if errors and words.startswith("not proved"):
             of_proof = of_proof or (PROOF, f"{name}: {errors[0][1]}")
     return of_proof
 
@@ -110,18 +108,3 @@ def open_goals(answer, name, errors):
     written = answer.written[name]
     heads = tuple(f"{it}-clause-" for it in written)
     return [it for it in answer.goals[name] if it[0] not in written and not it[0].startswith(heads)]
-
-
-def is_proved(answer, function):
-    """Whether the answer proves the function and its closures."""
-    parts = parts_of(answer, function)
-    return function in parts and all(answer.words[it] in PROVED for it in parts)
-
-
-def why_not(answer, function):
-    """What the answer says of a mutant that it doesn't kill."""
-    if is_proved(answer, function):
-        return f"SURVIVED: {function} is still proved"
-    left = [it for it in parts_of(answer, function) if answer.words[it] not in PROVED]
-    said = "; ".join(f"{it}: {answer.words[it]}" for it in left)
-    return f"SURVIVED: {said or f'nothing is said of {function}'}"
