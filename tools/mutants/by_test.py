@@ -20,7 +20,7 @@ LIB = "#![tactic(auto)]\n"
 
 
 def with_test(text, name):
-    """A source with no other test than that of this name, in as many lines; None if it has none."""
+    """A source with no other test than that of this name, and whether it has that."""
     lines, has_it = text.split("\n"), False
     for at in [at for at, line in enumerate(lines) if line.strip() == "#[test]"]:
         head = next(it for it in range(at, len(lines)) if HEAD.match(lines[it]))
@@ -31,6 +31,7 @@ def with_test(text, name):
         while first > 0 and lines[first - 1].lstrip().startswith(("//", "#[")):
             first -= 1
         last = functions.ends(lines, head, lines[at].removesuffix("#[test]"))
+        # As many lines are left.
         lines[first : last + 1] = [""] * (last + 1 - first)
     return "\n".join(lines), has_it
 
@@ -38,7 +39,7 @@ def with_test(text, name):
 def add(mutant, number, program, crate, home):
     """Adds to a program the copies with this number and the module of the mutant's test. Answers
     whether the crate has that test once."""
-    names = [it.name for it in crate.below() if mutant.crate in (it.name, *names_below(it))]
+    names = [it.name for it in crate.below() if mutant.crate in map(name_of, (*it.below(), it))]
     name = re.compile(rf"\b({'|'.join(map(re.escape, names))})\b")
     copies = {}
     for it in [it for it in crate.below() if it.name in names]:
@@ -58,8 +59,8 @@ def add(mutant, number, program, crate, home):
     return add_module(mutant.test[1], number, name, program.folder / "src", crate)
 
 
-def names_below(crate):
-    return [it.name for it in crate.below()]
+def name_of(crate):
+    return crate.name
 
 
 def add_module(test, number, name, to, crate):
