@@ -83,13 +83,8 @@ def write(root, sums):
     (root / FILE).write_text("".join(lines), encoding="utf-8")
 
 
-class Lot:
-    """Which of the mutants with a kept outcome are tried again."""
-
-    def __init__(self, root):
-        words = ["git", "-C", str(root), "rev-parse", "HEAD^{tree}"]
-        ran = subprocess.run(words, capture_output=True, text=True, check=False)
-        self.tree = ran.stdout.strip()
-
-    def draws(self, mutant):
-        return int(sum_of(self.tree, str(mutant)), 16) % ONE_IN == 0
+def drawn(root, found):
+    """The names of those of these mutants that are tried though an outcome is kept."""
+    words = ["git", "-C", str(root), "rev-parse", "HEAD^{tree}"]
+    tree = subprocess.run(words, capture_output=True, text=True, check=False).stdout
+    return {it for it in map(str, found) if int(sum_of(tree, it), 16) % ONE_IN == 0}
