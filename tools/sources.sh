@@ -24,7 +24,7 @@ hash_at_hand() (
     cd "$1" || exit 1
     known=crates/mcrace/out/known-sources
     if { read -r hash <"$known"; } 2>/dev/null &&
-        [ -z "$(find crates.txt crates '(' -name out -o -name wrong-bodies ')' -prune \
+        [ -z "$(find crates.txt crates '(' -name out -o -name mutants ')' -prune \
             -o -cnewer "$known" -print -quit)" ]; then
         echo "$hash"
         exit
