@@ -4,6 +4,7 @@ ghost use Rattle.mc_lane.specs.Streams.{silent, no_counts};
 ghost use Rattle.mc_run.specs.Running.{AreNew, IsNew};
 
 use crate::network::Connection;
+use crate::timed_stream::TimedStream;
 use mc_campaign::RECEIVED_LIMIT;
 use mc_lane::{Lane, Stream, Wire};
 use mc_protocol::{Actor, Sections};
@@ -12,6 +13,7 @@ use std::alloc::Global;
 use std::io;
 use std::io::{ErrorKind, Read, Write};
 use std::net::TcpStream;
+use std::rt::Clock;
 use std::sync::Arc;
 use std::sync::atomic::{AtomicBool, Ordering};
 
@@ -60,12 +62,6 @@ impl<C: Connection> Connections<C> {
         self.streams.get(section)
     }
 
-    /// Whether the server holds each of them open, and nothing has come on it that wasn't read.
-    pub fn are_idle(&self) -> bool {
-        let Sections { p, a, b } = &self.streams;
-        is_idle(p) && is_idle(a) && is_idle(b)
-    }
-
     /// Whether a read or a write of the section took longer than it may.
     pub fn is_late(&self, section: Actor) -> bool {
         self.late.get(section).load(Ordering::SeqCst)
@@ -94,21 +90,21 @@ impl<'a, C> Socket<'a, C> {
 
 /// The same of a section of a campaign's job: it owns the connection, and what it notes outlives it.
 #[derive(Drop)]
-pub struct JobSocket {
-    stream: TcpStream,
+pub struct JobSocket<'a, R> {
+    stream: TimedStream<'a, R>,
     is_late: Option<Arc<AtomicBool, Global>>,
 }
 
-impl JobSocket {
+impl<'a, R> JobSocket<'a, R> {
     /// What reads and writes over the connection, and notes in `is_late`, if it is there, that a call took too long.
-    pub fn new(stream: TcpStream, is_late: Option<Arc<AtomicBool, Global>>) -> Self {
+    pub fn new(stream: TimedStream<'a, R>, is_late: Option<Arc<AtomicBool, Global>>) -> Self {
         JobSocket { stream, is_late }
     }
 
     /// The connection.
     pub fn into_stream(self) -> TcpStream {
         let JobSocket { stream, .. } = self;
-        stream
+        stream.into_stream()
     }
 
     fn note(&self, error: &io::Error) {
@@ -150,9 +146,9 @@ impl<'a, C: Connection> Write for Socket<'a, C> {
     }
 }
 
-impl Read for JobSocket {
+impl<'a, R: Clock + Sync> Read for JobSocket<'a, R> {
     fn read(&mut self, buffer: &mut [u8]) -> io::Result<usize> {
-        let result = self.stream.read(buffer);
+        let result = self.stream.receive(buffer);
         if let Err(error) = &result {
             self.note(error);
         }
@@ -160,9 +156,9 @@ impl Read for JobSocket {
     }
 }
 
-impl Write for JobSocket {
+impl<'a, R: Clock + Sync> Write for JobSocket<'a, R> {
     fn write(&mut self, bytes: &[u8]) -> io::Result<usize> {
-        let result = self.stream.write(bytes);
+        let result = self.stream.send(bytes);
         if let Err(error) = &result {
             self.note(error);
         }
@@ -170,12 +166,12 @@ impl Write for JobSocket {
     }
 
     fn flush(&mut self) -> io::Result<()> {
-        self.stream.flush()
+        Ok(())
     }
 }
 
-// Whether nothing is there to be read, and more may come. The connection waits for what comes afterwards.
-fn is_idle<C: Connection>(stream: &C) -> bool {
+/// Whether the server holds the connection open, and nothing has come on it that wasn't read. A read of it waits afterwards.
+pub fn is_idle<C: Connection>(stream: &C) -> bool {
     if stream.set_nonblocking(true).is_err() {
         return false;
     }

@@ -113,6 +113,16 @@ impl Network for CannedNetwork {
         })
     }
 
+    fn reconnect(&mut self, target: &Target<'_>, section: Actor) -> Result<Canned, Unconnected> {
+        self.reconnected = self.reconnected.saturating_add(1);
+        let Sections { p, a, b } = self.connect(target)?;
+        Ok(match section {
+            Actor::P => p,
+            Actor::A => a,
+            Actor::B => b,
+        })
+    }
+
     fn quit(&mut self, _connections: Sections<Canned>) {
         self.quit = self.quit.saturating_add(1);
     }

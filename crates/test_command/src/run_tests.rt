@@ -88,7 +88,7 @@ where
         rt,
         alloc,
         &target,
-        &mut TcpNetwork { rt },
+        &mut TcpNetwork::new(rt),
         &mut Unobserved,
         &mut Reader::new(SCRIPT.as_bytes()),
         &mut Writer::new(&mut output),
