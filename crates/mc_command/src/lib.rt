@@ -55,6 +55,7 @@ mod progress;
 mod quitting;
 mod refusal;
 mod refusal_hint;
+mod renaming;
 mod repeat;
 mod repeated;
 mod repeating;
