@@ -2,8 +2,9 @@
 //!
 //! The server may act on such a request at any time. What a later run of the same keys received might have no explanation then, though
 //! nothing is wrong.
-ghost use Rattle.std.specs.Prelude.{◌≡◌, None, IfOk, IfSome, false, true};
+ghost use Rattle.std.specs.Prelude.{◌≡◌, None, Some, IfOk, true};
 ghost use Rattle.mc_model.specs.History as histories;
+ghost use Rattle.mc_verify.specs.Checked.{Checked};
 ghost use Rattle.mc_command.specs.RepeatAnswers as answers;
 ghost use Rattle.mc_command.specs.Renaming.{code_of};
 
@@ -55,8 +56,8 @@ impl Renaming {
 
     /// Puts the code under a name that no run had, and answers whether one fits its keys.
     pub fn rename(&mut self, alloc: Global, written: &Checked) -> Result<bool, AllocError>
-        ensures renamed { IfOk result (λ fits. fits ≡ true
-            → IfSome self.new.under (λ under. answers.IsUnderSome written.now.code under.code)) }
+        ensures renamed { IfOk result (λ fits. fits ≡ true → (under : Checked) × (self.new.under ≡ Some under)
+            × answers.IsUnderSome written.now.code under.code) }
     {
         let characters = name_of(self.next);
         self.next = self.next.wrapping_add(1);

@@ -1,5 +1,5 @@
 //! Runs of one script, one after another.
-ghost use Rattle.std.specs.Prelude.{◌≡◌, ◌<◌, ◌-◌, ◌^◌, Bool, false, true, not, List, ◌∷◌, [], ◌++◌, length, IfOk, None};
+ghost use Rattle.std.specs.Prelude.{◌≡◌, ◌<◌, ◌-◌, ◌^◌, ◌⊎◌, Bool, false, true, not, List, ◌∷◌, [], ◌++◌, length, IfOk, IfSome, None};
 ghost use Rattle.mc_code.specs.Code.{Code};
 ghost use Rattle.mc_command.specs.RepeatAnswers as answers;
 ghost use Rattle.mc_command.specs.RunAnswers.{IsRightFor};
@@ -165,7 +165,7 @@ fn repeat_over<R: Threads + Wait + Clock + Sync, N: Network, T: RunObserver>(
         if is_late(rt, &begun, repeat.time) {
             return Ok(runs);
         }
-        if runs.needs_name() && !renaming.rename(alloc, checked)? {
+        if !make_ready(alloc, &runs, checked, &mut renaming)? {
             observer.stop(runs.totals.runs);
             return Ok(runs);
         }
@@ -176,6 +176,27 @@ fn repeat_over<R: Threads + Wait + Clock + Sync, N: Network, T: RunObserver>(
         runs = runs.with(played, remarks);
     }
     Ok(runs)
+}
+
+// Puts the code under a new name where the last run asks for that, and answers whether another run may follow.
+fn make_ready(
+    alloc: Global,
+    runs: &Runs,
+    checked: &Checked,
+    renaming: &mut Renaming,
+) -> Result<bool, AllocError>
+    requires under { IfSome renaming.old.under (λ under. answers.IsUnderSome checked.now.code under.code) }
+    ensures under { IfOk result (λ ready. ready ≡ true
+        → IfSome renaming.new.under (λ under. answers.IsUnderSome checked.now.code under.code)) }
+    ensures same { IfOk result (λ ready. ready ≡ true → (renaming.new.under ≡ renaming.old.under)
+        ⊎ ((runs.now.unsettled ≡ true) × (answers.succeeds runs.now.played ≡ false))) }
+    ensures ends { IfOk result (λ ready. ready ≡ false → runs.now.unsettled ≡ true) }
+{
+    if runs.needs_name() {
+        renaming.rename(alloc, checked)
+    } else {
+        Ok(true)
+    }
 }
 
 /// The time has passed, if there is one, or the clock can't say that it hasn't.
