@@ -7,13 +7,15 @@ import subprocess
 
 from . import servers
 from .program import COUNTER, PROGRAM, SECONDS, LiveTest, rows
-from .servers import A, B, P, Replying, Scripted, answers
+from .servers import A, B, P, Replying, Scripted, answers, answers_both
 
 HISTORY = b"history 1\nP delete a -> NOT_FOUND\nend\n"
 NO_INPUT = b"mcrace: standard input: Bad file descriptor (os error 9)\n"
 NO_OUTPUT = b"mcrace: standard output: Bad file descriptor (os error 9)\n"
-# A's reply has more bytes, which is told on standard error.
-SURPLUS = (P, A + [b"STORED\r\n"], B)
+# Three runs. The reply to A in the first one has more bytes. That is told when the second one has
+# ended, whose connections serve the third one.
+SURPLUS = (P, answers_both(b"6\r\nSTORED\r\n"), B)
+THREE_RUNS = [SURPLUS, tuple(2 * steps for steps in (P, A, B))]
 # A closed stream, the status, and what is told of it.
 CLOSED = [("input", 0, 4, NO_INPUT), ("output", 1, 4, NO_OUTPUT), ("errors", 2, 0, b"")]
 CLOSED_OUTPUTS = [("output", 1, 4, NO_OUTPUT), ("errors", 2, 0, b"")]
@@ -51,12 +53,13 @@ class ClosedStreams(LiveTest):
 
     @rows(CLOSED)
     def test_run(self, descriptor, status, told):
-        with Scripted(SURPLUS) as server:
-            words = ["run", f"127.0.0.1:{server.port}"]
-            found = run_without(descriptor, words, COUNTER)
-            self.assertEqual((found[0], found[2].splitlines(True)[-1:]), (status, [told] * bool(told)))
-            self.assertEqual(found[1].startswith(b"P done\nA done\nB done\n"), descriptor == 2)
-            self.assertEqual(server.taken, 0 if descriptor == 0 else 3)
+        with Scripted(*THREE_RUNS) as server:
+            words = ["run", f"127.0.0.1:{server.port}", "--times", "3"]
+            found, output, errors = run_without(descriptor, words, COUNTER)
+            self.assertEqual((found, errors.endswith(told)), (status, True), errors)
+            begin = b"run 3 of 3\nruns 3 explained 3 unexplained 0 "
+            self.assertEqual(output[: len(begin)], begin if descriptor == 2 else b"")
+            self.assertEqual(server.taken, 0 if descriptor == 0 else 6)
             self.assert_sent_nothing_else(server)
 
     @rows(CLOSED_OUTPUTS)
