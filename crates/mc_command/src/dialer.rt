@@ -5,7 +5,6 @@ use crate::late_calls::LateCalls;
 use crate::quitting::Closing;
 use crate::seconds::Seconds;
 use crate::socket::JobSocket;
-use crate::timed_stream::TimedStream;
 use mc_campaign::Connector;
 use mc_lane::Wire;
 use mc_protocol::{Actor, Sections};
@@ -85,13 +84,12 @@ where
     }
 
     // The connection of a job's section. Where its calls have no limit, or there is no memory, it isn't noted that one took too long.
-    fn watched(&self, job: u64, section: Actor, stream: TcpStream) -> JobSocket<'a, R> {
+    fn watched(&self, job: u64, section: Actor, stream: TcpStream) -> JobSocket {
         let is_late = match self.timeout {
             Some(_) => self.late_calls.add(job, section).ok(),
             None => None,
         };
-        let limit = self.timeout.map(|timeout| timeout.duration());
-        JobSocket::new(TimedStream::new(self.rt, stream, limit), is_late)
+        JobSocket::new(stream, is_late)
     }
 
     // The address that took the first connection, if one has.
@@ -112,11 +110,11 @@ where
     }
 }
 
-impl<'a, R> Connector<Wire<JobSocket<'a, R>>> for Dialer<'a, R>
+impl<'a, R> Connector<Wire<JobSocket>> for Dialer<'a, R>
 where
     R: Net<Listener = TcpListener, Stream = TcpStream> + Clock + Wait + Eprint + Sync,
 {
-    fn connect(&self, job: u64, section: Actor) -> Option<Wire<JobSocket<'a, R>>> {
+    fn connect(&self, job: u64, section: Actor) -> Option<Wire<JobSocket>> {
         match self.dial(section) {
             Ok(stream) => Some(Wire::new(self.watched(job, section, stream))),
             Err(error) => {
@@ -126,7 +124,7 @@ where
         }
     }
 
-    fn release(&self, streams: Sections<Option<Wire<JobSocket<'a, R>>>>) {
+    fn release(&self, streams: Sections<Option<Wire<JobSocket>>>) {
         let Sections { p, a, b } = streams;
         let closing = Closing::ask(Sections {
             p: stream_of(p),
@@ -141,6 +139,6 @@ where
 }
 
 // The connection, if there is one.
-fn stream_of<R: Clock + Sync>(wire: Option<Wire<JobSocket<'_, R>>>) -> Option<TcpStream> {
+fn stream_of(wire: Option<Wire<JobSocket>>) -> Option<TcpStream> {
     Some(wire?.into_inner().into_stream())
 }

@@ -59,6 +59,7 @@ impl Runs {
             → answers.IsRightUnder why code played → (answers.AreSettled all → IsRightFor why code played)
             → (answers.succeeds self.played ≡ true → IsRightFor why code played) → IsSoFar why code (all ++ played ∷ []) result }
         ensures last { answers.succeeds self.played ≡ true → result.number ≡ result.totals.runs }
+        ensures first { answers.succeeds result.played ≡ true → answers.succeeds self.played ≡ true }
     {
         let totals = self.totals.with(&played);
         let unsettled = leaves_request(&played);
@@ -165,7 +166,8 @@ fn repeat_over<R: Threads + Wait + Clock + Sync, N: Network, T: RunObserver>(
         if is_late(rt, &begun, repeat.time) {
             return Ok(runs);
         }
-        if !make_ready(alloc, &runs, checked, &mut renaming)? {
+        let ready = make_ready(alloc, &runs, checked, &mut renaming)?;
+        if !ready {
             observer.stop(runs.totals.runs);
             return Ok(runs);
         }

@@ -4,7 +4,6 @@ ghost use Rattle.mc_lane.specs.Streams.{silent, no_counts};
 ghost use Rattle.mc_run.specs.Running.{AreNew, IsNew};
 
 use crate::network::Connection;
-use crate::timed_stream::TimedStream;
 use mc_campaign::RECEIVED_LIMIT;
 use mc_lane::{Lane, Stream, Wire};
 use mc_protocol::{Actor, Sections};
@@ -13,9 +12,11 @@ use std::alloc::Global;
 use std::io;
 use std::io::{ErrorKind, Read, Write};
 use std::net::TcpStream;
-use std::rt::Clock;
 use std::sync::Arc;
 use std::sync::atomic::{AtomicBool, Ordering};
+
+// A call that is interrupted is made this many times at most.
+const MOST_CALLS: u32 = 1_000;
 
 /// The connection of each section, and whether a read or a write of it took longer than it may.
 #[derive(Debug, Drop)]
@@ -90,21 +91,21 @@ impl<'a, C> Socket<'a, C> {
 
 /// The same of a section of a campaign's job: it owns the connection, and what it notes outlives it.
 #[derive(Drop)]
-pub struct JobSocket<'a, R> {
-    stream: TimedStream<'a, R>,
+pub struct JobSocket {
+    stream: TcpStream,
     is_late: Option<Arc<AtomicBool, Global>>,
 }
 
-impl<'a, R> JobSocket<'a, R> {
+impl JobSocket {
     /// What reads and writes over the connection, and notes in `is_late`, if it is there, that a call took too long.
-    pub fn new(stream: TimedStream<'a, R>, is_late: Option<Arc<AtomicBool, Global>>) -> Self {
+    pub fn new(stream: TcpStream, is_late: Option<Arc<AtomicBool, Global>>) -> Self {
         JobSocket { stream, is_late }
     }
 
     /// The connection.
     pub fn into_stream(self) -> TcpStream {
         let JobSocket { stream, .. } = self;
-        stream.into_stream()
+        stream
     }
 
     fn note(&self, error: &io::Error) {
@@ -146,27 +147,40 @@ impl<'a, C: Connection> Write for Socket<'a, C> {
     }
 }
 
-impl<'a, R: Clock + Sync> Read for JobSocket<'a, R> {
+// A call that is interrupted is made again, with the whole of its time: the program was stopped meanwhile, as by Ctrl-Z.
+impl Read for JobSocket {
     fn read(&mut self, buffer: &mut [u8]) -> io::Result<usize> {
-        let result = self.stream.receive(buffer);
-        if let Err(error) = &result {
-            self.note(error);
+        'calls: for _ in 0..MOST_CALLS {
+            match self.stream.read(buffer) {
+                Ok(count) => return Ok(count),
+                Err(error) if error.kind() == ErrorKind::Interrupted => {}
+                Err(error) => {
+                    self.note(&error);
+                    return Err(error);
+                }
+            }
         }
-        result
+        Err(io::Error::from(ErrorKind::Interrupted))
     }
 }
 
-impl<'a, R: Clock + Sync> Write for JobSocket<'a, R> {
+impl Write for JobSocket {
     fn write(&mut self, bytes: &[u8]) -> io::Result<usize> {
-        let result = self.stream.send(bytes);
-        if let Err(error) = &result {
-            self.note(error);
+        'calls: for _ in 0..MOST_CALLS {
+            match self.stream.write(bytes) {
+                Ok(count) => return Ok(count),
+                Err(error) if error.kind() == ErrorKind::Interrupted => {}
+                Err(error) => {
+                    self.note(&error);
+                    return Err(error);
+                }
+            }
         }
-        result
+        Err(io::Error::from(ErrorKind::Interrupted))
     }
 
     fn flush(&mut self) -> io::Result<()> {
-        Ok(())
+        self.stream.flush()
     }
 }
 

@@ -10,7 +10,7 @@ returns-clause-so_far c why code right = record {
   right = one_right_under why code c.args.played (inl right);
   own = λ settled. one_right why code c.args.played right;
   shown = right;
-  settled = λ settled. c.leaves_request.ensures
+  settled = λ settled. c.leaves_request-unsettled.ensures
       ∙ All-head (λ (run : Played). leaves_request run ≡ false) c.args.played [] settled;
   hands_out = one_handed c.args.played;
   totals = c.with-totals.ensures [] (omega arith) c.new.ensures;

@@ -14,7 +14,7 @@ returns-then-has_failed-clause-so_far c why code all so short right first own =
       own = λ settled. let before = settled_before all c.args.played settled in
           All-push (IsRightFor why code) all c.args.played (so.own before) (first before);
       shown = so.shown;
-      settled = λ settled. c.leaves_request.ensures ∙ last_settled all c.args.played settled;
+      settled = λ settled. c.leaves_request-unsettled.ensures ∙ last_settled all c.args.played settled;
       hands_out = kept all c.args.played c.args.self.number c.args.self.played so.hands_out failed;
       totals = c.with-totals.ensures all short so.totals;
     }
@@ -28,7 +28,13 @@ returns-clause-so_far c why code all so short right first own =
       own = λ settled. let before = settled_before all c.args.played settled in
           All-push (IsRightFor why code) all c.args.played (so.own before) (first before);
       shown = own succeeded;
-      settled = λ settled. c.leaves_request.ensures ∙ last_settled all c.args.played settled;
+      settled = λ settled. c.leaves_request-unsettled.ensures ∙ last_settled all c.args.played settled;
       hands_out = replaced all c.args.played c.args.self.number c.args.self.played so.hands_out succeeded _ (ap (λ (t : Totals). t.runs) totals);
       totals = totals;
     }
+
+pub returns-then-has_failed-clause-first : goal.returns-then-has_failed-clause-first
+returns-then-has_failed-clause-first c succeeded = succeeded
+
+pub returns-clause-first : goal.returns-clause-first
+returns-clause-first c succeeded = succeeded_by (succeeds c.args.self.played) _ c.has_failed.ensures c.if-has_failed.false
