@@ -110,7 +110,7 @@ class LateActs(LiveTest):
         self.assertTrue(0 < runs < 50, answer)
         told = (
             f"mcrace: no run follows run {runs}: the server may still act on a request of it, and "
-            "its keys have no room for a new name\n"
+            "no new name fits its keys\n"
         )
         self.assertEqual(answer.stderr.decode(), told)
 

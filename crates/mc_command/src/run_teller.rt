@@ -117,7 +117,7 @@ impl<'a, R: Eprint + Clock> RunObserver for RunTeller<'a, R> {
         let lead = lead(self.columns);
         // There is nowhere else to say that this could not be said.
         let _ = eprintln!(self.rt;
-            "{lead}mcrace: no run follows run {number}: the server may still act on a request of it, and its keys have no room for a new name"
+            "{lead}mcrace: no run follows run {number}: the server may still act on a request of it, and no new name fits its keys"
         );
     }
 
