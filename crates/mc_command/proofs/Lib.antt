@@ -6,6 +6,7 @@ pub mod CampaignLines
 pub mod Counts
 pub mod Fronts
 pub mod HelpLines
+pub mod KeyNames
 pub mod LimitFirst
 pub mod LimitLines
 pub mod Line

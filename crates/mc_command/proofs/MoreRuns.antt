@@ -1,16 +1,25 @@
 -- One run more: which is handed out.
-use Rattle.std.proofs.Common.{◌≡◌, ◌∙◌, ℕ, Bool, true, false, not, List, [], ◌∷◌, ◌++◌, length, ap, refl, sym}
+use Rattle.std.proofs.Common.{◌≡◌, ◌∙◌, ℕ, Bool, true, false, not, List, [], ◌∷◌, ◌++◌, length, ap, refl, sym, Some}
 use Rattle.std.specs.List.{All}
 use Rattle.std.proofs.lemmas.Bool.{false≢true}
 use Rattle.std.proofs.lemmas.List.{append_assoc, length-append}
-use Rattle.std.proofs.lemmas.List.Elements.{All-cons, All-nil, All-push, All-same}
+use Rattle.std.proofs.lemmas.List.Elements.{All-cons, All-nil, All-pop, All-push, All-same}
 use Rattle.mc_code.specs.Code.{Code}
-use Rattle.mc_command.specs.RepeatAnswers.{HandsOut, succeeds}
+use Rattle.mc_command.specs.RepeatAnswers.{AreSettled, HandsOut, IsRightUnder, leaves_request, succeeds}
 use Rattle.mc_command.specs.RunAnswers.{IsRightFor}
 use Rattle.mc_command.specs.declared.run.Played.{Played}
 
 pub one_right : (why : Bool) (code : Code) (run : Played) → IsRightFor why code run → All (IsRightFor why code) (run ∷ [])
 one_right why code run right = All-cons (IsRightFor why code) run [] right (All-nil (IsRightFor why code))
+
+pub one_right_under : (why : Bool) (code : Code) (run : Played) → IsRightUnder why code run → All (IsRightUnder why code) (run ∷ [])
+one_right_under why code run right = All-cons (IsRightUnder why code) run [] right (All-nil (IsRightUnder why code))
+
+pub settled_before : (all : List Played) (run : Played) → AreSettled (all ++ run ∷ []) → AreSettled all
+settled_before all run settled = (All-pop (λ (one : Played). leaves_request one ≡ false) (all ++ run ∷ []) all (Some run) refl settled).0
+
+pub last_settled : (all : List Played) (run : Played) → AreSettled (all ++ run ∷ []) → leaves_request run ≡ false
+last_settled all run settled = (All-pop (λ (one : Played). leaves_request one ≡ false) (all ++ run ∷ []) all (Some run) refl settled).1
 
 pub one_handed : (run : Played) → HandsOut (run ∷ []) 1 run
 one_handed run = record {

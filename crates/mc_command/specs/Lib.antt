@@ -17,6 +17,7 @@ pub mod LineLaws
 pub mod Loading
 pub mod Overlaps
 pub mod Refusals
+pub mod Renaming
 pub mod RepeatAnswers
 pub mod Repeats
 pub mod Replies

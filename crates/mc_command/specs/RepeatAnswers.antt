@@ -1,13 +1,16 @@
 -- What `run` answers where a script is run repeatedly.
-use Rattle.std.specs.Prelude.{◌≡◌, ◌⊎◌, ℕ, ◌+◌, ◌<◌, ◌≤◌, Bool, true, false, All, Option, Some, None, List, [], ◌∷◌, ◌++◌}
+use Rattle.std.specs.Prelude.{◌≡◌, ◌⊎◌, ℕ, ◌+◌, ◌<◌, ◌≤◌, Bool, true, false, not, ◌&&◌, All, Option, Some, None, List, [], ◌∷◌, ◌++◌}
 use Rattle.std.specs.Prelude.{length, codes, decimal}
 use Rattle.mc_protocol.specs.Lines.{Word}
+use Rattle.mc_model.specs.History.{are_answered}
+use Rattle.mc_model.specs.Notes.{History}
 use Rattle.mc_code.specs.Code.{Code}
-use Rattle.mc_command.specs.RunAnswers.{IsRight, IsRightFor, Plays, PlaysFor, SpellsUnder, is_refusal, status_of, text_of}
+use Rattle.mc_command.specs.RunAnswers.{IsRight, IsRightFor, IsUnder, Plays, PlaysFor, SpellsUnder, is_refusal, status_of, text_of}
 use Rattle.mc_command.specs.Statuses.{is_success}
 use Rattle.mc_command.specs.Totals.{totals_line, totals_of}
 use Rattle.mc_command.specs.declared.repeat.Repeat.{Repeat}
 use Rattle.mc_command.specs.declared.run.Played.{Played}
+use Rattle.mc_command.specs.declared.run.Played.TheVariants as played
 use Rattle.mc_command.specs.declared.status.Status.{Status}
 use Rattle.mc_command.specs.declared.totals.Totals.{Totals}
 
@@ -24,18 +27,46 @@ pub record HandsOut (runs : List Played) (number : ℕ) (given : Played) : Type 
   pub earlier : All (λ run. succeeds run ≡ true) front
   pub last : succeeds given ≡ true → back ≡ []
 
--- Code that is run repeatedly comes to these totals, and this run is handed out. There are at most as many runs as are wanted. Unless
--- runs go on after one whose status isn't 0, that is the last one. Where there is no time, there are as many as are wanted, or such a
--- run ended them.
+-- each request has a reply
+abbrev pub is_answered : History → Bool
+is_answered h = are_answered h.sections.p && (are_answered h.sections.a && are_answered h.sections.b)
+
+-- the server may still act on a request of the run, as far as that is known
+abbrev pub leaves_request : Played → Bool
+leaves_request (played.Ended held h found told) = not (is_answered h)
+leaves_request (played.NoConnection section) = false
+leaves_request played.NotRun = true
+leaves_request (played.NoCode fault hint) = false
+leaves_request (played.Unsound refusal hint) = false
+leaves_request (played.KeyTooLong index) = false
+
+-- none of the runs leaves a request on which the server may still act
+abbrev pub AreSettled : List Played → Type 0
+AreSettled runs = All (λ run. leaves_request run ≡ false) runs
+
+-- the second code is sound, and the first one under some name
+abbrev pub IsUnderSome : Code → Code → Type 0
+IsUnderSome written code = (name : Word) × IsUnder name written code
+
+-- the answer is right for sound code, or for it under some name
+abbrev pub IsRightUnder : Bool → Code → Played → Type 0
+IsRightUnder why code run = IsRightFor why code run ⊎ ((under : Code) × IsUnderSome code under × IsRightFor why under run)
+
+-- Code that is run repeatedly comes to these totals, and this run is handed out. It is one of the code itself, and so are all runs, unless
+-- one leaves a request on which the server may still act: later ones may be of the code under a name. There are at most as many runs as
+-- are wanted. Unless runs go on after one whose status isn't 0, that is the last one. Where there is no time, there are as many as are
+-- wanted, or such a run ended them, or one left a request.
 pub record Comes (repeat : Repeat) (why : Bool) (code : Code) (number : ℕ) (given : Played) (totals : Totals) : Type 0 where
   pub runs : List Played
-  pub right : All (IsRightFor why code) runs
+  pub right : All (IsRightUnder why code) runs
+  pub own : AreSettled runs → All (IsRightFor why code) runs
+  pub shown : IsRightFor why code given
   pub hands_out : HandsOut runs number given
   pub sums : totals ≡ totals_of runs
   pub few : (most : ℕ) → repeat.times ≡ Some most → 0 < most → length runs ≤ most
   pub ends : repeat.keep_going ≡ false → number ≡ length runs
   pub goes_on : repeat.time ≡ None → (most : ℕ) → repeat.times ≡ Some most → 0 < most
-      → (length runs ≡ most) ⊎ ((repeat.keep_going ≡ false) × (succeeds given ≡ false))
+      → (length runs ≡ most) ⊎ (((repeat.keep_going ≡ false) × (succeeds given ≡ false)) ⊎ (AreSettled runs → ⊥))
 
 -- the line that says which run follows, of how many where that is known
 abbrev pub run_line : Option ℕ → ℕ → List ℕ

@@ -3,6 +3,7 @@ use crate::arguments::Target;
 use crate::network::{Network, Unconnected};
 use crate::quitting::Closing;
 use crate::seconds::Seconds;
+use crate::timed_stream::TimedStream;
 use mc_protocol::{Actor, Sections};
 use std::io;
 use std::io::ErrorKind;
@@ -17,50 +18,103 @@ const PAUSE: u64 = 50;
 /// Connections over TCP.
 #[derive(Drop)]
 pub struct TcpNetwork<'a, R> {
-    /// Where sockets and the time come from.
-    pub rt: &'a R,
+    rt: &'a R,
+    // The address that took P last.
+    address: Option<SocketAddr>,
 }
 
-impl<'a, R: Net<Stream = TcpStream> + Clock> Network for TcpNetwork<'a, R> {
-    type Connection = TcpStream;
+impl<'a, R> TcpNetwork<'a, R> {
+    /// Connections by sockets of `rt`, which has the time too.
+    pub fn new(rt: &'a R) -> Self {
+        TcpNetwork { rt, address: None }
+    }
+}
 
-    fn connect(&mut self, target: &Target<'_>) -> Result<Sections<TcpStream>, Unconnected> {
-        connect_sections(self.rt, target)
+impl<'a, R: Net<Stream = TcpStream> + Clock + Sync> Network for TcpNetwork<'a, R> {
+    type Connection = TimedStream<'a, R>;
+
+    /// They are connected in the order P, A, B. P looks the server's name up and tries its addresses one after another, and all of this
+    /// again every 50 ms for as long as `target.wait` says. A and B connect to the address that took P, but where they have a server of
+    /// their own, whose addresses each of them tries once.
+    fn connect(
+        &mut self,
+        target: &Target<'_>,
+    ) -> Result<Sections<TimedStream<'a, R>>, Unconnected> {
+        let p = self.connect_p(target, Place::Named(target.server))?;
+        let a = self.reconnect(target, Actor::A)?;
+        let b = self.reconnect(target, Actor::B)?;
+        Ok(Sections { p, a, b })
+    }
+
+    fn reconnect(
+        &mut self,
+        target: &Target<'_>,
+        section: Actor,
+    ) -> Result<TimedStream<'a, R>, Unconnected> {
+        let place = match self.address {
+            Some(address) => Place::At(address),
+            None => Place::Named(target.server),
+        };
+        match section {
+            Actor::P => self.connect_p(target, place),
+            Actor::A => self.connect_branch(target, target.a, place, section),
+            Actor::B => self.connect_branch(target, target.b, place, section),
+        }
     }
 
     /// Has the server close them, and waits for that, but not for long.
-    fn quit(&mut self, connections: Sections<TcpStream>) {
+    fn quit(&mut self, connections: Sections<TimedStream<'a, R>>) {
         let Sections { p, a, b } = connections;
         let closing = Closing::ask(Sections {
-            p: Some(p),
-            a: Some(a),
-            b: Some(b),
+            p: Some(p.into_stream()),
+            a: Some(a.into_stream()),
+            b: Some(b.into_stream()),
         });
         closing.wait(self.rt);
     }
 }
 
-// A connection of each section to the server that `target` names for it. They are connected in the order P, A, B. P looks the name up and
-// tries its addresses one after another, and all of this again every 50 ms for as long as `target.wait` says. A and B connect to the
-// address that took P, but where they have a server of their own, whose addresses each of them tries once.
-fn connect_sections<R: Net<Stream = TcpStream> + Clock>(
-    rt: &R,
-    target: &Target<'_>,
-) -> Result<Sections<TcpStream>, Unconnected> {
-    let timeout = target.timeout;
-    let server = Place::Named(target.server);
-    let (p, address) = match connect_patiently(rt, server, timeout, target.wait) {
-        Ok(found) => found,
-        Err(error) => {
-            return Err(Unconnected {
+impl<'a, R: Net<Stream = TcpStream> + Clock> TcpNetwork<'a, R> {
+    // A connection of P, and the address that took it is known from now on.
+    fn connect_p(
+        &mut self,
+        target: &Target<'_>,
+        place: Place<'_>,
+    ) -> Result<TimedStream<'a, R>, Unconnected> {
+        match connect_patiently(self.rt, place, target.timeout, target.wait) {
+            Ok((stream, address)) => {
+                self.address = Some(address);
+                Ok(self.timed(stream, target))
+            }
+            Err(error) => Err(Unconnected {
                 section: Actor::P,
                 error,
-            });
+            }),
         }
-    };
-    let a = connect_branch(rt, target.a, address, timeout, Actor::A)?;
-    let b = connect_branch(rt, target.b, address, timeout, Actor::B)?;
-    Ok(Sections { p, a, b })
+    }
+
+    // A connection of a branch to its own server, or else to P's.
+    fn connect_branch(
+        &self,
+        target: &Target<'_>,
+        own: Option<&str>,
+        place: Place<'_>,
+        section: Actor,
+    ) -> Result<TimedStream<'a, R>, Unconnected> {
+        let place = match own {
+            Some(server) => Place::Named(server),
+            None => place,
+        };
+        match connect_at(self.rt, place, target.timeout) {
+            Ok((stream, _)) => Ok(self.timed(stream, target)),
+            Err(error) => Err(Unconnected { section, error }),
+        }
+    }
+
+    fn timed(&self, stream: TcpStream, target: &Target<'_>) -> TimedStream<'a, R> {
+        let limit = target.timeout.map(|timeout| timeout.duration());
+        TimedStream::new(self.rt, stream, limit)
+    }
 }
 
 /// Where a server is: at the addresses of its name, HOST:PORT, or at one address.
@@ -104,27 +158,6 @@ fn connect_at<R: Net<Stream = TcpStream>>(
     }
 }
 
-// A connection to the branch's own server, or else to the address that took P.
-fn connect_branch<R: Net<Stream = TcpStream>>(
-    rt: &R,
-    own: Option<&str>,
-    address: SocketAddr,
-    timeout: Option<Seconds<'_>>,
-    branch: Actor,
-) -> Result<TcpStream, Unconnected> {
-    let connected = match own {
-        Some(server) => connect_first(rt, server, timeout).map(|(stream, _)| stream),
-        None => connect(rt, address, timeout),
-    };
-    match connected {
-        Ok(stream) => Ok(stream),
-        Err(error) => Err(Unconnected {
-            section: branch,
-            error,
-        }),
-    }
-}
-
 // A connection to the first of the name's addresses that takes one, with this address; or why the last of them took none.
 fn connect_first<R: Net<Stream = TcpStream>>(
     rt: &R,
@@ -132,6 +165,9 @@ fn connect_first<R: Net<Stream = TcpStream>>(
     timeout: Option<Seconds<'_>>,
 ) -> io::Result<(TcpStream, SocketAddr)> {
     let mut last = io::Error::from(ErrorKind::InvalidInput);
+    if !has_port(target) {
+        return Err(last);
+    }
     for address in target.to_socket_addrs(rt)? {
         match connect(rt, address, timeout) {
             Ok(stream) => return Ok((stream, address)),
@@ -139,6 +175,14 @@ fn connect_first<R: Net<Stream = TcpStream>>(
         }
     }
     Err(last)
+}
+
+// After the last colon stand digits alone. std's reader of numbers takes a sign too.
+fn has_port(target: &str) -> bool {
+    match target.rsplit_once(':') {
+        Some((_, port)) => !port.is_empty() && port.bytes().all(|byte| byte.is_ascii_digit()),
+        None => false,
+    }
 }
 
 /// A connection to the address.

@@ -4,8 +4,6 @@ ghost use Rattle.std.specs.Prelude.{◌≤◌, IfOk, length};
 use crate::arguments::Target;
 use mc_protocol::{Actor, Sections};
 use std::io;
-use std::io::{Read, Write};
-use std::net::TcpStream;
 
 /// A connection to a server. It is read and written through a shared reference, by one thread at a time.
 pub trait Connection: Sync + Drop {
@@ -33,22 +31,6 @@ pub trait Connection: Sync + Drop {
     fn set_nonblocking(&self, nonblocking: bool) -> io::Result<()>;
 }
 
-impl Connection for TcpStream {
-    fn receive(&self, buffer: &mut [u8]) -> io::Result<usize> {
-        let mut stream = self;
-        stream.read(buffer)
-    }
-
-    fn send(&self, bytes: &[u8]) -> io::Result<usize> {
-        let mut stream = self;
-        stream.write(bytes)
-    }
-
-    fn set_nonblocking(&self, nonblocking: bool) -> io::Result<()> {
-        TcpStream::set_nonblocking(self, nonblocking)
-    }
-}
-
 /// The first section that got no connection, and why.
 #[derive(Debug, Drop)]
 pub struct Unconnected {
@@ -67,6 +49,18 @@ pub trait Network {
     ///
     /// The first section that gets none, and why.
     fn connect(&mut self, target: &Target<'_>) -> Result<Sections<Self::Connection>, Unconnected>;
+
+    /// A new connection of one section, in place of an earlier one which the server has closed: to the server that `target` names for the
+    /// section, and where that is P's, at the address that took P.
+    ///
+    /// # Errors
+    ///
+    /// That the section gets none, and why.
+    fn reconnect(
+        &mut self,
+        target: &Target<'_>,
+        section: Actor,
+    ) -> Result<Self::Connection, Unconnected>;
 
     /// Takes back connections that are done with, where another run may follow.
     fn quit(&mut self, connections: Sections<Self::Connection>);

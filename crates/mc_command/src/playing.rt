@@ -67,7 +67,7 @@ where
         stats: false,
         spread: 0,
     };
-    let mut network = TcpNetwork { rt };
+    let mut network = TcpNetwork::new(rt);
     let (status, _) = run_target(
         rt,
         alloc,

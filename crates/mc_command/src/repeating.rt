@@ -1,5 +1,5 @@
 //! Runs of one script, one after another.
-ghost use Rattle.std.specs.Prelude.{◌≡◌, ◌<◌, ◌-◌, ◌^◌, Bool, false, true, not, List, ◌∷◌, [], ◌++◌, length, IfOk, None};
+ghost use Rattle.std.specs.Prelude.{◌≡◌, ◌<◌, ◌-◌, ◌^◌, ◌⊎◌, Bool, false, true, not, List, ◌∷◌, [], ◌++◌, length, IfOk, IfSome, None};
 ghost use Rattle.mc_code.specs.Code.{Code};
 ghost use Rattle.mc_command.specs.RepeatAnswers as answers;
 ghost use Rattle.mc_command.specs.RunAnswers.{IsRightFor};
@@ -9,6 +9,7 @@ ghost use Rattle.mc_command.specs.declared.run.Played.{Played};
 use crate::arguments::Target;
 use crate::keeping::{Kept, play_kept};
 use crate::network::Network;
+use crate::renaming::{Renaming, leaves_request};
 use crate::repeat::Repeat;
 use crate::run::{Played, Remarks, status_of};
 use crate::run_teller::RunObserver;
@@ -31,6 +32,8 @@ pub struct Runs {
     /// Its number, counted from 1.
     pub number: u64,
     pub totals: Totals,
+    /// The server may still act on a request of the last one.
+    unsettled: bool,
 }
 
 impl Runs {
@@ -40,29 +43,39 @@ impl Runs {
         ensures last { result.number ≡ 1 }
     {
         let totals = Totals::new().with(&played);
+        let unsettled = leaves_request(&played);
         Runs {
             played,
             remarks,
             number: 1,
             totals,
+            unsettled,
         }
     }
 
     /// One run more.
     fn with(self, played: Played, remarks: Remarks) -> Runs
         ensures so_far { (why : Bool) (code : Code) (all : List Played) → IsSoFar why code all self → length all < 2 ^ 64 - 1
-            → IsRightFor why code played → IsSoFar why code (all ++ played ∷ []) result }
+            → answers.IsRightUnder why code played → (answers.AreSettled all → IsRightFor why code played)
+            → (answers.succeeds self.played ≡ true → IsRightFor why code played) → IsSoFar why code (all ++ played ∷ []) result }
         ensures last { answers.succeeds self.played ≡ true → result.number ≡ result.totals.runs }
+        ensures first { answers.succeeds result.played ≡ true → answers.succeeds self.played ≡ true }
     {
         let totals = self.totals.with(&played);
+        let unsettled = leaves_request(&played);
         if self.has_failed() {
-            return Runs { totals, ..self };
+            return Runs {
+                totals,
+                unsettled,
+                ..self
+            };
         }
         Runs {
             played,
             remarks,
             number: totals.runs,
             totals,
+            unsettled,
         }
     }
 
@@ -84,6 +97,13 @@ impl Runs {
         !status_of(&self.played).is_success()
     }
 
+    /// The next run needs other keys.
+    fn needs_name(&self) -> bool
+        ensures { result ≡ true → (self.now.unsettled ≡ true) × (answers.succeeds self.now.played ≡ false) }
+    {
+        self.unsettled && self.has_failed()
+    }
+
     /// There was one, and none follows it.
     fn is_over(&self, keep_going: bool) -> bool
         ensures over { result ≡ true → (keep_going ≡ false) × (answers.succeeds self.now.played ≡ false) }
@@ -94,7 +114,8 @@ impl Runs {
 }
 
 /// Runs the code until there are as many runs as are wanted, or the time is over, or a run's status isn't 0 and `repeat` doesn't go on
-/// after such a one. A run that has begun is not cut off. Connections serve more than one run, unless the target says otherwise.
+/// after such a one. A run that has begun is not cut off. Connections serve more than one run, unless the target says otherwise. After a
+/// run that leaves a request on which the server may still act, the code is put under a name that no run had, or no run follows.
 pub fn repeat_code<R: Threads + Wait + Clock + Sync, N: Network, T: RunObserver>(
     rt: &R,
     alloc: Global,
@@ -137,6 +158,7 @@ fn repeat_over<R: Threads + Wait + Clock + Sync, N: Network, T: RunObserver>(
     let (played, remarks) = play_kept(rt, alloc, target, checked, network, kept)?;
     observer.add(&played);
     let mut runs = Runs::new(played, remarks);
+    let mut renaming = Renaming::new(rt);
     'runs: for done in 1..most {
         if runs.is_over(repeat.keep_going) {
             return Ok(runs);
@@ -144,12 +166,39 @@ fn repeat_over<R: Threads + Wait + Clock + Sync, N: Network, T: RunObserver>(
         if is_late(rt, &begun, repeat.time) {
             return Ok(runs);
         }
-        let (played, remarks) = play_kept(rt, alloc, target, checked, network, kept)?;
+        let ready = make_ready(alloc, &runs, checked, &mut renaming)?;
+        if !ready {
+            observer.stop(runs.totals.runs);
+            return Ok(runs);
+        }
+        let code = renaming.code(checked);
+        let (played, remarks) = play_kept(rt, alloc, target, code, network, kept)?;
         observer.add(&played);
         runs.pass_over(&remarks, observer);
         runs = runs.with(played, remarks);
     }
     Ok(runs)
+}
+
+// Puts the code under a new name where the last run asks for that, and answers whether another run may follow.
+fn make_ready(
+    alloc: Global,
+    runs: &Runs,
+    checked: &Checked,
+    renaming: &mut Renaming,
+) -> Result<bool, AllocError>
+    requires under { IfSome renaming.old.under (λ under. answers.IsUnderSome checked.now.code under.code) }
+    ensures under { IfOk result (λ ready. ready ≡ true
+        → IfSome renaming.new.under (λ under. answers.IsUnderSome checked.now.code under.code)) }
+    ensures same { IfOk result (λ ready. ready ≡ true → (renaming.new.under ≡ renaming.old.under)
+        ⊎ ((runs.now.unsettled ≡ true) × (answers.succeeds runs.now.played ≡ false))) }
+    ensures ends { IfOk result (λ ready. ready ≡ false → runs.now.unsettled ≡ true) }
+{
+    if runs.needs_name() {
+        renaming.rename(alloc, checked)
+    } else {
+        Ok(true)
+    }
 }
 
 /// The time has passed, if there is one, or the clock can't say that it hasn't.

@@ -24,6 +24,9 @@ pub trait RunObserver {
     /// The run with this number isn't handed out, and this was remarked on it.
     fn pass_over(&mut self, number: u64, remarks: &Remarks);
 
+    /// No run follows the one with this number, since the server may still act on a request of it, and no other keys can be had.
+    fn stop(&mut self, number: u64);
+
     /// No run follows, where a script is run repeatedly.
     fn end(&mut self);
 }
@@ -38,6 +41,8 @@ impl RunObserver for Unobserved {
     fn add(&mut self, _played: &Played) {}
 
     fn pass_over(&mut self, _number: u64, _remarks: &Remarks) {}
+
+    fn stop(&mut self, _number: u64) {}
 
     fn end(&mut self) {}
 }
@@ -106,6 +111,14 @@ impl<'a, R: Eprint + Clock> RunObserver for RunTeller<'a, R> {
                 let _ = eprintln!(self.rt; "{lead}mcrace: run {number}: {remark}");
             }
         }
+    }
+
+    fn stop(&mut self, number: u64) {
+        let lead = lead(self.columns);
+        // There is nowhere else to say that this could not be said.
+        let _ = eprintln!(self.rt;
+            "{lead}mcrace: no run follows run {number}: the server may still act on a request of it, and no new name fits its keys"
+        );
     }
 
     fn end(&mut self) {

@@ -221,7 +221,7 @@ where
     let Ok(Ok(checked)) = read_target_code(alloc, &target, TWO_INCREMENTS) else {
         return false;
     };
-    match play_code(rt, alloc, &target, &mut TcpNetwork { rt }, &checked) {
+    match play_code(rt, alloc, &target, &mut TcpNetwork::new(rt), &checked) {
         Ok((played, _)) => is_unexplained(&played),
         Err(_) => false,
     }

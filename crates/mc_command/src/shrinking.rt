@@ -9,13 +9,12 @@ ghost use Rattle.mc_campaign.specs.Shrunk.{IsShrunk};
 
 use crate::loading::verify_code;
 use mc_campaign::{
-    Campaign, Connector, JobOutcome, Namespace, Standing, Tester, generate_script, play_job,
-    put_under, shrink,
+    Campaign, Connector, Namespace, Standing, Tester, generate_script, play_job, put_under, shrink,
 };
 use mc_code::{decode, encode};
 use mc_lane::Stream;
 use mc_protocol::OutOfMemory;
-use mc_run::{FreeGate, RunError};
+use mc_run::FreeGate;
 use mc_script::Script;
 use mc_verify::Checked;
 use std::alloc::{AllocError, Global};
@@ -26,7 +25,8 @@ use std::thread::Threads;
 const ROUNDS: u32 = 200;
 
 /// What is left of the script of a job whose run was unexplained, without the campaign's name. Each smaller script is run up to `tries`
-/// times, under that name, over new connections, until it is unexplained.
+/// times, under that name, over new connections, until it is unexplained. Each of these runs has keys of its own, since the server may
+/// still act on a request of an earlier one. Where they have no room for that, none is run, and the whole script is left.
 pub fn shrunk_script<S: Stream + Send, C: Connector<S>, R: Threads + Wait + Sync>(
     rt: &R,
     alloc: Global,
@@ -38,34 +38,28 @@ pub fn shrunk_script<S: Stream + Send, C: Connector<S>, R: Threads + Wait + Sync
     ensures { IfOk result (IsShrunk (generated campaign.entry.seed job)) }
 {
     let mut rounds = Rounds::new(alloc);
+    let mut played = 0;
     'rounds: for _ in 0..ROUNDS {
         let script = rounds.shrink(alloc, campaign.seed, job)?;
         let Some(image) = rounds.asked.take() else {
             return Ok(script);
         };
-        let answer = may_stand_for(rt, alloc, campaign, tries, connector, job, &image)?;
+        let answer = becomes_unexplained(
+            rt,
+            alloc,
+            campaign,
+            tries,
+            connector,
+            job,
+            &image,
+            &mut played,
+        )?;
         rounds.known.push(answer)?;
     }
     rounds.shrink(alloc, campaign.seed, job)
 }
 
-// Whether the code of an image is sound, and one of this many runs of it in place of the job's code has no explanation.
-fn may_stand_for<S: Stream + Send, C: Connector<S>, R: Threads + Wait + Sync>(
-    rt: &R,
-    alloc: Global,
-    campaign: Campaign<'_>,
-    tries: u64,
-    connector: &C,
-    job: u64,
-    image: &[u8],
-) -> Result<bool, OutOfMemory> {
-    match read_image(alloc, image, campaign.name)? {
-        Some(checked) => becomes_unexplained(rt, alloc, campaign, tries, connector, job, &checked),
-        None => Ok(false),
-    }
-}
-
-// Whether one of this many runs of the code in place of that of the job has no explanation.
+// Whether one of this many runs of the code of an image in place of that of the job has no explanation. So many were played before.
 fn becomes_unexplained<S: Stream + Send, C: Connector<S>, R: Threads + Wait + Sync>(
     rt: &R,
     alloc: Global,
@@ -73,46 +67,45 @@ fn becomes_unexplained<S: Stream + Send, C: Connector<S>, R: Threads + Wait + Sy
     tries: u64,
     connector: &C,
     job: u64,
-    checked: &Checked,
+    image: &[u8],
+    played: &mut u64,
 ) -> Result<bool, OutOfMemory> {
     'tries: for _ in 0..tries {
-        if is_unexplained(rt, alloc, campaign, connector, job, checked)? {
+        let Some(checked) = code_of_try(alloc, image, campaign.name, *played)? else {
+            return Ok(false);
+        };
+        *played = played.saturating_add(1);
+        let outcome = play_job(rt, alloc, campaign, connector, &FreeGate, job, &checked);
+        // A run that has no connection, or that there is none of, counts as explained.
+        if Standing::of(&outcome) == Standing::Unexplained {
             return Ok(true);
         }
     }
     Ok(false)
 }
 
-// Whether a run of the code in place of that of the job has no explanation. A run that has no connection counts as explained.
-fn is_unexplained<S: Stream + Send, C: Connector<S>, R: Threads + Wait + Sync>(
-    rt: &R,
-    alloc: Global,
-    campaign: Campaign<'_>,
-    connector: &C,
-    job: u64,
-    checked: &Checked,
-) -> Result<bool, OutOfMemory> {
-    match play_job(rt, alloc, campaign, connector, &FreeGate, job, checked) {
-        JobOutcome::NotRun(RunError::OutOfMemory) => Err(AllocError),
-        outcome => Ok(Standing::of(&outcome) == Standing::Unexplained),
-    }
-}
-
-// The code of an image, put under the name where there is one.
-fn read_image(
+// The code of an image, put under the name where there is one, and then under one of the try's own. If it may be played.
+fn code_of_try(
     alloc: Global,
     image: &[u8],
     name: Option<&Namespace<'_>>,
-) -> Result<Option<Checked>, AllocError> {
-    let Ok(code) = decode(alloc, image) else {
+    number: u64,
+) -> Result<Option<Checked>, OutOfMemory> {
+    let Ok(mut code) = decode(alloc, image) else {
         return Ok(None);
     };
-    let code = match name {
-        Some(name) => put_under(alloc, &code, name),
-        None => Ok(code),
+    if let Some(name) = name {
+        code = match put_under(alloc, &code, name) {
+            Ok(under) => under,
+            Err(_) => return Ok(None),
+        };
+    }
+    let own = format!(in alloc; "t{number}")?;
+    let Some(own) = Namespace::new(own.as_bytes()) else {
+        return Ok(None);
     };
-    match code {
-        Ok(code) => Ok(verify_code(alloc, code)?.ok()),
+    match put_under(alloc, &code, &own) {
+        Ok(under) => Ok(verify_code(alloc, under)?.ok()),
         Err(_) => Ok(None),
     }
 }

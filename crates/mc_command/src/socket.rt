@@ -15,6 +15,9 @@ use std::net::TcpStream;
 use std::sync::Arc;
 use std::sync::atomic::{AtomicBool, Ordering};
 
+// A call that is interrupted is made this many times at most.
+const MOST_CALLS: u32 = 1_000;
+
 /// The connection of each section, and whether a read or a write of it took longer than it may.
 #[derive(Debug, Drop)]
 pub struct Connections<C> {
@@ -58,12 +61,6 @@ impl<C: Connection> Connections<C> {
     /// The connection of a section.
     pub fn stream(&self, section: Actor) -> &C {
         self.streams.get(section)
-    }
-
-    /// Whether the server holds each of them open, and nothing has come on it that wasn't read.
-    pub fn are_idle(&self) -> bool {
-        let Sections { p, a, b } = &self.streams;
-        is_idle(p) && is_idle(a) && is_idle(b)
     }
 
     /// Whether a read or a write of the section took longer than it may.
@@ -150,23 +147,36 @@ impl<'a, C: Connection> Write for Socket<'a, C> {
     }
 }
 
+// A call that is interrupted is made again, with the whole of its time: the program was stopped meanwhile, as by Ctrl-Z.
 impl Read for JobSocket {
     fn read(&mut self, buffer: &mut [u8]) -> io::Result<usize> {
-        let result = self.stream.read(buffer);
-        if let Err(error) = &result {
-            self.note(error);
+        'calls: for _ in 0..MOST_CALLS {
+            match self.stream.read(buffer) {
+                Ok(count) => return Ok(count),
+                Err(error) if error.kind() == ErrorKind::Interrupted => {}
+                Err(error) => {
+                    self.note(&error);
+                    return Err(error);
+                }
+            }
         }
-        result
+        Err(io::Error::from(ErrorKind::Interrupted))
     }
 }
 
 impl Write for JobSocket {
     fn write(&mut self, bytes: &[u8]) -> io::Result<usize> {
-        let result = self.stream.write(bytes);
-        if let Err(error) = &result {
-            self.note(error);
+        'calls: for _ in 0..MOST_CALLS {
+            match self.stream.write(bytes) {
+                Ok(count) => return Ok(count),
+                Err(error) if error.kind() == ErrorKind::Interrupted => {}
+                Err(error) => {
+                    self.note(&error);
+                    return Err(error);
+                }
+            }
         }
-        result
+        Err(io::Error::from(ErrorKind::Interrupted))
     }
 
     fn flush(&mut self) -> io::Result<()> {
@@ -174,8 +184,8 @@ impl Write for JobSocket {
     }
 }
 
-// Whether nothing is there to be read, and more may come. The connection waits for what comes afterwards.
-fn is_idle<C: Connection>(stream: &C) -> bool {
+/// Whether the server holds the connection open, and nothing has come on it that wasn't read. A read of it waits afterwards.
+pub fn is_idle<C: Connection>(stream: &C) -> bool {
     if stream.set_nonblocking(true).is_err() {
         return false;
     }

@@ -7,9 +7,10 @@ ghost use Rattle.mc_command.specs.Statuses.{status_number};
 ghost use Rattle.mc_command.specs.Streams.{TakesAtMost};
 
 use mc_command::{
-    Asked, CampaignTarget, Invocation, Reader, Remarks, RunTeller, Service, Sink, Source, Status,
-    Target, TcpNetwork, Told, Unconnected, Writer, answer_offline, explain_fault, input_name,
-    read_invocation, run_campaign_at, run_selftest, run_target, serve_connections, unread_line,
+    Asked, CampaignTarget, HeldDescriptors, Invocation, Reader, Remarks, RunTeller, STANDARD_INPUT,
+    STANDARD_OUTPUT, Service, Sink, Source, Status, Target, TcpNetwork, Told, Unconnected, Writer,
+    answer_offline, explain_fault, input_name, read_invocation, run_campaign_at, run_selftest,
+    run_target, serve_connections, unread_line,
 };
 use std::alloc::Global;
 use std::io::{Eprint, ErrorKind, IsTerminal};
@@ -33,6 +34,8 @@ struct Terminal {
 }
 
 fn main(rt: HostRuntime) -> ExitCode {
+    // Before anything else is opened, and until the end.
+    let held = HeldDescriptors::new(&rt);
     let stdin = rt.reader();
     let stderr = rt.stderr();
     let terminal = Terminal {
@@ -58,8 +61,16 @@ fn main(rt: HostRuntime) -> ExitCode {
         ),
         Err(error) => unread_line(&error, &mut output, &mut faults),
     };
-    tell_failure(&rt, "standard input", input.error());
-    tell_failure(&rt, "standard output", output.error());
+    tell_failure(
+        &rt,
+        "standard input",
+        held.reason(STANDARD_INPUT, input.error()),
+    );
+    tell_failure(
+        &rt,
+        "standard output",
+        held.reason(STANDARD_OUTPUT, output.error()),
+    );
     ExitCode::from(status)
 }
 
@@ -160,7 +171,7 @@ where
 {
     let columns = if target.quiet { None } else { columns };
     let mut teller = RunTeller::new(rt, alloc, columns, target.stats);
-    let mut network = TcpNetwork { rt };
+    let mut network = TcpNetwork::new(rt);
     let (status, remarks) = run_target(rt, alloc, target, &mut network, &mut teller, input, output);
     match remarks {
         Remarks::None => {}

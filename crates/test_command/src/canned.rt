@@ -28,6 +28,11 @@ impl Canned {
         }
     }
 
+    // The server has ended the connection.
+    fn is_ended(&self) -> bool {
+        self.reads.load(Ordering::SeqCst) >= self.answers.len()
+    }
+
     // The answer that is to be read next, if its request was written. It counts as read.
     fn take_answer(&self) -> Option<&'static [u8]> {
         let number = self.reads.load(Ordering::SeqCst);
@@ -43,7 +48,7 @@ impl Connection for Canned {
     fn receive(&self, buffer: &mut [u8]) -> io::Result<usize> {
         match self.take_answer() {
             Some(mut answer) => answer.read(buffer),
-            None if self.is_nonblocking.load(Ordering::SeqCst) => {
+            None if self.is_nonblocking.load(Ordering::SeqCst) && !self.is_ended() => {
                 Err(io::Error::from(ErrorKind::WouldBlock))
             }
             None => Ok(0),
@@ -70,6 +75,8 @@ pub(crate) struct CannedNetwork {
     unconnected: Option<Actor>,
     /// How often the sections were connected.
     pub(crate) connected: u32,
+    /// How often one of them was connected anew.
+    pub(crate) reconnected: u32,
     /// How often connections were given back.
     pub(crate) quit: u32,
 }
@@ -81,6 +88,7 @@ impl CannedNetwork {
             answers,
             unconnected: None,
             connected: 0,
+            reconnected: 0,
             quit: 0,
         }
     }
@@ -91,6 +99,7 @@ impl CannedNetwork {
             answers: [&[], &[], &[]],
             unconnected: Some(section),
             connected: 0,
+            reconnected: 0,
             quit: 0,
         }
     }
@@ -111,6 +120,16 @@ impl Network for CannedNetwork {
             a: Canned::new(a),
             b: Canned::new(b),
         })
+    }
+
+    fn reconnect(&mut self, _target: &Target<'_>, section: Actor) -> Result<Canned, Unconnected> {
+        self.reconnected = self.reconnected.saturating_add(1);
+        let [p, a, b] = self.answers;
+        Ok(Canned::new(match section {
+            Actor::P => p,
+            Actor::A => a,
+            Actor::B => b,
+        }))
     }
 
     fn quit(&mut self, _connections: Sections<Canned>) {

@@ -1,6 +1,6 @@
 //! Tests of `mc_command` by its public calls: what lines ask for, that `drive` keeps its limit, that `run` and `campaign` need a server
-//! and `serve` its port, what comes of runs over a network in memory, that the selftest passes, the status after a run, and the statistics
-//! of runs. What the program shows to its user stands in `cases/`.
+//! and `serve` its port, what comes of runs over a network in memory and against a listener, which keys repeated runs have, that the
+//! selftest passes, the status after a run, and the statistics of runs. What the program shows to its user stands in `cases/`.
 #![tactic(auto)]
 
 #[cfg(test)]
@@ -16,7 +16,11 @@ mod invocation_tests;
 #[cfg(test)]
 mod limit_tests;
 #[cfg(test)]
+mod listener_tests;
+#[cfg(test)]
 mod memory_run_tests;
+#[cfg(test)]
+mod renaming_tests;
 #[cfg(test)]
 mod run_tests;
 #[cfg(test)]

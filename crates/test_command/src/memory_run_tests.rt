@@ -129,33 +129,41 @@ const TO_P_IN_THREE: Answers = &[
 ];
 
 // What is answered to A on each connection, whether the target says that each run is to have new ones, the beginning of what is written
-// of three runs, and how often the sections were connected and their connections given back.
-static REPEATS: [(Answers, bool, &str, (u32, u32)); 4] = [
+// of three runs, and how often the sections were connected, one of them was connected anew, and connections were given back. B's connection
+// is always ended before the next run.
+static REPEATS: [(Answers, bool, &str, (u32, u32, u32)); 5] = [
     (
         &[b"6\r\n", b"6\r\n", b"6\r\n"],
         false,
         "run 3 of 3\nruns 3 explained 3 unexplained 0 other 0 overlapped 0\nP done\n",
-        (1, 1),
+        (1, 2, 1),
+    ),
+    // A's is ended too.
+    (
+        &[b"6\r\n"],
+        false,
+        "run 3 of 3\nruns 3 explained 3 unexplained 0 other 0 overlapped 0\nP done\n",
+        (1, 4, 1),
     ),
     (
         &[b"6\r\n", b"6\r\n", b"6\r\n"],
         true,
         "run 3 of 3\nruns 3 explained 3 unexplained 0 other 0 overlapped 0\nP done\n",
-        (3, 3),
+        (3, 0, 3),
     ),
     // More came than was asked for, so no connection is kept.
     (
         &[b"6\r\n!"],
         false,
         "run 3 of 3\nruns 3 explained 3 unexplained 0 other 0 overlapped 0\nP done\n",
-        (3, 3),
+        (3, 0, 3),
     ),
     // The second run is unexplained, so the third one has new connections.
     (
         &[b"6\r\n", b"7\r\n"],
         false,
         "run 2 of 3\nruns 3 explained 2 unexplained 1 other 0 overlapped 0\nP done\n",
-        (2, 2),
+        (2, 1, 2),
     ),
 ];
 
@@ -170,7 +178,8 @@ fn connections_serve_the_next_run(rt: HostRuntime) {
         let mut network = CannedNetwork::new([TO_P_IN_THREE, to_a, &[]]);
         let ran = run(&rt, rt.alloc(), &mut network, Some(repeat), reconnect);
         assert!(rt; ran.output.as_slice().starts_with(text.as_bytes()));
-        assert_eq!(rt; (network.connected, network.quit), counts);
+        let counted = (network.connected, network.reconnected, network.quit);
+        assert_eq!(rt; counted, counts);
     }
 }
 
