@@ -193,7 +193,8 @@ class ManyRuns(RunsTest):
         self.assert_history(answer)
 
 
-# The server answers A first, and B some while later; and the other way round.
+# The server answers A first, and B 50 ms later, by when A's reply must be noted; and the other way
+# round.
 LATE = [Step.READ, Step.MEET, Step.PAUSE]
 A_FIRST = (P, answers_both(b"6\r\n"), [*LATE, b"7\r\n"])
 B_FIRST = (P, [*LATE, b"7\r\n"], answers_both(b"6\r\n"))
@@ -231,6 +232,7 @@ class StatisticsOfRuns(LiveTest):
     """At servers whose runs differ, and where nothing ran."""
 
     @rows(STATISTICS)
+    @three_times
     def test_rows(self, script, served, options, *wanted):
         with Scripted(*served) as server:
             answer = runs(server.port, options + " --reconnect --stats", script)
