@@ -1,5 +1,7 @@
 //! That each call of each job of a campaign passes the campaign's gate.
 
+ghost use Rattle.std.specs.Prelude.{◌≤◌};
+
 use crate::connectors::Stores;
 use crate::memory::has_memory;
 use mc_campaign::{JobOutcome, Report, run_campaign};
