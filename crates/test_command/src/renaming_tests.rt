@@ -99,7 +99,8 @@ impl RunObserver for Keys {
 #[test]
 fn runs_after_an_unanswered_request_have_new_keys(rt: HostRuntime) {
     let mut observer = Keys::new(rt.alloc());
-    let output = run_three(&rt, rt.alloc(), SHORT, &[], &mut observer);
+    let mut network = CannedNetwork::new([TO_P, &[], &[]]);
+    let output = run_three(&rt, rt.alloc(), SHORT, &mut network, &mut observer);
     assert!(rt;
         output.starts_with(b"run 1 of 3\nruns 3 explained 3 unexplained 0 other 0 overlapped 0\n")
     );
@@ -118,7 +119,8 @@ fn runs_after_an_unanswered_request_have_new_keys(rt: HostRuntime) {
 #[test]
 fn runs_after_answered_requests_keep_their_keys(rt: HostRuntime) {
     let mut observer = Keys::new(rt.alloc());
-    let output = run_three(&rt, rt.alloc(), SHORT, ANSWERED, &mut observer);
+    let mut network = CannedNetwork::new([TO_P, ANSWERED, &[]]);
+    let output = run_three(&rt, rt.alloc(), SHORT, &mut network, &mut observer);
     assert!(rt;
         output.starts_with(b"run 2 of 3\nruns 3 explained 2 unexplained 1 other 0 overlapped 0\n")
     );
@@ -134,7 +136,8 @@ fn runs_after_answered_requests_keep_their_keys(rt: HostRuntime) {
 #[test]
 fn runs_end_where_no_new_name_fits(rt: HostRuntime) -> Result<(), Fail> {
     let mut observer = Keys::new(rt.alloc());
-    let output = run_three(&rt, rt.alloc(), LONG, &[], &mut observer);
+    let mut network = CannedNetwork::new([TO_P, &[], &[]]);
+    let output = run_three(&rt, rt.alloc(), LONG, &mut network, &mut observer);
     assert!(rt;
         output.starts_with(b"run 1 of 3\nruns 1 explained 1 unexplained 0 other 0 overlapped 0\n")
     );
@@ -143,8 +146,14 @@ fn runs_end_where_no_new_name_fits(rt: HostRuntime) -> Result<(), Fail> {
     Ok(())
 }
 
-// What is written of three runs of the script, in which A is answered this; or nothing where all their statuses are 0.
-fn run_three<R>(rt: &R, alloc: Global, script: &str, to_a: Answers, observer: &mut Keys) -> Vec<u8>
+// What is written of three runs of the script over this network; or nothing where all their statuses are 0.
+fn run_three<R>(
+    rt: &R,
+    alloc: Global,
+    script: &str,
+    network: &mut CannedNetwork,
+    observer: &mut Keys,
+) -> Vec<u8>
 where
     R: Threads + Wait + Clock + Sync,
 {
@@ -170,13 +179,12 @@ where
         quiet: true,
         stats: false,
     };
-    let mut network = CannedNetwork::new([TO_P, to_a, &[]]);
     let mut output = Vec::new(alloc);
     let (status, _) = run_target(
         rt,
         alloc,
         &target,
-        &mut network,
+        network,
         observer,
         &mut Reader::new(script.as_bytes()),
         &mut Writer::new(&mut output),
