@@ -59,15 +59,16 @@ kept_hash() {
     read -r word hash 2>/dev/null <"$1/release/built-from" && [ "$word" = sources ] && echo "$hash"
 }
 
-# Prints the program that was built from the sources at hand, in the current folder: the kept one as it was kept, or the one that was
-# built here; or nothing.
+# Prints the program that was built from the sources at hand, in the current folder: the kept one as
+# it was kept, or the one that was built here; or nothing.
 program_at_hand() {
     local sources hash
     sources=$(source_hash .)
     read -r hash _ < <(sha256sum release/mcrace)
     if [ "$(kept_hash .)" = "$sources" ] && grep -qx "program $hash" release/built-from; then
         echo release/mcrace
-    elif [ -x crates/mcrace/out/mcrace ] && [ "$(cat crates/mcrace/out/built-from 2>/dev/null)" = "$sources" ]; then
+    elif [ -x crates/mcrace/out/mcrace ] &&
+        [ "$(cat crates/mcrace/out/built-from 2>/dev/null)" = "$sources" ]; then
         echo crates/mcrace/out/mcrace
     fi
 }
