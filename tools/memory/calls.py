@@ -1,9 +1,12 @@
-"""The public calls of the libraries, and the list of those whose answer can say want of memory.
+"""The public calls of the libraries, and the list of those whose answer can say want of memory."""
 
-It goes by the layout that `rt fmt` gives: an item begins and ends at its own indent.
-"""
-
+import pathlib
 import re
+import sys
+
+sys.path.append(str(pathlib.Path(__file__).resolve().parents[1] / "mutants"))
+
+import functions
 
 FILE = "tools/memory/calls.txt"
 # What the program does, and the line that it reads: refused on each case and example.
@@ -13,10 +16,8 @@ PROGRAM = {"mc_command", "mc_line"}
 WORDS = {"OutOfMemory", "AllocError", "Memory", "Listened"}
 DECLARED = re.compile(r"^pub (?:enum|struct) (\w+)[^;{]*\{(.*?)^\}", re.S | re.M)
 ALIAS = re.compile(r"^pub type (\w+)[^=]*= ([^;]*);", re.M)
-BLOCK = re.compile(r"^(impl|pub trait)\b([^{]*)\{\n(.*?)^\}", re.S | re.M)
-FUNCTION = re.compile(r"^pub (?:const |unsafe )*fn (\w+)(.*?)(?:^\{$|\{$|(\{\}))", re.S | re.M)
-METHOD = re.compile(r"^    (pub )?(?:const |unsafe )*fn (\w+)(.*?)(?:^    \{$|;$|(\{\}|\{)$)",
-                    re.S | re.M)
+TRAIT = re.compile(r"^pub trait (\w+)[^{]*\{\n(.*?)^\}", re.S | re.M)
+METHOD = re.compile(r"^    (?:unsafe )?fn (\w+)(.*?)(?:^    \{$|;$|\{\}?$)", re.S | re.M)
 ANSWER = re.compile(r"->\s*(.*?)(?:\b(?:where|ensures|requires)\b|\{|;|\Z)", re.S)
 
 
@@ -42,21 +43,16 @@ def public_calls(folder):
     """What a library offers, and what its public traits ask for: names, and texts up to the body.
     Laws, whose bodies are empty, are left out."""
     root = (folder / "src/lib.rt").read_text(encoding="utf-8")
-    used = re.findall(r"^pub use ([^;]*);", root, re.M)
-    names = {it for text in used for it in re.findall(r"(\w+)(?=\s*(?:[,}]|\Z))", text)}
+    used = " ".join(re.findall(r"^pub use ([^;]*);", root, re.M))
+    for item in functions.public_functions(folder, functions.items_of(folder)):
+        lines = (folder / item.file).read_text(encoding="utf-8").split("\n")
+        head = lines[item.first : item.body + 1]
+        text = "\n".join(it for it in head if not it.lstrip().startswith("//"))
+        yield "::".join([*[item.owner] * bool(item.owner), item.name]), text
     for path in sorted(folder.glob("src/**/*.rt")):
-        text = path.read_text(encoding="utf-8")
-        is_public = path.stem == "lib" or f"\npub mod {path.stem};" in root
-        for name, rest, is_law in FUNCTION.findall(text):
-            if (name in names or is_public) and not is_law:
-                yield name, rest
-        for kind, head, body in BLOCK.findall(text):
-            owner = re.match(r"(?:<.*?>)?\s*(\w+)", head)[1]
-            if " for " in head or owner not in names and not (is_public and kind == "impl"):
-                continue
-            for public, name, rest, end in METHOD.findall(body):
-                if kind == "pub trait" or public and end != "{}":
-                    yield f"{owner}::{name}", rest
+        for owner, body in TRAIT.findall(path.read_text(encoding="utf-8")):
+            if re.search(rf"\b{owner}\b", used):
+                yield from ((f"{owner}::{name}", text) for name, text in METHOD.findall(body))
 
 
 def calls(root):
