@@ -263,7 +263,7 @@ class Memccapable(LiveTest):
         if shutil.which("memccapable") is None:
             self.skipTest("memccapable is not installed; on Debian it is in libmemcached-tools")
         with servers.serving() as (_, port):
-            at = Versions(port).port if test in WAITS else port
+            at = self.enter(Versions(port)).port if test in WAITS else port
             words = ["memccapable", "-h", "127.0.0.1", "-p", str(at), "-v", "-a"]
             words += ["-T", f"ascii {test}"]
             ran = subprocess.run(words, capture_output=True, text=True, timeout=4 * SECONDS)

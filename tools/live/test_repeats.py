@@ -171,15 +171,13 @@ class ManyRuns(RunsTest):
     @rows(MANY)
     def test_right_server(self, options, least, most):
         with servers.serving() as (_, port):
-            began = time.monotonic()
-            answer = runs(port, options)
-            took = time.monotonic() - began
+            with self.assert_takes(least, most):
+                answer = runs(port, options)
         number, _, count, explained, unexplained, other, overlapped = numbers_in(answer)
         self.assertEqual((answer.returncode, answer.stderr), (0, b""), answer)
         self.assertEqual((number, explained, unexplained, other), (count, count, 0, 0), answer)
         self.assertTrue(0 < overlapped <= count, answer)
         self.assert_history(answer)
-        self.assert_took(took, least, most)
 
     def test_server_with_a_race(self):
         """They end with the first run that is unexplained."""
