@@ -73,7 +73,8 @@ class StopsOfCampaigns(LiveTest):
 
     @three_times
     def test_no_reply_comes(self):
-        with self.assert_takes(1, 1.3):
+        """The call begins anew when the program goes on, with its whole limit."""
+        with self.assert_takes(1.3, 1.8):
             found = self.stopped_campaign([Step.READ], "1", ONCE)
         told = 'mcrace: job 0: P: no reply to "delete r0-0" within 1 s'
         self.assertEqual(found, (4, "0 explained P ReadFailed", [told]))
