@@ -14,54 +14,53 @@ import time
 
 COUNTS = re.compile(r"(\d+) passed, (\d+) failed(?:, (\d+) skipped)?")
 OF_FAILURE = re.compile(r"(^|: )(failed|odd): |^rt: FAILED")
-
 # How many lines are told once more of a part that failed, and of each how much.
 MOST_LINES, MOST_OF_LINE = 20, 900
-
 # How long a process may take to end after SIGTERM.
 PATIENCE = 5
-
 PR_SET_CHILD_SUBREAPER = 36
+
+
+def counted(passed, failed, skipped):
+    """The line that counts."""
+    return f"{passed} passed, {failed} failed" + (f", {skipped} skipped" if skipped else "")
+
+
+def counts_in(line):
+    """The three numbers of a line that counts, or None."""
+    found = COUNTS.fullmatch(line)
+    return found and [int(it or 0) for it in found.groups()]
 
 
 class Parts:
     """What the parts have counted, and what those that failed said."""
 
     def __init__(self):
-        self.passed = self.failed = self.skipped = 0
-        self.failures, self.beside, self.began = [], [], time.monotonic()
+        self.counts, self.failures, self.beside = [0, 0, 0], [], []
+        self.began = time.monotonic()
 
     def run_all(self, table, **fields):
-        """Runs the commands of a table, with these fields in the place of their names in braces."""
+        """Runs the commands of a table, with these fields in the place of their names in braces.
+        One whose name begins with `&` runs beside what follows, until `finish`."""
         for name, command in table.items():
-            command = command.format(**fields)
+            log, words = tempfile.NamedTemporaryFile(), shlex.split(command.format(**fields))
+            streams = {"stdin": subprocess.DEVNULL, "stdout": log, "stderr": subprocess.STDOUT}
+            part = name, subprocess.Popen(words, start_new_session=True, **streams), log
             if name[0] == "&":
-                self.start(name[1:], command)
+                self.beside.append(part)
             else:
-                self.run(name.lstrip("="), command, is_counted=name[0] != "=")
-
-    def start(self, name, command):
-        """Starts a part that runs beside what follows, until `finish`."""
-        self.beside.append((name, *self.begin(command)))
-
-    def run(self, name, command, is_counted=True):
-        """Runs a part to its end. Its last line that counts is added; if it isn't to have one, its
-        status says whether it holds."""
-        self.end(name, *self.begin(command), is_counted)
+                self.end(*part)
 
     def finish(self):
         """Waits for the parts that were started, in that order."""
         while self.beside:
             self.end(*self.beside.pop(0))
 
-    def begin(self, command):
-        log = tempfile.NamedTemporaryFile()
-        streams = {"stdin": subprocess.DEVNULL, "stdout": log, "stderr": subprocess.STDOUT}
-        return subprocess.Popen(shlex.split(command), start_new_session=True, **streams), log
-
-    def end(self, name, process, log, is_counted=True):
-        """Waits for a part, and prints what it says; only the last line if it has no counts, as
-        lists have, and holds."""
+    def end(self, name, process, log):
+        """Waits for a part, and prints what it says. Its last line that counts is added. If its
+        name begins with `=`, its status says whether it holds; if it does, only the last line is
+        printed, since it is a list."""
+        is_counted, name = name[0] != "=", name.lstrip("=&")
         print(f"== {name} (after {time.monotonic() - self.began:.0f} s)", flush=True)
         said, is_over = "", False
         with log, open(log.name, encoding="utf-8", errors="replace") as text:
@@ -71,46 +70,41 @@ class Parts:
                 piece = text.read()
                 said += piece
                 print(piece if is_counted else "", end="", flush=True)
-        lines = said.splitlines()
-        if not is_counted:
-            print(*(lines if process.returncode else lines[-1:]), sep="\n", flush=True)
-        self.count(name, lines, process.returncode, is_counted)
+        lines, status = said.splitlines(), process.returncode
+        if is_counted:
+            found = [it for it in map(counts_in, lines) if it]
+        else:
+            print(*(lines if status else lines[-1:]), sep="\n", flush=True)
+            found = [[int(status == 0), int(status != 0), 0]]
+        self.count(name, lines, status, found)
 
-    def count(self, name, lines, status, is_counted):
-        found = [it for it in map(COUNTS.fullmatch, lines) if it][-1:] if is_counted else []
-        passed, failed, skipped = (int(it or 0) for it in found[0].groups()) if found else (0, 0, 0)
-        told = [it for it in lines if OF_FAILURE.search(it)]
-        if not is_counted:
-            passed, failed = status == 0, status != 0
-        elif not found or (status and not failed):
+    def count(self, name, lines, status, found):
+        passed, failed, skipped = found[-1] if found else (0, 0, 0)
+        told = [it for it in lines if OF_FAILURE.search(it)] or lines[-3:]
+        if not found or (status and not failed):
             failed += 1
-            told.append(f"{name} broke off, with status {status}")
+            told = [*told[: MOST_LINES - 1], f"{name} broke off, with status {status}"]
         if failed:
-            kept = told[:MOST_LINES] if told else lines[-3:]
-            self.failures += [f"failed: {name}", *(it[:MOST_OF_LINE] for it in kept)]
-        self.passed, self.failed = self.passed + passed, self.failed + failed
-        self.skipped += skipped
+            shown = (it[:MOST_OF_LINE] for it in told[:MOST_LINES])
+            self.failures += [f"failed: {name}", *shown]
+        self.counts = [a + b for a, b in zip(self.counts, (passed, failed, skipped))]
 
     def close(self, remark):
         """Says what failed, and the remark before the line that counts all. Answers a status."""
-        if self.failed:
+        if self.failures:
             print("what failed:", *self.failures, sep="\n")
-        print(f"it took {time.monotonic() - self.began:.0f} s")
-        if remark:
-            print(remark)
-        left = f", {self.skipped} skipped" if self.skipped else ""
-        print(f"{self.passed} passed, {self.failed} failed{left}")
-        return 1 if self.failed else 0
+        print(f"it took {time.monotonic() - self.began:.0f} s", *filter(None, [remark]), sep="\n")
+        print(counted(*self.counts))
+        return 1 if self.failures else 0
 
 
 def below():
     """The processes below this one."""
-    parents = {}
+    parents, found = {}, [os.getpid()]
     for stat in pathlib.Path("/proc").glob("[0-9]*/stat"):
         with contextlib.suppress(OSError):
-            text = stat.read_text(errors="replace").rpartition(")")[2]
-            parents[int(stat.parent.name)] = int(text.split()[1])
-    found = [os.getpid()]
+            fields = stat.read_text(errors="replace").rpartition(")")[2].split()
+            parents[int(stat.parent.name)] = int(fields[1])
     for pid in found:
         found += [it for it, parent in parents.items() if parent == pid]
     return {*found[1:]}

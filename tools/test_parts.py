@@ -7,16 +7,16 @@ import unittest
 
 from parts import Parts, below, end_all
 
-# A part: how it is marked, its command, and how many pass, fail and are skipped.
+# A part by its name, with its mark; its command, and how many pass, fail and are skipped.
 ROWS = [
-    ("counts", "", "echo 3 passed, 0 failed, 2 skipped", (3, 0, 2)),
-    ("a failed one", "", "sh -c 'echo failed: it; echo 3 passed, 1 failed; exit 1'", (3, 1, 0)),
-    ("no counts", "", "true", (0, 1, 0)),
-    ("a status where none is counted", "", "sh -c 'echo 3 passed, 0 failed; exit 1'", (3, 1, 0)),
-    ("an end by a signal", "", "sh -c 'echo 3 passed, 0 failed; kill -9 $$'", (3, 1, 0)),
-    ("a status that holds", "=", "true", (1, 0, 0)),
-    ("a status that doesn't", "=", "false", (0, 1, 0)),
-    ("beside others", "&", "sh -c 'sleep 0.1; echo 3 passed, 1 failed'", (3, 1, 0)),
+    ("counts", "echo 3 passed, 0 failed, 2 skipped", [3, 0, 2]),
+    ("a failed one", "sh -c 'echo failed: it; echo 3 passed, 1 failed; exit 1'", [3, 1, 0]),
+    ("no counts", "true", [0, 1, 0]),
+    ("a status where none is counted", "sh -c 'echo 3 passed, 0 failed; exit 1'", [3, 1, 0]),
+    ("an end by a signal", "sh -c 'echo 3 passed, 0 failed; kill -9 $$'", [3, 1, 0]),
+    ("=a status that holds", "true", [1, 0, 0]),
+    ("=a status that doesn't", "false", [0, 1, 0]),
+    ("&beside others", "sh -c 'sleep 0.1; echo 3 passed, 1 failed'", [3, 1, 0]),
 ]
 
 
@@ -24,20 +24,19 @@ class PartsOfTest(unittest.TestCase):
     """Each is counted, and each that failed makes the whole fail."""
 
     def test_counts(self):
-        for name, mark, command, wanted in ROWS:
+        for name, command, wanted in ROWS:
             with self.subTest(name), contextlib.redirect_stdout(io.StringIO()) as said:
                 parts = Parts()
-                parts.run_all({mark + name: command})
+                parts.run_all({name: command})
                 parts.finish()
-                status = parts.close("")
-                self.assertEqual((parts.passed, parts.failed, parts.skipped), wanted)
-                self.assertEqual(status, 1 if wanted[1] else 0)
-                self.assertEqual(f"failed: {name}\n" in said.getvalue(), bool(wanted[1]))
+                heading = "what failed:\nfailed: " + name.lstrip("=&")
+                found = parts.counts, parts.close(""), heading in said.getvalue()
+                self.assertEqual(found, (wanted, wanted[1], bool(wanted[1])))
 
     def test_ends_all(self):
         """What heeds no SIGTERM, and what has a session of its own, ends too."""
-        parts = Parts()
-        parts.start("deaf", "sh -c 'trap : TERM; setsid sleep 60 & while :; do sleep 1; done'")
+        deaf = "sh -c 'trap : TERM; setsid sleep 60 & while :; do sleep 1; done'"
+        Parts().run_all({"&deaf": deaf})
         while len(below()) < 3:
             time.sleep(0.05)
         end_all()

@@ -1,5 +1,6 @@
 """What `mcrace campaign` writes: its reports, read as data."""
 
+import collections
 import re
 from dataclasses import dataclass
 
@@ -26,45 +27,30 @@ class Campaign:
     rest: list
     faults: str
 
-    @property
-    def jobs(self):
-        return [line for jobs, _ in self.reports for line in jobs]
-
-    @property
-    def totals(self):
-        """The totals of the one report that there is."""
-        return self.reports[0][1] if len(self.reports) == 1 else None
-
-    @property
-    def unexplained(self):
-        """The numbers of the unexplained jobs, as texts."""
-        return [line.split()[0] for line in self.jobs if line.split()[1] == "unexplained"]
-
-    @property
-    def told(self):
-        """The lines of standard error after the first, which says what is run."""
-        return self.faults.splitlines()[1:]
-
-    @property
-    def shrunk(self):
-        """The script that is left, with the histories that are shown after it; or empty."""
-        return "".join(f"{line}\n" for line in self.rest[1:]) if self.rest[:1] == ["shrunk"] else ""
+    def __post_init__(self):
+        """Beside these: all job lines, the totals if there is one report, the numbers of the
+        unexplained jobs, what is told after the first line, which says what is run, and the script
+        that is left, with the histories that are shown after it."""
+        self.jobs = [line for jobs, _ in self.reports for line in jobs]
+        self.totals = self.reports[0][1] if len(self.reports) == 1 else None
+        self.unexplained = [it.split()[0] for it in self.jobs if it.split()[1] == "unexplained"]
+        self.told = self.faults.splitlines()[1:]
+        is_shrunk = self.rest[:1] == ["shrunk"]
+        self.shrunk = "".join(f"{line}\n" for line in self.rest[1:]) if is_shrunk else ""
 
 
 def campaign(port, options=""):
     """What a campaign against the server on this port of 127.0.0.1 answers."""
     words = ["campaign", f"127.0.0.1:{port}", *options.split()]
     ran = run(words, seconds=10 * SECONDS)
-    reports, jobs, rest = [], [], ran.stdout.decode().splitlines()
+    reports, jobs, rest = [], [], collections.deque(ran.stdout.decode().splitlines())
     while rest and (JOB.fullmatch(rest[0]) or TOTALS.fullmatch(rest[0])):
-        line = rest.pop(0)
-        totals = TOTALS.fullmatch(line)
+        jobs.append(rest.popleft())
+        totals = TOTALS.fullmatch(jobs[-1])
         if totals:
-            reports.append((jobs, tuple(map(int, totals.groups()))))
+            reports.append((jobs[:-1], tuple(map(int, totals.groups()))))
             jobs = []
-        else:
-            jobs.append(line)
-    return Campaign(ran.returncode, reports, jobs + rest, ran.stderr.decode())
+    return Campaign(ran.returncode, reports, [*jobs, *rest], ran.stderr.decode())
 
 
 def steps_of(script):

@@ -16,7 +16,7 @@ import time
 import unittest
 from dataclasses import dataclass
 
-from .program import PROGRAM, ROOT, SECONDS
+from .program import PROGRAM, ROOT, SECONDS, LiveTest
 
 LISTENING = re.compile(rb"listening 127\.0\.0\.1:(\d+)\n")
 WITH_BLOCK = (b"set", b"add", b"replace", b"append", b"prepend", b"cas")
@@ -78,12 +78,11 @@ def need_memcached():
     return server
 
 
-def losing_updates(*seconds):
+def losing_updates(seconds=1):
     """The example of a server that loses each update that it can. It waits for the other one of two
-    so many seconds, or one."""
+    so many seconds."""
     port = free_port()
-    words = [sys.executable, ROOT / "examples/racy-server", str(port), *map(str, seconds)]
-    return started(words, port)
+    return started([sys.executable, ROOT / "examples/racy-server", str(port), str(seconds)], port)
 
 
 @contextlib.contextmanager
@@ -117,6 +116,13 @@ def unanswering():
             client.setblocking(False)
             client.connect_ex(("127.0.0.1", port))
         yield port
+
+
+class ServedTest(LiveTest):
+    """What has a server: `mcrace serve`, but if a class says another one."""
+
+    def setUp(self):
+        self.process, self.port = self.enter(serving())
 
 
 class Step(enum.Enum):
@@ -161,14 +167,13 @@ def read_request(reader):
     return line
 
 
-class Talking:
-    """A server that does the steps of a talk on each connection, and then reads on to its end.
-    `rests` is what came on each connection after its steps, and `taken` how many there were."""
+class Listening:
+    """A server on a free port, or on this one, as long as the block runs. `taken` is how many
+    connections there were."""
 
     def __init__(self, port=0):
         self.listener = socket.create_server(("127.0.0.1", port), backlog=100)
-        self.port = self.listener.getsockname()[1]
-        self.taken, self.rests, self.threads = 0, [], []
+        self.port, self.taken = self.listener.getsockname()[1], 0
 
     def __enter__(self):
         threading.Thread(target=self.serve, daemon=True).start()
@@ -180,16 +185,30 @@ class Talking:
             self.listener.shutdown(socket.SHUT_RDWR)
         self.listener.close()
 
+    def serve(self):
+        with contextlib.suppress(OSError):
+            while True:
+                self.begin(self.accept())
+
     def accept(self):
         connection = self.listener.accept()[0]
         connection.setsockopt(socket.IPPROTO_TCP, socket.TCP_NODELAY, 1)
         self.taken += 1
         return connection
 
-    def begin(self, connection, talk, meeting=None):
+
+class Talking(Listening):
+    """A server that does the steps of a talk on each connection, and then reads on to its end.
+    `rests` is what came on each connection after its steps."""
+
+    def __init__(self, port=0):
+        super().__init__(port)
+        self.rests, self.threads = [], []
+
+    def start(self, connection, talk, meeting=None):
         thread = threading.Thread(target=self.talk, args=(connection, talk, meeting), daemon=True)
-        self.threads.append(thread)
         thread.start()
+        self.threads.append(thread)
 
     def wait(self):
         """Waits until each connection has ended."""
@@ -243,7 +262,7 @@ class Scripted(Talking):
                         self.talk(connection, talk, meeting)
                 for connection, talk in taken:
                     if talk[:1] != [Step.RESET]:
-                        self.begin(connection, talk, meeting)
+                        self.start(connection, talk, meeting)
 
 
 class Replying(Talking):
@@ -252,33 +271,24 @@ class Replying(Talking):
 
     def __init__(self, *talks):
         super().__init__()
-        self.talks = talks
+        self.talks = itertools.cycle(talks)
 
-    def serve(self):
-        with contextlib.suppress(OSError):
-            for talk in itertools.cycle(self.talks):
-                self.begin(self.accept(), talk)
+    def begin(self, connection):
+        self.start(connection, next(self.talks))
 
 
-class Carrying:
+class Carrying(Listening):
     """A proxy before the server on a port. It carries between clients and the server, and makes no
     fault."""
 
     def __init__(self, port):
-        self.behind, self.count = port, 0
-        self.listener = socket.create_server(("127.0.0.1", 0))
-        self.port = self.listener.getsockname()[1]
-        threading.Thread(target=self.accept, daemon=True).start()
+        super().__init__()
+        self.behind = port
 
-    def accept(self):
-        with contextlib.suppress(OSError):
-            while True:
-                client, _ = self.listener.accept()
-                self.count += 1
-                self.begin()
-                server = socket.create_connection(("127.0.0.1", self.behind))
-                for way in ((client, server, self.request), (server, client, self.reply)):
-                    threading.Thread(target=self.carry, args=way, daemon=True).start()
+    def begin(self, client):
+        server = connect(self.behind)
+        for way in ((client, server, self.request), (server, client, self.reply)):
+            threading.Thread(target=self.carry, args=way, daemon=True).start()
 
     def carry(self, source, target, changed):
         with contextlib.suppress(OSError):
@@ -290,9 +300,6 @@ class Carrying:
     def pieces(self, source):
         while piece := source.recv(65_536):
             yield piece
-
-    def begin(self):
-        """A connection is opened."""
 
     def end(self, target):
         target.shutdown(socket.SHUT_WR)

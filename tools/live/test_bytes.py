@@ -43,24 +43,26 @@ TALK = [
 ASKED = b"".join(request for request, _ in TALK)
 ANSWERED = b"".join(reply for _, reply in TALK)
 TOO_LONG = [b"x" * 2048, b"get " + b"a " * 1022 + b"\r\n", b"delete a noreply" + b" " * 2048]
+# What is sent at once after another, each with the reply to all of it.
+THOUSAND = b"".join(b"%d\r\n" % number for number in range(1, 1001))
+PIPELINES = [
+    ("one by one", TALK),
+    ("all at once", [(ASKED, ANSWERED)]),
+    ("a thousand", [(b"set a 0 0 1\r\n0\r\n", b"STORED\r\n"), (b"incr a 1\r\n" * 1000, THOUSAND),
+                    (b"delete a\r\n", b"DELETED\r\n")]),
+]
 
 
 def read(stream, length):
     """Just these many bytes, or fewer at the end."""
-    got = bytearray()
-    while len(got) < length:
-        piece = stream.recv(min(65536, length - len(got)))
-        if not piece:
-            break
+    got = b""
+    while len(got) < length and (piece := stream.recv(length - len(got))):
         got += piece
-    return bytes(got)
+    return got
 
 
-class OwnBytes(LiveTest):
+class OwnBytes(servers.ServedTest):
     """Requests one by one and in pipelines, cut anywhere."""
-
-    def setUp(self):
-        self.port = self.enter(servers.serving())[1]
 
     def connect(self):
         stream = servers.connect(self.port)
@@ -72,14 +74,11 @@ class OwnBytes(LiveTest):
         stream.sendall(request)
         self.assertEqual(read(stream, len(reply)), reply)
 
-    def test_one_by_one(self):
+    @rows(PIPELINES)
+    def test_pipelines(self, talk):
         with self.connect() as stream:
-            for request, reply in TALK:
+            for request, reply in talk:
                 self.assert_answers(stream, request, reply)
-
-    def test_all_at_once(self):
-        with self.connect() as stream:
-            self.assert_answers(stream, ASKED, ANSWERED)
 
     def test_cut_at_each_byte(self):
         with self.connect() as stream:
@@ -93,13 +92,6 @@ class OwnBytes(LiveTest):
             for at in range(len(ASKED)):
                 stream.sendall(ASKED[at : at + 1])
             self.assertEqual(read(stream, len(ANSWERED)), ANSWERED)
-
-    def test_pipeline_of_a_thousand(self):
-        with self.connect() as stream:
-            self.assert_answers(stream, b"set a 0 0 1\r\n0\r\n", b"STORED\r\n")
-            wanted = b"".join(b"%d\r\n" % number for number in range(1, 1001))
-            self.assert_answers(stream, b"incr a 1\r\n" * 1000, wanted)
-            self.assert_answers(stream, b"delete a\r\n", b"DELETED\r\n")
 
     def test_quit(self):
         with self.connect() as stream:
@@ -129,7 +121,7 @@ class OwnBytes(LiveTest):
         for cut in (3, 14, 20):
             with self.connect() as stream:
                 stream.sendall(b"set a 0 0 100\r\n0123456789"[:cut])
-        self.test_one_by_one()
+        self.test_pipelines()
 
 
 # The bytes of rubbish, and what goes out at once of it.
@@ -188,7 +180,7 @@ def send_rubbish(port, ended):
                         break
 
 
-class UnderFire(LiveTest):
+class UnderFire(servers.ServedTest):
     """While others send half requests, send slowly, never read their replies, reset connections or
     send rubbish, a client is served, and nothing is lost that it was acknowledged."""
 
@@ -200,13 +192,13 @@ class UnderFire(LiveTest):
         return time.monotonic() - began
 
     def test_served(self):
-        port, ended = self.enter(servers.serving())[1], threading.Event()
-        fires = leave_in_requests, send_slowly, never_read, never_read, reset, send_rubbish
-        threads = [threading.Thread(target=it, args=(port, ended), daemon=True) for it in fires]
+        ended, fires = threading.Event(), [leave_in_requests, send_slowly, never_read, never_read]
+        given = {"args": (self.port, ended), "daemon": True}
+        threads = [threading.Thread(target=it, **given) for it in (*fires, reset, send_rubbish)]
         for thread in threads:
             thread.start()
         slowest, count, end = 0.0, 0, time.monotonic() + SECONDS
-        with servers.connect(port) as stream, stream.makefile("rb") as reader:
+        with servers.connect(self.port) as stream, stream.makefile("rb") as reader:
             while (threads[-1].is_alive() or count < 500) and time.monotonic() < end:
                 slowest = max(slowest, self.set(stream, reader, count))
                 count += 1
@@ -263,7 +255,7 @@ class Memccapable(LiveTest):
         if shutil.which("memccapable") is None:
             self.skipTest("memccapable is not installed; on Debian it is in libmemcached-tools")
         with servers.serving() as (_, port):
-            at = Versions(port).port if test in WAITS else port
+            at = self.enter(Versions(port)).port if test in WAITS else port
             words = ["memccapable", "-h", "127.0.0.1", "-p", str(at), "-v", "-a"]
             words += ["-T", f"ascii {test}"]
             ran = subprocess.run(words, capture_output=True, text=True, timeout=4 * SECONDS)

@@ -5,7 +5,6 @@ import concurrent.futures
 import pathlib
 import re
 import socket
-import time
 
 from . import servers
 from .campaigns import MOST_IN_BLOCK, MOST_IN_REPORT, CampaignTest, campaign, steps_of
@@ -23,20 +22,18 @@ TIME_WAIT = "06"
 SURE = ("set", "add", "append", "incr", "decr", "gets", "delete")
 
 
-class RightServers(CampaignTest):
+class RightServers(servers.ServedTest, CampaignTest):
     """All jobs are explained, but if a verdict may take no turn."""
 
     def test_memcached(self):
         self.assert_right(self.enter(servers.need_memcached()), 300)
 
-    def test_serve(self):
-        self.assert_right(self.enter(servers.serving())[1], 300)
-
-    def test_in_time(self):
-        self.assert_right(self.enter(servers.serving())[1], 100, "--timeout 20")
+    @rows([("300 jobs", 300), ("in time", 100, "--timeout 20")])
+    def test_serve(self, *options):
+        self.assert_right(self.port, *options)
 
     def test_no_turns_for_the_verdicts(self):
-        found = campaign(self.enter(servers.serving())[1], "--jobs 30 --limit 0")
+        found = campaign(self.port, "--jobs 30 --limit 0")
         self.assertEqual(found.jobs, [f"{job} undecided" for job in range(30)])
         self.assertEqual((found.totals, found.status, found.rest), ((30, 0, 0, 30), 4, []))
 
@@ -50,10 +47,8 @@ class RightServers(CampaignTest):
 
     def test_parts(self):
         """The lines of parts are those of the whole, and a brief report has the totals alone."""
-        port = self.enter(servers.serving())[1]
-        whole = campaign(port, "--jobs 30")
-        parts = [campaign(port, it) for it in ("--from 0 --jobs 10", "--from 10 --jobs 20")]
-        brief = campaign(port, "--jobs 30 --brief")
+        options = "--jobs 30", "--jobs 30 --brief", "--from 0 --jobs 10", "--from 10 --jobs 20"
+        whole, brief, *parts = (campaign(self.port, it) for it in options)
         self.assertEqual(len(whole.jobs), 30, whole)
         self.assertEqual([line for part in parts for line in part.jobs], whole.jobs)
         self.assertEqual(parts[1].faults, "mcrace: seed 1, jobs 10 to 29, 4 workers\n")
@@ -61,26 +56,22 @@ class RightServers(CampaignTest):
 
     def test_ports(self):
         """It keeps no ports after it closed its connections. A server may be late now and then."""
-        port = self.enter(servers.serving())[1]
-        found = campaign(port, "--jobs 200")
+        found = campaign(self.port, "--jobs 200")
         lines = pathlib.Path("/proc/net/tcp").read_text(encoding="ascii").splitlines()[1:]
         peers = [fields[2] for fields in map(str.split, lines) if fields[3] == TIME_WAIT]
-        kept = sum(int(peer.partition(":")[2], 16) == port for peer in peers)
+        kept = sum(int(peer.partition(":")[2], 16) == self.port for peer in peers)
         self.assertEqual(found.status, 0, found)
         self.assertLessEqual(kept, 60, "of 600 connections")
 
 
-class Times(CampaignTest):
+class Times(servers.ServedTest, CampaignTest):
     """Campaigns for a time, and some that may end early."""
 
     def test_time(self):
-        port = self.enter(servers.serving())[1]
-        began = time.monotonic()
-        found = campaign(port, "--for 2s --from 5")
-        took = time.monotonic() - began
+        with self.assert_takes(2, 2 + LATE):
+            found = campaign(self.port, "--for 2s --from 5")
         self.assertEqual((found.status, found.rest), (0, []), found.faults)
         self.assertEqual(found.faults, "mcrace: seed 1, jobs from 5 on, 4 workers\n")
-        self.assert_took(took, 2, 2 + LATE)
         self.assert_reports(found.reports, 5)
         last = len(found.reports[-1][0])
         self.assertTrue(last % MOST_IN_BLOCK == 0 or last == MOST_IN_REPORT, last)
@@ -103,39 +94,26 @@ class Times(CampaignTest):
 
     def test_nothing_to_end_it(self):
         """The lines of a campaign that may end early, but doesn't, are those of the whole."""
-        port = self.enter(servers.serving())[1]
-        whole = campaign(port, "--jobs 150")
-        self.assertEqual(campaign(port, "--jobs 150 --stop-after 1"), whole)
+        whole = campaign(self.port, "--jobs 150")
+        self.assertEqual(campaign(self.port, "--jobs 150 --stop-after 1"), whole)
         self.assertEqual(len(whole.jobs), 150)
 
 
-class CampaignNames(CampaignTest):
+class CampaignNames(servers.ServedTest, CampaignTest):
     """Campaigns under names."""
 
     def test_two_at_once(self):
         """They have the same jobs, and each has a name of its own."""
-        port = self.enter(servers.serving())[1]
         with concurrent.futures.ThreadPoolExecutor() as threads:
             names = "--name ci7", "--name ci8"
-            list(threads.map(lambda name: self.assert_right(port, 300, name), names))
-
-    def test_requests(self):
-        """Each request is answered by a bare LF."""
-        with Replying(answers(b"6\n")) as server:
-            found = campaign(server.port, "--jobs 10 --name ci7")
-        form = r'mcrace: job (\d+): P: to "delete ci7-r\1-0" came "6\\n": the line ends without CR'
-        self.assertEqual(len(found.told), 10, found)
-        for line in found.told:
-            self.assertRegex(line, f"^{form}$")
+            list(threads.map(lambda name: self.assert_right(self.port, 300, name), names))
 
     def test_key_becomes_too_long(self):
         """Under this name the last job's keys do, before anything is connected."""
         with socket.create_server(("127.0.0.1", 0)) as server:
             port = server.getsockname()[1]
             found = campaign(port, "--jobs 11 --name a-name-of-35-bytes-leaves-room-for-")
-            server.settimeout(0.2)
-            with self.assertRaises(socket.timeout):
-                server.accept()
+            self.assert_not_connected(server)
         self.assertEqual((found.status, found.reports, found.rest), (2, [], []))
         self.assertIn("the key 'r10-0' has 41 bytes with it", found.faults)
 
@@ -149,11 +127,12 @@ class WrongServers(CampaignTest):
         self.assertTrue(all(told), found.faults)
         self.assertEqual((len(told), len({it[1] for it in told})), (10, 10), found.faults)
 
-    def test_wrong_replies(self):
+    @rows([("no name", "--jobs 12", ""), ("a name", "--jobs 10 --name ci7", "ci7-")])
+    def test_wrong_replies(self, options, name):
         """It is said at once what came, of the first ten. Each request is answered by a bare LF."""
         with Replying(answers(b"6\n")) as server:
-            found = campaign(server.port, "--jobs 12")
-        form = r'job (\d+): P: to "delete r\1-0" came "6\\n": the line ends without CR'
+            found = campaign(server.port, options)
+        form = rf'job (\d+): P: to "delete {name}r\1-0" came "6\\n": the line ends without CR'
         self.assert_told_of_ten(found, form)
         self.assertEqual(found.status, 1)
 
@@ -182,10 +161,8 @@ class WrongServers(CampaignTest):
         with Replying([], [], [], answers(b"6\n"), [], []) as server:
             found = campaign(server.port, "--jobs 14 --workers 1 --timeout 0.2")
         late = r'mcrace: job \d*[02468]: P: no reply to "delete r\d+-0" within 0\.2 s'
-        wrong = (
-            r'mcrace: job \d*[13579]: P: to "delete r\d+-0" came "6\\n": '
-            "the line ends without CR"
-        )
+        wrong = r'mcrace: job \d*[13579]: P: to "delete r\d+-0" came "6\\n": '
+        wrong += "the line ends without CR"
         self.assertRegex("\n".join(found.told), f"^{late}\n{wrong}(?:\n{late}\n{wrong}){{4}}$")
 
     def test_server_goes_away(self):
@@ -200,7 +177,7 @@ class WrongServers(CampaignTest):
         self.assertRegex(found.faults, rf"{told} \(jobs \d+ to 39\)\n")
 
 
-class StatisticsOfCampaigns(CampaignTest):
+class StatisticsOfCampaigns(servers.ServedTest, CampaignTest):
     """What `--stats` says at the end of a campaign."""
 
     def requests(self, jobs):
@@ -211,7 +188,7 @@ class StatisticsOfCampaigns(CampaignTest):
 
     def test_sums(self):
         """They are those of the scripts. Each `gets` that hits is followed by a `cas`."""
-        found = campaign(self.enter(servers.serving())[1], "--jobs 60 --stats")
+        found = campaign(self.port, "--jobs 60 --stats")
         before, stats = statistics_in(found.faults)
         self.assertEqual(before, "mcrace: seed 1, jobs 0 to 59, 4 workers\n")
         self.assertEqual((found.status, len(found.jobs)), (0, 60))
@@ -229,9 +206,9 @@ class StatisticsOfCampaigns(CampaignTest):
 
 
 class Selftest(LiveTest):
-    """`mcrace selftest` passes ten times."""
+    """`mcrace selftest` passes."""
 
-    def test_selftest(self):
+    def test_ten_times(self):
         for _ in range(10):
             answer = run(["selftest"])
             self.assertEqual((answer.returncode, answer.stdout.splitlines()[-1:]), (0, [b"ok"]))

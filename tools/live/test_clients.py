@@ -1,16 +1,19 @@
 """What pymemcache and pylibmc do with `mcrace serve`: one set of tests over two adapters."""
 
+import concurrent.futures
+import contextlib
 import importlib
-import threading
+import types
 import unittest
 
 from . import servers
-from .program import LiveTest
+from .program import LiveTest, rows
 
 SECONDS = 20
 EVERY_BYTE = bytes(range(256))
 LONGEST = EVERY_BYTE * 256
 LENGTHS = [*range(300), 1023, 1024, 2047, 2048, 4095, 4096, 16384, 65535, 65536]
+BODIES = [EVERY_BYTE, EVERY_BYTE[::-1], b"\r\n", b"END\r\n", b"\0" * 1000]
 
 # Calls, each with what it answers, beginning with no key.
 CALLS = {
@@ -43,11 +46,9 @@ CALLS = {
 
 
 def side_by_side(count, work):
-    threads = [threading.Thread(target=work) for _ in range(count)]
-    for thread in threads:
-        thread.start()
-    for thread in threads:
-        thread.join()
+    with concurrent.futures.ThreadPoolExecutor(count) as threads:
+        for it in [threads.submit(work) for _ in range(count)]:
+            it.result()
 
 
 class ClientTests:
@@ -71,12 +72,11 @@ class ClientTests:
         for key in ("a", "b", "c"):
             self.client.delete(key)
 
-    def test_calls(self):
-        for name, calls in CALLS.items():
-            with self.subTest(name):
-                self.setUp()
-                for method, *given, wanted in calls:
-                    self.assertEqual(self.call(method, *given), wanted, (method, given))
+    @rows(CALLS.items())
+    def test_calls(self, calls):
+        self.setUp()
+        for method, *given, wanted in calls:
+            self.assertEqual(self.call(method, *given), wanted, (method, given))
 
     def test_swaps_by_number(self):
         self.call("set", "a", b"1")
@@ -92,12 +92,10 @@ class ClientTests:
         self.call("set", "a", b"0")
 
         def add():
-            client = self.connect()
-            for _ in range(50):
-                swapped = False
-                while not swapped:
-                    body, number = client.gets("a")
-                    swapped = client.cas("a", b"%d" % (int(body) + 1), number)
+            client, swapped = self.connect(), 0
+            while swapped < 50:
+                body, number = client.gets("a")
+                swapped += client.cas("a", b"%d" % (int(body) + 1), number)
 
         side_by_side(4, add)
         self.assertEqual(self.call("get", "a"), b"200")
@@ -114,15 +112,11 @@ class ClientTests:
         side_by_side(4, add)
         self.assertEqual(sorted(answered), [*range(1, 801)])
 
-    def test_every_byte(self):
-        for body in (EVERY_BYTE, EVERY_BYTE[::-1], b"\r\n", b"END\r\n", b"\0" * 1000):
-            self.call("set", "a", body)
+    @rows([("every byte", BODIES), ("all lengths", [LONGEST[:length] for length in LENGTHS])])
+    def test_bodies(self, bodies):
+        for body in bodies:
+            self.assertIs(self.call("set", "a", body), True)
             self.assertEqual(self.call("get", "a"), body)
-
-    def test_bodies_of_all_lengths(self):
-        for length in LENGTHS:
-            self.assertIs(self.call("set", "a", LONGEST[:length]), True)
-            self.assertEqual(self.call("get", "a"), LONGEST[:length])
 
     def test_two_hundred_keys(self):
         """One line asks for all, and has at most 2,048 bytes."""
@@ -148,25 +142,16 @@ class WithPymemcache(ClientTests, LiveTest):
         return self.base(no_delay=True)
 
     def test_flags(self):
-        class WithFlags:
-            """Stores a pair of a body and flags, and gives it back."""
-
-            def serialize(self, key, pair):
-                return pair
-
-            def deserialize(self, key, body, flags):
-                return body, flags
-
-        client = self.client
-        client.serde = WithFlags()
+        """What is stored is a pair of a body and flags."""
+        pairs = {"serialize": lambda _, pair: pair, "deserialize": lambda _, *pair: pair}
+        self.client.serde = types.SimpleNamespace(**pairs)
         for flags in (0, 1, 2**31, 2**32 - 1):
-            client.set("a", (b"1", flags))
-            self.assertEqual(client.get("a"), (b"1", flags))
+            self.client.set("a", (b"1", flags))
+            self.assertEqual(self.client.get("a"), (b"1", flags))
 
     def test_many_numbers(self):
-        client = self.client
-        client.set_many({"a": b"1", "b": b"2"})
-        found = client.gets_many(["a", "b", "c"])
+        self.client.set_many({"a": b"1", "b": b"2"})
+        found = self.client.gets_many(["a", "b", "c"])
         self.assertEqual({key: it[0] for key, it in found.items()}, {"a": b"1", "b": b"2"})
 
     def test_no_replies(self):
@@ -193,27 +178,22 @@ class WithPylibmc(ClientTests, LiveTest):
     needs = "pylibmc"
 
     def connect(self):
-        named = {"binary": False, "behaviors": {"cas": True, "tcp_nodelay": True}}
-        return self.library.Client([f"127.0.0.1:{self.port}"], **named)
+        behaviors = {"cas": True, "tcp_nodelay": True}
+        return self.library.Client([f"127.0.0.1:{self.port}"], behaviors=behaviors)
 
     def call(self, method, *given):
         """It raises an exception if a key isn't there, where pymemcache answers None."""
-        names = {"set_many": "set_multi", "get_many": "get_multi"}
-        try:
-            return super().call(names.get(method, method), *given)
-        except self.library.NotFound:
-            return None
+        with contextlib.suppress(self.library.NotFound):
+            return super().call(method.replace("many", "multi"), *given)
 
     def test_flags(self):
         """Numbers and texts are stored with flags of pylibmc's own, which say what they are."""
-        client = self.client
         for key, value in (("a", 41), ("b", True), ("c", "m")):
-            client.set(key, value)
-            self.assertEqual(client.get(key), value)
-        self.assertTrue(client.append("c", "n"))
-        self.assertEqual(client.get("c"), "mn")
+            self.client.set(key, value)
+            self.assertEqual(self.client.get(key), value)
+        self.assertTrue(self.client.append("c", "n"))
+        self.assertEqual(self.client.get("c"), "mn")
 
     def test_counts_by_one(self):
-        client = self.client
-        client.set("a", "9")
-        self.assertEqual(client.incr("a"), 10)
+        self.client.set("a", "9")
+        self.assertEqual(self.client.incr("a"), 10)

@@ -23,6 +23,7 @@ NO_TARGETS = [
     ("no port", "127.0.0.1", "mcrace: 127.0.0.1: write HOST:PORT\n"),
     ("a port alone", "11311", "mcrace: 11311: write HOST:PORT\n"),
     ("a port above 65535", "host:65536", "mcrace: host:65536: write HOST:PORT\n"),
+    ("a port with a sign", "127.0.0.1:+11311", "mcrace: 127.0.0.1:+11311: write HOST:PORT\n"),
 ]
 
 
@@ -64,9 +65,7 @@ class NoConnections(LiveTest):
         """A script with a fault is refused before anything is connected."""
         with socket.create_server(("127.0.0.1", 0)) as server:
             found = play(server.getsockname()[1], script=b"script 2\n")
-            server.settimeout(0)
-            with self.assertRaises(BlockingIOError):
-                server.accept()
+            self.assert_not_connected(server)
         self.assertEqual(found.status, 3, found)
 
 
@@ -79,12 +78,9 @@ class Waits(LiveTest):
 
     @rows([("one", "--timeout", "0.2"), ("none of several", "--timeout=0.05", "--wait=0.2")])
     def test_connect_of_p_is_not_answered(self, *options):
-        with servers.unanswering() as port:
-            began = time.monotonic()
+        with servers.unanswering() as port, self.assert_takes(0.2, 5.2):
             found = play(port, *options)
-            took = time.monotonic() - began
         self.assert_times_out(found, "P", port)
-        self.assert_took(took, 0.2, 5.2)
 
     @rows([("A", "A"), ("B", "B")])
     @three_times
@@ -104,21 +100,17 @@ class Waits(LiveTest):
                 done.wait(SECONDS)
 
         threading.Thread(target=come_late, daemon=True).start()
-        began = time.monotonic()
-        found = play(port, "--wait", "20")
-        took = time.monotonic() - began
+        with self.assert_takes(0, 10):
+            found = play(port, "--wait", "20")
         done.set()
         self.assert_done(found)
-        self.assert_took(took, 0, 10)
 
     @rows([("no server", NOBODY, REFUSED), ("no address", "127.0.0.1", "write HOST:PORT")])
     def test_no_server_comes(self, target, told):
-        began = time.monotonic()
-        answer = run(["run", target, "--wait=0.3"], COUNTER)
-        took = time.monotonic() - began
+        with self.assert_takes(0.3, 5.3):
+            answer = run(["run", target, "--wait=0.3"], COUNTER)
         self.assertEqual((answer.stdout, answer.returncode), (b"no connection P\n", 4), answer)
         self.assertRegex(answer.stderr.decode(), rf"^mcrace: [^\n]*{re.escape(told)}[^\n]*\n$")
-        self.assert_took(took, 0.3, 5.3)
 
 
 class Interrupts(LiveTest):
@@ -128,10 +120,10 @@ class Interrupts(LiveTest):
     def test_waiting(self, given, first_line):
         """The first line of a campaign is there at once."""
         command = "run" if given else "campaign"
-        streams = {it: subprocess.PIPE for it in ("stdin", "stdout", "stderr")}
+        pipe = subprocess.PIPE
         server = self.enter(Replying([Step.READ]))
         words = [PROGRAM, command, f"127.0.0.1:{server.port}"]
-        process = self.enter(subprocess.Popen(words, **streams))
+        process = self.enter(subprocess.Popen(words, stdin=pipe, stdout=pipe, stderr=pipe))
         self.addCleanup(process.kill)
         process.stdin.write(given)
         process.stdin.close()

@@ -1,7 +1,6 @@
 """What `mcrace run` does with `--timeout` at servers that hang, and with `--name`."""
 
 import socket
-import time
 
 from .program import COUNTER, NO_BRANCH, LiveTest, play, rows, three_times
 from .servers import A, B, P, Request, Scripted, Step, answers
@@ -56,14 +55,11 @@ class TimeLimits(LiveTest):
 
     @three_times
     def assert_ended(self, talks, endings, told, script=COUNTER):
-        with Scripted(talks) as server:
-            began = time.monotonic()
+        with Scripted(talks) as server, self.assert_takes(0.2, 5.2):
             found = play(server.port, "--timeout", "0.2", script=script)
-            took = time.monotonic() - began
         lines = "".join(f"mcrace: {it}\n" for it in told)
         self.assertEqual((found.endings, found.status, found.faults), (endings, 4, lines), found)
         self.assert_judged_again(found)
-        self.assert_took(took, 0.2, 5.2)
 
     @rows(HANGS)
     def test_hangs(self, *row):
@@ -83,7 +79,6 @@ class TimeLimits(LiveTest):
             self.assert_done(play(server.port, "--timeout=0.5"))
 
 
-# Names of 1, 3 and 38 bytes.
 NAMES = ["x", "ci7", 38 * "a"]
 # The counter with the greatest budgets, and with a key of two bytes.
 AMPLE = COUNTER.replace(b"2 26", b"24 8192").replace(b"1 10", b"24 8192")
@@ -97,12 +92,8 @@ def talks_under(name):
     """What the counter's connections do, each request with its key under this name."""
     key = f"{name}-a".encode()
     stores = [b"delete %b\r\n" % key, b"set %b 0 0 1\r\n5\r\n" % key]
-    increment = Request(b"incr %b 1\r\n" % key)
-    return (
-        [Request(stores[0]), b"NOT_FOUND\r\n", Request(stores[1]), b"STORED\r\n"],
-        [increment, Step.MEET, b"6\r\n"],
-        [increment, Step.MEET, b"7\r\n"],
-    )
+    p = [Request(stores[0]), b"NOT_FOUND\r\n", Request(stores[1]), b"STORED\r\n"]
+    return p, *([Request(b"incr %b 1\r\n" % key), Step.MEET, it] for it in (b"6\r\n", b"7\r\n"))
 
 
 class Names(LiveTest):
@@ -128,8 +119,6 @@ class Names(LiveTest):
         """That is a fault of the command line, before anything is connected."""
         with socket.create_server(("127.0.0.1", 0)) as server:
             found = play(server.getsockname()[1], "--name", NAMES[-1], script=LONG_KEY)
-            server.settimeout(0)
-            with self.assertRaises(BlockingIOError):
-                server.accept()
+            self.assert_not_connected(server)
         self.assertEqual((found.output, found.status), (b"", 2), found)
         self.assertIn("the key 'ab' has 41 bytes with it, and may have 40", found.faults)

@@ -18,8 +18,7 @@ LOST = (P, answers_both(b"6\r\n"), answers_both(b"6\r\n"))
 WORSE = (P, answers_both(b"9\r\n"), answers_both(b"9\r\n"))
 ENDED = ([Step.READ, Step.END], [], [])
 HANGING = ([Step.READ], [], [])
-# Two and three good runs over the same connections, and a good one with more bytes in the packet of
-# A's reply.
+# Two and three good runs over the same connections, and a good one with more bytes at A's reply.
 GOOD_TWICE, THREE_GOOD = (tuple(count * steps for steps in GOOD) for count in (2, 3))
 SURPLUS = (P, answers_both(b"6\r\nSTORED\r\n"), answers_both(b"7\r\n"))
 # A run of which A alone has a request.
@@ -29,38 +28,29 @@ P_FAILED = "P failed 2 ReadFailed\n" + NO_BRANCH
 
 # Of a server whose runs differ: the name, the script, the runs, the options, the number of the run
 # that is written and how many there are to be, how many there were and of these explained,
-# unexplained, other and overlapped ones, how the written run ends, its verdict, and the status.
+# unexplained, other and overlapped ones; and how the written run ends, if it isn't done.
 ROWS = [
     ("all of three runs are explained", COUNTER, 3 * [GOOD], "--times 3", "3 of 3",
-     (3, 3, 0, 0, 3), ALL_DONE, "explained", 0),
-    ("one run is one", COUNTER, 2 * [GOOD], "--times=1", "1 of 1", (1, 1, 0, 0, 1), ALL_DONE,
-     "explained", 0),
+     (3, 3, 0, 0, 3)),
+    ("one run is one", COUNTER, 2 * [GOOD], "--times=1", "1 of 1", (1, 1, 0, 0, 1)),
     ("the third run is unexplained", COUNTER, [GOOD, GOOD, LOST, GOOD, GOOD], "--times 5",
-     "3 of 5", (3, 2, 1, 0, 3), ALL_DONE, "unexplained", 1),
+     "3 of 5", (3, 2, 1, 0, 3)),
     ("the first run is unexplained", COUNTER, [LOST, GOOD], "--times 2", "1 of 2",
-     (1, 0, 1, 0, 1), ALL_DONE, "unexplained", 1),
-    ("the last run is unexplained", COUNTER, [GOOD, LOST], "--times 2", "2 of 2",
-     (2, 1, 1, 0, 2), ALL_DONE, "unexplained", 1),
+     (1, 0, 1, 0, 1)),
+    ("the last run is unexplained", COUNTER, [GOOD, LOST], "--times 2", "2 of 2", (2, 1, 1, 0, 2)),
     ("no requests of A and B come at once", ONE_BRANCH, 4 * [CALM], "--times 4", "4 of 4",
-     (4, 4, 0, 0, 0), ALL_DONE, "explained", 0),
+     (4, 4, 0, 0, 0)),
     ("runs go on after unexplained ones", COUNTER, [GOOD, LOST, GOOD, WORSE, GOOD],
-     "--times 5 --keep-going", "2 of 5", (5, 3, 2, 0, 5), ALL_DONE, "unexplained", 1),
+     "--times 5 --keep-going", "2 of 5", (5, 3, 2, 0, 5)),
     ("runs go on, and none is unexplained", COUNTER, 4 * [GOOD], "--keep-going --times 4",
-     "4 of 4", (4, 4, 0, 0, 4), ALL_DONE, "explained", 0),
+     "4 of 4", (4, 4, 0, 0, 4)),
     ("the seventh run has no reply", COUNTER, [*6 * [GOOD], ENDED, GOOD], "--times 20", "7 of 20",
-     (7, 7, 0, 0, 6), P_ENDED, "explained", 4),
+     (7, 7, 0, 0, 6), P_ENDED),
     ("N is reached before the time is over", COUNTER, 3 * [GOOD], "--for 1h --times 2", "2 of 2",
-     (2, 2, 0, 0, 2), ALL_DONE, "explained", 0),
+     (2, 2, 0, 0, 2)),
     ("a run is unexplained before the time is over", COUNTER, [GOOD, LOST, GOOD], "--for 2m", "2",
-     (2, 1, 1, 0, 2), ALL_DONE, "unexplained", 1),
+     (2, 1, 1, 0, 2)),
 ]
-
-# The same, but for the name, of a server that hangs in the second run.
-HANG = (
-    COUNTER, [GOOD, HANGING, GOOD], "--times 3 --timeout 0.3", "2 of 3", (2, 2, 0, 0, 1), P_FAILED,
-    "explained", 4,
-)
-
 # Runs of which A's reply has more bytes: the options, the runs, and of which it is said.
 REMARKS = [
     ("the second of four", "--times 4", [GOOD, SURPLUS, GOOD, GOOD], ["run 2: "]),
@@ -77,10 +67,8 @@ MANY = [
     ("one second, going on", "--for=1s --keep-going --quiet", 1, 4),
 ]
 
-HEAD = re.compile(
-    rb"run (\d+)(?: of (\d+))?\n"
-    rb"runs (\d+) explained (\d+) unexplained (\d+) other (\d+) overlapped (\d+)\n"
-)
+HEAD = "run {}\nruns {} explained {} unexplained {} other {} overlapped {}\n"
+NUMBERS = re.compile(HEAD.replace("{}", r"(\d+)").replace("\n", r"(?: of (\d+))?\n", 1).encode())
 
 
 def runs(port, options, script=COUNTER):
@@ -88,14 +76,12 @@ def runs(port, options, script=COUNTER):
 
 
 def head(which, counts):
-    names = "runs", "explained", "unexplained", "other", "overlapped"
-    numbers = " ".join(f"{name} {count}" for name, count in zip(names, counts))
-    return f"run {which}\n{numbers}\n"
+    return HEAD.format(which, *counts)
 
 
 def numbers_in(answer):
     """The seven numbers of the first two lines; 0 for one that isn't there."""
-    found = HEAD.match(answer.stdout)
+    found = NUMBERS.match(answer.stdout)
     return [int(it or 0) for it in found.groups()] if found else 7 * [0]
 
 
@@ -114,22 +100,23 @@ class RunsTest(LiveTest):
 class Repeats(RunsTest):
     """Servers whose runs differ."""
 
-    def assert_written(self, script, served, options, which, counts, endings, *rest):
-        word, status, told = (*rest, "")[:3]
+    def assert_written(self, script, served, options, which, counts, endings=ALL_DONE, told=""):
+        """The run is written that is unexplained, if one is, or else the last one."""
         with Scripted(*served) as server:
             answer = runs(server.port, options + " --reconnect", script)
         self.assertEqual(server.taken, 3 * counts[0], answer)
-        self.assert_begins(answer, head(which, counts) + endings + word + "\n", status)
+        word, status = ("unexplained", 1) if counts[2] else ("explained", 0)
+        begin = head(which, counts) + endings + word + "\n"
+        self.assert_begins(answer, begin, status if endings == ALL_DONE else 4)
         self.assert_history(answer)
         self.assertEqual(answer.stderr.decode(), told)
 
-    @rows(ROWS)
-    def test_rows(self, *row):
-        self.assert_written(*row)
+    test_rows = rows(ROWS)(assert_written)
 
     @three_times
     def test_second_run_hangs(self):
-        self.assert_written(*HANG, 'mcrace: P: no reply to "delete a" within 0.3 s\n')
+        row = COUNTER, [GOOD, HANGING, GOOD], "--times 3 --timeout 0.3", "2 of 3", (2, 2, 0, 0, 1)
+        self.assert_written(*row, P_FAILED, 'mcrace: P: no reply to "delete a" within 0.3 s\n')
 
     def test_server_is_gone_after_two_runs(self):
         with Scripted(GOOD, GOOD) as server:
@@ -170,31 +157,27 @@ class ManyRuns(RunsTest):
 
     @rows(MANY)
     def test_right_server(self, options, least, most):
-        with servers.serving() as (_, port):
-            began = time.monotonic()
+        with servers.serving() as (_, port), self.assert_takes(least, most):
             answer = runs(port, options)
-            took = time.monotonic() - began
         number, _, count, explained, unexplained, other, overlapped = numbers_in(answer)
         self.assertEqual((answer.returncode, answer.stderr), (0, b""), answer)
         self.assertEqual((number, explained, unexplained, other), (count, count, 0, 0), answer)
         self.assertTrue(0 < overlapped <= count, answer)
         self.assert_history(answer)
-        self.assert_took(took, least, most)
 
     def test_server_with_a_race(self):
         """They end with the first run that is unexplained."""
         with servers.serving("--racy") as (_, port):
             answer = runs(port, "--times 100000")
-        number, times, count, explained, unexplained, other, overlapped = numbers_in(answer)
+        *found, overlapped = numbers_in(answer)
+        count = found[0]
         self.assertEqual(answer.returncode, 1, answer)
-        found = number, times, explained, unexplained, other
-        self.assertEqual(found, (count, 100_000, count - 1, 1, 0), answer)
+        self.assertEqual(found, [count, 100_000, count, count - 1, 1, 0], answer)
         self.assertLessEqual(overlapped, count)
         self.assert_history(answer)
 
 
-# The server answers A first, and B 50 ms later, by when A's reply must be noted; and the other way
-# round.
+# B is answered 50 ms after A, by when A's reply must be noted; and the other way round.
 LATE = [Step.READ, Step.MEET, Step.PAUSE]
 A_FIRST = (P, answers_both(b"6\r\n"), [*LATE, b"7\r\n"])
 B_FIRST = (P, [*LATE, b"7\r\n"], answers_both(b"6\r\n"))
@@ -209,8 +192,7 @@ def counter(runs, **deletes):
 # Of a server whose runs differ: the name, the script, the runs, the options, how many runs there
 # are, how many overlapped, in how many of how many A's first reply is first, and the answers.
 STATISTICS = [
-    ("one run whose first reply is A's", COUNTER, [A_FIRST], "", 1, 1, 1, 1,
-     counter(1, notfound=1)),
+    ("one run, A's reply is first", COUNTER, [A_FIRST], "", 1, 1, 1, 1, counter(1, notfound=1)),
     ("three runs, in one of which A's reply is first", COUNTER, [B_FIRST, A_FIRST, B_FIRST],
      "--times 3", 3, 3, 1, 3, counter(3, notfound=3)),
     ("runs without a request of B", ONE_BRANCH, 2 * [CALM], "--times 2", 2, 0, 0, 0,
@@ -222,10 +204,8 @@ STATISTICS = [
 ]
 
 # Both branches read what isn't there.
-READS = (
-    b"script 1\nkeys a\nbudget P 1 10\nbudget A 1 7\nbudget B 1 7\n"
-    b"P\nA\nget a\nB\nget a\nend\n"
-)
+READS = b"script 1\nkeys a\nbudget P 1 10\nbudget A 1 7\nbudget B 1 7\n"
+READS += b"P\nA\nget a\nB\nget a\nend\n"
 
 
 class StatisticsOfRuns(LiveTest):
@@ -255,11 +235,8 @@ class StatisticsOfRuns(LiveTest):
         self.assertIn(b"Connection refused", lost.stderr)
 
 
-class RightServer(LiveTest):
+class RightServer(servers.ServedTest):
     """At `mcrace serve`."""
-
-    def setUp(self):
-        self.port = self.enter(servers.serving())[1]
 
     def test_reads_that_miss(self):
         answer = runs(self.port, "--times 50 --stats", READS)

@@ -83,11 +83,12 @@ class Losing(servers.Carrying):
 
     kept = None
 
-    def begin(self):
-        if self.kept and self.count > FROM:
+    def begin(self, client):
+        if self.kept and self.taken > FROM:
             with servers.connect(self.behind) as stream:
                 stream.sendall(b"delete %b\r\n" % self.kept)
                 stream.recv(100)
+        super().begin(client)
 
     def request(self, piece):
         for found in KEPT.finditer(piece):
@@ -98,24 +99,25 @@ class Losing(servers.Carrying):
 class Ending(servers.Carrying):
     """It ends."""
 
-    def begin(self):
-        if self.count > FROM:
+    def begin(self, client):
+        if self.taken > FROM:
             self.listener.close()
             raise ConnectionAbortedError
+        super().begin(client)
 
 
 class Silent(servers.Carrying):
     """It answers nothing any more."""
 
     def reply(self, piece):
-        return b"" if self.count > FROM else piece
+        return b"" if self.taken > FROM else piece
 
 
 class Holding(servers.Carrying):
     """It doesn't end a connection that its client has ended."""
 
     def end(self, target):
-        if self.count <= FROM:
+        if self.taken <= FROM:
             target.shutdown(socket.SHUT_WR)
 
 
@@ -137,21 +139,19 @@ FAULTY = [
 ]
 
 
-class FaultyServers(LiveTest):
+class FaultyServers(servers.ServedTest):
     """Changed streams find each fault of a server that has one, and none in one that has none."""
 
     seconds = 9
 
-    def setUp(self):
-        self.port = self.enter(servers.serving())[1]
-
     @rows(FAULTY)
     def test_faults(self, kind, patience, told):
-        fault = Rounds(kind(self.port).port, 1, patience).fault(MOST_SECONDS)
+        with kind(self.port) as server:
+            fault = Rounds(server.port, 1, patience).fault(MOST_SECONDS)
         self.assertIsNotNone(fault, kind.__doc__)
         self.assertRegex(fault, told)
 
     def test_no_fault(self):
-        rounds = Rounds(servers.Carrying(self.port).port, 1)
+        rounds = Rounds(self.enter(servers.Carrying(self.port)).port, 1)
         self.assertIsNone(rounds.fault(WITHOUT_FAULT))
         self.assertGreater(rounds.count, 0)
