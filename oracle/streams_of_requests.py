@@ -77,7 +77,7 @@ def spoiled(draw, text):
     return text
 
 
-def stream(draw, size):
+def stream_at_random(draw, size):
     """At least so many bytes of requests, some of them spoiled, and now and then a line that is too
     long."""
     texts, length = [], 0
