@@ -11,38 +11,27 @@
 // the server is right, and acts DELAY µs after each request came.
 //
 // It listens on a free port of 127.0.0.1, which it prints. With `shared` any number of connections
-// have one cache, of 32,768 keys at most; a line on standard input, while nobody is connected,
-// empties it, and is answered by `end`. Without it a run is three connections, that of P first,
-// then A's, then B's, and nothing is kept from one run for the next. A line on standard input asks
-// for a report, while no run is under way: for each run since the last one a line FIRST OVERLAP
-// SHOWN LATE, and then `end`:
+// up to 64 have one cache, of 32,768 keys at most; a line on standard input, while nobody is
+// connected, empties it, and is answered by `end`. Without it a run is three connections, that of P
+// first, then A's, then B's, and nothing is kept from one run for the next. A line on standard
+// input asks for a report, while no run is under way: a line of numbers for each run since the last
+// one, and then `end`. Times are in µs, and 0 where there was nothing of the kind:
 //
-//   FIRST    the branch whose first request came first, A or B, or - where one of them sent none
-//   OVERLAP  1 where the other's first request came before the reply to that one was sent, else 0
-//   SHOWN    1 where the race happened, which the replies then show; of the late set, where a get
-//            that came after STORED had been sent showed the old value
-//   LATE     the µs from the sending of STORED to the coming of the last get that showed the old
-//            value; - where there is no such get
-#define _GNU_SOURCE
-#include <arpa/inet.h>
+//   1, 2    when A's first request came, and when its reply had been sent
+//   3, 4    the same of B's
+//   5       1 where the race happened, which the replies then show
+//   6, 7    of a late set, when STORED had been sent, and when the last get came that showed the
+//           old value
+#include "sockets.h"
 #include <inttypes.h>
-#include <netinet/in.h>
-#include <netinet/tcp.h>
-#include <pthread.h>
 #include <stdatomic.h>
-#include <stdio.h>
-#include <stdlib.h>
-#include <string.h>
-#include <sys/socket.h>
-#include <time.h>
-#include <unistd.h>
 
-enum { P, A, B, SECTIONS };
-enum { MOST_RUNS = 100000, MOST_KEYS = 1 << 16, LONGEST = 4096, KEY = 64, BODY = 256 };
+enum { MOST_RUNS = 100000, MOST_KEYS = 1 << 16, THREADS = 64 };
+enum { LONGEST = 4096, KEY = 64, BODY = 256 };
 
 struct item {
-  char key[KEY], body[BODY];
-  int there;
+  char body[BODY];
+  bool there;
   unsigned flags;
   uint64_t version;
 };
@@ -56,7 +45,7 @@ struct request {
   double came;
 };
 
-// When a request came, and when its reply had been sent, in µs; 0 before.
+// When a request came, and when its reply had been sent.
 struct visit {
   double came, left;
 };
@@ -64,7 +53,7 @@ struct visit {
 struct run {
   struct visit first[SECTIONS];
   double stored, last_old;
-  int shown, effective;
+  bool shown, effective;
 };
 
 // A connection, and the run that it belongs to. `first` is the first visit of a branch, or null.
@@ -76,31 +65,15 @@ struct talk {
   char text[LONGEST + 1];
 };
 
-struct ticket {
-  int connection;
-  struct run *run;
-};
-
 static const char *race;
 static double window, delay;
-static int listener, is_shared, keys, tickets[SECTIONS][2];
-static struct item cache[MOST_KEYS], *used[MOST_KEYS];
+static int listener, taken;
+static bool is_shared;
 static struct run runs[MOST_RUNS];
-static uint64_t last_version;
-static atomic_int taken, open_connections;
-// Who looks at the cache or at a run locks it, but for what only waits.
-static pthread_mutex_t lock = PTHREAD_MUTEX_INITIALIZER;
-
-static void stop(const char *what) {
-  perror(what);
-  exit(1);
-}
-
-static double microseconds(void) {
-  struct timespec now;
-  clock_gettime(CLOCK_MONOTONIC, &now);
-  return now.tv_sec * 1e6 + now.tv_nsec / 1e3;
-}
+static atomic_int open_connections;
+// Who looks at the cache or at a run locks the first, but for what only waits; who waits for the
+// next connection locks the second.
+static pthread_mutex_t lock = PTHREAD_MUTEX_INITIALIZER, door = PTHREAD_MUTEX_INITIALIZER;
 
 static void spin_until(double time) {
   while (microseconds() < time)
@@ -109,32 +82,37 @@ static void spin_until(double time) {
 
 // ---- the cache
 
-// The place of the key's item, or one that is free, by the hash FNV-1a.
-static struct item *place_of(const char *key) {
+// The keys and items by place; what was put there before the last `forget` is of another epoch.
+static char names[MOST_KEYS][KEY];
+static struct item items[MOST_KEYS];
+static unsigned epochs[MOST_KEYS], epoch = 1;
+static int keys;
+static uint64_t last_version;
+
+static void forget(void) { epoch++, keys = 0; }
+
+// The key's item, or a new place for it, by the hash FNV-1a.
+static struct item *item_of(const char *key) {
   uint32_t hash = 2166136261;
   for (const char *at = key; *at; at++)
     hash = (hash ^ (unsigned char)*at) * 16777619;
-  struct item *it = &cache[hash % MOST_KEYS];
-  while (it->key[0] && strcmp(it->key, key))
-    it = it + 1 < cache + MOST_KEYS ? it + 1 : cache;
-  if (!it->key[0]) {
-    // where it is half full, a search is still short
-    if (keys == MOST_KEYS / 2)
+  size_t place = hash % MOST_KEYS;
+  while (epochs[place] == epoch && strcmp(names[place], key))
+    place = (place + 1) % MOST_KEYS;
+  if (epochs[place] != epoch) {
+    // as long as half of the places are free, a search is short
+    if (keys++ == MOST_KEYS / 2)
       stop("a key too many");
-    used[keys++] = it;
-    strcpy(it->key, key);
+    epochs[place] = epoch;
+    strcpy(names[place], key);
+    items[place] = (struct item){0};
   }
-  return it;
+  return &items[place];
 }
 
-static void forget(void) {
-  while (keys)
-    memset(used[--keys], 0, sizeof *cache);
-}
-
-// Stands in a command between its look at the item and its write. Where this is the command that
+// Stands in a command between its look at the item and its write. If this is the command that
 // races, it unlocks the cache for the window, and notes whether another connection wrote meanwhile.
-static void open_window(const char *verb, const struct item *at, int *raced) {
+static void open_window(const char *verb, const struct item *at, bool *raced) {
   uint64_t seen = at->version;
   if (strcmp(race, verb))
     return;
@@ -145,14 +123,13 @@ static void open_window(const char *verb, const struct item *at, int *raced) {
 }
 
 static void put(struct item *at, struct item item) {
-  strcpy(item.key, at->key);
   item.version = ++last_version;
   *at = item;
 }
 
-static const char *store(struct item *at, const struct request *request, int *raced) {
+static const char *store(struct item *at, const struct request *request, bool *raced) {
   const char *verb = request->verb;
-  struct item item = {.there = 1, .flags = request->flags};
+  struct item item = {.there = true, .flags = request->flags};
   size_t size = 0;
   if (!strcmp(verb, "append"))
     item = *at, size = strlen(item.body);
@@ -168,7 +145,7 @@ static const char *store(struct item *at, const struct request *request, int *ra
   return "STORED\r\n";
 }
 
-static const char *change(struct item *at, const struct request *request, char *room, int *raced) {
+static const char *change(struct item *at, const struct request *request, char *room, bool *raced) {
   struct item seen = *at;
   uint64_t number = strtoull(seen.body, 0, 10);
   if (!seen.there)
@@ -188,29 +165,29 @@ static const char *change(struct item *at, const struct request *request, char *
   return room;
 }
 
-static const char *get(const struct item *at, int shows_number, char *room) {
+static const char *get(const struct item *at, const struct request *request, char *room) {
   char unique[32] = "";
   if (!at->there)
     return "END\r\n";
-  if (shows_number)
+  if (!strcmp(request->verb, "gets"))
     snprintf(unique, sizeof unique, " %" PRIu64, at->version);
-  snprintf(room, LONGEST, "VALUE %s %u %zu%s\r\n%s\r\nEND\r\n", at->key, at->flags,
+  snprintf(room, LONGEST, "VALUE %s %u %zu%s\r\n%s\r\nEND\r\n", request->key, at->flags,
            strlen(at->body), unique, at->body);
   return room;
 }
 
-static int is_one_of(const char *verb, const char *verbs) {
+static bool is_one_of(const char *verb, const char *verbs) {
   const char *at = strstr(verbs, verb);
   return at && at[strlen(verb)] == ' ' && (at == verbs || at[-1] == ' ');
 }
 
-static int stores(const char *verb) { return is_one_of(verb, "set add cas append "); }
+static bool stores(const char *verb) { return is_one_of(verb, "set add cas append "); }
 
 // Does what is asked, and answers the reply, which may stand in the room.
-static const char *act(const struct request *request, char *room, int *raced) {
-  struct item *at = place_of(request->key);
+static const char *act(const struct request *request, char *room, bool *raced) {
+  struct item *at = item_of(request->key);
   if (is_one_of(request->verb, "get gets "))
-    return get(at, request->verb[3] == 's', room);
+    return get(at, request, room);
   if (stores(request->verb))
     return store(at, request, raced);
   if (is_one_of(request->verb, "incr decr delete "))
@@ -219,14 +196,14 @@ static const char *act(const struct request *request, char *room, int *raced) {
 }
 
 // Reads the request that the text begins with, and answers whether it has come whole.
-static int understood(const char *text, size_t got, struct request *request) {
+static bool understood(const char *text, size_t got, struct request *request) {
   const char *end = strstr(text, "\r\n");
   size_t line = end ? end + 2 - text : 0;
   *request = (struct request){.body = text + line, .came = microseconds()};
   if (!end || sscanf(text, "%15s %63s %" SCNu64, request->verb, request->key, &request->number) < 2)
-    return 0;
+    return false;
   if (!stores(request->verb))
-    return 1;
+    return true;
   if (sscanf(text, "%*s %*s %u %*s %zu %" SCNu64, &request->flags, &request->size,
              &request->number) < 2 || request->size >= BODY)
     stop("a request that stores");
@@ -246,18 +223,18 @@ static void note_left(struct talk *talk) {
 }
 
 // Whether this is a set over an item, in a server where these are late.
-static int is_late(const struct request *request) {
+static bool is_late(const struct request *request) {
   if (strcmp(race, "late") || strcmp(request->verb, "set"))
-    return 0;
+    return false;
   pthread_mutex_lock(&lock);
-  int there = place_of(request->key)->there;
+  bool there = item_of(request->key)->there;
   pthread_mutex_unlock(&lock);
   return there;
 }
 
 static void answer(struct talk *talk, const struct request *request) {
   char room[LONGEST];
-  int late = is_late(request);
+  bool late = is_late(request);
   if (late) {
     say(talk, "STORED\r\n");
     talk->run->stored = microseconds();
@@ -298,82 +275,55 @@ static void converse(struct talk *talk) {
   open_connections--;
 }
 
-// Takes the connections of one section, one after another: a thread that is there already answers
-// the first request as soon as a later one.
-static void *serve(void *own) {
-  int section = (int)(intptr_t)own;
-  struct ticket it;
-  while (read(tickets[section][0], &it, sizeof it) == sizeof it) {
-    struct talk talk = {.connection = it.connection, .run = it.run};
-    talk.first = section == P ? 0 : &it.run->first[section];
-    converse(&talk);
-  }
-  return 0;
-}
-
-static void *serve_shared(void *own) {
-  struct run unseen = {0};
-  struct talk talk = {.connection = (int)(intptr_t)own, .run = &unseen};
-  converse(&talk);
-  return 0;
-}
-
 static void wait_until_open(int connections) {
   while (open_connections != connections)
     usleep(20);
 }
 
-static void start(void *(*body)(void *), intptr_t own) {
-  pthread_t thread;
-  if (pthread_create(&thread, 0, body, (void *)own) || pthread_detach(thread))
-    stop("a thread");
+// Makes the connection that was taken one of a run.
+static void join_run(struct talk *talk) {
+  int section = taken % SECTIONS;
+  if (taken >= MOST_RUNS * SECTIONS)
+    stop("a run too many");
+  talk->run = &runs[taken++ / SECTIONS];
+  talk->first = section == P ? 0 : &talk->run->first[section];
+  // what the run before did late is over before this one begins
+  if (section == P) {
+    wait_until_open(1);
+    forget();
+  }
 }
 
-static void *welcome(void *unused) {
-  for (int on = 1;;) {
-    int one = accept4(listener, 0, 0, SOCK_CLOEXEC), count;
-    if (one < 0 || setsockopt(one, IPPROTO_TCP, TCP_NODELAY, &on, sizeof on))
-      stop("accept");
+// Takes one connection after another: a thread that is there already answers the first request as
+// soon as a later one.
+static void *serve(void *unused) {
+  for (;;) {
+    struct run unseen = {0};
+    struct talk talk = {.run = &unseen};
+    pthread_mutex_lock(&door);
+    talk.connection = undelayed(accept4(listener, 0, 0, SOCK_CLOEXEC));
     open_connections++;
-    if (is_shared) {
-      start(serve_shared, one);
-      continue;
-    }
-    if ((count = taken++) >= MOST_RUNS * SECTIONS)
-      stop("a run too many");
-    // what the run before did late is over before this one begins
-    if (count % SECTIONS == P) {
-      wait_until_open(1);
-      forget();
-    }
-    struct ticket it = {one, &runs[count / SECTIONS]};
-    if (write(tickets[count % SECTIONS][1], &it, sizeof it) != sizeof it)
-      stop("write");
+    if (!is_shared)
+      join_run(&talk);
+    pthread_mutex_unlock(&door);
+    converse(&talk);
   }
   return unused;
 }
 
-static void report_run(const struct run *run) {
-  struct visit a = run->first[A], b = run->first[B];
-  int both = a.came && b.came, late = run->last_old && run->stored;
-  int overlapped = both && a.came < b.left && b.came < a.left;
-  printf("%s %d %d ", !both ? "-" : a.came < b.came ? "A" : "B", overlapped,
-         run->shown || (late && run->stored < run->last_old));
-  if (late)
-    printf("%.1f\n", run->last_old - run->stored);
-  else
-    printf("-\n");
-}
-
 static void report(void) {
-  for (int count = 0; count * SECTIONS < taken; count++)
-    report_run(&runs[count]);
-  memset(runs, 0, sizeof *runs * ((taken + SECTIONS - 1) / SECTIONS));
+  int count = (taken + SECTIONS - 1) / SECTIONS;
+  for (const struct run *run = runs; run < runs + count; run++) {
+    const struct visit *a = &run->first[A], *b = &run->first[B];
+    printf("%.1f %.1f %.1f %.1f %d %.1f %.1f\n", a->came, a->left, b->came, b->left, run->shown,
+           run->stored, run->last_old);
+  }
+  memset(runs, 0, sizeof *runs * count);
   taken = 0;
 }
 
 static void listen_somewhere(void) {
-  struct sockaddr_in address = {.sin_family = AF_INET, .sin_addr = {htonl(INADDR_LOOPBACK)}};
+  struct sockaddr_in address = loopback(0);
   socklen_t size = sizeof address;
   listener = socket(AF_INET, SOCK_STREAM | SOCK_CLOEXEC, 0);
   if (listener < 0 || bind(listener, (struct sockaddr *)&address, size) || listen(listener, 64) ||
@@ -389,13 +339,9 @@ int main(int count, char **words) {
   if (count != 4 + is_shared)
     return 2;
   race = words[1], window = atof(words[2]), delay = atof(words[3]);
-  for (int section = P; !is_shared && section < SECTIONS; section++) {
-    if (pipe(tickets[section]))
-      stop("pipe");
-    start(serve, section);
-  }
   listen_somewhere();
-  start(welcome, 0);
+  for (int thread = 0; thread < THREADS; thread++)
+    started(serve, 0);
   while (fgets(line, sizeof line, stdin)) {
     wait_until_open(0);
     if (is_shared)

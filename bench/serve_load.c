@@ -8,48 +8,27 @@
 // threads share the connections. It prints the requests a second, of all batches the median and the
 // 99th percentile of the microseconds from the write to the last reply, and the number of requests.
 // A reply that a request can't have ends it with status 1.
-#define _GNU_SOURCE
-#include <arpa/inet.h>
-#include <netinet/tcp.h>
-#include <pthread.h>
+#include "sockets.h"
 #include <stdint.h>
-#include <stdio.h>
-#include <stdlib.h>
-#include <string.h>
 #include <sys/epoll.h>
-#include <sys/socket.h>
-#include <time.h>
-#include <unistd.h>
 
-enum { MOST_DEPTH = 1024, THREADS = 2, ROOM = 1 << 20, MOST_BATCHES = 1 << 22 };
-
+enum { MOST_DEPTH = 1024, THREADS = 2, ROOM = 1 << 20, MOST_BATCHES = 1 << 22, AT_ONCE = 1000 };
 enum kind { GET, SET, INCR };
 
 struct connection {
   int socket, answered;
   enum kind asked[MOST_DEPTH];
-  uint64_t began;
+  double began;
   char *got;
   size_t length;
 };
 
-static int port, depth, keys, body_length, connections[THREADS];
+static int port, depth, keys, numbers, body_length, connections[THREADS];
 static double seconds;
 static char *body;
 static uint32_t *micros;
 static _Atomic size_t batches;
 static _Thread_local uint64_t state;
-
-static void stop(const char *what) {
-  perror(what);
-  exit(1);
-}
-
-static uint64_t now(void) {
-  struct timespec at;
-  clock_gettime(CLOCK_MONOTONIC, &at);
-  return at.tv_sec * 1000000000ull + at.tv_nsec;
-}
 
 // xorshift64
 static uint64_t draw(uint64_t below) {
@@ -59,41 +38,22 @@ static uint64_t draw(uint64_t below) {
   return state % below;
 }
 
-static int numbers(void) { return keys < 10 ? 1 : keys / 10; }
-
-static int connected(void) {
-  struct sockaddr_in to = {.sin_family = AF_INET, .sin_port = htons(port)};
-  int at = socket(AF_INET, SOCK_STREAM, 0), yes = 1;
-  to.sin_addr.s_addr = htonl(INADDR_LOOPBACK);
-  if (at < 0 || connect(at, (struct sockaddr *)&to, sizeof to))
-    stop("connect");
-  setsockopt(at, IPPROTO_TCP, TCP_NODELAY, &yes, sizeof yes);
-  return at;
-}
-
-static void write_all(int to, const char *text, size_t length) {
-  for (ssize_t count; length; text += count, length -= count)
-    if ((count = write(to, text, length)) <= 0)
-      stop("write");
-}
-
 static size_t put_set(char *to, const char *name, int key, int size, const char *text) {
   return sprintf(to, "set %s-%d 0 0 %d\r\n%s\r\n", name, key, size, text);
 }
 
 // Sets each key, a thousand at a time.
 static void fill(void) {
-  int to = connected(), all = keys + numbers();
-  char *text = malloc(1000 * (size_t)(body_length + 64)), reply[8192];
-  for (int first = 0; first < all; first += 1000) {
+  int to = connected(port), all = keys + numbers;
+  char *text = malloc(AT_ONCE * (size_t)(body_length + 64)), reply[8 * AT_ONCE];
+  for (int first = 0; first < all; first += AT_ONCE) {
     size_t length = 0, due = 0;
-    for (int at = first; at < all && at < first + 1000; at++, due += 8)
+    for (int at = first; at < all && at < first + AT_ONCE; at++, due += strlen("STORED\r\n"))
       length += at < keys ? put_set(text + length, "key", at, body_length, body)
                           : put_set(text + length, "number", at - keys, 1, "0");
-    write_all(to, text, length);
-    for (ssize_t count; due; due -= count)
-      if ((count = read(to, reply, due < sizeof reply ? due : sizeof reply)) <= 0)
-        stop("read");
+    send_all(to, text, length);
+    if (recv(to, reply, due, MSG_WAITALL) != (ssize_t)due)
+      stop("recv");
   }
   free(text);
   close(to);
@@ -111,25 +71,24 @@ static void ask(struct connection *c) {
     else if (c->asked[at] == GET)
       length += sprintf(text + length, "get key-%d\r\n", key);
     else
-      length += sprintf(text + length, "incr number-%d 1\r\n", key % numbers());
+      length += sprintf(text + length, "incr number-%d 1\r\n", key % numbers);
   }
   c->answered = 0;
-  c->began = now();
-  write_all(c->socket, text, length);
+  c->began = microseconds();
+  send_all(c->socket, text, length);
 }
 
-// How many bytes the reply has with which the text begins; 0 where it isn't whole.
+// How many bytes the reply has with which the text begins; 0 if it isn't whole.
 static size_t reply_length(enum kind asked, const char *text, size_t length) {
   const char *line = memchr(text, '\n', length);
-  size_t first = line ? line + 1 - text : 0;
+  size_t first = line ? line + 1 - text : 0, whole = first + body_length + 7;
   if (!line)
     return 0;
   if (asked == SET && first == 8 && !memcmp(text, "STORED\r\n", 8))
     return first;
   if (asked == INCR && '0' <= *text && *text <= '9')
     return first;
-  size_t whole = first + body_length + 7;
-  int is_hit = asked == GET && !memcmp(text, "VALUE ", 6);
+  bool is_hit = asked == GET && !memcmp(text, "VALUE ", 6);
   if (is_hit && length < whole)
     return 0;
   if (is_hit && !memcmp(text + whole - 7, "\r\nEND\r\n", 7))
@@ -138,13 +97,13 @@ static size_t reply_length(enum kind asked, const char *text, size_t length) {
   exit(1);
 }
 
-// Takes what has come. Where all is answered, the next batch goes out.
+// Takes what has come. If all is answered, the next batch goes out.
 static void take(struct connection *c) {
-  ssize_t count = read(c->socket, c->got + c->length, ROOM - c->length);
-  if (count <= 0)
-    stop("read");
-  c->length += count;
+  ssize_t count = recv(c->socket, c->got + c->length, ROOM - c->length, 0);
   size_t used = 0, reply;
+  if (count <= 0)
+    stop("recv");
+  c->length += count;
   while (c->answered < depth &&
          (reply = reply_length(c->asked[c->answered], c->got + used, c->length - used))) {
     used += reply;
@@ -157,24 +116,23 @@ static void take(struct connection *c) {
   size_t at = batches++;
   if (at >= MOST_BATCHES)
     stop("too many batches");
-  micros[at] = (now() - c->began) / 1000;
+  micros[at] = microseconds() - c->began;
   ask(c);
 }
 
 static void *carry(void *count) {
   int poll = epoll_create1(0), own = *(int *)count;
+  struct epoll_event ready[64];
   state = 88172645463325252ull + ((int *)count - connections);
   for (int at = 0; at < own; at++) {
     struct connection *c = calloc(1, sizeof *c);
     struct epoll_event wanted = {.events = EPOLLIN, .data.ptr = c};
-    c->socket = connected();
+    c->socket = connected(port);
     c->got = malloc(ROOM);
     epoll_ctl(poll, EPOLL_CTL_ADD, c->socket, &wanted);
     ask(c);
   }
-  uint64_t end = now() + (uint64_t)(seconds * 1e9);
-  struct epoll_event ready[64];
-  while (own && now() < end) {
+  for (double end = microseconds() + seconds * 1e6; own && microseconds() < end;) {
     int found = epoll_wait(poll, ready, 64, 100);
     for (int at = 0; at < found; at++)
       take(ready[at].data.ptr);
@@ -193,7 +151,7 @@ int main(int count, char **words) {
     return 2;
   int all = atoi(words[2]);
   port = atoi(words[1]), depth = atoi(words[3]), seconds = atof(words[4]);
-  keys = atoi(words[5]), body_length = atoi(words[6]);
+  keys = atoi(words[5]), numbers = keys < 10 ? 1 : keys / 10, body_length = atoi(words[6]);
   if (depth < 1 || depth > MOST_DEPTH || all < 1 || keys < 1 || depth * (body_length + 64) > ROOM)
     return 2;
   micros = malloc(MOST_BATCHES * sizeof *micros), body = malloc(body_length + 1);
@@ -202,8 +160,7 @@ int main(int count, char **words) {
   fill();
   for (int at = 0; at < THREADS; at++) {
     connections[at] = (all + THREADS - 1 - at) / THREADS;
-    if (pthread_create(&threads[at], 0, carry, &connections[at]))
-      stop("pthread_create");
+    threads[at] = started(carry, &connections[at]);
   }
   for (int at = 0; at < THREADS; at++)
     pthread_join(threads[at], 0);
