@@ -15,7 +15,7 @@ import random
 import sys
 
 from comparing import asked, close, parser_of
-from model import (CLASSES, GREATEST, SECTIONS, STORES, Cache, Notes, history_text, legal, words_in,
+from model import (CLASSES, GREATEST, SECTIONS, STORES, Cache, history_text, legal, words_in,
                    words_of)
 
 FAULTS = "WriteFailed ReadFailed Ended BadReply ErrorLine TooMuch Closed Memory".split()
@@ -111,7 +111,7 @@ class World:
     """What the steps of a list come to."""
 
     def __init__(self, keys, bodies):
-        self.bodies, self.notes, self.skipped = bodies, Notes(), 0
+        self.bodies, self.notes, self.skipped = bodies, [], 0
         self.sections = {"P": Section([["delete", key] for key in keys] + bodies[0], {})}
 
     def take(self, name, kind, what):
@@ -122,7 +122,8 @@ class World:
         if kind == "fail":
             section.fault = what
         else:
-            self.notes.append((name, kind, section.begin() if kind == "begin" else what))
+            words = section.begin() if kind == "begin" else what
+            self.notes.append(f"{name} {kind} {words_of(words)}")
         if kind == "reply":
             section.answer(what)
         if name == "P" and section.is_done():
@@ -139,7 +140,7 @@ class World:
 
     def answer(self, program):
         """What `drive` is to print, its status, and words for both."""
-        printed, _ = asked(program, "judge", history_text(self.notes))
+        printed, _ = asked(program, "judge", history_text(self.notes, 2))
         verdict, status = printed.split("\n", 1)[0], 4
         endings = [self.ending(name) for name in SECTIONS]
         if verdict == "unexplained" or any(it.fault == 4 for it in self.sections.values()):

@@ -44,7 +44,7 @@ def send(templates, at, place_of):
     return Send(at, [place_of(name) if name in may else NO_ENTRY for name in CLASSES])
 
 
-def line_of(templates, *requests):
+def sent_in_turn(templates, *requests):
     """A section that sends these templates one after another, whatever is answered."""
     its = enumerate(requests, 1)
     return [*(send(templates, it, lambda _, after=after: after) for after, it in its), Halt()]
@@ -157,18 +157,13 @@ def words_in(text):
                  for it in text.split())
 
 
-class Notes(list):
-    """What was noted in order: section, `begin` or `reply`, and the request or the reply."""
+def history_text(lines, version=1):
+    return "\n".join([f"history {version}", *lines, "end\n"]).encode()
 
 
-def history_text(history):
-    """The text of notes, or of a list of section, request and reply, of which None never came."""
-    if isinstance(history, Notes):
-        lines = [f"{actor} {word} {words_of(words)}" for actor, word, words in history]
-        return "\n".join(["history 2", *lines, "end\n"]).encode()
-    lines = [f"{actor} {words_of(request)} -> {words_of(reply) if reply else '?'}"
-             for actor, request, reply in history]
-    return "\n".join(["history 1", *lines, "end\n"]).encode()
+def line_of(actor, request, reply):
+    """A line of a `history 1`; the reply is None if it never came."""
+    return f"{actor} {words_of(request)} -> {words_of(reply) if reply else '?'}"
 
 
 # ---- what a server answers: an item is its flags, its body and its number
