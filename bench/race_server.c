@@ -65,15 +65,19 @@ struct talk {
   char text[LONGEST + 1];
 };
 
+// A connection as it is given to a thread, and how many were taken before it.
+struct ticket {
+  int connection, number;
+};
+
 static const char *race;
 static double window, delay;
-static int listener, taken;
+static int listener, tickets[SECTIONS][2];
 static bool is_shared;
 static struct run runs[MOST_RUNS];
-static atomic_int open_connections;
-// Who looks at the cache or at a run locks the first, but for what only waits; who waits for the
-// next connection locks the second.
-static pthread_mutex_t lock = PTHREAD_MUTEX_INITIALIZER, door = PTHREAD_MUTEX_INITIALIZER;
+static atomic_int taken, open_connections;
+// Who looks at the cache or at a run locks it, but for what only waits.
+static pthread_mutex_t lock = PTHREAD_MUTEX_INITIALIZER;
 
 static void spin_until(double time) {
   while (microseconds() < time)
@@ -280,33 +284,35 @@ static void wait_until_open(int connections) {
     usleep(20);
 }
 
-// Makes the connection that was taken one of a run.
-static void join_run(struct talk *talk) {
-  int section = taken % SECTIONS;
-  if (taken >= MOST_RUNS * SECTIONS)
-    stop("a run too many");
-  talk->run = &runs[taken++ / SECTIONS];
-  talk->first = section == P ? 0 : &talk->run->first[section];
-  // what the run before did late is over before this one begins
-  if (section == P) {
-    wait_until_open(1);
-    forget();
+// Serves the connections of one section, one after another: a thread that is there already answers
+// the first request as soon as a later one.
+static void *serve(void *tickets) {
+  struct ticket it;
+  while (read(((int *)tickets)[0], &it, sizeof it) == sizeof it) {
+    struct run unseen = {0}, *run = is_shared ? &unseen : &runs[it.number / SECTIONS];
+    int section = is_shared ? P : it.number % SECTIONS;
+    struct talk talk = {it.connection, run, section == P ? 0 : &run->first[section], 0, ""};
+    converse(&talk);
   }
+  return 0;
 }
 
-// Takes one connection after another: a thread that is there already answers the first request as
-// soon as a later one.
-static void *serve(void *unused) {
+// Takes connections, and gives them to the threads of their sections.
+static void *welcome(void *unused) {
   for (;;) {
-    struct run unseen = {0};
-    struct talk talk = {.run = &unseen};
-    pthread_mutex_lock(&door);
-    talk.connection = undelayed(accept4(listener, 0, 0, SOCK_CLOEXEC));
+    int one = undelayed(accept4(listener, 0, 0, SOCK_CLOEXEC)), number = taken++;
+    int section = is_shared ? P : number % SECTIONS;
+    struct ticket it = {one, number};
     open_connections++;
-    if (!is_shared)
-      join_run(&talk);
-    pthread_mutex_unlock(&door);
-    converse(&talk);
+    if (!is_shared && number >= MOST_RUNS * SECTIONS)
+      stop("a run too many");
+    // what the run before did late is over before this one begins
+    if (!is_shared && section == P) {
+      wait_until_open(1);
+      forget();
+    }
+    if (write(tickets[section][1], &it, sizeof it) != sizeof it)
+      stop("write");
   }
   return unused;
 }
@@ -340,8 +346,13 @@ int main(int count, char **words) {
     return 2;
   race = words[1], window = atof(words[2]), delay = atof(words[3]);
   listen_somewhere();
-  for (int thread = 0; thread < THREADS; thread++)
-    started(serve, 0);
+  for (int section = P; section < SECTIONS; section++) {
+    if (pipe(tickets[section]))
+      stop("pipe");
+    for (int thread = 0; thread < (is_shared ? THREADS : 1); thread++)
+      started(serve, tickets[section]);
+  }
+  started(welcome, 0);
   while (fgets(line, sizeof line, stdin)) {
     wait_until_open(0);
     if (is_shared)
