@@ -6,7 +6,6 @@ than it should.
 """
 
 import argparse
-import collections
 import contextlib
 import os
 import pathlib
@@ -24,25 +23,71 @@ NOT_MET = 3
 sys.path.append(str(ROOT / "oracle"))
 
 
-def arguments(doc, **numbers):
-    """What the command line asks for. The numbers are options, each with what it is if left out,
-    and what with --short."""
+def bench(measure, **numbers):
+    """Runs a bench: what its command line asks for and its targets are given to `measure`. The
+    numbers are options, each with what it is if left out, and what with --short."""
     form = argparse.RawDescriptionHelpFormatter
+    doc = sys.modules["__main__"].__doc__
     parser = argparse.ArgumentParser(description=doc, formatter_class=form)
     parser.add_argument("--program", type=os.path.abspath, default=str(ROOT / "release/mcrace"),
                         help="the program mcrace; release/mcrace if left out")
     parser.add_argument("--short", action="store_true", help="take less time, and say less")
     for name, (number, short) in numbers.items():
         parser.add_argument(f"--{name}", type=int, metavar="N", help=f"{number}; {short} if short")
-    asked = parser.parse_args()
+    asked, targets = parser.parse_args(), Targets()
     for name, (number, short) in numbers.items():
         if getattr(asked, name) is None:
             setattr(asked, name, short if asked.short else number)
-    return asked
+    measure(asked, targets)
+    sys.exit(targets.status())
 
 
 def stop(*texts):
     sys.exit(f"{pathlib.Path(sys.argv[0]).name}: " + " ".join(str(it)[-500:] for it in texts))
+
+
+# ---- tables and targets
+
+
+def row(*cells):
+    print("| " + " | ".join(map(str, cells)) + " |", flush=True)
+
+
+def head(*cells):
+    row(*cells)
+    print("|" + len(cells) * "---|")
+
+
+class Targets:
+    """What is wanted, and whether it is met."""
+
+    def __init__(self):
+        self.rows = []
+
+    def add(self, words, measured, least=None, most=None, form="{:,.2f}"):
+        shown = form if "%" in form else "{:,}"
+        wanted = [f"{word} {shown.format(limit)}" for word, limit in
+                  (("at least", least), ("at most", most)) if limit is not None]
+        is_met = (least is None or least <= measured) and (most is None or measured <= most)
+        self.rows.append((words, " and ".join(wanted), form.format(measured),
+                          "met" if is_met else "not met"))
+
+    def status(self):
+        """Prints them, and answers the status of the bench."""
+        print()
+        head("target", "wanted", "measured", "")
+        for it in self.rows:
+            row(*it)
+        return 0 if all(it[-1] == "met" for it in self.rows) else NOT_MET
+
+
+def in_turns(rounds, plays):
+    """What each of the plays answers in so many rounds, in which they take turns."""
+    found = {name: [] for name in plays}
+    for number in range(rounds):
+        for name in list(plays)[:: -1 if number % 2 else 1]:
+            found[name].append(plays[name]())
+    return found
 
 
 # ---- programs
@@ -59,7 +104,7 @@ def ran(words, text="", statuses=(0,), seconds=600):
 
 @contextlib.contextmanager
 def spawned(words, text, output):
-    """A process that reads the text from a file, and writes into `output`."""
+    """A process that reads the text from a file, and when it began."""
     with tempfile.TemporaryFile() as given:
         given.write(text)
         given.seek(0)
@@ -86,13 +131,17 @@ def peak(words, text):
     os.set_blocking(writer, True)
     with spawned(words, text, writer) as (process, _):
         os.close(writer)
-        stat = pathlib.Path(f"/proc/{process.pid}/stat")
-        while stat.read_text().rsplit(")", 1)[1].split()[0] not in "SZ":
+        while stat_of(process.pid)[0] not in "SZ":
             time.sleep(0.001)
         kilobytes = status_of(process.pid, "VmHWM")
         with open(reader, "rb") as output:
             output.read()
     return kilobytes
+
+
+def stat_of(process):
+    """The words of a process's `stat`, from its state on."""
+    return pathlib.Path(f"/proc/{process}/stat").read_text().rsplit(")", 1)[1].split()
 
 
 def status_of(process, name):
@@ -111,85 +160,30 @@ def all_compiled(*names):
         yield [f"{folder}/{name}" for name in names]
 
 
-# ---- servers: each is its port and its process
+# ---- servers
 
 
 @contextlib.contextmanager
-def memcached(threads=4):
-    """A memcached with so many threads, on a free port."""
-    if shutil.which("memcached") is None:
-        stop("memcached is not installed")
-    with socket.create_server(("127.0.0.1", 0)) as free:
-        port = free.getsockname()[1]
-    words = ["memcached", "-u", "nobody", "-l", "127.0.0.1", "-p", str(port), "-t", str(threads)]
-    with ending(subprocess.Popen([*words, "-m", "1024", "-c", "4096"])) as process:
+def served(words, port=None):
+    """The port and the process of a server, which prints its port if it isn't given one."""
+    process = subprocess.Popen(words, stdout=None if port else subprocess.PIPE, text=True)
+    try:
+        port = port or int(process.stdout.readline().rsplit(":", 1)[1])
         for _ in range(100):
             with contextlib.suppress(OSError), socket.create_connection(("127.0.0.1", port), 1):
                 break
             time.sleep(0.05)
         yield port, process.pid
-
-
-@contextlib.contextmanager
-def served(words):
-    """A server that prints its port after a colon, as `mcrace serve` does."""
-    with ending(subprocess.Popen(words, stdout=subprocess.PIPE, text=True)) as process:
-        yield int(process.stdout.readline().rsplit(":", 1)[1]), process.pid
-
-
-@contextlib.contextmanager
-def ending(process):
-    """The process, which is ended then."""
-    try:
-        yield process
     finally:
         process.terminate()
         process.wait()
 
 
-# ---- tables and targets
-
-
-def row(*cells):
-    print("| " + " | ".join(map(str, cells)) + " |", flush=True)
-
-
-def head(*cells):
-    row(*cells)
-    print("|" + len(cells) * "---|")
-
-
-class Targets:
-    """What is wanted, and whether it is met."""
-
-    def __init__(self):
-        self.rows = []
-
-    def add(self, words, measured, least=None, most=None, form="{:,.2f}"):
-        shown = form if "%" in form else "{:,}"
-        wanted = [f"{word} {shown.format(limit)}" for word, limit in
-                  (("at least", least), ("at most", most)) if limit is not None]
-        is_met = (least is None or least <= measured) and (most is None or measured <= most)
-        self.rows.append((words, " and ".join(wanted), form.format(measured), is_met))
-
-    def end(self):
-        """Prints them, and ends the bench."""
-        print()
-        head("target", "wanted", "measured", "")
-        for *cells, is_met in self.rows:
-            row(*cells, "met" if is_met else "not met")
-        sys.exit(0 if all(it[-1] for it in self.rows) else NOT_MET)
-
-
-def in_turns(rounds, plays):
-    """What each of the plays answers in so many rounds, in which they take turns."""
-    found = collections.defaultdict(list)
-    for number in range(rounds):
-        for name in list(plays)[:: -1 if number % 2 else 1]:
-            found[name].append(plays[name]())
-    return {name: found[name] for name in plays}
-
-
-def ratio(ours, theirs):
-    """Our number beside theirs, of which either may be 0."""
-    return ours / theirs if theirs else float(ours > 0)
+def memcached(threads=4):
+    """The same of a memcached with so many threads, on a free port."""
+    if shutil.which("memcached") is None:
+        stop("memcached is not installed")
+    with socket.create_server(("127.0.0.1", 0)) as free:
+        port = free.getsockname()[1]
+    words = ["memcached", "-u", "nobody", "-l", "127.0.0.1", "-p", port, "-t", threads]
+    return served([*map(str, words), "-m", "1024", "-c", "4096"], port)
