@@ -4,8 +4,8 @@ programs that play them."""
 import collections
 import contextlib
 import re
-import statistics
 import subprocess
+from statistics import fmean
 
 from common import in_turns, ran, stop
 
@@ -14,7 +14,7 @@ STORING = ("set", "add", "cas", "append", "replace", "prepend")
 ROUND = 100
 # If a get that showed the old value came so long after STORED, in µs, a client can know it.
 CLEARLY = 20
-TOTALS = re.compile(r"runs (\d+) explained (\d+) unexplained (\d+) other (\d+) overlapped \d+")
+TOTALS = re.compile(r"runs (\d+) explained \d+ unexplained (\d+) other 0 overlapped \d+")
 
 # A reply to the plain program; the times in µs. In the text each end of a line is a |.
 Reply = collections.namedtuple("Reply", "sent answered text")
@@ -22,7 +22,7 @@ Reply = collections.namedtuple("Reply", "sent answered text")
 Visit = collections.namedtuple("Visit", "first overlapped shown late")
 # A script, the race of the server that it is played against, and whether the replies to A and to B
 # show it.
-Race = collections.namedtuple("Race", "server script shows", defaults=(None,))
+Race = collections.namedtuple("Race", "server script shows")
 
 
 # ---- scripts
@@ -31,8 +31,7 @@ Race = collections.namedtuple("Race", "server script shows", defaults=(None,))
 def script_of(prefix, a, b):
     """The text of a script with these lines, whose key is a."""
     names = ["vars unique"] if any("$unique" in it for it in a + b) else []
-    budgets = [f"budget {it} 24 1000" for it in "PAB"]
-    head = ["script 1", "keys a", *names, *budgets]
+    head = ["script 1", "keys a", *names, *(f"budget {it} 24 1000" for it in "PAB")]
     return "\n".join([*head, "P", *prefix, "A", *a, "B", *b, "end\n"])
 
 
@@ -60,6 +59,10 @@ def request_of(line):
     return f"{' '.join(words)}|{body[1:]}|"
 
 
+def winner(body, times=1):
+    return times * ["gets a miss:gone >unique", f"cas a 0 ={body} $unique"] + ["gone:"]
+
+
 # ---- races
 
 
@@ -70,8 +73,7 @@ def both_end_with(text):
 
 def share_a_number(a, b):
     """Each number is that of one increment, unless one was lost."""
-    numbers = [it.text for it in a + b]
-    return len(set(numbers)) < len(numbers)
+    return len({it.text for it in a + b}) < len(a + b)
 
 
 def win_with_one_number(a, b):
@@ -99,33 +101,29 @@ def body_of(reply):
     return reply.text.split("|")[1]
 
 
-def winner(body, times=1):
-    return times * ["gets a miss:gone >unique", f"cas a 0 ={body} $unique"] + ["gone:"]
-
-
-SET, ADD, DELETE = ["set a 0 =5"], "add a 0 =6", "delete a"
+SET, ADD, DELETE, INCR, GET = ["set a 0 =5"], "add a 0 =6", "delete a", ["incr a 1"], ["get a"]
 APPENDS = [[f"append a 0 ={it}", "get a"] for it in (6, 7)]
 RACES = {
-    "incr": Race("incr", script_of(SET, ["incr a 1"], ["incr a 1"]), share_a_number),
-    "incr-4": Race("incr", script_of(SET, 4 * ["incr a 1"], 4 * ["incr a 1"]), share_a_number),
-    "decr": Race("decr", script_of(SET, ["incr a 1"], ["decr a 1"]), lose_an_increment),
+    "incr": Race("incr", script_of(SET, INCR, INCR), share_a_number),
+    "incr-4": Race("incr", script_of(SET, 4 * INCR, 4 * INCR), share_a_number),
+    "decr": Race("decr", script_of(SET, INCR, ["decr a 1"]), lose_an_increment),
     "cas": Race("cas", script_of(SET, winner(6), winner(7)), win_with_one_number),
     "add": Race("add", script_of([], [ADD], ["add a 0 =7"]), both_end_with("STORED|")),
     "append": Race("append", script_of(SET, *APPENDS), lack_an_append),
     "delete": Race("delete", script_of(SET, [DELETE], [DELETE]), both_end_with("DELETED|")),
-    "late": Race("late", script_of(SET, ["get a"], ["set a 0 =6"]), show_an_old_value),
-    "late-4": Race("late", script_of(SET, 4 * ["get a"], ["set a 0 =6"]), show_an_old_value),
+    "late": Race("late", script_of(SET, GET, ["set a 0 =6"]), show_an_old_value),
+    "late-4": Race("late", script_of(SET, 4 * GET, ["set a 0 =6"]), show_an_old_value),
 }
 # Scripts of twelve requests in each branch. What is there can't be added, and what isn't can't be
 # deleted, so the one undoes the other; after each append is seen whether one is lost.
 TWELVE = {
-    "incr": script_of(SET, 12 * ["incr a 1"], 12 * ["incr a 1"]),
-    "decr": script_of(["set a 0 =50"], 12 * ["incr a 1"], 12 * ["decr a 1"]),
+    "incr": script_of(SET, 12 * INCR, 12 * INCR),
+    "decr": script_of(["set a 0 =50"], 12 * INCR, 12 * ["decr a 1"]),
     "cas": script_of(SET, winner(6, 6), winner(7, 6)),
     "add": script_of([], 6 * [ADD, DELETE], 6 * [ADD, DELETE]),
     "append": script_of(SET, *(6 * it for it in APPENDS)),
     "delete": script_of(SET, 6 * [DELETE, ADD], 6 * [DELETE, ADD]),
-    "late": script_of(SET, 12 * ["get a"], [f"set a 0 ={it}" for it in range(6, 18)]),
+    "late": script_of(SET, 12 * GET, [f"set a 0 ={it}" for it in range(6, 18)]),
 }
 
 
@@ -155,10 +153,8 @@ class RaceServer:
 
     def __exit__(self, *_):
         # it ends if its input does
-        with contextlib.suppress(BrokenPipeError):
+        with contextlib.suppress(BrokenPipeError), self.process:
             self.process.stdin.close()
-        self.process.wait()
-        self.process.stdout.close()
 
     def line(self):
         return self.process.stdout.readline().rstrip() or stop("race_server ended")
@@ -185,14 +181,13 @@ class Plain:
     """The plain program, started for each run, or once for all of them."""
 
     def __init__(self, name, client, *how, is_one_process=False):
-        self.name, self.words, self.is_one = name, [client, how], is_one_process
+        self.name, self.client, self.how, self.is_one = name, client, how, is_one_process
 
     def play(self, port, race, runs):
-        client, how = self.words
         processes, each = (1, runs) if self.is_one else (runs, 1)
-        outputs = [ran([client, port, 1, each, *how, "print"], job_of(race.script))
-                   for _ in range(processes)]
-        return [race.shows(*replies(line)) for it in outputs for line in it.splitlines()]
+        words = [self.client, port, 1, each, *self.how, "print"]
+        lines = "".join(ran(words, job_of(race.script)) for _ in range(processes)).splitlines()
+        return [race.shows(*replies(it)) for it in lines]
 
 
 class Mcrace:
@@ -201,77 +196,70 @@ class Mcrace:
     def __init__(self, name, program, *options):
         self.name, self.program, self.options = name, program, options
 
-    def play(self, port, race, runs):
-        return [self.finds(port, race.script) for _ in range(runs)]
+    def run(self, port, race, *more):
+        words = [self.program, "run", f"127.0.0.1:{port}", *more, *self.options]
+        return ran(words, race.script, statuses=(0, 1)).splitlines()
 
-    def finds(self, port, script):
-        words = [self.program, "run", f"127.0.0.1:{port}", *self.options]
-        output = ran(words, script, statuses=(0, 1))
-        *endings, verdict = output.split("\n", 4)[:4]
-        if endings != ["P done", "A done", "B done"] or not verdict.endswith("explained"):
-            stop(words, output)
-        return verdict == "unexplained"
+    def play(self, port, race, runs):
+        outputs = [self.run(port, race)[:4] for _ in range(runs)]
+        for *endings, verdict in outputs:
+            if endings != ["P done", "A done", "B done"] or not verdict.endswith("explained"):
+                stop(self.name, endings, verdict)
+        return [it[3] == "unexplained" for it in outputs]
 
 
 class Repeated(Mcrace):
     """`mcrace run --times`; only how often the race was found is known, and not in which runs."""
 
     def play(self, port, race, runs):
-        words = [self.program, "run", f"127.0.0.1:{port}", "--times", runs, "--keep-going"]
-        output = ran([*words, *self.options], race.script, statuses=(0, 1))
-        totals = TOTALS.fullmatch([*output.split("\n", 2), "", ""][1])
-        if not totals or (int(totals[1]), int(totals[4])) != (runs, 0):
-            stop(words, output)
-        return [at < int(totals[3]) for at in range(runs)]
+        output = self.run(port, race, "--times", runs, "--keep-going")
+        totals = TOTALS.fullmatch(output[1])
+        if not totals or int(totals[1]) != runs:
+            stop(self.name, output)
+        return [at < int(totals[2]) for at in range(runs)]
 
 
 # ---- series of runs
 
 
-class Tally:
-    """All runs of one program against a server: whether it was found, and what the server saw."""
-
-    def __init__(self, runs):
-        self.found, self.visits = zip(*runs)
-
-    def found_share(self):
-        return statistics.fmean(self.found)
-
-    def overlap_share(self):
-        return statistics.fmean(it.overlapped for it in self.visits)
-
-    def first_share(self):
-        """The share of the runs in which A came first."""
-        return statistics.fmean(it.first == "A" for it in self.visits)
-
-    def clear_share(self):
-        """Of the runs that clearly broke the recorded order, the share that was found."""
-        clear = [found for found, it in zip(self.found, self.visits)
-                 if it.late is not None and it.late >= CLEARLY]
-        return statistics.fmean(clear) if clear else 0
-
-
 def seen(player, started, race, runs):
-    """Each run with what the server saw of it. The server counts by itself what a client could see,
-    and both must agree. Of a late set that rests on how fast the client is: there a run that was
-    found has an old value."""
+    """In which runs the race was found, each with what the server saw, which counts by itself what
+    a client could see: both must agree. Of a late set that rests on how fast the client is: there a
+    run that was found has an old value."""
     found = player.play(started.port, race, runs)
     visits = started.visits()
     if len(found) != len(visits):
         stop(f"{player.name}, {race.server}: {len(visits)} runs came to the server of {len(found)}")
     for is_found, it in zip(found, visits):
-        may_be = it.late is not None or not is_found if race.server == "late" else (
-            is_found == it.shown)
-        if not may_be:
+        is_late = race.server == "late" and (it.late is not None or not is_found)
+        if not (is_late or race.server != "late" and is_found == it.shown):
             stop(f"{player.name}, {race.server}: found {is_found}, but the server saw {it}")
     return list(zip(found, visits))
 
 
 def series(server, name, window, delay, players, runs):
-    """The tallies of the players by name, each of so many runs, in which they take turns."""
+    """The runs of each player by its name, about so many, in which they take turns."""
     race, rounds = RACES[name], -(-runs // ROUND)
     with RaceServer(server, race.server, window, delay) as started:
         plays = {it.name: lambda it=it: seen(it, started, race, -(-runs // rounds))
                  for it in players}
-        found = in_turns(rounds, plays)
-    return {name: Tally(sum(its, [])) for name, its in found.items()}
+        return {name: sum(its, []) for name, its in in_turns(rounds, plays).items()}
+
+
+def found_share(runs):
+    return fmean(found for found, _ in runs)
+
+
+def overlap_share(runs):
+    return fmean(it.overlapped for _, it in runs)
+
+
+def first_share(runs):
+    """The share of the runs in which A came first."""
+    return fmean(it.first == "A" for _, it in runs)
+
+
+def clear_share(runs):
+    """Of the runs that clearly broke the recorded order, the share that was found."""
+    clear = [found for found, it in runs if it.late is not None and it.late >= CLEARLY]
+    return fmean(clear) if clear else 0
