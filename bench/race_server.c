@@ -28,6 +28,11 @@
 
 enum { MOST_RUNS = 100000, MOST_KEYS = 1 << 16, THREADS = 64 };
 enum { LONGEST = 4096, KEY = 64, BODY = 256 };
+// The commands, those that store a body first.
+enum { SET, ADD, CAS, APPEND, INCR, DECR, DELETE, GET, GETS, COMMANDS };
+
+static const char *const VERBS[COMMANDS] = {"set",  "add",    "cas", "append", "incr",
+                                            "decr", "delete", "get", "gets"};
 
 struct item {
   char body[BODY];
@@ -36,8 +41,10 @@ struct item {
   uint64_t version;
 };
 
+// A request; `verb` is COMMANDS if it is none of them.
 struct request {
-  char verb[16], key[KEY];
+  int verb;
+  char key[KEY];
   unsigned flags;
   size_t size;
   uint64_t number;
@@ -70,7 +77,9 @@ struct ticket {
   int connection, number;
 };
 
-static const char *race;
+// The command that races; or none, and then sets are late or the server is right.
+static int race;
+static bool is_late, is_right;
 static double window, delay;
 static int listener, tickets[SECTIONS][2];
 static bool is_shared;
@@ -114,57 +123,35 @@ static struct item *item_of(const char *key) {
   return &items[place];
 }
 
-// Stands in a command between its look at the item and its write. If this is the command that
-// races, it unlocks the cache for the window, and notes whether another connection wrote meanwhile.
-static void open_window(const char *verb, const struct item *at, bool *raced) {
-  uint64_t seen = at->version;
-  if (strcmp(race, verb))
-    return;
-  pthread_mutex_unlock(&lock);
-  spin_until(microseconds() + window);
-  pthread_mutex_lock(&lock);
-  *raced |= at->version != seen;
-}
-
-static void put(struct item *at, struct item item) {
-  item.version = ++last_version;
-  *at = item;
-}
-
-static const char *store(struct item *at, const struct request *request, bool *raced) {
-  const char *verb = request->verb;
-  struct item item = {.there = true, .flags = request->flags};
-  size_t size = 0;
-  if (!strcmp(verb, "append"))
-    item = *at, size = strlen(item.body);
-  if (!strcmp(verb, "add") ? at->there : !strcmp(verb, "append") && !at->there)
+// The reply of a command that writes nothing, with this item there; null if it writes.
+static const char *refusal(const struct item *at, const struct request *request) {
+  int verb = request->verb;
+  if (verb == ADD ? at->there : verb == APPEND && !at->there)
     return "NOT_STORED\r\n";
-  if (!strcmp(verb, "cas") && (!at->there || at->version != request->number))
-    return at->there ? "EXISTS\r\n" : "NOT_FOUND\r\n";
-  if (size + request->size >= BODY)
+  if (verb >= CAS && verb <= DELETE && !at->there)
+    return "NOT_FOUND\r\n";
+  if (verb == CAS && at->version != request->number)
+    return "EXISTS\r\n";
+  if (verb <= APPEND && (verb == APPEND ? strlen(at->body) : 0) + request->size >= BODY)
     return "SERVER_ERROR object too large for cache\r\n";
-  open_window(verb, at, raced);
-  memcpy(item.body + size, request->body, request->size);
-  put(at, item);
-  return "STORED\r\n";
+  return verb == COMMANDS ? "ERROR\r\n" : 0;
 }
 
-static const char *change(struct item *at, const struct request *request, char *room, bool *raced) {
-  struct item seen = *at;
-  uint64_t number = strtoull(seen.body, 0, 10);
-  if (!seen.there)
-    return "NOT_FOUND\r\n";
-  open_window(request->verb, at, raced);
-  if (!strcmp(request->verb, "delete")) {
-    put(at, (struct item){0});
+// Makes the item of what was there, and answers the reply, which may stand in the room.
+static const char *written(struct item *item, const struct request *request, char *room) {
+  uint64_t number = strtoull(item->body, 0, 10), by = request->number;
+  if (request->verb == DELETE) {
+    *item = (struct item){0};
     return "DELETED\r\n";
   }
-  if (!strcmp(request->verb, "incr"))
-    number += request->number;
-  else
-    number -= number < request->number ? number : request->number;
-  snprintf(seen.body, BODY, "%" PRIu64, number);
-  put(at, seen);
+  if (request->verb <= APPEND) {
+    if (request->verb != APPEND)
+      *item = (struct item){.there = true, .flags = request->flags};
+    strncat(item->body, request->body, request->size);
+    return "STORED\r\n";
+  }
+  number = request->verb == INCR ? number + by : number - (number < by ? number : by);
+  snprintf(item->body, BODY, "%" PRIu64, number);
   snprintf(room, LONGEST, "%" PRIu64 "\r\n", number);
   return room;
 }
@@ -173,40 +160,50 @@ static const char *get(const struct item *at, const struct request *request, cha
   char unique[32] = "";
   if (!at->there)
     return "END\r\n";
-  if (!strcmp(request->verb, "gets"))
+  if (request->verb == GETS)
     snprintf(unique, sizeof unique, " %" PRIu64, at->version);
   snprintf(room, LONGEST, "VALUE %s %u %zu%s\r\n%s\r\nEND\r\n", request->key, at->flags,
            strlen(at->body), unique, at->body);
   return room;
 }
 
-static bool is_one_of(const char *verb, const char *verbs) {
-  const char *at = strstr(verbs, verb);
-  return at && at[strlen(verb)] == ' ' && (at == verbs || at[-1] == ' ');
+// Does what is asked, and answers the reply. Between its look at the item and its write, the
+// command that races unlocks the cache for the window, and notes if another connection wrote.
+static const char *act(const struct request *request, char *room, bool *raced) {
+  struct item *at = item_of(request->key), item = *at;
+  if (request->verb == GET || request->verb == GETS)
+    return get(at, request, room);
+  const char *refused = refusal(at, request), *reply;
+  if (refused)
+    return refused;
+  if (request->verb == race) {
+    pthread_mutex_unlock(&lock);
+    spin_until(microseconds() + window);
+    pthread_mutex_lock(&lock);
+    *raced |= at->version != item.version;
+  }
+  reply = written(&item, request, room);
+  item.version = ++last_version;
+  *at = item;
+  return reply;
 }
 
-static bool stores(const char *verb) { return is_one_of(verb, "set add cas append "); }
-
-// Does what is asked, and answers the reply, which may stand in the room.
-static const char *act(const struct request *request, char *room, bool *raced) {
-  struct item *at = item_of(request->key);
-  if (is_one_of(request->verb, "get gets "))
-    return get(at, request, room);
-  if (stores(request->verb))
-    return store(at, request, raced);
-  if (is_one_of(request->verb, "incr decr delete "))
-    return change(at, request, room, raced);
-  return "ERROR\r\n";
+static int command_of(const char *verb) {
+  int command = 0;
+  while (command < COMMANDS && strcmp(verb, VERBS[command]))
+    command++;
+  return command;
 }
 
 // Reads the request that the text begins with, and answers whether it has come whole.
 static bool understood(const char *text, size_t got, struct request *request) {
   const char *end = strstr(text, "\r\n");
   size_t line = end ? end + 2 - text : 0;
+  char verb[16];
   *request = (struct request){.body = text + line, .came = microseconds()};
-  if (!end || sscanf(text, "%15s %63s %" SCNu64, request->verb, request->key, &request->number) < 2)
+  if (!end || sscanf(text, "%15s %63s %" SCNu64, verb, request->key, &request->number) < 2)
     return false;
-  if (!stores(request->verb))
+  if ((request->verb = command_of(verb)) > APPEND)
     return true;
   if (sscanf(text, "%*s %*s %u %*s %zu %" SCNu64, &request->flags, &request->size,
              &request->number) < 2 || request->size >= BODY)
@@ -226,25 +223,22 @@ static void note_left(struct talk *talk) {
     talk->first->left = microseconds();
 }
 
-// Whether this is a set over an item, in a server where these are late.
-static bool is_late(const struct request *request) {
-  if (strcmp(race, "late") || strcmp(request->verb, "set"))
-    return false;
+static bool is_there(const char *key) {
   pthread_mutex_lock(&lock);
-  bool there = item_of(request->key)->there;
+  bool there = item_of(key)->there;
   pthread_mutex_unlock(&lock);
   return there;
 }
 
 static void answer(struct talk *talk, const struct request *request) {
   char room[LONGEST];
-  bool late = is_late(request);
+  bool late = is_late && request->verb == SET && is_there(request->key);
   if (late) {
     say(talk, "STORED\r\n");
     talk->run->stored = microseconds();
     note_left(talk);
     spin_until(talk->run->stored + window);
-  } else if (!strcmp(race, request->verb) || !strcmp(race, "none")) {
+  } else if (request->verb == race || is_right) {
     spin_until(request->came + delay);
   }
   pthread_mutex_lock(&lock);
@@ -344,7 +338,10 @@ int main(int count, char **words) {
   is_shared = count == 5 && !strcmp(words[4], "shared");
   if (count != 4 + is_shared)
     return 2;
-  race = words[1], window = atof(words[2]), delay = atof(words[3]);
+  race = command_of(words[1]), window = atof(words[2]), delay = atof(words[3]);
+  is_late = !strcmp(words[1], "late"), is_right = !strcmp(words[1], "none");
+  if (race == COMMANDS && !is_late && !is_right)
+    return 2;
   listen_somewhere();
   for (int section = P; section < SECTIONS; section++) {
     if (pipe(tickets[section]))

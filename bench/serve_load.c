@@ -3,16 +3,17 @@
 // usage: serve_load PORT CONNECTIONS DEPTH SECONDS KEYS BODY
 //
 // Each connection to PORT of 127.0.0.1 writes DEPTH requests by one call, and the next ones once
-// all their replies have come. The keys of get and set are drawn from KEYS, and hold BODY bytes
-// each; those of incr from a tenth as many others, which hold a number. All are set before. Two
-// threads share the connections. It prints the requests a second, of all batches the median and the
-// 99th percentile of the microseconds from the write to the last reply, and the number of requests.
-// A reply that a request can't have ends it with status 1.
+// all their replies have come. The keys of get and set are drawn from KEYS, key-0 and so on, and
+// hold BODY bytes each; those of incr from a tenth as many, number-0 and so on, which hold a
+// number. All must be set before. Two threads share the connections. It prints the requests a
+// second, of all batches the median and the 99th percentile of the microseconds from the write to
+// the last reply, and the number of requests. A reply that a request can't have ends it with
+// status 1.
 #include "sockets.h"
 #include <stdint.h>
 #include <sys/epoll.h>
 
-enum { MOST_DEPTH = 1024, THREADS = 2, ROOM = 1 << 20, MOST_BATCHES = 1 << 22, AT_ONCE = 1000 };
+enum { MOST_DEPTH = 1024, THREADS = 2, ROOM = 1 << 20, MOST_BATCHES = 1 << 22 };
 enum kind { GET, SET, INCR };
 
 struct connection {
@@ -23,7 +24,7 @@ struct connection {
   size_t length;
 };
 
-static int port, depth, keys, numbers, body_length, connections[THREADS];
+static int port, depth, keys, body_length, connections[THREADS];
 static double seconds;
 static char *body;
 static uint32_t *micros;
@@ -38,27 +39,6 @@ static uint64_t draw(uint64_t below) {
   return state % below;
 }
 
-static size_t put_set(char *to, const char *name, int key, int size, const char *text) {
-  return sprintf(to, "set %s-%d 0 0 %d\r\n%s\r\n", name, key, size, text);
-}
-
-// Sets each key, a thousand at a time.
-static void fill(void) {
-  int to = connected(port), all = keys + numbers;
-  char *text = malloc(AT_ONCE * (size_t)(body_length + 64)), reply[8 * AT_ONCE];
-  for (int first = 0; first < all; first += AT_ONCE) {
-    size_t length = 0, due = 0;
-    for (int at = first; at < all && at < first + AT_ONCE; at++, due += strlen("STORED\r\n"))
-      length += at < keys ? put_set(text + length, "key", at, body_length, body)
-                          : put_set(text + length, "number", at - keys, 1, "0");
-    send_all(to, text, length);
-    if (recv(to, reply, due, MSG_WAITALL) != (ssize_t)due)
-      stop("recv");
-  }
-  free(text);
-  close(to);
-}
-
 static void ask(struct connection *c) {
   static _Thread_local char text[ROOM];
   size_t length = 0;
@@ -67,11 +47,11 @@ static void ask(struct connection *c) {
     int key = draw(keys);
     c->asked[at] = lot < 8 ? GET : lot == 8 ? SET : INCR;
     if (c->asked[at] == SET)
-      length += put_set(text + length, "key", key, body_length, body);
+      length += sprintf(text + length, "set key-%d 0 0 %d\r\n%s\r\n", key, body_length, body);
     else if (c->asked[at] == GET)
       length += sprintf(text + length, "get key-%d\r\n", key);
     else
-      length += sprintf(text + length, "incr number-%d 1\r\n", key % numbers);
+      length += sprintf(text + length, "incr number-%d 1\r\n", key / 10);
   }
   c->answered = 0;
   c->began = microseconds();
@@ -151,13 +131,12 @@ int main(int count, char **words) {
     return 2;
   int all = atoi(words[2]);
   port = atoi(words[1]), depth = atoi(words[3]), seconds = atof(words[4]);
-  keys = atoi(words[5]), numbers = keys < 10 ? 1 : keys / 10, body_length = atoi(words[6]);
+  keys = atoi(words[5]), body_length = atoi(words[6]);
   if (depth < 1 || depth > MOST_DEPTH || all < 1 || keys < 1 || depth * (body_length + 64) > ROOM)
     return 2;
   micros = malloc(MOST_BATCHES * sizeof *micros), body = malloc(body_length + 1);
   memset(body, 'x', body_length);
   body[body_length] = 0;
-  fill();
   for (int at = 0; at < THREADS; at++) {
     connections[at] = (all + THREADS - 1 - at) / THREADS;
     threads[at] = started(carry, &connections[at]);
