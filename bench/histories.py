@@ -114,61 +114,6 @@ def numbers_24(rng):
     return Run(rng, ["a"]).branch_out([24, 24], request_of_one_body)
 
 
-# ---- histories that have no explanation
-
-
-def misses(count):
-    """Misses in each branch, and a hit: every merge of the two is an order."""
-    return [CLEARED, *count * ["A get a -> MISS"], "A get a -> HIT 0 =1",
-            *count * ["B get a -> MISS"]]
-
-
-def bodies():
-    """The same with 12 touches, while the cache holds a body of 32,768 bytes."""
-    touches = [12 * [f"{actor} touch a -> TOUCHED"] for actor in "AB"]
-    return [CLEARED, f"P set a 0 ={32768 * 'x'} -> STORED", *touches[0],
-            "A touch a -> NOT_FOUND", *touches[1]]
-
-
-def stores(count):
-    """Each request stores a body of its own."""
-    its = [f"{actor} set a 0 ={actor.lower()}{at} -> STORED"
-           for actor, sets in (("A", count - 1), ("B", count)) for at in range(sets)]
-    return [CLEARED, *its, NEVER]
-
-
-def appends(size):
-    """Seven appends of so many bytes in each branch: another body for each order."""
-    its = [f"{actor} append a 0 ={size // 2 * f'{actor}{at}'} -> STORED"
-           for actor in "AB" for at in range(7)]
-    return [CLEARED, EMPTY, *its, NEVER]
-
-
-def grown(of_a, of_b):
-    """Appends in P make a body of 975,000 bytes; then both branches send 12 requests."""
-    large = [f"P {verb} a 0 ={65000 * 'x'} -> STORED" for verb in ["set"] + 14 * ["append"]]
-    return [CLEARED, *large, *12 * [f"A {of_a}"], *12 * [f"B {of_b}"], NEVER]
-
-
-def alike(verb):
-    """23 requests in each branch, A's join one byte and B's two: many orders make one body."""
-    its = [f"{it} -> STORED" for it in (f"A {verb} a 0 =x", f"B {verb} a 0 =xx") for _ in range(23)]
-    return [CLEARED, EMPTY, *its, NEVER]
-
-
-def alike_pads():
-    """Six spaces that A appends to a number, and six decrements of B by 0."""
-    return [CLEARED, "P set a 0 =9 -> STORED", *6 * ["A append a 0 =%20 -> STORED"], NEVER,
-            *6 * ["B decr a 0 -> NUMBER 9"]]
-
-
-def alike_pairs():
-    """The same appends as in `alike`, in pairs that overlap, and a hit that is one byte short."""
-    pair = ["A begin append a 0 =x", "B begin append a 0 =xx", "A reply STORED", "B reply STORED"]
-    return ["P begin delete a", "P reply NOT_FOUND", "P begin set a 0 =", "P reply STORED",
-            *23 * pair, "A begin get a", f"A reply HIT 0 ={(3 * 23 - 1) * 'x'}"]
-
-
 # ---- kinds
 
 
@@ -188,14 +133,41 @@ class Kind(collections.namedtuple("Kind", "name made verdict limit version",
 # What a server answered has an explanation.
 SERVED = {"start": [], "job": job, "random": random_24, "changed": changed_24,
           "keys": lambda rng: random_24(rng, "abcdefgh"), "numbers": numbers_24}
+LARGE_SET, LARGE_APPEND = (f"P {verb} a 0 ={65_000 * 'x'} -> STORED" for verb in ("set", "append"))
+# These have none: each ends with a hit that no order gives.
 HOPELESS = {
-    "misses-6": misses(6), "misses-12": misses(12), "bodies": bodies(),
-    **{f"stores-{count}": stores(count) for count in (8, 16, 24)},
-    **{f"appends-{size}": appends(size) for size in (6, 60_000)},
-    "alike-appends": alike("append"), "alike-prepends": alike("prepend"),
-    "alike-pairs": alike_pairs(), "alike-pads": alike_pads(),
-    "grown-touched": grown("touch a -> TOUCHED", "touch a -> TOUCHED"),
-    "grown-appended": grown("append a 0 =A -> STORED", "append a 0 =B -> STORED"),
+    # every merge of the two branches is an order
+    **{f"misses-{count}": [CLEARED, *count * ["A get a -> MISS"], "A get a -> HIT 0 =1",
+                           *count * ["B get a -> MISS"]] for count in (6, 12)},
+    # the same with a large body
+    "bodies": [CLEARED, f"P set a 0 ={32_768 * 'x'} -> STORED", *12 * ["A touch a -> TOUCHED"],
+               "A touch a -> NOT_FOUND", *12 * ["B touch a -> TOUCHED"]],
+    # each request stores a body of its own
+    **{f"stores-{count}": [
+        CLEARED, *(f"A set a 0 =a{at} -> STORED" for at in range(count - 1)),
+        *(f"B set a 0 =b{at} -> STORED" for at in range(count)), NEVER] for count in (8, 16, 24)},
+    # another body for each order
+    **{f"appends-{size}": [
+        CLEARED, EMPTY, *(f"{actor} append a 0 ={size // 2 * f'{actor}{at}'} -> STORED"
+                          for actor in "AB" for at in range(7)), NEVER] for size in (6, 60_000)},
+    # many orders make one body, of other pieces
+    **{f"alike-{verb}s": [
+        CLEARED, EMPTY, *23 * [f"A {verb} a 0 =x -> STORED"], *23 * [f"B {verb} a 0 =xx -> STORED"],
+        NEVER] for verb in ("append", "prepend")},
+    # the same appends in pairs that overlap, and a hit that is one byte short
+    "alike-pairs": [
+        "P begin delete a", "P reply NOT_FOUND", "P begin set a 0 =", "P reply STORED",
+        *23 * ["A begin append a 0 =x", "B begin append a 0 =xx", "A reply STORED",
+               "B reply STORED"], "A begin get a", f"A reply HIT 0 ={(3 * 23 - 1) * 'x'}"],
+    # spaces that A appends to a number, and that B's decrements keep or drop
+    "alike-pads": [CLEARED, "P set a 0 =9 -> STORED", *6 * ["A append a 0 =%20 -> STORED"], NEVER,
+                   *6 * ["B decr a 0 -> NUMBER 9"]],
+    # a body of 975,000 bytes, which doesn't change or grows
+    **{f"grown-{name}": [
+        CLEARED, LARGE_SET, *14 * [LARGE_APPEND], *12 * [f"A {line.format('A')}"],
+        *12 * [f"B {line.format('B')}"], NEVER]
+       for name, line in (("touched", "touch a -> TOUCHED"),
+                          ("appended", "append a 0 ={} -> STORED"))},
 }
 KINDS = [Kind(name, made, None if name == "changed" else "explained")
          for name, made in SERVED.items()]
