@@ -76,22 +76,6 @@ def share_a_number(a, b):
     return len({it.text for it in a + b}) < len(a + b)
 
 
-def win_with_one_number(a, b):
-    """Whether both were shown the same cas number, and both stored with it."""
-    return a[0].text == b[0].text and a[1].text == b[1].text == "STORED|"
-
-
-def lose_an_increment(a, b):
-    """A counts up from 5, and B down. Whoever is second gets 5."""
-    return (a[0].text, b[0].text) == ("6|", "4|")
-
-
-def lack_an_append(a, b):
-    """Each branch appends and then gets. These are all pairs if no append is lost."""
-    whole = [("56", "567"), ("567", "567"), ("576", "576"), ("576", "57")]
-    return (body_of(a[-1]), body_of(b[-1])) not in whole
-
-
 def show_an_old_value(a, b):
     """B stores 6 over 5. Whether a get of A that was sent after B's reply was read showed 5."""
     return any(b[0].answered < it.sent and body_of(it) == "5" for it in a)
@@ -103,13 +87,20 @@ def body_of(reply):
 
 SET, ADD, DELETE, INCR, GET = ["set a 0 =5"], "add a 0 =6", "delete a", ["incr a 1"], ["get a"]
 APPENDS = [[f"append a 0 ={it}", "get a"] for it in (6, 7)]
+# What an append and a get in each branch show if no append is lost.
+WHOLE = [("56", "567"), ("567", "567"), ("576", "576"), ("576", "57")]
 RACES = {
     "incr": Race("incr", script_of(SET, INCR, INCR), share_a_number),
     "incr-4": Race("incr", script_of(SET, 4 * INCR, 4 * INCR), share_a_number),
-    "decr": Race("decr", script_of(SET, INCR, ["decr a 1"]), lose_an_increment),
-    "cas": Race("cas", script_of(SET, winner(6), winner(7)), win_with_one_number),
+    # A counts up from 5, and B down: whoever is second gets 5
+    "decr": Race("decr", script_of(SET, INCR, ["decr a 1"]),
+                 lambda a, b: (a[0].text, b[0].text) == ("6|", "4|")),
+    # both were shown the same number, and both stored with it
+    "cas": Race("cas", script_of(SET, winner(6), winner(7)),
+                lambda a, b: a[0].text == b[0].text and a[1].text == b[1].text == "STORED|"),
     "add": Race("add", script_of([], [ADD], ["add a 0 =7"]), both_end_with("STORED|")),
-    "append": Race("append", script_of(SET, *APPENDS), lack_an_append),
+    "append": Race("append", script_of(SET, *APPENDS),
+                   lambda a, b: (body_of(a[-1]), body_of(b[-1])) not in WHOLE),
     "delete": Race("delete", script_of(SET, [DELETE], [DELETE]), both_end_with("DELETED|")),
     "late": Race("late", script_of(SET, GET, ["set a 0 =6"]), show_an_old_value),
     "late-4": Race("late", script_of(SET, 4 * GET, ["set a 0 =6"]), show_an_old_value),
