@@ -53,16 +53,15 @@ class Section:
         """Goes on to the next request, or to the end."""
         while self.at < len(self.lines):
             words = self.lines[self.at]
+            self.at += 1
             if words[0] == "goto" and len(words) == 2:
                 self.go_to(words[1])
             elif words[0] == "bind" and len(words) == 2:
                 self.variables[words[1]] = self.shown
-                self.at += 1
             elif words == ["halt"]:
                 self.at = len(self.lines)
-            elif len(words) == 1 and words[0].endswith(":"):
-                self.at += 1
-            else:
+            elif len(words) > 1 or not words[0].endswith(":"):
+                self.at -= 1
                 return
 
     def is_done(self):
@@ -79,8 +78,7 @@ class Section:
     def answer(self, reply):
         """Goes on after a reply to the line's request."""
         marks, self.waiting = self.lines[self.at][2:], None
-        self.shown = reply[-1] if reply[0] == "NUMBER" or has_number(reply) else None
-        self.at += 1
+        self.shown, self.at = number_in(reply), self.at + 1
         for mark in marks:
             if mark.startswith(">") and self.shown is not None:
                 self.variables[mark[1:]] = self.shown
@@ -89,22 +87,23 @@ class Section:
         self.go_on()
 
     def may_take(self, kind, reply):
-        if self.fault is not None or self.is_done() or kind == "fail":
-            return self.fault is None and not self.is_done()
-        if kind == "begin":
-            return self.waiting is None
-        return self.waiting is not None and fits(self.waiting[0], reply)
+        if self.fault is not None or self.is_done():
+            return False
+        if kind == "reply":
+            return self.waiting is not None and fits(self.waiting[0], reply)
+        return kind == "fail" or self.waiting is None
 
 
-def has_number(reply):
-    return reply[0] == "HIT" and len(reply) == 4
+def number_in(reply):
+    """The number that a reply shows, or None."""
+    return reply[-1] if reply[0] == "NUMBER" or reply[0] == "HIT" and len(reply) == 4 else None
 
 
 def fits(verb, reply):
     if NAMES[reply[0]] not in legal(verb):
         return False
-    return reply[0] != "HIT" or len(reply[2]) <= LONGEST_BODY and (
-        has_number(reply) == (verb == "gets"))
+    is_right = (number_in(reply) is not None) == (verb == "gets")
+    return reply[0] != "HIT" or is_right and len(reply[2]) <= LONGEST_BODY
 
 
 class World:
@@ -121,9 +120,9 @@ class World:
             return
         if kind == "fail":
             section.fault = what
-        else:
-            words = section.begin() if kind == "begin" else what
-            self.notes.append(f"{name} {kind} {words_of(words)}")
+            return
+        words = section.begin() if kind == "begin" else what
+        self.notes.append(f"{name} {kind} {words_of(words)}")
         if kind == "reply":
             section.answer(what)
         if name == "P" and section.is_done():
