@@ -1,7 +1,7 @@
 // What a run or a campaign costs without mcrace, and what it finds: the same bytes over three
 // connections to 127.0.0.1, by threads that neither note nor judge.
 //
-// usage: client PORT WORKERS REPEATS [one] [thread] [meet] [keep] [quit] [print] < JOBS
+// usage: client PORT WORKERS REPEATS [one] [thread] [meet] [keep] [quit] < JOBS
 //
 // A line of JOBS is a section's letter, a blank and a request, in which | stands for the end of a
 // line and $ for the cas number that the section's reply before showed; the line `end` ends a job.
@@ -14,38 +14,29 @@
 //   meet     both branches wait for each other before their first requests, in a barrier
 //   keep     a worker's connections serve all its jobs
 //   quit     the server is asked to close the connections, and does so before they are closed here
-//   print    in place of the times, a line for each job: of each request of A, and then of B, the
-//            section, when it was sent, when its reply had been read, in µs, and the reply, with |
-//            for the ends of lines; tabs separate these
 #include "sockets.h"
 #include <semaphore.h>
 #include <stdatomic.h>
 
 enum { MOST_JOBS = 10000, MOST_REQUESTS = 16, LONGEST = 256, MOST_WORKERS = 16 };
-enum { ONE, THREAD, MEET, KEEP, QUIT, PRINT, WORDS };
+enum { ONE, THREAD, MEET, KEEP, QUIT, WORDS };
 
 static const char LETTERS[] = "PAB";
-static const char *const NAMES[WORDS] = {"one", "thread", "meet", "keep", "quit", "print"};
+static const char *const NAMES[WORDS] = {"one", "thread", "meet", "keep", "quit"};
 
 struct job {
   int counts[SECTIONS];
   char requests[SECTIONS][MOST_REQUESTS][LONGEST];
 };
 
-struct reply {
-  double sent, answered;
-  size_t got;
-  char text[LONGEST + 1];
-};
-
-// A worker, the job that it plays, and the replies to its requests.
+// A worker, the job that it plays, and the last reply to each section.
 struct worker {
   pthread_t thread, second;
   sem_t given, done;
   pthread_barrier_t meeting;
   const struct job *job;
   int connections[SECTIONS];
-  struct reply replies[SECTIONS][MOST_REQUESTS];
+  char replies[SECTIONS][LONGEST];
   double connecting;
 };
 
@@ -80,33 +71,26 @@ static void ask(struct worker *it, int section, int at) {
   const char *pattern = it->job->requests[section][at];
   int before = strcspn(pattern, "$");
   char text[LONGEST], number[32] = "";
-  struct reply *reply = &it->replies[section][at];
-  if (pattern[before] && sscanf(reply[-1].text, "VALUE %*s %*s %*s %31[0-9]", number) != 1)
+  const char *reply = it->replies[section];
+  if (pattern[before] && sscanf(reply, "VALUE %*s %*s %*s %31[0-9]", number) != 1)
     stop("a cas number");
   const char *after = pattern + before + !!pattern[before];
   int size = snprintf(text, LONGEST, "%.*s%s%s", before, pattern, number, after);
-  reply->sent = microseconds();
   send_all(it->connections[section], text, size);
 }
 
-static bool ends_with(const struct reply *reply, const char *end) {
-  size_t size = strlen(end);
-  return reply->got >= size && !memcmp(reply->text + reply->got - size, end, size);
-}
-
-static void hear(struct worker *it, int section, int at) {
-  struct reply *reply = &it->replies[section][at];
-  reply->got = 0;
+static void hear(struct worker *it, int section) {
+  char *reply = it->replies[section];
+  size_t got = 0, room = LONGEST - 1;
+  const char *end;
   // a hit has three lines, every other reply one
   do {
-    char *to = reply->text + reply->got;
-    ssize_t more = recv(it->connections[section], to, LONGEST - reply->got, 0);
+    ssize_t more = recv(it->connections[section], reply + got, room - got, 0);
     if (more <= 0)
       stop("recv");
-    reply->got += more;
-  } while (!ends_with(reply, reply->text[0] == 'V' ? "END\r\n" : "\r\n"));
-  reply->text[reply->got] = 0;
-  reply->answered = microseconds();
+    reply[got += more] = 0;
+    end = reply[0] == 'V' ? "END\r\n" : "\r\n";
+  } while (got < strlen(end) || strcmp(reply + got - strlen(end), end));
 }
 
 static void play(struct worker *it, int section) {
@@ -114,7 +98,7 @@ static void play(struct worker *it, int section) {
     pthread_barrier_wait(&it->meeting);
   for (int at = 0; at < it->job->counts[section]; at++) {
     ask(it, section, at);
-    hear(it, section, at);
+    hear(it, section);
   }
 }
 
@@ -126,7 +110,7 @@ static void play_pairs(struct worker *it) {
         ask(it, section, at);
     for (int section = A; section <= B; section++)
       if (at < it->job->counts[section])
-        hear(it, section, at);
+        hear(it, section);
   }
 }
 
@@ -177,17 +161,6 @@ static void close_all(struct worker *it) {
   }
 }
 
-static void print_section(const struct worker *it, int section) {
-  for (int at = 0; at < it->job->counts[section]; at++) {
-    const struct reply *reply = &it->replies[section][at];
-    printf("%c\t%.1f\t%.1f\t", LETTERS[section], reply->sent, reply->answered);
-    for (const char *byte = reply->text; *byte; byte++)
-      if (*byte != '\r')
-        putchar(*byte == '\n' ? '|' : *byte);
-    putchar('\t');
-  }
-}
-
 static void play_job(struct worker *it) {
   if (!is_on[KEEP])
     open_all(it);
@@ -195,11 +168,6 @@ static void play_job(struct worker *it) {
   play_branches(it);
   if (!is_on[KEEP])
     close_all(it);
-  if (is_on[PRINT]) {
-    print_section(it, A);
-    print_section(it, B);
-    putchar('\n');
-  }
 }
 
 static void *work(void *worker) {
@@ -251,6 +219,5 @@ int main(int count, char **words) {
     connecting += workers[at].connecting;
   }
   double took = microseconds() - began, played = (double)job_count * repeats;
-  if (!is_on[PRINT])
-    printf("%.1f %.2f %.2f\n", played * 1e6 / took, took / played, connecting / played);
+  printf("%.1f %.2f %.2f\n", played * 1e6 / took, took / played, connecting / played);
 }

@@ -10,16 +10,15 @@
 // late: a set over an item is answered at once, and takes effect WINDOW µs later. Or it is none:
 // the server is right, and acts DELAY µs after each request came.
 //
-// It listens on a free port of 127.0.0.1, which it prints. With `shared` any number of connections
-// up to 64 have one cache, of 32,768 keys at most; a line on standard input, while nobody is
-// connected, empties it, and is answered by `end`. Without it a run is three connections, that of P
-// first, then A's, then B's, and nothing is kept from one run for the next. A line on standard
-// input asks for a report, while no run is under way: a line of numbers for each run since the last
-// one, and then `end`. Times are in µs, and 0 where there was nothing of the kind:
+// It listens on a free port of 127.0.0.1, which it prints. A run is three connections, that of P
+// first, then A's, then B's, and nothing is kept from one run for the next. With `shared` a run is
+// any number of connections, 64 at once, until the next report. A line on standard input asks for a
+// report, while nobody is connected: a line of numbers for each run since the last one, and then
+// `end`. Times are in µs, and 0 where there was nothing of the kind:
 //
 //   1, 2    when A's first request came, and when its reply had been sent
 //   3, 4    the same of B's
-//   5       1 where the race happened, which the replies then show
+//   5       how often the race happened, which the replies then show
 //   6, 7    of a late set, when STORED had been sent, and when the last get came that showed the
 //           old value
 #include "sockets.h"
@@ -60,7 +59,8 @@ struct visit {
 struct run {
   struct visit first[SECTIONS];
   double stored, last_old;
-  bool shown, effective;
+  int shown;
+  bool effective;
 };
 
 // A connection, and the run that it belongs to. `first` is the first visit of a branch, or null.
@@ -72,7 +72,7 @@ struct talk {
   char text[LONGEST + 1];
 };
 
-// A connection as it is given to a thread, and how many were taken before it.
+// A connection as it is given to a thread, and how many were taken before it; 0 if all share a run.
 struct ticket {
   int connection, number;
 };
@@ -169,7 +169,7 @@ static const char *get(const struct item *at, const struct request *request, cha
 
 // Does what is asked, and answers the reply. Between its look at the item and its write, the
 // command that races unlocks the cache for the window, and notes if another connection wrote.
-static const char *act(const struct request *request, char *room, bool *raced) {
+static const char *act(const struct request *request, char *room, int *raced) {
   struct item *at = item_of(request->key), item = *at;
   if (request->verb == GET || request->verb == GETS)
     return get(at, request, room);
@@ -180,7 +180,7 @@ static const char *act(const struct request *request, char *room, bool *raced) {
     pthread_mutex_unlock(&lock);
     spin_until(microseconds() + window);
     pthread_mutex_lock(&lock);
-    *raced |= at->version != item.version;
+    *raced += at->version != item.version;
   }
   reply = written(&item, request, room);
   item.version = ++last_version;
@@ -283,8 +283,8 @@ static void wait_until_open(int connections) {
 static void *serve(void *tickets) {
   struct ticket it;
   while (read(((int *)tickets)[0], &it, sizeof it) == sizeof it) {
-    struct run unseen = {0}, *run = is_shared ? &unseen : &runs[it.number / SECTIONS];
-    int section = is_shared ? P : it.number % SECTIONS;
+    struct run *run = &runs[it.number / SECTIONS];
+    int section = it.number % SECTIONS;
     struct talk talk = {it.connection, run, section == P ? 0 : &run->first[section], 0, ""};
     converse(&talk);
   }
@@ -294,25 +294,23 @@ static void *serve(void *tickets) {
 // Takes connections, and gives them to the threads of their sections.
 static void *welcome(void *unused) {
   for (;;) {
-    int one = undelayed(accept4(listener, 0, 0, SOCK_CLOEXEC)), number = taken++;
-    int section = is_shared ? P : number % SECTIONS;
-    struct ticket it = {one, number};
+    struct ticket it = {undelayed(accept4(listener, 0, 0, SOCK_CLOEXEC)), 0};
     open_connections++;
-    if (!is_shared && number >= MOST_RUNS * SECTIONS)
+    if (!is_shared && (it.number = taken++) >= MOST_RUNS * SECTIONS)
       stop("a run too many");
     // what the run before did late is over before this one begins
-    if (!is_shared && section == P) {
+    if (!is_shared && it.number % SECTIONS == P) {
       wait_until_open(1);
       forget();
     }
-    if (write(tickets[section][1], &it, sizeof it) != sizeof it)
+    if (write(tickets[it.number % SECTIONS][1], &it, sizeof it) != sizeof it)
       stop("write");
   }
   return unused;
 }
 
 static void report(void) {
-  int count = (taken + SECTIONS - 1) / SECTIONS;
+  int count = is_shared ? 1 : (taken + SECTIONS - 1) / SECTIONS;
   for (const struct run *run = runs; run < runs + count; run++) {
     const struct visit *a = &run->first[A], *b = &run->first[B];
     printf("%.1f %.1f %.1f %.1f %d %.1f %.1f\n", a->came, a->left, b->came, b->left, run->shown,
@@ -320,6 +318,7 @@ static void report(void) {
   }
   memset(runs, 0, sizeof *runs * count);
   taken = 0;
+  forget();
 }
 
 static void listen_somewhere(void) {
@@ -352,10 +351,7 @@ int main(int count, char **words) {
   started(welcome, 0);
   while (fgets(line, sizeof line, stdin)) {
     wait_until_open(0);
-    if (is_shared)
-      forget();
-    else
-      report();
+    report();
     // only now, since the next run may begin as soon as this is read
     puts("end");
     fflush(stdout);

@@ -1,5 +1,4 @@
-"""The races of race_server.c: their scripts, which replies show that the race happened, and the
-programs that play them."""
+"""The races of race_server.c: their scripts, and the programs that play them."""
 
 import collections
 import contextlib
@@ -16,13 +15,11 @@ ROUND = 100
 CLEARLY = 20
 TOTALS = re.compile(r"runs (\d+) explained \d+ unexplained (\d+) other 0 overlapped \d+")
 
-# A reply to the plain program; the times in µs. In the text each end of a line is a |.
-Reply = collections.namedtuple("Reply", "sent answered text")
-# A run as the server saw it; `late` is in µs or None.
+# A run as the server saw it: the branch that came first, whether the other one came before its reply
+# was sent, how often the race happened, and the µs from STORED to a get of the old value, or None.
 Visit = collections.namedtuple("Visit", "first overlapped shown late")
-# A script, the race of the server that it is played against, and whether the replies to A and to B
-# show it.
-Race = collections.namedtuple("Race", "server script shows")
+# A script, and the race of the server that it is played against.
+Race = collections.namedtuple("Race", "server script")
 
 
 # ---- scripts
@@ -66,44 +63,18 @@ def winner(body, times=1):
 # ---- races
 
 
-def both_end_with(text):
-    """Whether the last requests of both branches were answered by this."""
-    return lambda a, b: a[-1].text == b[-1].text == text
-
-
-def share_a_number(a, b):
-    """Each number is that of one increment, unless one was lost."""
-    return len({it.text for it in a + b}) < len(a + b)
-
-
-def show_an_old_value(a, b):
-    """B stores 6 over 5. Whether a get of A that was sent after B's reply was read showed 5."""
-    return any(b[0].answered < it.sent and body_of(it) == "5" for it in a)
-
-
-def body_of(reply):
-    return reply.text.split("|")[1]
-
-
 SET, ADD, DELETE, INCR, GET = ["set a 0 =5"], "add a 0 =6", "delete a", ["incr a 1"], ["get a"]
 APPENDS = [[f"append a 0 ={it}", "get a"] for it in (6, 7)]
-# What an append and a get in each branch show if no append is lost.
-WHOLE = [("56", "567"), ("567", "567"), ("576", "576"), ("576", "57")]
 RACES = {
-    "incr": Race("incr", script_of(SET, INCR, INCR), share_a_number),
-    "incr-4": Race("incr", script_of(SET, 4 * INCR, 4 * INCR), share_a_number),
-    # A counts up from 5, and B down: whoever is second gets 5
-    "decr": Race("decr", script_of(SET, INCR, ["decr a 1"]),
-                 lambda a, b: (a[0].text, b[0].text) == ("6|", "4|")),
-    # both were shown the same number, and both stored with it
-    "cas": Race("cas", script_of(SET, winner(6), winner(7)),
-                lambda a, b: a[0].text == b[0].text and a[1].text == b[1].text == "STORED|"),
-    "add": Race("add", script_of([], [ADD], ["add a 0 =7"]), both_end_with("STORED|")),
-    "append": Race("append", script_of(SET, *APPENDS),
-                   lambda a, b: (body_of(a[-1]), body_of(b[-1])) not in WHOLE),
-    "delete": Race("delete", script_of(SET, [DELETE], [DELETE]), both_end_with("DELETED|")),
-    "late": Race("late", script_of(SET, GET, ["set a 0 =6"]), show_an_old_value),
-    "late-4": Race("late", script_of(SET, 4 * GET, ["set a 0 =6"]), show_an_old_value),
+    "incr": Race("incr", script_of(SET, INCR, INCR)),
+    "incr-4": Race("incr", script_of(SET, 4 * INCR, 4 * INCR)),
+    "decr": Race("decr", script_of(SET, INCR, ["decr a 1"])),
+    "cas": Race("cas", script_of(SET, winner(6), winner(7))),
+    "add": Race("add", script_of([], [ADD], ["add a 0 =7"])),
+    "append": Race("append", script_of(SET, *APPENDS)),
+    "delete": Race("delete", script_of(SET, [DELETE], [DELETE])),
+    "late": Race("late", script_of(SET, GET, ["set a 0 =6"])),
+    "late-4": Race("late", script_of(SET, 4 * GET, ["set a 0 =6"])),
 }
 # Scripts of twelve requests in each branch. What is there can't be added, and what isn't can't be
 # deleted, so the one undoes the other; after each append is seen whether one is lost.
@@ -126,7 +97,7 @@ def visit_of(line):
     both, late = a_came and b_came, last_old - stored if last_old and stored else None
     overlapped = both and a_came < b_left and b_came < a_left
     first = "-" if not both else "A" if a_came < b_came else "B"
-    return Visit(first, bool(overlapped), bool(shown or late and late > 0), late)
+    return Visit(first, bool(overlapped), int(shown) or int(late is not None and late > 0), late)
 
 
 class RaceServer:
@@ -151,34 +122,26 @@ class RaceServer:
         return self.process.stdout.readline().rstrip() or stop("race_server ended")
 
     def visits(self):
-        """The runs since this was asked last; of a shared server none, and its cache is emptied."""
+        """The runs since this was asked last. The cache is emptied."""
         self.process.stdin.write("report\n")
         self.process.stdin.flush()
         return [visit_of(it) for it in iter(self.line, "end")]
 
 
-# ---- the programs: of each `play` answers in which of so many runs the race was found
-
-
-def replies(line):
-    """The replies to A and to B in a line of the plain program."""
-    fields, found = line.rstrip("\t").split("\t"), {"A": [], "B": []}
-    for section, sent, answered, text in zip(*(fields[at::4] for at in range(4))):
-        found[section].append(Reply(float(sent), float(answered), text))
-    return found["A"], found["B"]
+# ---- the programs: `play` answers in which of so many runs the race was found, or None
 
 
 class Plain:
-    """The plain program, started for each run, or once for all of them."""
+    """The plain program, started for each run, or once for all of them. It looks at no reply: what
+    is found is what the server counts."""
 
     def __init__(self, name, client, *how, is_one_process=False):
         self.name, self.client, self.how, self.is_one = name, client, how, is_one_process
 
     def play(self, port, race, runs):
         processes, each = (1, runs) if self.is_one else (runs, 1)
-        words = [self.client, port, 1, each, *self.how, "print"]
-        lines = "".join(ran(words, job_of(race.script)) for _ in range(processes)).splitlines()
-        return [race.shows(*replies(it)) for it in lines]
+        for _ in range(processes):
+            ran([self.client, port, 1, each, *self.how], job_of(race.script))
 
 
 class Mcrace:
@@ -214,18 +177,17 @@ class Repeated(Mcrace):
 
 
 def seen(player, started, race, runs):
-    """In which runs the race was found, each with what the server saw, which counts by itself what
-    a client could see: both must agree. Of a late set that rests on how fast the client is: there a
+    """In which runs the race was found, each with what the server saw. What mcrace finds must be
+    what the server counts by itself. Of a late set that rests on how fast the client is: there a
     run that was found has an old value."""
-    found = player.play(started.port, race, runs)
-    visits = started.visits()
-    if len(found) != len(visits):
-        stop(f"{player.name}, {race.server}: {len(visits)} runs came to the server of {len(found)}")
-    for is_found, it in zip(found, visits):
-        is_late = race.server == "late" and (it.late is not None or not is_found)
-        if not (is_late or race.server != "late" and is_found == it.shown):
+    found, visits = player.play(started.port, race, runs), started.visits()
+    if len(visits) != runs:
+        stop(f"{player.name}, {race.server}: {len(visits)} runs came to the server of {runs}")
+    for is_found, it in zip(found or [], visits):
+        is_right = is_found == bool(it.shown)
+        if not is_right and (race.server != "late" or is_found and it.late is None):
             stop(f"{player.name}, {race.server}: found {is_found}, but the server saw {it}")
-    return list(zip(found, visits))
+    return list(zip(found or [it.shown > 0 for it in visits], visits))
 
 
 def series(server, name, window, delay, players, runs):
