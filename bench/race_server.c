@@ -235,9 +235,9 @@ static void answer(struct talk *talk, const struct request *request) {
   bool late = is_late && request->verb == SET && is_there(request->key);
   if (late) {
     say(talk, "STORED\r\n");
-    talk->run->stored = microseconds();
+    double stored = talk->run->stored = microseconds();
     note_left(talk);
-    spin_until(talk->run->stored + window);
+    spin_until(stored + window);
   } else if (request->verb == race || is_right) {
     spin_until(request->came + delay);
   }

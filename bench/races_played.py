@@ -15,8 +15,9 @@ ROUND = 100
 CLEARLY = 20
 TOTALS = re.compile(r"runs (\d+) explained \d+ unexplained (\d+) other 0 overlapped \d+")
 
-# A run as the server saw it: the branch that came first, whether the other one came before its reply
-# was sent, how often the race happened, and the µs from STORED to a get of the old value, or None.
+# A run as the server saw it: the branch that came first, whether the other one came before the
+# reply to it was sent, how often the race happened, and the µs from STORED to a get of the old
+# value, or None.
 Visit = collections.namedtuple("Visit", "first overlapped shown late")
 # A script, and the race of the server that it is played against.
 Race = collections.namedtuple("Race", "server script")
