@@ -8,7 +8,7 @@
 // connection did meanwhile: an increment or an append is lost, a cas number wins twice, an item is
 // added or deleted twice. A decrement loses an increment too, which itself has no race. Or it is
 // late: a set over an item is answered at once, and takes effect WINDOW µs later. Or it is none:
-// the server is right, and acts DELAY µs after each request came.
+// the server is right.
 //
 // It listens on a free port of 127.0.0.1, which it prints. A run is three connections, that of P
 // first, then A's, then B's, and nothing is kept from one run for the next. With `shared` a run is
@@ -77,9 +77,9 @@ struct ticket {
   int connection, number;
 };
 
-// The command that races; or none, and then sets are late or the server is right.
+// The command that races; or COMMANDS, and then sets are late or the server is right.
 static int race;
-static bool is_late, is_right;
+static bool is_late;
 static double window, delay;
 static int listener, tickets[SECTIONS][2];
 static bool is_shared;
@@ -238,7 +238,7 @@ static void answer(struct talk *talk, const struct request *request) {
     double stored = talk->run->stored = microseconds();
     note_left(talk);
     spin_until(stored + window);
-  } else if (request->verb == race || is_right) {
+  } else if (request->verb == race) {
     spin_until(request->came + delay);
   }
   pthread_mutex_lock(&lock);
@@ -338,8 +338,8 @@ int main(int count, char **words) {
   if (count != 4 + is_shared)
     return 2;
   race = command_of(words[1]), window = atof(words[2]), delay = atof(words[3]);
-  is_late = !strcmp(words[1], "late"), is_right = !strcmp(words[1], "none");
-  if (race == COMMANDS && !is_late && !is_right)
+  is_late = !strcmp(words[1], "late");
+  if (race == COMMANDS && !is_late && strcmp(words[1], "none"))
     return 2;
   listen_somewhere();
   for (int section = P; section < SECTIONS; section++) {

@@ -30,7 +30,7 @@ HERE = pathlib.Path(__file__).resolve().parent
 sys.path += [str(HERE.parents[1] / "bench"), str(HERE.parent)]
 
 from common import memcached
-from model import STORES
+from model import STORES, Code, Template, request_text
 
 OLD_NUMBER, NEW_NUMBER, OTHER_NUMBER = 4, 9, 3
 BOTH = ("incr", "decr")
@@ -91,13 +91,10 @@ class Connection:
 
 def request_of(verb, key, number, names):
     """The request's text; a cas has the item's own number, or one that no item has."""
-    if verb in STORES:
+    if verb == "cas":
         number = {OLD_NUMBER: next(iter(names), 1), OTHER_NUMBER: 2**63}.get(number, number)
-        swap = f" {number}" if verb == "cas" else ""
-        return f"{verb} {key} 7 0 3{swap}\r\nnew\r\n"
-    if verb in BOTH:
-        return f"{verb} {key} {number}\r\n"
-    return f"{verb} {key} 0\r\n" if verb == "touch" else f"{verb} {key}\r\n"
+    template = Template(verb, 0, 7, number, body="new")
+    return request_text(Code([key], 0, 0, [], [template], []), template)
 
 
 def item_text(item, names):
