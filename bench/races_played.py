@@ -102,8 +102,8 @@ def visit_of(line):
 
 
 class RaceServer:
-    """A server with a race whose window of so many µs opens so late. If it is shared it serves any
-    number of connections, and none of them as a run."""
+    """A server with a race whose window of so many µs opens so late. If it is shared, a run is any
+    number of connections until a report."""
 
     def __init__(self, program, race, window, delay=0, is_shared=False):
         words = [program, race, str(window), str(delay), *["shared"] * is_shared]
