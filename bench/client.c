@@ -1,7 +1,7 @@
 // What a run or a campaign costs without mcrace, and what it finds: the same bytes over three
 // connections to 127.0.0.1, by threads that neither note nor judge.
 //
-// usage: client PORT WORKERS REPEATS [one] [thread] [meet] [keep] [quit] [print] < JOBS
+// usage: client PORT WORKERS REPEATS [one] [thread] [meet] [keep] [quit] < JOBS
 //
 // A line of JOBS is a section's letter, a blank and a request, in which | stands for the end of a
 // line and $ for the cas number that the section's reply before showed; the line `end` ends a job.
@@ -14,87 +14,50 @@
 //   meet     both branches wait for each other before their first requests, in a barrier
 //   keep     a worker's connections serve all its jobs
 //   quit     the server is asked to close the connections, and does so before they are closed here
-//   print    in place of the times, a line for each job: of each request of A, and then of B, the
-//            section, when it was sent, when its reply had been read, in µs, and the reply, with |
-//            for the ends of lines; tabs separate these
-#include <arpa/inet.h>
-#include <netinet/in.h>
-#include <netinet/tcp.h>
-#include <pthread.h>
+#include "sockets.h"
 #include <semaphore.h>
 #include <stdatomic.h>
-#include <stdbool.h>
-#include <stdio.h>
-#include <stdlib.h>
-#include <string.h>
-#include <sys/socket.h>
-#include <time.h>
-#include <unistd.h>
 
-enum { P, A, B, SECTIONS };
-enum { MOST_JOBS = 10000, MOST_REQUESTS = 40, LONGEST = 256, MOST_WORKERS = 16 };
+enum { MOST_JOBS = 10000, MOST_REQUESTS = 16, LONGEST = 256, MOST_WORKERS = 16 };
+enum { ONE, THREAD, MEET, KEEP, QUIT, WORDS };
 
 static const char LETTERS[] = "PAB";
+static const char *const NAMES[WORDS] = {"one", "thread", "meet", "keep", "quit"};
 
 struct job {
-  int count;
-  char section[MOST_REQUESTS], request[MOST_REQUESTS][LONGEST];
+  int counts[SECTIONS];
+  char requests[SECTIONS][MOST_REQUESTS][LONGEST];
 };
 
-struct reply {
-  double sent, answered;
-  size_t got;
-  char text[LONGEST];
-};
-
-// A worker, the job that it plays, and the replies to its requests.
+// A worker, the job that it plays, and the last reply to each section.
 struct worker {
   pthread_t thread, second;
   sem_t given, done;
   pthread_barrier_t meeting;
   const struct job *job;
   int connections[SECTIONS];
-  struct reply replies[MOST_REQUESTS];
+  char replies[SECTIONS][LONGEST];
   double connecting;
 };
 
 static struct job *jobs;
 static int job_count, port, repeats;
-static bool is_one, starts_threads, meets, keeps, quits, prints;
+static bool is_on[WORDS];
 static atomic_int next_job;
-
-static const struct {
-  const char *word;
-  bool *is_on;
-} WORDS[] = {{"one", &is_one}, {"thread", &starts_threads}, {"meet", &meets},
-             {"keep", &keeps}, {"quit", &quits},            {"print", &prints}};
-
-static void stop(const char *what) {
-  perror(what);
-  exit(1);
-}
-
-static double microseconds(void) {
-  struct timespec now;
-  clock_gettime(CLOCK_MONOTONIC, &now);
-  return now.tv_sec * 1e6 + now.tv_nsec / 1e3;
-}
 
 static void read_jobs(void) {
   char line[LONGEST];
   jobs = calloc(MOST_JOBS, sizeof *jobs);
-  if (!jobs)
-    stop("calloc");
   while (job_count < MOST_JOBS && fgets(line, sizeof line, stdin)) {
     struct job *job = &jobs[job_count];
+    const char *letter = strchr(LETTERS, line[0]);
     if (!strcmp(line, "end\n")) {
       job_count++;
       continue;
     }
-    if (job->count == MOST_REQUESTS || strlen(line) > LONGEST / 2 || !strchr(LETTERS, line[0]))
+    if (!letter || job->counts[letter - LETTERS] == MOST_REQUESTS || strlen(line) > LONGEST / 2)
       stop("a request");
-    char *to = job->request[job->count];
-    job->section[job->count++] = line[0];
+    char *to = job->requests[letter - LETTERS][job->counts[letter - LETTERS]++];
     for (const char *from = line + 2; *from && *from != '\n'; from++) {
       if (*from == '|')
         *to++ = '\r';
@@ -103,89 +66,51 @@ static void read_jobs(void) {
   }
 }
 
-static int connected(void) {
-  struct sockaddr_in to = {.sin_family = AF_INET, .sin_port = htons(port)};
-  int on = 1, one = socket(AF_INET, SOCK_STREAM | SOCK_CLOEXEC, 0);
-  to.sin_addr.s_addr = htonl(INADDR_LOOPBACK);
-  if (one < 0 || connect(one, (struct sockaddr *)&to, sizeof to))
-    stop("connect");
-  if (setsockopt(one, IPPROTO_TCP, TCP_NODELAY, &on, sizeof on))
-    stop("setsockopt");
-  return one;
-}
-
-static int connection_of(const struct worker *it, int at) {
-  return it->connections[strchr(LETTERS, it->job->section[at]) - LETTERS];
-}
-
-// The request as it is sent, with the number that the reply before showed.
-static size_t text_of(const struct worker *it, int at, char *text) {
-  const char *pattern = it->job->request[at];
-  size_t before = strcspn(pattern, "$");
-  char shown[LONGEST + 1] = "", number[32];
-  if (!pattern[before])
-    return strlen(strcpy(text, pattern));
-  memcpy(shown, it->replies[at - 1].text, it->replies[at - 1].got);
-  if (sscanf(shown, "VALUE %*s %*s %*s %31[0-9]", number) != 1)
+// Sends a request, with the number that the reply before showed.
+static void ask(struct worker *it, int section, int at) {
+  const char *pattern = it->job->requests[section][at];
+  int before = strcspn(pattern, "$");
+  char text[LONGEST], number[32] = "";
+  const char *reply = it->replies[section];
+  if (pattern[before] && sscanf(reply, "VALUE %*s %*s %*s %31[0-9]", number) != 1)
     stop("a cas number");
-  return snprintf(text, LONGEST, "%.*s%s%s", (int)before, pattern, number, pattern + before + 1);
+  const char *after = pattern + before + !!pattern[before];
+  int size = snprintf(text, LONGEST, "%.*s%s%s", before, pattern, number, after);
+  send_all(it->connections[section], text, size);
 }
 
-static void say(struct worker *it, int at) {
-  char text[LONGEST];
-  size_t size = text_of(it, at, text);
-  it->replies[at].sent = microseconds();
-  if (send(connection_of(it, at), text, size, MSG_NOSIGNAL) != (ssize_t)size)
-    stop("send");
-}
-
-static bool ends_with(const struct reply *reply, const char *end) {
-  size_t size = strlen(end);
-  return reply->got >= size && !memcmp(reply->text + reply->got - size, end, size);
-}
-
-static void hear(struct worker *it, int at) {
-  struct reply *reply = &it->replies[at];
-  reply->got = 0;
+static void hear(struct worker *it, int section) {
+  char *reply = it->replies[section];
+  size_t got = 0, room = LONGEST - 1;
+  const char *end;
   // a hit has three lines, every other reply one
   do {
-    size_t room = LONGEST - reply->got;
-    ssize_t more = room ? recv(connection_of(it, at), reply->text + reply->got, room, 0) : 0;
+    ssize_t more = recv(it->connections[section], reply + got, room - got, 0);
     if (more <= 0)
       stop("recv");
-    reply->got += more;
-  } while (!ends_with(reply, reply->text[0] == 'V' ? "END\r\n" : "\r\n"));
-  reply->answered = microseconds();
+    reply[got += more] = 0;
+    end = reply[0] == 'V' ? "END\r\n" : "\r\n";
+  } while (got < strlen(end) || strcmp(reply + got - strlen(end), end));
 }
 
 static void play(struct worker *it, int section) {
-  if (meets && section != P)
+  if (is_on[MEET] && section != P)
     pthread_barrier_wait(&it->meeting);
-  for (int at = 0; at < it->job->count; at++)
-    if (it->job->section[at] == LETTERS[section]) {
-      say(it, at);
-      hear(it, at);
-    }
+  for (int at = 0; at < it->job->counts[section]; at++) {
+    ask(it, section, at);
+    hear(it, section);
+  }
 }
 
 // The requests of both branches, as pairs: both are sent before either reply is read.
 static void play_pairs(struct worker *it) {
-  const struct job *job = it->job;
-  for (int a = 0, b = 0;; a++, b++) {
-    while (a < job->count && job->section[a] != 'A')
-      a++;
-    while (b < job->count && job->section[b] != 'B')
-      b++;
-    if (a >= job->count && b >= job->count)
-      return;
-    if (a < job->count)
-      say(it, a);
-    if (b < job->count)
-      say(it, b);
-    if (a < job->count)
-      hear(it, a);
-    if (b < job->count)
-      hear(it, b);
+  for (int at = 0; at < MOST_REQUESTS; at++) {
+    for (int section = A; section <= B; section++)
+      if (at < it->job->counts[section])
+        ask(it, section, at);
+    for (int section = A; section <= B; section++)
+      if (at < it->job->counts[section])
+        hear(it, section);
   }
 }
 
@@ -197,26 +122,17 @@ static void *play_a(void *worker) {
 // The second thread of a worker, until it is given no job.
 static void *serve_worker(void *worker) {
   struct worker *it = worker;
-  for (;;) {
-    sem_wait(&it->given);
-    if (!it->job)
-      return 0;
+  while (sem_wait(&it->given), it->job) {
     play(it, A);
     sem_post(&it->done);
   }
-}
-
-static pthread_t started(void *(*body)(void *), void *given) {
-  pthread_t thread;
-  if (pthread_create(&thread, 0, body, given))
-    stop("pthread_create");
-  return thread;
+  return 0;
 }
 
 static void play_branches(struct worker *it) {
-  if (is_one) {
+  if (is_on[ONE]) {
     play_pairs(it);
-  } else if (starts_threads) {
+  } else if (is_on[THREAD]) {
     pthread_t of_a = started(play_a, it);
     play(it, B);
     pthread_join(of_a, 0);
@@ -230,47 +146,28 @@ static void play_branches(struct worker *it) {
 static void open_all(struct worker *it) {
   double began = microseconds();
   for (int section = P; section < SECTIONS; section++)
-    it->connections[section] = connected();
+    it->connections[section] = connected(port);
   it->connecting += microseconds() - began;
 }
 
 static void close_all(struct worker *it) {
   char more[LONGEST];
-  for (int section = P; quits && section < SECTIONS; section++)
-    if (send(it->connections[section], "quit\r\n", 6, MSG_NOSIGNAL) != 6)
-      stop("send");
+  for (int section = P; is_on[QUIT] && section < SECTIONS; section++)
+    send_all(it->connections[section], "quit\r\n", 6);
   for (int section = P; section < SECTIONS; section++) {
-    while (quits && recv(it->connections[section], more, sizeof more, 0) > 0)
+    while (is_on[QUIT] && recv(it->connections[section], more, sizeof more, 0) > 0)
       ;
     close(it->connections[section]);
   }
 }
 
-static void print_section(const struct worker *it, char section) {
-  for (int at = 0; at < it->job->count; at++) {
-    const struct reply *reply = &it->replies[at];
-    if (it->job->section[at] != section)
-      continue;
-    printf("%c\t%.1f\t%.1f\t", section, reply->sent, reply->answered);
-    for (size_t byte = 0; byte < reply->got; byte++)
-      if (reply->text[byte] != '\r')
-        putchar(reply->text[byte] == '\n' ? '|' : reply->text[byte]);
-    putchar('\t');
-  }
-}
-
 static void play_job(struct worker *it) {
-  if (!keeps)
+  if (!is_on[KEEP])
     open_all(it);
   play(it, P);
   play_branches(it);
-  if (!keeps)
+  if (!is_on[KEEP])
     close_all(it);
-  if (prints) {
-    print_section(it, 'A');
-    print_section(it, 'B');
-    putchar('\n');
-  }
 }
 
 static void *work(void *worker) {
@@ -279,14 +176,14 @@ static void *work(void *worker) {
   sem_init(&it->done, 0, 0);
   pthread_barrier_init(&it->meeting, 0, 2);
   it->second = started(serve_worker, it);
-  if (keeps)
+  if (is_on[KEEP])
     open_all(it);
   for (int number; (number = atomic_fetch_add(&next_job, 1)) < job_count;)
     for (int repeat = 0; repeat < repeats; repeat++) {
       it->job = &jobs[number];
       play_job(it);
     }
-  if (keeps)
+  if (is_on[KEEP])
     close_all(it);
   it->job = 0;
   sem_post(&it->given);
@@ -295,18 +192,19 @@ static void *work(void *worker) {
 }
 
 static bool takes(const char *word) {
-  for (size_t at = 0; at < sizeof WORDS / sizeof *WORDS; at++)
-    if (!strcmp(word, WORDS[at].word))
-      return *WORDS[at].is_on = true;
+  for (int at = 0; at < WORDS; at++)
+    if (!strcmp(word, NAMES[at]))
+      return is_on[at] = true;
   return false;
 }
 
 int main(int count, char **words) {
   static struct worker workers[MOST_WORKERS];
-  int wanted = count > 3 ? atoi(words[2]) : 0;
   double connecting = 0;
-  port = count > 3 ? atoi(words[1]) : 0;
-  repeats = count > 3 ? atoi(words[3]) : 0;
+  if (count < 4)
+    return 2;
+  port = atoi(words[1]), repeats = atoi(words[3]);
+  int wanted = atoi(words[2]);
   for (int at = 4; at < count; at++)
     if (!takes(words[at]))
       return 2;
@@ -321,6 +219,5 @@ int main(int count, char **words) {
     connecting += workers[at].connecting;
   }
   double took = microseconds() - began, played = (double)job_count * repeats;
-  if (!prints)
-    printf("%.1f %.2f %.2f\n", played * 1e6 / took, took / played, connecting / played);
+  printf("%.1f %.2f %.2f\n", played * 1e6 / took, took / played, connecting / played);
 }

@@ -1,14 +1,19 @@
 """The histories that `bench/judge` and `bench/instructions` measure, by their kinds."""
 
-import common  # which finds the model
-from model import GREATEST, Cache, Notes
+import collections
+import random
 
-STORED, TOUCHED, NOT_FOUND = ("STORED",), ("TOUCHED",), ("NOT_FOUND",)
-CLEARED = ("P", ("delete", "a"), NOT_FOUND)
-EMPTY = ("P", ("set", "a", 0, b""), STORED)
+import common  # which finds the model
+from model import GREATEST, Cache, history_text, line_of
+
+CLEARED = "P delete a -> NOT_FOUND"
+EMPTY = "P set a 0 = -> STORED"
 # A hit that no server gives here: nothing stores this body.
-NEVER = ("A", ("get", "a"), ("HIT", 0, b"never"))
+NEVER = "A get a -> HIT 0 =never"
 VERBS = "set add replace append prepend cas cas get get gets gets incr incr decr decr delete touch"
+
+
+# ---- histories of a server, at random
 
 
 class Run:
@@ -19,7 +24,7 @@ class Run:
         first = rng.randrange(1, 1000)
         both = ("incr", "decr") if pads else ()
         self.cache = Cache(first, lambda: rng.randrange(1, 4), both)
-        # of each section the number that it was shown last of a key
+        # the number that each section was shown last of a key
         self.shown = {"P": {}, "A": {}, "B": {}}
         for key in keys:
             self.send("P", ("delete", key))
@@ -29,6 +34,9 @@ class Run:
         self.history.append((actor, request, reply))
         if request[0] == "gets" and reply[0] == "HIT":
             self.shown[actor][request[1]] = reply[3]
+
+    def set_any(self, key):
+        self.send("P", ("set", key, 0, b"%d" % self.rng.randrange(100)))
 
     def number(self, actor, key):
         """A number that the section may use in a cas of the key."""
@@ -41,48 +49,46 @@ class Run:
             actor = self.rng.choice([actor for actor in "AB" for _ in range(left[actor])])
             self.send(actor, make(self, actor))
             left[actor] -= 1
-
-
-def decimal_body(rng):
-    return b"%d" % rng.randrange(100)
+        return self.history
 
 
 def any_request(run, actor):
-    """Any of the twelve commands on any key, a cas only where a number was shown."""
+    """Any of the twelve commands on any key, a cas only if a number was shown."""
     rng = run.rng
-    key = rng.choice(run.keys)
-    verb = rng.choice(VERBS.split())
+    key, verb = rng.choice(run.keys), rng.choice(VERBS.split())
     if verb == "cas":
         number = run.number(actor, key)
-        return ("cas", key, 0, decimal_body(rng), number) if number else ("gets", key)
+        return ("cas", key, 0, b"%d" % rng.randrange(100), number) if number else ("gets", key)
     if verb in ("incr", "decr"):
         return (verb, key, rng.randrange(1, 10))
     if verb in ("get", "gets", "delete", "touch"):
         return (verb, key)
-    return (verb, key, 0, decimal_body(rng))
+    return (verb, key, 0, b"%d" % rng.randrange(100))
 
 
-# ---- the kinds of which there are several histories
+def request_of_one_body(run, actor):
+    """A set or a cas of the same body, or a gets."""
+    number = run.number(actor, "a")
+    store = ("cas", "a", 0, b"1", number) if number else ("gets", "a")
+    return run.rng.choice([("set", "a", 0, b"1"), ("gets", "a"), store])
 
 
 def job(rng):
     """As a campaign's job: two keys, one or both set, and up to three pieces in each branch."""
     run = Run(rng, ["r7-0", "r7-1"])
-    run.send("P", ("set", "r7-0", 0, decimal_body(rng)))
+    run.set_any("r7-0")
     if rng.randrange(2):
-        run.send("P", ("set", "r7-1", 0, decimal_body(rng)))
-    run.branch_out([rng.randrange(1, 4), rng.randrange(1, 4)], any_request)
-    return run.history
+        run.set_any("r7-1")
+    return run.branch_out([rng.randrange(1, 4), rng.randrange(1, 4)], any_request)
 
 
-def random_24(rng, keys=("a", "b", "c")):
+def random_24(rng, keys="abc"):
     """24 requests of all commands in each branch, on three keys."""
     run = Run(rng, list(keys), pads=rng.random() < 0.5)
     for key in keys:
-        run.send("P", ("set", key, 0, decimal_body(rng)))
+        run.set_any(key)
         run.send("P", ("gets", key))
-    run.branch_out([24, 24], any_request)
-    return run.history
+    return run.branch_out([24, 24], any_request)
 
 
 def changed_24(rng):
@@ -93,133 +99,77 @@ def changed_24(rng):
         places = [at for at, (actor, _, reply) in enumerate(history)
                   if actor != "P" and reply[0] in ("NUMBER", "HIT")]
     place = rng.choice(places)
-    actor, request, reply = history[place]
-    if reply[0] == "NUMBER":
-        changed = ("NUMBER", (reply[1] + 1) & GREATEST)
+    actor, request, (word, first, *rest) = history[place]
+    if word == "NUMBER":
+        changed = (word, (first + 1) & GREATEST)
     else:
-        changed = (reply[0], reply[1], reply[2] + b"x", *reply[3:])
+        changed = (word, first, rest[0] + b"x", *rest[1:])
     history[place] = (actor, request, changed)
     return history
-
-
-def keys_24(rng):
-    """24 requests in each branch on eight keys."""
-    return random_24(rng, tuple("abcdefgh"))
 
 
 def numbers_24(rng):
     """Both branches store one body at one key and ask for its number, so that only numbers tell the
     versions apart."""
-    run = Run(rng, ["a"])
-
-    def make(run, actor):
-        number = run.number(actor, "a")
-        store = ("cas", "a", 0, b"1", number) if number else ("gets", "a")
-        return rng.choice([("set", "a", 0, b"1"), ("gets", "a"), store])
-
-    run.branch_out([24, 24], make)
-    return run.history
+    return Run(rng, ["a"]).branch_out([24, 24], request_of_one_body)
 
 
-# ---- the kinds of one history, which has no explanation
+# ---- kinds
 
 
-def branches(a, b, last):
-    """These pairs of requests and replies in A and in B, and after A's one that no order gives."""
-    return [*(("A", *it) for it in a), ("A", *last), *(("B", *it) for it in b)]
+class Kind(collections.namedtuple("Kind", "name made verdict limit version",
+                                  defaults=(None, None, 1))):
+    """A kind of histories: the lines of one, or how one is made from a generator of random numbers;
+    the verdict if it is known; a limit of its own; and the version of the text."""
+
+    def texts(self, count):
+        """So many histories, but one if all are the same; two benches measure the same ones."""
+        if isinstance(self.made, list):
+            return [history_text(self.made, self.version)]
+        rng = random.Random(f"1 {self.name}")
+        return [history_text(line_of(*it) for it in self.made(rng)) for _ in range(count)]
 
 
-def misses(count):
-    """Misses in each branch, and a hit: every merge of the two is an order."""
-    miss = (("get", "a"), ("MISS",))
-    return [CLEARED, *branches(count * [miss], count * [miss], (miss[0], ("HIT", 0, b"1")))]
-
-
-def bodies():
-    """The same with 12 touches, while the cache holds a body of 32,768 bytes."""
-    touch = (("touch", "a"), TOUCHED)
-    large = ("P", ("set", "a", 0, b"x" * 32768), STORED)
-    return [CLEARED, large, *branches(12 * [touch], 12 * [touch], (touch[0], NOT_FOUND))]
-
-
-def stores(count):
-    """Each request stores a body of its own."""
-    stored = [("A", ("set", "a", 0, b"a%d" % at), STORED) for at in range(count - 1)]
-    stored += [("B", ("set", "a", 0, b"b%d" % at), STORED) for at in range(count)]
-    return [CLEARED, *stored, NEVER]
-
-
-def appends(size):
-    """Seven appends of so many bytes in each branch: another body for each order."""
-    words = [(actor, b"%c%d" % (ord(actor), at)) for actor in "AB" for at in range(7)]
-    joined = [(actor, ("append", "a", 0, word * (size // len(word))), STORED)
-              for actor, word in words]
-    return [CLEARED, EMPTY, *joined, NEVER]
-
-
-def grown(make):
-    """Appends in P make a body of 975,000 bytes; then both branches send 12 requests."""
-    large = [("P", (verb, "a", 0, b"x" * 65000), STORED) for verb in ["set"] + 14 * ["append"]]
-    return [CLEARED, *large, *((actor, *make(actor)) for actor in "AB" for _ in range(12)), NEVER]
-
-
-def alike(verb):
-    """23 requests in each branch, A's join one byte and B's two: many orders make one body."""
-    words = [(actor, word) for actor, word in (("A", b"x"), ("B", b"xx")) for _ in range(23)]
-    joined = [(actor, (verb, "a", 0, word), STORED) for actor, word in words]
-    return [CLEARED, EMPTY, *joined, NEVER]
-
-
-def alike_pairs():
-    """The same appends in pairs that overlap, and a last hit of A that is one byte short."""
-    notes = Notes()
-    both = [("A", ("append", "a", 0, b"x")), ("B", ("append", "a", 0, b"xx"))]
-    short = ("A", ("get", "a")), ("HIT", 0, b"x" * (3 * 23 - 1))
-    rounds = [([CLEARED[:2]], NOT_FOUND), ([EMPTY[:2]], STORED), *(23 * [(both, STORED)])]
-    for sent, reply in [*rounds, ([short[0]], short[1])]:
-        notes += [(actor, "begin", request) for actor, request in sent]
-        notes += [(actor, "reply", reply) for actor, _ in sent]
-    return notes
-
-
-def alike_pads():
-    """Six spaces that A appends to a number, and six decrements of B by 0."""
-    prefix = [CLEARED, ("P", ("set", "a", 0, b"9"), STORED)]
-    spaces = 6 * [("A", ("append", "a", 0, b" "), STORED)]
-    return [*prefix, *spaces, NEVER, *(6 * [("B", ("decr", "a", 0), ("NUMBER", 9))])]
-
-
-class Kind:
-    """A kind of histories: how they are made from a generator of random numbers; whether all are
-    the same; whether a server gave all replies, or none could; and a limit of its own."""
-
-    def __init__(self, name, make, one=False, honest=True, impossible=False, limit=None):
-        self.name, self.make, self.one, self.limit = name, make, one, limit
-        self.honest, self.impossible = honest, impossible
-
-
-def hopeless(name, history, limit=None):
-    """One history that has no explanation."""
-    return Kind(name, lambda _: history, one=True, honest=False, impossible=True, limit=limit)
-
-
-KINDS = [
-    Kind("start", lambda _: [], one=True),
-    Kind("job", job),
-    Kind("random", random_24),
-    Kind("changed", changed_24, honest=False),
-    Kind("keys", keys_24),
-    Kind("numbers", numbers_24),
-    hopeless("misses-6", misses(6)),
-    hopeless("misses-12", misses(12)),
-    hopeless("bodies", bodies(), limit=10_000),
-    *(hopeless(f"stores-{count}", stores(count)) for count in (8, 16, 24)),
-    hopeless("appends-6", appends(6)),
-    hopeless("appends-60000", appends(60_000)),
-    hopeless("alike-appends", alike("append")),
-    hopeless("alike-prepends", alike("prepend")),
-    hopeless("alike-pairs", alike_pairs()),
-    hopeless("alike-pads", alike_pads()),
-    hopeless("grown-touched", grown(lambda _: (("touch", "a"), TOUCHED))),
-    hopeless("grown-appended", grown(lambda actor: (("append", "a", 0, actor.encode()), STORED))),
-]
+# What a server answered has an explanation.
+SERVED = {"start": [], "job": job, "random": random_24, "changed": changed_24,
+          "keys": lambda rng: random_24(rng, "abcdefgh"), "numbers": numbers_24}
+LARGE_SET, LARGE_APPEND = (f"P {verb} a 0 ={65_000 * 'x'} -> STORED" for verb in ("set", "append"))
+# These have none: each ends with a hit that no order gives.
+HOPELESS = {
+    # every merge of the two branches is an order
+    **{f"misses-{count}": [CLEARED, *count * ["A get a -> MISS"], "A get a -> HIT 0 =1",
+                           *count * ["B get a -> MISS"]] for count in (6, 12)},
+    # the same with a large body
+    "bodies": [CLEARED, f"P set a 0 ={32_768 * 'x'} -> STORED", *12 * ["A touch a -> TOUCHED"],
+               "A touch a -> NOT_FOUND", *12 * ["B touch a -> TOUCHED"]],
+    # each request stores a body of its own
+    **{f"stores-{count}": [
+        CLEARED, *(f"A set a 0 =a{at} -> STORED" for at in range(count - 1)),
+        *(f"B set a 0 =b{at} -> STORED" for at in range(count)), NEVER] for count in (8, 16, 24)},
+    # another body for each order
+    **{f"appends-{size}": [
+        CLEARED, EMPTY, *(f"{actor} append a 0 ={size // 2 * f'{actor}{at}'} -> STORED"
+                          for actor in "AB" for at in range(7)), NEVER] for size in (6, 60_000)},
+    # many orders make one body, of other pieces
+    **{f"alike-{verb}s": [
+        CLEARED, EMPTY, *23 * [f"A {verb} a 0 =x -> STORED"], *23 * [f"B {verb} a 0 =xx -> STORED"],
+        NEVER] for verb in ("append", "prepend")},
+    # the same appends in pairs that overlap, and a hit that is one byte short
+    "alike-pairs": [
+        "P begin delete a", "P reply NOT_FOUND", "P begin set a 0 =", "P reply STORED",
+        *23 * ["A begin append a 0 =x", "B begin append a 0 =xx", "A reply STORED",
+               "B reply STORED"], "A begin get a", f"A reply HIT 0 ={(3 * 23 - 1) * 'x'}"],
+    # spaces that A appends to a number, and that B's decrements keep or drop
+    "alike-pads": [CLEARED, "P set a 0 =9 -> STORED", *6 * ["A append a 0 =%20 -> STORED"], NEVER,
+                   *6 * ["B decr a 0 -> NUMBER 9"]],
+    # a body of 975,000 bytes, which doesn't change or grows
+    **{f"grown-{name}": [
+        CLEARED, LARGE_SET, *14 * [LARGE_APPEND], *12 * [f"A {line.format('A')}"],
+        *12 * [f"B {line.format('B')}"], NEVER]
+       for name, line in (("touched", "touch a -> TOUCHED"),
+                          ("appended", "append a 0 ={} -> STORED"))},
+}
+KINDS = [Kind(name, made, None if name == "changed" else "explained")
+         for name, made in SERVED.items()]
+KINDS += [Kind(name, lines, "unexplained", 10_000 if name == "bodies" else None,
+               2 if name == "alike-pairs" else 1) for name, lines in HOPELESS.items()]

@@ -8,47 +8,42 @@
 // connection did meanwhile: an increment or an append is lost, a cas number wins twice, an item is
 // added or deleted twice. A decrement loses an increment too, which itself has no race. Or it is
 // late: a set over an item is answered at once, and takes effect WINDOW µs later. Or it is none:
-// the server is right, and acts DELAY µs after each request came.
+// the server is right.
 //
-// It listens on a free port of 127.0.0.1, which it prints. With `shared` any number of connections
-// have one cache, of 32,768 keys at most; a line on standard input, while nobody is connected,
-// empties it, and is answered by `end`. Without it a run is three connections, that of P first,
-// then A's, then B's, and nothing is kept from one run for the next. A line on standard input asks
-// for a report, while no run is under way: for each run since the last one a line FIRST OVERLAP
-// SHOWN LATE, and then `end`:
+// It listens on a free port of 127.0.0.1, which it prints. A run is three connections, that of P
+// first, then A's, then B's, and nothing is kept from one run for the next. With `shared` a run is
+// any number of connections, 64 at once, until the next report. A line on standard input asks for a
+// report, while nobody is connected: a line of numbers for each run since the last one, and then
+// `end`. Times are in µs, and 0 where there was nothing of the kind:
 //
-//   FIRST    the branch whose first request came first, A or B, or - where one of them sent none
-//   OVERLAP  1 where the other's first request came before the reply to that one was sent, else 0
-//   SHOWN    1 where the race happened, which the replies then show; of the late set, where a get
-//            that came after STORED had been sent showed the old value
-//   LATE     the µs from the sending of STORED to the coming of the last get that showed the old
-//            value; - where there is no such get
-#define _GNU_SOURCE
-#include <arpa/inet.h>
+//   1, 2    when A's first request came, and when its reply had been sent
+//   3, 4    the same of B's
+//   5       how often the race happened, which the replies then show
+//   6, 7    of a late set, when STORED had been sent, and when the last get came that showed the
+//           old value
+#include "sockets.h"
 #include <inttypes.h>
-#include <netinet/in.h>
-#include <netinet/tcp.h>
-#include <pthread.h>
 #include <stdatomic.h>
-#include <stdio.h>
-#include <stdlib.h>
-#include <string.h>
-#include <sys/socket.h>
-#include <time.h>
-#include <unistd.h>
 
-enum { P, A, B, SECTIONS };
-enum { MOST_RUNS = 100000, MOST_KEYS = 1 << 16, LONGEST = 4096, KEY = 64, BODY = 256 };
+enum { MOST_RUNS = 100000, MOST_KEYS = 1 << 16, THREADS = 64 };
+enum { LONGEST = 4096, KEY = 64, BODY = 256 };
+// The commands, those that store a body first.
+enum { SET, ADD, CAS, APPEND, INCR, DECR, DELETE, GET, GETS, COMMANDS };
+
+static const char *const VERBS[COMMANDS] = {"set",  "add",    "cas", "append", "incr",
+                                            "decr", "delete", "get", "gets"};
 
 struct item {
-  char key[KEY], body[BODY];
-  int there;
+  char body[BODY];
+  bool there;
   unsigned flags;
   uint64_t version;
 };
 
+// A request; `verb` is COMMANDS if it is none of them.
 struct request {
-  char verb[16], key[KEY];
+  int verb;
+  char key[KEY];
   unsigned flags;
   size_t size;
   uint64_t number;
@@ -56,7 +51,7 @@ struct request {
   double came;
 };
 
-// When a request came, and when its reply had been sent, in µs; 0 before.
+// When a request came, and when its reply had been sent.
 struct visit {
   double came, left;
 };
@@ -64,7 +59,8 @@ struct visit {
 struct run {
   struct visit first[SECTIONS];
   double stored, last_old;
-  int shown, effective;
+  int shown;
+  bool effective;
 };
 
 // A connection, and the run that it belongs to. `first` is the first visit of a branch, or null.
@@ -76,31 +72,21 @@ struct talk {
   char text[LONGEST + 1];
 };
 
+// A connection as it is given to a thread, and how many were taken before it; 0 if all share a run.
 struct ticket {
-  int connection;
-  struct run *run;
+  int connection, number;
 };
 
-static const char *race;
+// The command that races; or COMMANDS, and then sets are late or the server is right.
+static int race;
+static bool is_late;
 static double window, delay;
-static int listener, is_shared, keys, tickets[SECTIONS][2];
-static struct item cache[MOST_KEYS], *used[MOST_KEYS];
+static int listener, tickets[SECTIONS][2];
+static bool is_shared;
 static struct run runs[MOST_RUNS];
-static uint64_t last_version;
 static atomic_int taken, open_connections;
 // Who looks at the cache or at a run locks it, but for what only waits.
 static pthread_mutex_t lock = PTHREAD_MUTEX_INITIALIZER;
-
-static void stop(const char *what) {
-  perror(what);
-  exit(1);
-}
-
-static double microseconds(void) {
-  struct timespec now;
-  clock_gettime(CLOCK_MONOTONIC, &now);
-  return now.tv_sec * 1e6 + now.tv_nsec / 1e3;
-}
 
 static void spin_until(double time) {
   while (microseconds() < time)
@@ -109,124 +95,116 @@ static void spin_until(double time) {
 
 // ---- the cache
 
-// The place of the key's item, or one that is free, by the hash FNV-1a.
-static struct item *place_of(const char *key) {
+// The keys and items by place; what was put there before the last `forget` is of another epoch.
+static char names[MOST_KEYS][KEY];
+static struct item items[MOST_KEYS];
+static unsigned epochs[MOST_KEYS], epoch = 1;
+static int keys;
+static uint64_t last_version;
+
+static void forget(void) { epoch++, keys = 0; }
+
+// The key's item, or a new place for it, by the hash FNV-1a.
+static struct item *item_of(const char *key) {
   uint32_t hash = 2166136261;
   for (const char *at = key; *at; at++)
     hash = (hash ^ (unsigned char)*at) * 16777619;
-  struct item *it = &cache[hash % MOST_KEYS];
-  while (it->key[0] && strcmp(it->key, key))
-    it = it + 1 < cache + MOST_KEYS ? it + 1 : cache;
-  if (!it->key[0]) {
-    // where it is half full, a search is still short
-    if (keys == MOST_KEYS / 2)
+  size_t place = hash % MOST_KEYS;
+  while (epochs[place] == epoch && strcmp(names[place], key))
+    place = (place + 1) % MOST_KEYS;
+  if (epochs[place] != epoch) {
+    // as long as half of the places are free, a search is short
+    if (keys++ == MOST_KEYS / 2)
       stop("a key too many");
-    used[keys++] = it;
-    strcpy(it->key, key);
+    epochs[place] = epoch;
+    strcpy(names[place], key);
+    items[place] = (struct item){0};
   }
-  return it;
+  return &items[place];
 }
 
-static void forget(void) {
-  while (keys)
-    memset(used[--keys], 0, sizeof *cache);
-}
-
-// Stands in a command between its look at the item and its write. Where this is the command that
-// races, it unlocks the cache for the window, and notes whether another connection wrote meanwhile.
-static void open_window(const char *verb, const struct item *at, int *raced) {
-  uint64_t seen = at->version;
-  if (strcmp(race, verb))
-    return;
-  pthread_mutex_unlock(&lock);
-  spin_until(microseconds() + window);
-  pthread_mutex_lock(&lock);
-  *raced |= at->version != seen;
-}
-
-static void put(struct item *at, struct item item) {
-  strcpy(item.key, at->key);
-  item.version = ++last_version;
-  *at = item;
-}
-
-static const char *store(struct item *at, const struct request *request, int *raced) {
-  const char *verb = request->verb;
-  struct item item = {.there = 1, .flags = request->flags};
-  size_t size = 0;
-  if (!strcmp(verb, "append"))
-    item = *at, size = strlen(item.body);
-  if (!strcmp(verb, "add") ? at->there : !strcmp(verb, "append") && !at->there)
+// The reply of a command that writes nothing, with this item there; null if it writes.
+static const char *refusal(const struct item *at, const struct request *request) {
+  int verb = request->verb;
+  if (verb == ADD ? at->there : verb == APPEND && !at->there)
     return "NOT_STORED\r\n";
-  if (!strcmp(verb, "cas") && (!at->there || at->version != request->number))
-    return at->there ? "EXISTS\r\n" : "NOT_FOUND\r\n";
-  if (size + request->size >= BODY)
+  if (verb >= CAS && verb <= DELETE && !at->there)
+    return "NOT_FOUND\r\n";
+  if (verb == CAS && at->version != request->number)
+    return "EXISTS\r\n";
+  if (verb <= APPEND && (verb == APPEND ? strlen(at->body) : 0) + request->size >= BODY)
     return "SERVER_ERROR object too large for cache\r\n";
-  open_window(verb, at, raced);
-  memcpy(item.body + size, request->body, request->size);
-  put(at, item);
-  return "STORED\r\n";
+  return verb == COMMANDS ? "ERROR\r\n" : 0;
 }
 
-static const char *change(struct item *at, const struct request *request, char *room, int *raced) {
-  struct item seen = *at;
-  uint64_t number = strtoull(seen.body, 0, 10);
-  if (!seen.there)
-    return "NOT_FOUND\r\n";
-  open_window(request->verb, at, raced);
-  if (!strcmp(request->verb, "delete")) {
-    put(at, (struct item){0});
+// Makes the item of what was there, and answers the reply, which may stand in the room.
+static const char *written(struct item *item, const struct request *request, char *room) {
+  uint64_t number = strtoull(item->body, 0, 10), by = request->number;
+  if (request->verb == DELETE) {
+    *item = (struct item){0};
     return "DELETED\r\n";
   }
-  if (!strcmp(request->verb, "incr"))
-    number += request->number;
-  else
-    number -= number < request->number ? number : request->number;
-  snprintf(seen.body, BODY, "%" PRIu64, number);
-  put(at, seen);
+  if (request->verb <= APPEND) {
+    if (request->verb != APPEND)
+      *item = (struct item){.there = true, .flags = request->flags};
+    strncat(item->body, request->body, request->size);
+    return "STORED\r\n";
+  }
+  number = request->verb == INCR ? number + by : number - (number < by ? number : by);
+  snprintf(item->body, BODY, "%" PRIu64, number);
   snprintf(room, LONGEST, "%" PRIu64 "\r\n", number);
   return room;
 }
 
-static const char *get(const struct item *at, int shows_number, char *room) {
+static const char *get(const struct item *at, const struct request *request, char *room) {
   char unique[32] = "";
   if (!at->there)
     return "END\r\n";
-  if (shows_number)
+  if (request->verb == GETS)
     snprintf(unique, sizeof unique, " %" PRIu64, at->version);
-  snprintf(room, LONGEST, "VALUE %s %u %zu%s\r\n%s\r\nEND\r\n", at->key, at->flags,
+  snprintf(room, LONGEST, "VALUE %s %u %zu%s\r\n%s\r\nEND\r\n", request->key, at->flags,
            strlen(at->body), unique, at->body);
   return room;
 }
 
-static int is_one_of(const char *verb, const char *verbs) {
-  const char *at = strstr(verbs, verb);
-  return at && at[strlen(verb)] == ' ' && (at == verbs || at[-1] == ' ');
+// Does what is asked, and answers the reply. Between its look at the item and its write, the
+// command that races unlocks the cache for the window, and notes if another connection wrote.
+static const char *act(const struct request *request, char *room, int *raced) {
+  struct item *at = item_of(request->key), item = *at;
+  if (request->verb == GET || request->verb == GETS)
+    return get(at, request, room);
+  const char *refused = refusal(at, request), *reply;
+  if (refused)
+    return refused;
+  if (request->verb == race) {
+    pthread_mutex_unlock(&lock);
+    spin_until(microseconds() + window);
+    pthread_mutex_lock(&lock);
+    *raced += at->version != item.version;
+  }
+  reply = written(&item, request, room);
+  item.version = ++last_version;
+  *at = item;
+  return reply;
 }
 
-static int stores(const char *verb) { return is_one_of(verb, "set add cas append "); }
-
-// Does what is asked, and answers the reply, which may stand in the room.
-static const char *act(const struct request *request, char *room, int *raced) {
-  struct item *at = place_of(request->key);
-  if (is_one_of(request->verb, "get gets "))
-    return get(at, request->verb[3] == 's', room);
-  if (stores(request->verb))
-    return store(at, request, raced);
-  if (is_one_of(request->verb, "incr decr delete "))
-    return change(at, request, room, raced);
-  return "ERROR\r\n";
+static int command_of(const char *verb) {
+  int command = 0;
+  while (command < COMMANDS && strcmp(verb, VERBS[command]))
+    command++;
+  return command;
 }
 
 // Reads the request that the text begins with, and answers whether it has come whole.
-static int understood(const char *text, size_t got, struct request *request) {
+static bool understood(const char *text, size_t got, struct request *request) {
   const char *end = strstr(text, "\r\n");
   size_t line = end ? end + 2 - text : 0;
+  char verb[16];
   *request = (struct request){.body = text + line, .came = microseconds()};
-  if (!end || sscanf(text, "%15s %63s %" SCNu64, request->verb, request->key, &request->number) < 2)
-    return 0;
-  if (!stores(request->verb))
-    return 1;
+  if (!end || sscanf(text, "%15s %63s %" SCNu64, verb, request->key, &request->number) < 2)
+    return false;
+  if ((request->verb = command_of(verb)) > APPEND)
+    return true;
   if (sscanf(text, "%*s %*s %u %*s %zu %" SCNu64, &request->flags, &request->size,
              &request->number) < 2 || request->size >= BODY)
     stop("a request that stores");
@@ -245,25 +223,22 @@ static void note_left(struct talk *talk) {
     talk->first->left = microseconds();
 }
 
-// Whether this is a set over an item, in a server where these are late.
-static int is_late(const struct request *request) {
-  if (strcmp(race, "late") || strcmp(request->verb, "set"))
-    return 0;
+static bool is_there(const char *key) {
   pthread_mutex_lock(&lock);
-  int there = place_of(request->key)->there;
+  bool there = item_of(key)->there;
   pthread_mutex_unlock(&lock);
   return there;
 }
 
 static void answer(struct talk *talk, const struct request *request) {
   char room[LONGEST];
-  int late = is_late(request);
+  bool late = is_late && request->verb == SET && is_there(request->key);
   if (late) {
     say(talk, "STORED\r\n");
-    talk->run->stored = microseconds();
+    double stored = talk->run->stored = microseconds();
     note_left(talk);
-    spin_until(talk->run->stored + window);
-  } else if (!strcmp(race, request->verb) || !strcmp(race, "none")) {
+    spin_until(stored + window);
+  } else if (request->verb == race) {
     spin_until(request->came + delay);
   }
   pthread_mutex_lock(&lock);
@@ -298,82 +273,56 @@ static void converse(struct talk *talk) {
   open_connections--;
 }
 
-// Takes the connections of one section, one after another: a thread that is there already answers
-// the first request as soon as a later one.
-static void *serve(void *own) {
-  int section = (int)(intptr_t)own;
-  struct ticket it;
-  while (read(tickets[section][0], &it, sizeof it) == sizeof it) {
-    struct talk talk = {.connection = it.connection, .run = it.run};
-    talk.first = section == P ? 0 : &it.run->first[section];
-    converse(&talk);
-  }
-  return 0;
-}
-
-static void *serve_shared(void *own) {
-  struct run unseen = {0};
-  struct talk talk = {.connection = (int)(intptr_t)own, .run = &unseen};
-  converse(&talk);
-  return 0;
-}
-
 static void wait_until_open(int connections) {
   while (open_connections != connections)
     usleep(20);
 }
 
-static void start(void *(*body)(void *), intptr_t own) {
-  pthread_t thread;
-  if (pthread_create(&thread, 0, body, (void *)own) || pthread_detach(thread))
-    stop("a thread");
+// Serves the connections of one section, one after another: a thread that is there already answers
+// the first request as soon as a later one.
+static void *serve(void *tickets) {
+  struct ticket it;
+  while (read(((int *)tickets)[0], &it, sizeof it) == sizeof it) {
+    struct run *run = &runs[it.number / SECTIONS];
+    int section = it.number % SECTIONS;
+    struct talk talk = {it.connection, run, section == P ? 0 : &run->first[section], 0, ""};
+    converse(&talk);
+  }
+  return 0;
 }
 
+// Takes connections, and gives them to the threads of their sections.
 static void *welcome(void *unused) {
-  for (int on = 1;;) {
-    int one = accept4(listener, 0, 0, SOCK_CLOEXEC), count;
-    if (one < 0 || setsockopt(one, IPPROTO_TCP, TCP_NODELAY, &on, sizeof on))
-      stop("accept");
+  for (;;) {
+    struct ticket it = {undelayed(accept4(listener, 0, 0, SOCK_CLOEXEC)), 0};
     open_connections++;
-    if (is_shared) {
-      start(serve_shared, one);
-      continue;
-    }
-    if ((count = taken++) >= MOST_RUNS * SECTIONS)
+    if (!is_shared && (it.number = taken++) >= MOST_RUNS * SECTIONS)
       stop("a run too many");
     // what the run before did late is over before this one begins
-    if (count % SECTIONS == P) {
+    if (!is_shared && it.number % SECTIONS == P) {
       wait_until_open(1);
       forget();
     }
-    struct ticket it = {one, &runs[count / SECTIONS]};
-    if (write(tickets[count % SECTIONS][1], &it, sizeof it) != sizeof it)
+    if (write(tickets[it.number % SECTIONS][1], &it, sizeof it) != sizeof it)
       stop("write");
   }
   return unused;
 }
 
-static void report_run(const struct run *run) {
-  struct visit a = run->first[A], b = run->first[B];
-  int both = a.came && b.came, late = run->last_old && run->stored;
-  int overlapped = both && a.came < b.left && b.came < a.left;
-  printf("%s %d %d ", !both ? "-" : a.came < b.came ? "A" : "B", overlapped,
-         run->shown || (late && run->stored < run->last_old));
-  if (late)
-    printf("%.1f\n", run->last_old - run->stored);
-  else
-    printf("-\n");
-}
-
 static void report(void) {
-  for (int count = 0; count * SECTIONS < taken; count++)
-    report_run(&runs[count]);
-  memset(runs, 0, sizeof *runs * ((taken + SECTIONS - 1) / SECTIONS));
+  int count = is_shared ? 1 : (taken + SECTIONS - 1) / SECTIONS;
+  for (const struct run *run = runs; run < runs + count; run++) {
+    const struct visit *a = &run->first[A], *b = &run->first[B];
+    printf("%.1f %.1f %.1f %.1f %d %.1f %.1f\n", a->came, a->left, b->came, b->left, run->shown,
+           run->stored, run->last_old);
+  }
+  memset(runs, 0, sizeof *runs * count);
   taken = 0;
+  forget();
 }
 
 static void listen_somewhere(void) {
-  struct sockaddr_in address = {.sin_family = AF_INET, .sin_addr = {htonl(INADDR_LOOPBACK)}};
+  struct sockaddr_in address = loopback(0);
   socklen_t size = sizeof address;
   listener = socket(AF_INET, SOCK_STREAM | SOCK_CLOEXEC, 0);
   if (listener < 0 || bind(listener, (struct sockaddr *)&address, size) || listen(listener, 64) ||
@@ -388,20 +337,21 @@ int main(int count, char **words) {
   is_shared = count == 5 && !strcmp(words[4], "shared");
   if (count != 4 + is_shared)
     return 2;
-  race = words[1], window = atof(words[2]), delay = atof(words[3]);
-  for (int section = P; !is_shared && section < SECTIONS; section++) {
+  race = command_of(words[1]), window = atof(words[2]), delay = atof(words[3]);
+  is_late = !strcmp(words[1], "late");
+  if (race == COMMANDS && !is_late && strcmp(words[1], "none"))
+    return 2;
+  listen_somewhere();
+  for (int section = P; section < SECTIONS; section++) {
     if (pipe(tickets[section]))
       stop("pipe");
-    start(serve, section);
+    for (int thread = 0; thread < (is_shared ? THREADS : 1); thread++)
+      started(serve, tickets[section]);
   }
-  listen_somewhere();
-  start(welcome, 0);
+  started(welcome, 0);
   while (fgets(line, sizeof line, stdin)) {
     wait_until_open(0);
-    if (is_shared)
-      forget();
-    else
-      report();
+    report();
     // only now, since the next run may begin as soon as this is read
     puts("end");
     fflush(stdout);

@@ -1,6 +1,7 @@
 """The texts that `bench/script` measures: scripts of each kind, and texts that are none."""
 
 import collections
+import itertools
 
 LETTERS = "abcdefghijklmnopqrstuvwxyz0123456789-"
 HEAD = "script 1\nkeys a\nflags f\nvars v\nbudget P 1 1\nbudget A 1 1\nbudget B 1 1\n"
@@ -15,18 +16,12 @@ def with_sections(p="", a="", b=""):
     return f"{HEAD}P\n{p}A\n{a}B\n{b}end\n"
 
 
-def names():
-    """All names, the shorter ones first."""
-    shorter = [""]
-    while True:
-        shorter = [name + letter for name in shorter for letter in LETTERS]
-        yield from shorter
-
-
 def short_labels(size):
     """Lines of labels with the shortest names, at most so many bytes in all, and the last label."""
     lines, last = [], ""
-    for name in names():
+    names = (name for length in itertools.count(1)
+             for name in itertools.product(LETTERS, repeat=length))
+    for name in map("".join, names):
         if size < len(name) + 2:
             return "".join(lines), last
         lines.append(f"{name}:\n")
@@ -47,10 +42,7 @@ def uses_of(label):
 
 def filled(text, piece, tail=""):
     """Texts of a size: the text, as many of the pieces as there is room for, and the tail."""
-    def make(size):
-        return text + piece * ((size - len(text + tail)) // len(piece)) + tail
-
-    return make
+    return lambda size: text + piece * ((size - len(text + tail)) // len(piece)) + tail
 
 
 def labels(size):
@@ -63,7 +55,7 @@ def labels_in_each(size):
 
 
 def last_label(size, made=short_labels):
-    # The uses stand above the labels, so their length is settled first: that of the last name.
+    # the uses stand above the labels, so their length is settled first: that of the last name
     lines, last = made(size - len(with_sections(a=uses_of(made(size)[1]))))
     return with_sections(a=uses_of(last) + lines)
 

@@ -3,32 +3,23 @@
 // usage: serve_load PORT CONNECTIONS DEPTH SECONDS KEYS BODY
 //
 // Each connection to PORT of 127.0.0.1 writes DEPTH requests by one call, and the next ones once
-// all their replies have come. The keys of get and set are drawn from KEYS, and hold BODY bytes
-// each; those of incr from a tenth as many others, which hold a number. All are set before. Two
-// threads share the connections. It prints the requests a second, of all batches the median and the
-// 99th percentile of the microseconds from the write to the last reply, and the number of requests.
-// A reply that a request can't have ends it with status 1.
-#define _GNU_SOURCE
-#include <arpa/inet.h>
-#include <netinet/tcp.h>
-#include <pthread.h>
+// all their replies have come. The keys of get and set are drawn from KEYS, key-0 and so on, and
+// hold BODY bytes each; those of incr from a tenth as many, number-0 and so on, which hold a
+// number. All must be set before. Two threads share the connections. It prints the requests a
+// second, of all batches the median and the 99th percentile of the microseconds from the write to
+// the last reply, and the number of requests. A reply that a request can't have ends it with
+// status 1.
+#include "sockets.h"
 #include <stdint.h>
-#include <stdio.h>
-#include <stdlib.h>
-#include <string.h>
 #include <sys/epoll.h>
-#include <sys/socket.h>
-#include <time.h>
-#include <unistd.h>
 
 enum { MOST_DEPTH = 1024, THREADS = 2, ROOM = 1 << 20, MOST_BATCHES = 1 << 22 };
-
 enum kind { GET, SET, INCR };
 
 struct connection {
   int socket, answered;
   enum kind asked[MOST_DEPTH];
-  uint64_t began;
+  double began;
   char *got;
   size_t length;
 };
@@ -40,63 +31,12 @@ static uint32_t *micros;
 static _Atomic size_t batches;
 static _Thread_local uint64_t state;
 
-static void stop(const char *what) {
-  perror(what);
-  exit(1);
-}
-
-static uint64_t now(void) {
-  struct timespec at;
-  clock_gettime(CLOCK_MONOTONIC, &at);
-  return at.tv_sec * 1000000000ull + at.tv_nsec;
-}
-
 // xorshift64
 static uint64_t draw(uint64_t below) {
   state ^= state << 13;
   state ^= state >> 7;
   state ^= state << 17;
   return state % below;
-}
-
-static int numbers(void) { return keys < 10 ? 1 : keys / 10; }
-
-static int connected(void) {
-  struct sockaddr_in to = {.sin_family = AF_INET, .sin_port = htons(port)};
-  int at = socket(AF_INET, SOCK_STREAM, 0), yes = 1;
-  to.sin_addr.s_addr = htonl(INADDR_LOOPBACK);
-  if (at < 0 || connect(at, (struct sockaddr *)&to, sizeof to))
-    stop("connect");
-  setsockopt(at, IPPROTO_TCP, TCP_NODELAY, &yes, sizeof yes);
-  return at;
-}
-
-static void write_all(int to, const char *text, size_t length) {
-  for (ssize_t count; length; text += count, length -= count)
-    if ((count = write(to, text, length)) <= 0)
-      stop("write");
-}
-
-static size_t put_set(char *to, const char *name, int key, int size, const char *text) {
-  return sprintf(to, "set %s-%d 0 0 %d\r\n%s\r\n", name, key, size, text);
-}
-
-// Sets each key, a thousand at a time.
-static void fill(void) {
-  int to = connected(), all = keys + numbers();
-  char *text = malloc(1000 * (size_t)(body_length + 64)), reply[8192];
-  for (int first = 0; first < all; first += 1000) {
-    size_t length = 0, due = 0;
-    for (int at = first; at < all && at < first + 1000; at++, due += 8)
-      length += at < keys ? put_set(text + length, "key", at, body_length, body)
-                          : put_set(text + length, "number", at - keys, 1, "0");
-    write_all(to, text, length);
-    for (ssize_t count; due; due -= count)
-      if ((count = read(to, reply, due < sizeof reply ? due : sizeof reply)) <= 0)
-        stop("read");
-  }
-  free(text);
-  close(to);
 }
 
 static void ask(struct connection *c) {
@@ -107,29 +47,28 @@ static void ask(struct connection *c) {
     int key = draw(keys);
     c->asked[at] = lot < 8 ? GET : lot == 8 ? SET : INCR;
     if (c->asked[at] == SET)
-      length += put_set(text + length, "key", key, body_length, body);
+      length += sprintf(text + length, "set key-%d 0 0 %d\r\n%s\r\n", key, body_length, body);
     else if (c->asked[at] == GET)
       length += sprintf(text + length, "get key-%d\r\n", key);
     else
-      length += sprintf(text + length, "incr number-%d 1\r\n", key % numbers());
+      length += sprintf(text + length, "incr number-%d 1\r\n", key / 10);
   }
   c->answered = 0;
-  c->began = now();
-  write_all(c->socket, text, length);
+  c->began = microseconds();
+  send_all(c->socket, text, length);
 }
 
-// How many bytes the reply has with which the text begins; 0 where it isn't whole.
+// How many bytes the reply has with which the text begins; 0 if it isn't whole.
 static size_t reply_length(enum kind asked, const char *text, size_t length) {
   const char *line = memchr(text, '\n', length);
-  size_t first = line ? line + 1 - text : 0;
+  size_t first = line ? line + 1 - text : 0, whole = first + body_length + 7;
   if (!line)
     return 0;
   if (asked == SET && first == 8 && !memcmp(text, "STORED\r\n", 8))
     return first;
   if (asked == INCR && '0' <= *text && *text <= '9')
     return first;
-  size_t whole = first + body_length + 7;
-  int is_hit = asked == GET && !memcmp(text, "VALUE ", 6);
+  bool is_hit = asked == GET && !memcmp(text, "VALUE ", 6);
   if (is_hit && length < whole)
     return 0;
   if (is_hit && !memcmp(text + whole - 7, "\r\nEND\r\n", 7))
@@ -138,13 +77,13 @@ static size_t reply_length(enum kind asked, const char *text, size_t length) {
   exit(1);
 }
 
-// Takes what has come. Where all is answered, the next batch goes out.
+// Takes what has come. If all is answered, the next batch goes out.
 static void take(struct connection *c) {
-  ssize_t count = read(c->socket, c->got + c->length, ROOM - c->length);
-  if (count <= 0)
-    stop("read");
-  c->length += count;
+  ssize_t count = recv(c->socket, c->got + c->length, ROOM - c->length, 0);
   size_t used = 0, reply;
+  if (count <= 0)
+    stop("recv");
+  c->length += count;
   while (c->answered < depth &&
          (reply = reply_length(c->asked[c->answered], c->got + used, c->length - used))) {
     used += reply;
@@ -157,24 +96,23 @@ static void take(struct connection *c) {
   size_t at = batches++;
   if (at >= MOST_BATCHES)
     stop("too many batches");
-  micros[at] = (now() - c->began) / 1000;
+  micros[at] = microseconds() - c->began;
   ask(c);
 }
 
 static void *carry(void *count) {
   int poll = epoll_create1(0), own = *(int *)count;
+  struct epoll_event ready[64];
   state = 88172645463325252ull + ((int *)count - connections);
   for (int at = 0; at < own; at++) {
     struct connection *c = calloc(1, sizeof *c);
     struct epoll_event wanted = {.events = EPOLLIN, .data.ptr = c};
-    c->socket = connected();
+    c->socket = connected(port);
     c->got = malloc(ROOM);
     epoll_ctl(poll, EPOLL_CTL_ADD, c->socket, &wanted);
     ask(c);
   }
-  uint64_t end = now() + (uint64_t)(seconds * 1e9);
-  struct epoll_event ready[64];
-  while (own && now() < end) {
+  for (double end = microseconds() + seconds * 1e6; own && microseconds() < end;) {
     int found = epoll_wait(poll, ready, 64, 100);
     for (int at = 0; at < found; at++)
       take(ready[at].data.ptr);
@@ -199,11 +137,9 @@ int main(int count, char **words) {
   micros = malloc(MOST_BATCHES * sizeof *micros), body = malloc(body_length + 1);
   memset(body, 'x', body_length);
   body[body_length] = 0;
-  fill();
   for (int at = 0; at < THREADS; at++) {
     connections[at] = (all + THREADS - 1 - at) / THREADS;
-    if (pthread_create(&threads[at], 0, carry, &connections[at]))
-      stop("pthread_create");
+    threads[at] = started(carry, &connections[at]);
   }
   for (int at = 0; at < THREADS; at++)
     pthread_join(threads[at], 0);

@@ -1,4 +1,4 @@
-#!/usr/bin/env python3
+#!/usr/bin/env -S python3 -B
 """Compares `mcrace drive` with a second fold of step lists, and its verdict with that of `judge`.
 
 usage: drive_lists.py PROGRAM SCRIPT.. [--lists N] [--seed N]
@@ -7,24 +7,21 @@ It reads scripts that `check` accepts, and makes step lists for each at random: 
 section may take, with replies that a cache gives or at least may give, and now and then any other.
 The fold here walks the lines of the script itself, not its code. It says how many steps are skipped
 and how each section ends. What was taken is written as a `history 2`, and `judge` is asked for the
-verdict. It prints each answer that differs, and last how many were compared.
+verdict. The lists are counted by the ends of their sections and their verdict.
 """
 
-import argparse
-import collections
 import pathlib
 import random
-import subprocess
 import sys
 
-# nothing is left beside the sources
-sys.dont_write_bytecode = True
-
-from model import (CLASSES, GREATEST, SECTIONS, STORES, Cache, Notes, body_of, history_text, legal,
+from comparing import asked, close, parser_of
+from model import (CLASSES, GREATEST, SECTIONS, STORES, Cache, history_text, legal, words_in,
                    words_of)
 
 FAULTS = "WriteFailed ReadFailed Ended BadReply ErrorLine TooMuch Closed Memory".split()
 LONGEST_BODY = 65536
+# How many words a request has after its key.
+ARGUMENTS = {**dict.fromkeys(STORES, 2), "cas": 3, "incr": 1, "decr": 1}
 REPLIES = dict(zip(CLASSES, "STORED NOT_STORED EXISTS NOT_FOUND HIT MISS DELETED TOUCHED NUMBER "
                             "NOT_A_NUMBER".split()))
 NAMES = {word: name for name, word in REPLIES.items()}
@@ -41,7 +38,8 @@ def sections_of(text):
 
 
 class Section:
-    """A section as it runs: its lines, the next one, its variables, what its last reply showed."""
+    """A section as it runs: its lines, the next one, its variables, what its last reply showed, the
+    request that waits for its reply, and how it failed."""
 
     def __init__(self, lines, variables):
         self.lines, self.at, self.variables, self.shown = lines, 0, dict(variables), None
@@ -55,88 +53,78 @@ class Section:
         """Goes on to the next request, or to the end."""
         while self.at < len(self.lines):
             words = self.lines[self.at]
+            self.at += 1
             if words[0] == "goto" and len(words) == 2:
                 self.go_to(words[1])
             elif words[0] == "bind" and len(words) == 2:
                 self.variables[words[1]] = self.shown
-                self.at += 1
             elif words == ["halt"]:
                 self.at = len(self.lines)
-            elif len(words) == 1 and words[0].endswith(":"):
-                self.at += 1
-            else:
+            elif len(words) > 1 or not words[0].endswith(":"):
+                self.at -= 1
                 return
 
     def is_done(self):
         return self.fault is None and self.waiting is None and self.at == len(self.lines)
 
-    def number(self, word):
-        return self.variables[word[1:]] if word.startswith("$") else int(word)
-
-    def request(self):
-        """The request of the next line."""
+    def begin(self):
+        """The request of the next line, of which marks and jumps are left out."""
         verb, key, *others = self.lines[self.at]
-        if verb in STORES:
-            numbers = [self.number(others[2])] if verb == "cas" else []
-            return (verb, key, int(others[0]), body_of(others[1]), *numbers)
-        return (verb, key, *([self.number(others[0])] if verb in ("incr", "decr") else []))
+        numbers = {f"${name}": number for name, number in self.variables.items()}
+        others = " ".join(str(numbers.get(it, it)) for it in others[: ARGUMENTS.get(verb, 0)])
+        self.waiting = (verb, key, *words_in(others))
+        return self.waiting
 
     def answer(self, reply):
         """Goes on after a reply to the line's request."""
-        marks, self.shown = self.lines[self.at][2:], number_in(reply)
-        self.at += 1
+        marks, self.waiting = self.lines[self.at][2:], None
+        self.shown, self.at = number_in(reply), self.at + 1
         for mark in marks:
             if mark.startswith(">") and self.shown is not None:
                 self.variables[mark[1:]] = self.shown
             if mark.startswith(f"{NAMES[reply[0]]}:"):
                 self.go_to(mark.split(":")[1])
-        self.waiting = None
         self.go_on()
+
+    def may_take(self, kind, reply):
+        if self.fault is not None or self.is_done():
+            return False
+        if kind == "reply":
+            return self.waiting is not None and fits(self.waiting[0], reply)
+        return kind == "fail" or self.waiting is None
 
 
 def number_in(reply):
     """The number that a reply shows, or None."""
-    shows = reply[0] == "NUMBER" or reply[0] == "HIT" and len(reply) == 4
-    return reply[-1] if shows else None
+    return reply[-1] if reply[0] == "NUMBER" or reply[0] == "HIT" and len(reply) == 4 else None
 
 
 def fits(verb, reply):
     if NAMES[reply[0]] not in legal(verb):
         return False
-    has_number = reply[0] == "HIT" and len(reply) == 4
-    return reply[0] != "HIT" or len(reply[2]) <= LONGEST_BODY and has_number == (verb == "gets")
+    is_right = (number_in(reply) is not None) == (verb == "gets")
+    return reply[0] != "HIT" or is_right and len(reply[2]) <= LONGEST_BODY
 
 
 class World:
     """What the steps of a list come to."""
 
     def __init__(self, keys, bodies):
-        self.bodies, self.notes, self.skipped = bodies, Notes(), 0
+        self.bodies, self.notes, self.skipped = bodies, [], 0
         self.sections = {"P": Section([["delete", key] for key in keys] + bodies[0], {})}
 
-    def is_refused(self, name, kind, what):
-        section = self.sections.get(name)
-        if section is None or section.fault is not None or section.is_done():
-            return True
-        if kind == "begin":
-            return section.waiting is not None
-        if kind == "reply":
-            return section.waiting is None or not fits(section.waiting[0], what)
-        return False
-
     def take(self, name, kind, what):
-        if self.is_refused(name, kind, what):
+        section = self.sections.get(name)
+        if section is None or not section.may_take(kind, what):
             self.skipped += 1
             return
-        section = self.sections[name]
-        if kind == "begin":
-            section.waiting = section.request()
-            self.notes.append((name, "begin", section.waiting))
-        elif kind == "reply":
-            self.notes.append((name, "reply", what))
-            section.answer(what)
-        else:
+        if kind == "fail":
             section.fault = what
+            return
+        words = section.begin() if kind == "begin" else what
+        self.notes.append(f"{name} {kind} {words_of(words)}")
+        if kind == "reply":
+            section.answer(what)
         if name == "P" and section.is_done():
             for other, body in zip("AB", self.bodies[1:]):
                 self.sections[other] = Section(body, section.variables)
@@ -144,19 +132,23 @@ class World:
     def ending(self, name):
         section = self.sections.get(name)
         if section is None:
-            return f"{name} not begun"
+            return "not begun"
         if section.fault is not None:
-            return f"{name} failed {section.fault} {FAULTS[section.fault - 1]}"
-        return f"{name} done" if section.is_done() else f"{name} running"
+            return f"failed {section.fault} {FAULTS[section.fault - 1]}"
+        return "done" if section.is_done() else "running"
 
-    def lines(self):
-        return [f"skipped {self.skipped}", *map(self.ending, SECTIONS)]
-
-    def status(self, verdict):
+    def answer(self, program):
+        """What `drive` is to print, its status, and words for both."""
+        printed, _ = asked(program, "judge", history_text(self.notes, 2))
+        verdict, status = printed.split("\n", 1)[0], 4
+        endings = [self.ending(name) for name in SECTIONS]
         if verdict == "unexplained" or any(it.fault == 4 for it in self.sections.values()):
-            return 1
-        is_done = len(self.sections) == 3 and all(it.is_done() for it in self.sections.values())
-        return 0 if verdict == "explained" and is_done else 4
+            status = 1
+        elif verdict == "explained" and endings == ["done"] * 3:
+            status = 0
+        lines = [f"skipped {self.skipped}", *map(" ".join, zip(SECTIONS, endings)), printed]
+        words = " ".join([*(it.split(" ")[0] for it in endings), verdict])
+        return ("\n".join(lines), status), words
 
 
 # ---- step lists at random
@@ -165,8 +157,8 @@ class World:
 def reply_at_random(rng, name, verb):
     if name == "hit":
         flags, body = rng.choice([0, 0, 7]), rng.choice(["", "0", "5", "6", "x"])
-        has_number = (verb == "gets") != (rng.random() < 0.1)
-        return ("HIT", flags, body.encode(), *([rng.randint(1, 4)] if has_number else []))
+        is_numbered = (verb == "gets") != (rng.random() < 0.1)
+        return ("HIT", flags, body.encode(), *([rng.randint(1, 4)] if is_numbered else []))
     number = [rng.choice([0, 6, 7, GREATEST])] if name == "number" else []
     return (REPLIES[name], *number)
 
@@ -203,43 +195,21 @@ def list_at_random(rng, world):
     return "\n".join(["steps", *lines, "end", ""])
 
 
-# ---- the comparison
-
-
-def ask(program, command, text):
-    ran = subprocess.run([program, command], input=text, capture_output=True, check=False)
-    return ran.stdout.decode(errors="replace"), ran.returncode
-
-
-def main():
-    form = argparse.RawDescriptionHelpFormatter
-    options = argparse.ArgumentParser(description=__doc__, formatter_class=form)
-    options.add_argument("program")
-    options.add_argument("scripts", nargs="+", metavar="SCRIPT")
-    options.add_argument("--lists", type=int, default=100)
-    options.add_argument("--seed", type=int, default=1)
-    chosen = options.parse_args()
-    seen, odd = collections.Counter(), 0
-    for script in chosen.scripts:
+def answers(given):
+    for script in given.scripts:
         text = pathlib.Path(script).read_text(encoding="utf-8")
-        rng = random.Random(f"{chosen.seed} {script}")
-        for at in range(chosen.lists):
+        rng = random.Random(f"{given.seed} {script}")
+        for at in range(given.lists):
             world = World(*sections_of(text))
-            asked = text + list_at_random(rng, world)
-            verdict, _ = ask(chosen.program, "judge", history_text(world.notes))
-            word = verdict.split("\n", 1)[0]
-            expected = "".join(f"{line}\n" for line in world.lines()) + verdict, world.status(word)
-            found = ask(chosen.program, "drive", asked.encode())
-            if found != expected:
-                odd += 1
-                print(f"list {at} of {script}: expected {expected!r}, but got {found!r}, for")
-                print(asked)
-            seen[" ".join([*(it[2:].split(" ")[0] for it in world.lines()[1:]), word])] += 1
-    for words, count in sorted(seen.items()):
-        print(f"{count:8} {words}")
-    print(f"{sum(seen.values())} compared, {odd} differ")
-    return 1 if odd else 0
+            steps = text + list_at_random(rng, world)
+            expected, words = world.answer(given.program)
+            found = asked(given.program, "drive", steps.encode())
+            is_odd = found != expected
+            fault = f"list {at} of {script}: expected {expected!r}, but got {found!r}, for\n{steps}"
+            yield words, fault if is_odd else None
 
 
 if __name__ == "__main__":
-    sys.exit(main())
+    parser = parser_of(__doc__, lists=100, seed=1)
+    parser.add_argument("scripts", nargs="+", metavar="SCRIPT")
+    sys.exit(close(answers(parser.parse_args())))

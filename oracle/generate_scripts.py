@@ -1,4 +1,4 @@
-#!/usr/bin/env python3
+#!/usr/bin/env -S python3 -B
 """Prints the script that belongs to a seed and a job, by a second generator.
 
 usage: generate_scripts.py [--seed N] [--job N]
@@ -11,7 +11,7 @@ written from these rules alone, and checks its outputs against those of PCG's C 
 The outputs are those of PCG XSH RR 64/32 from the seed, on the sequence with the job's number;
 draw(n) is the next one modulo n. The keys are `r<job>-0` and `r<job>-1`, the flag is `f`, the
 variable `v`, and each section may send 24 requests and 8192 bytes. P sets key 0 to draw(100), with
-`+f`; and where draw(2) is 1, it sets key 1 to draw(100). A has 1 + draw(3) pieces, and then B. For
+`+f`; and if draw(2) is 1, it sets key 1 to draw(100). A has 1 + draw(3) pieces, and then B. For
 each piece, of which the first has the index 0, its row is draw(8), then its key is draw(2), and
 then its argument is drawn:
 
@@ -29,56 +29,46 @@ MASK = 2**64 - 1
 REFERENCE = [0xA15C02B7, 0x7B47F409, 0xBA1D3330, 0x83D2F293, 0xBFA4784B, 0xCBED606E]
 
 
-class Pcg:
-    """PCG XSH RR 64/32, after the C code of its author."""
-
-    def __init__(self, seed, sequence):
-        self.state = 0
-        self.increment = (sequence << 1 | 1) & MASK
-        self.output()
-        self.state = (self.state + seed) & MASK
-        self.output()
-
-    def output(self):
-        old = self.state
-        self.state = (old * 6364136223846793005 + self.increment) & MASK
-        shifted = ((old >> 18 ^ old) >> 27) & 0xFFFFFFFF
-        turn = old >> 59
-        return (shifted >> turn | shifted << (-turn & 31)) & 0xFFFFFFFF
-
-    def draw(self, choices):
-        return self.output() % choices
+def outputs(seed, sequence):
+    """The outputs of PCG XSH RR 64/32, after the C code of its author."""
+    increment = (sequence << 1 | 1) & MASK
+    state = (increment + seed) & MASK
+    while True:
+        state = (state * 6364136223846793005 + increment) & MASK
+        shifted, turn = ((state >> 18 ^ state) >> 27) & 0xFFFFFFFF, state >> 59
+        yield (shifted >> turn | shifted << (-turn & 31)) & 0xFFFFFFFF
 
 
-def piece(pcg, key_of, index):
+def piece(draw, job, index):
     """The lines of a branch's piece with this index."""
-    row = pcg.draw(8)
-    key = key_of(pcg.draw(2))
+    row, key = draw(8), f"r{job}-{draw(2)}"
     if row in (0, 1):
-        return [f"{('set', 'add')[row]} {key} 0 ={pcg.draw(100)}"]
+        return [f"{('set', 'add')[row]} {key} 0 ={draw(100)}"]
     if row == 2:
-        return [f"append {key} 0 ={pcg.draw(10)}"]
+        return [f"append {key} 0 ={draw(10)}"]
     if row in (3, 4):
-        return [f"{('incr', 'decr')[row - 3]} {key} {1 + pcg.draw(9)}"]
+        return [f"{('incr', 'decr')[row - 3]} {key} {1 + draw(9)}"]
     if row in (5, 6):
         return [(f"delete {key}", f"get {key} ?f")[row - 5]]
-    return [f"gets {key} miss:l{index} >v", f"cas {key} 0 ={pcg.draw(100)} $v", f"l{index}:"]
+    return [f"gets {key} miss:l{index} >v", f"cas {key} 0 ={draw(100)} $v", f"l{index}:"]
 
 
 def script(seed, job):
     """The text of a job's script."""
-    pcg = Pcg(seed, job)
+    drawn = outputs(seed, job)
 
-    key_of = f"r{job}-{{}}".format
-    lines = ["script 1", f"keys {key_of(0)} {key_of(1)}", "flags f", "vars v"]
+    def draw(choices):
+        return next(drawn) % choices
+
+    lines = ["script 1", f"keys r{job}-0 r{job}-1", "flags f", "vars v"]
     lines += [f"budget {section} 24 8192" for section in "PAB"]
-    lines += ["P", f"set {key_of(0)} 0 ={pcg.draw(100)} +f"]
-    if pcg.draw(2) == 1:
-        lines.append(f"set {key_of(1)} 0 ={pcg.draw(100)}")
+    lines += ["P", f"set r{job}-0 0 ={draw(100)} +f"]
+    if draw(2) == 1:
+        lines.append(f"set r{job}-1 0 ={draw(100)}")
     for section in "AB":
         lines.append(section)
-        for index in range(1 + pcg.draw(3)):
-            lines += piece(pcg, key_of, index)
+        for index in range(1 + draw(3)):
+            lines += piece(draw, job, index)
     return "\n".join(lines + ["end", ""])
 
 
@@ -92,16 +82,14 @@ def checksum(data):
 def main():
     form = argparse.RawDescriptionHelpFormatter
     parser = argparse.ArgumentParser(description=__doc__, formatter_class=form)
-    parser.add_argument("--seed", type=int, default=1)
-    parser.add_argument("--job", type=int, default=0)
-    parser.add_argument("--sum", type=int, metavar="JOBS")
-    options = parser.parse_args()
-    pcg = Pcg(42, 54)
-    assert [pcg.output() for _ in REFERENCE] == REFERENCE
-    if options.sum is None:
-        print(script(options.seed, options.job), end="")
+    for name, number in (("seed", 1), ("job", 0), ("sum", None)):
+        parser.add_argument(f"--{name}", type=int, default=number, metavar="N")
+    given, drawn = parser.parse_args(), outputs(42, 54)
+    assert [next(drawn) for _ in REFERENCE] == REFERENCE
+    if given.sum is None:
+        print(script(given.seed, given.job), end="")
     else:
-        texts = "".join(script(options.seed, job) for job in range(options.sum))
+        texts = "".join(script(given.seed, job) for job in range(given.sum))
         print(hex(checksum(texts.encode())))
 
 

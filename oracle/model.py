@@ -4,7 +4,10 @@ It is written from docs/FORMATS.md and memcached's protocol, and shares no code 
 """
 
 import collections
+import io
+import itertools
 import re
+import struct
 
 VERBS = "set add replace append prepend cas get gets incr decr delete touch".split()
 STORES = VERBS[:6]
@@ -41,6 +44,12 @@ def send(templates, at, place_of):
     return Send(at, [place_of(name) if name in may else NO_ENTRY for name in CLASSES])
 
 
+def sent_in_turn(templates, *requests):
+    """A section that sends these templates one after another, whatever is answered."""
+    its = enumerate(requests, 1)
+    return [*(send(templates, it, lambda _, after=after: after) for after, it in its), Halt()]
+
+
 def request_text(code, template):
     """The request's text, with the longest number that it may have."""
     number = template.number
@@ -57,27 +66,30 @@ def request_text(code, template):
 
 # ---- the image
 
+# A template's verb, key, flags, kind of number, number, and length of its body.
+TEMPLATE_HEAD = ">BBIBQB"
+
 
 def image_of(code):
-    """The code's image in version 1, or in version 2 where it has no room there."""
+    """The code's image in version 1, or in version 2 if it is too large for that."""
     is_large = code.flags > 32 or max(map(len, code.sections)) > 64
     out = [b"MCR2" if is_large else b"MCR1", bytes([len(code.keys)])]
     out += [bytes([len(key)]) + key.encode() for key in code.keys]
     out += [bytes([code.flags, code.vars])]
-    out += [bytes([requests]) + size.to_bytes(2, "big") for requests, size in code.budgets]
+    out += [struct.pack(">BH", *budget) for budget in code.budgets]
     out += [bytes([len(code.templates)])]
-    out += [template_bytes(it, 8 if is_large else 4) for it in code.templates]
+    out += [template_bytes(it, ">4Q" if is_large else ">4I") for it in code.templates]
     for section in code.sections:
         out += [bytes([len(section)]), *map(instruction_bytes, section)]
     return b"".join(out)
 
 
-def template_bytes(it, mask):
+def template_bytes(it, masks):
     kind = 2 if it.variable is not None else 0 if it.number is None else 1
     argument = (it.variable if kind == 2 else it.number) or 0
-    out = bytes([VERBS.index(it.verb), it.key]) + it.flags.to_bytes(4, "big") + bytes([kind])
-    out += argument.to_bytes(8, "big") + bytes([len(it.body)]) + it.body.encode()
-    return out + b"".join(getattr(it, name).to_bytes(mask, "big") for name in MASKS)
+    numbers = VERBS.index(it.verb), it.key, it.flags, kind, argument, len(it.body)
+    of_masks = struct.pack(masks, *(getattr(it, name) for name in MASKS))
+    return struct.pack(TEMPLATE_HEAD, *numbers) + it.body.encode() + of_masks
 
 
 def instruction_bytes(it):
@@ -90,36 +102,34 @@ def instruction_bytes(it):
 
 def code_of(image):
     """The code whose image this is."""
-    at, mask = 4, 8 if image[:4] == b"MCR2" else 4
+    stream, masks = io.BytesIO(image[4:]), ">4Q" if image[:4] == b"MCR2" else ">4I"
 
-    def take(size):
-        nonlocal at
-        at += size
-        return image[at - size : at]
+    def numbers(form):
+        return struct.unpack(form, stream.read(struct.calcsize(form)))
 
-    def number(size=1):
-        return int.from_bytes(take(size), "big")
+    def number():
+        return stream.read(1)[0]
 
-    keys = [take(number()).decode() for _ in range(number())]
-    flags, variables = number(), number()
-    budgets = [(number(), number(2)) for _ in SECTIONS]
-    templates = [template_in(number, take, mask) for _ in range(number())]
-    sections = [[instruction_in(number, take) for _ in range(number())] for _ in SECTIONS]
-    return Code(keys, flags, variables, budgets, templates, sections)
+    def many(read):
+        return [read() for _ in range(number())]
 
+    def text():
+        return stream.read(number()).decode()
 
-def template_in(number, take, mask):
-    verb, key, flags, kind = VERBS[number()], number(), number(4), number()
-    argument, body = number(8), take(number()).decode()
-    numbers = argument if kind == 1 else None, argument if kind == 2 else None
-    return Template(verb, key, flags, *numbers, body, *(number(mask) for _ in MASKS))
+    def template():
+        verb, key, flags, kind, argument = numbers(TEMPLATE_HEAD[:-1])
+        given = (argument if kind == it else None for it in (1, 2))
+        return Template(VERBS[verb], key, flags, *given, text(), *numbers(masks))
 
+    def instruction():
+        kind = number()
+        if kind == 0:
+            return Send(number(), list(stream.read(len(CLASSES))))
+        return Bind(number()) if kind == 1 else Goto(number()) if kind == 2 else Halt()
 
-def instruction_in(number, take):
-    kind = number()
-    if kind == 0:
-        return Send(number(), list(take(len(CLASSES))))
-    return Bind(number()) if kind == 1 else Goto(number()) if kind == 2 else Halt()
+    keys, flags, variables = many(text), number(), number()
+    budgets, templates = [numbers(">BH") for _ in SECTIONS], many(template)
+    return Code(keys, flags, variables, budgets, templates, [many(instruction) for _ in SECTIONS])
 
 
 # ---- requests and replies: tuples of words, in which bodies are bytes
@@ -141,63 +151,88 @@ def words_of(words):
     return " ".join(body_word(it) if isinstance(it, bytes) else str(it) for it in words)
 
 
-class Notes(list):
-    """What was noted in order: section, `begin` or `reply`, and the request or the reply."""
+def words_in(text):
+    """The words of a request or a reply that this text has."""
+    return tuple(body_of(it) if it[0] == "=" else int(it) if it.isdigit() else it
+                 for it in text.split())
 
 
-def history_text(history):
-    """The text of notes, or of a list of section, request and reply, of which None never came."""
-    if isinstance(history, Notes):
-        lines = [f"{actor} {word} {words_of(words)}" for actor, word, words in history]
-        return "\n".join(["history 2", *lines, "end\n"]).encode()
-    lines = [f"{actor} {words_of(request)} -> {words_of(reply) if reply else '?'}"
-             for actor, request, reply in history]
-    return "\n".join(["history 1", *lines, "end\n"]).encode()
+def history_text(lines, version=1):
+    return "\n".join([f"history {version}", *lines, "end\n"]).encode()
+
+
+def line_of(actor, request, reply):
+    """A line of a `history 1`; the reply is None if it never came."""
+    return f"{actor} {words_of(request)} -> {words_of(reply) if reply else '?'}"
+
+
+# ---- what a server answers: an item is its flags, its body and its number
+
+
+def outcomes(request, item, number):
+    """The answers that a server may give, each with what the key then holds: None or an item. A new
+    version has this number."""
+    verb, _, *fields = request
+    if verb in STORES:
+        return [stored(verb, item, number, *fields)]
+    if verb in ("get", "gets"):
+        return [(("HIT", *item[: 3 if verb == "gets" else 2]) if item else ("MISS",), item)]
+    if not item:
+        return [(("NOT_FOUND",), None)]
+    if verb in ("incr", "decr"):
+        return counted(verb, item, number, *fields)
+    return [(("DELETED",), None) if verb == "delete" else (("TOUCHED",), item)]
+
+
+def stored(verb, item, number, flags, body, wanted=None):
+    if verb == "cas" and (not item or item[2] != wanted):
+        return ("EXISTS",) if item else ("NOT_FOUND",), item
+    if verb not in ("set", "cas") and bool(item) == (verb == "add"):
+        return ("NOT_STORED",), item
+    if verb in ("append", "prepend"):
+        flags, body = item[0], item[1] + body if verb == "append" else body + item[1]
+    return ("STORED",), (flags, body, number)
+
+
+def counted(verb, item, number, amount):
+    flags, body, _ = item
+    found = []
+    for read in readings(body):
+        if read is None:
+            found.append((("NOT_A_NUMBER",), item))
+            continue
+        value = (read + amount) & GREATEST if verb == "incr" else max(read - amount, 0)
+        decimal = b"%d" % value
+        for made in dict.fromkeys([decimal, decimal.ljust(len(body))]):
+            found.append((("NUMBER", value), (flags, made, number)))
+    return found
+
+
+def readings(body):
+    """What a server may read in a body: a number, or None."""
+    digits = bytes(itertools.takewhile(lambda byte: 48 <= byte <= 57, body))
+    rest = body[len(digits) :]
+    if not digits or rest[:1] not in (b"", b" ") or int(digits) > GREATEST:
+        return [None]
+    if len(digits) > 20 or rest.strip(b" "):
+        return [int(digits), None]
+    return [int(digits)]
 
 
 class Cache:
-    """A cache that answers requests. An item is its flags, its body and its number."""
+    """A cache that answers requests. It may skip numbers, takes a body for a number only if every
+    server does, and keeps a body's length in counts by the verbs `pads`."""
 
     def __init__(self, number=0, step=lambda: 1, pads=("decr",)):
-        # a server may skip numbers, and never gives one twice; a count may keep the body's length
         self.items, self.number, self.step, self.pads = {}, number, step, pads
 
-    def put(self, key, flags, body):
-        self.number += self.step()
-        self.items[key] = flags, body, self.number
-
     def answer(self, request):
-        verb, key, *fields = request
-        item = self.items.get(key)
-        if verb in STORES:
-            return self.store(verb, key, item, *fields)
-        if verb in ("get", "gets"):
-            return ("HIT", *item[: 3 if verb == "gets" else 2]) if item else ("MISS",)
-        if item is None:
-            return ("NOT_FOUND",)
-        if verb in ("incr", "decr"):
-            return self.count(verb, key, item, fields[0])
-        if verb == "delete":
-            del self.items[key]
-        return ("DELETED" if verb == "delete" else "TOUCHED",)
-
-    def store(self, verb, key, item, flags, body, number=None):
-        if verb == "cas" and (item is None or item[2] != number):
-            return ("EXISTS",) if item else ("NOT_FOUND",)
-        if verb != "set" and verb != "cas" and (item is None) != (verb == "add"):
-            return ("NOT_STORED",)
-        if verb in ("append", "prepend"):
-            flags, body = item[0], item[1] + body if verb == "append" else body + item[1]
-        self.put(key, flags, body)
-        return ("STORED",)
-
-    def count(self, verb, key, item, amount):
-        flags, body, _ = item
-        digits = body.rstrip(b" ")
-        if not digits.isdigit() or int(digits) > GREATEST:
-            return ("NOT_A_NUMBER",)
-        old = int(digits)
-        number = (old + amount) & GREATEST if verb == "incr" else max(old - amount, 0)
-        decimal = b"%d" % number
-        self.put(key, flags, decimal.ljust(len(body)) if verb in self.pads else decimal)
-        return ("NUMBER", number)
+        verb, key = request[:2]
+        ways = outcomes(request, self.items.get(key), None)
+        is_last = verb in self.pads or ways[-1][0] == ("NOT_A_NUMBER",)
+        reply, item = ways[-1 if is_last else 0]
+        if item and item[2] is None:
+            self.number += self.step()
+            item = (*item[:2], self.number)
+        self.items[key] = item
+        return reply

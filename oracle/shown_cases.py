@@ -1,14 +1,13 @@
-#!/usr/bin/env python3
+#!/usr/bin/env -S python3 -B
 """Compares each refusal of code that stands in the cases, the examples and the tests of mc_verify
-with what a second verifier says.
+with what a second verifier says (`verifier.py`).
 
 usage: shown_cases.py PROGRAM
 
 The program only assembles the scripts. A run that a refusal shows must show the fault; a fault of
-structure, which no run shows, must be the first that there is (`verifier.py`). Of the cases in
-`cases/check/forced-runs.cases` it is also looked at that there is no other run: but for replies of
-one sort, which lead to the same place and show the same, just one shows the fault. It prints each
-refusal that is wrong, and last `N passed, M failed`.
+structure, which no run shows, must be the first that there is. The cases in
+`cases/check/forced-runs.cases` must have no other run: but for replies of one sort, which lead to
+the same place and show the same, just one run shows the fault.
 """
 
 import ast
@@ -17,16 +16,13 @@ import re
 import subprocess
 import sys
 
-# nothing is left beside the sources
-sys.dont_write_bytecode = True
-
 ROOT = pathlib.Path(__file__).resolve().parents[1]
 sys.path.append(str(ROOT / "tools"))
 
 import cases
+from comparing import close, parser_of
 from model import SECTIONS, code_of
-from shown_runs import run_in, runs_apart, shows
-from verifier import NAMES, OF_STRUCTURE, structure_faults
+from verifier import NAMES, OF_STRUCTURE, run_in, runs_apart, shows, structure_faults
 
 FORCED = "cases/check/forced-runs.cases"
 # What the tests of mc_verify have: images of sound code, and rows of what is changed of the one
@@ -60,7 +56,7 @@ def rows():
 
 
 def expected_answers():
-    """Each input that is refused, with what must be printed, and where that stands."""
+    """Each input that may be refused, with what must be printed, and where that stands."""
     for path in sorted((ROOT / "cases").rglob("*.cases")):
         for it in cases.cases_in(path):
             if it.words and it.words[0] in ("check", "drive", "run"):
@@ -82,8 +78,8 @@ def image_in(program, given):
 
 
 def odd_refusal(program, name, given, printed):
-    """What is wrong with this refusal; None where it is right."""
-    # After the run stands what `--why` says of it.
+    """What is wrong with this refusal; None if it is right."""
+    # after the run stands what `--why` says of it
     first, *rest = printed.removesuffix("\n").split("\n")
     if "end" in rest:
         rest = rest[: rest.index("end") + 1]
@@ -103,17 +99,12 @@ def odd_refusal(program, name, given, printed):
     return None if len(others) == 1 else f"{len(others)} runs show {first}: {others}"
 
 
-def main():
-    passed = failed = 0
+def answers(program):
     for name, given, printed in expected_answers():
         if printed.startswith("refused verify "):
-            fault = odd_refusal(sys.argv[1], name, given, printed)
-            passed, failed = passed + (fault is None), failed + (fault is not None)
-            if fault:
-                print(f"failed: {name}: {fault}")
-    print(f"{passed} passed, {failed} failed")
-    return 1 if failed else 0
+            fault = odd_refusal(program, name, given, printed)
+            yield " ".join(printed.split()[:4]), fault and f"{name}: {fault}"
 
 
 if __name__ == "__main__":
-    sys.exit(main())
+    sys.exit(close(answers(parser_of(__doc__).parse_args().program)))

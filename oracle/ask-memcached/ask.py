@@ -1,4 +1,4 @@
-#!/usr/bin/env python3
+#!/usr/bin/env -S python3 -B
 """Asks a real memcached what the tests expect of a server.
 
 usage: ask.py acts|replies [--compare]
@@ -17,29 +17,28 @@ whose replies the test reads them as, the request, and all bytes that came back.
 the answer to a request `version`, which is sent with it, begins.
 
 With --compare it prints both versions and the lines that differ from acts.txt or replies.txt, and
-its status is 1 where one does. With no memcached to start its status is 2.
+its status is 1 if one does.
 """
 
 import argparse
-import contextlib
 import difflib
-import os
 import pathlib
-import shutil
 import socket
-import subprocess
 import sys
-import time
 
 HERE = pathlib.Path(__file__).resolve().parent
+sys.path += [str(HERE.parents[1] / "bench"), str(HERE.parent)]
+
+from common import memcached
+from model import STORES, Code, Template, request_text
+
 OLD_NUMBER, NEW_NUMBER, OTHER_NUMBER = 4, 9, 3
-STORAGE = ("set", "add", "replace", "append", "prepend", "cas")
+BOTH = ("incr", "decr")
 # Verbs with their numbers, each asked where `old` with flags 5 is there and where nothing is;
 # storage has flags 7, `new`.
-ACTS = [*((verb, 0) for verb in STORAGE[:5]),
+ACTS = [*((verb, 0) for verb in STORES[:5]),
         *(("cas", it) for it in (OLD_NUMBER, OTHER_NUMBER, 0)),
         ("get", 0), ("gets", 0), ("incr", 1), ("decr", 1), ("delete", 0), ("touch", 0)]
-BOTH = ("incr", "decr")
 # Bodies, and what is done to them.
 COUNTS = [
     *[(body, verb, 1) for body in ("5", "05", "5 ", "5  ", "", "x", "5x") for verb in BOTH],
@@ -61,98 +60,62 @@ REQUESTS = [
 ]
 
 
-class Server:
-    """A memcached of our own, and one connection to it."""
+class Connection:
+    """A connection to a memcached, and its version."""
 
-    def __init__(self, program):
-        with socket.create_server(("127.0.0.1", 0)) as free:
-            port = free.getsockname()[1]
-        # As root it runs only under another name.
-        user = ["-u", "nobody"] if os.geteuid() == 0 else []
-        words = [program, "-l", "127.0.0.1", "-p", str(port), "-U", "0", *user]
-        self.process, until = subprocess.Popen(words), time.monotonic() + 10
-        self.connection = None
-        while self.connection is None and time.monotonic() < until:
-            with contextlib.suppress(ConnectionRefusedError):
-                self.connection = socket.create_connection(("127.0.0.1", port), timeout=10)
-        self.stream = self.connection.makefile("rb")
+    def __init__(self, port):
+        self.socket = socket.create_connection(("127.0.0.1", port), timeout=10)
+        self.stream, self.version = self.socket.makefile("rb"), ""
+        self.reply(b"")
 
-    def line(self):
-        line = self.stream.readline()
-        if not line.endswith(b"\r\n"):
-            raise OSError("memcached closed the connection")
-        return line
+    def reply(self, request):
+        """All bytes that come back for the request."""
+        self.socket.sendall(request + b"version\r\n")
+        lines = []
+        while not (line := self.stream.readline()).startswith(b"VERSION "):
+            lines.append(line or sys.exit("memcached closed the connection"))
+        self.version = line.decode().replace("VERSION", "memcached").strip()
+        return b"".join(lines)
 
-    def ask(self, request):
-        """Sends a request and returns its answer's lines, a block of data being one."""
-        self.connection.sendall(request.encode())
-        lines = [self.line()[:-2].decode()]
-        while lines[-1].startswith("VALUE "):
-            length = int(lines[-1].split()[3])
-            lines.append(self.stream.read(length + 2)[:-2].decode())
-            lines.append(self.line()[:-2].decode())
-        return lines
+    def lines(self, request):
+        return self.reply(request.encode()).decode().split("\r\n")[:-1]
 
     def item(self, key):
-        """What is at the key: flags, body and number, or nothing."""
-        head, *rest = self.ask(f"gets {key}\r\n")
+        """What is at the key: flags, body and number, or None."""
+        head, *rest = self.lines(f"gets {key}\r\n")
         if head == "END":
             return None
         _, _, flags, _, number = head.split()
         return int(flags), rest[0], int(number)
 
-    def reply(self, request):
-        """All bytes that come back for the request."""
-        self.connection.sendall(request + b"version\r\n")
-        lines = [self.line_or_part()]
-        while not lines[-1].startswith(b"VERSION "):
-            lines.append(self.line_or_part())
-        return b"".join(lines[:-1])
 
-    def line_or_part(self):
-        return self.stream.readline() or sys.exit("memcached closed the connection")
+def request_of(verb, key, number, names):
+    """The request's text; a cas has the item's own number, or one that no item has."""
+    if verb == "cas":
+        number = {OLD_NUMBER: next(iter(names), 1), OTHER_NUMBER: 2**63}.get(number, number)
+    template = Template(verb, 0, 7, number, body="new")
+    return request_text(Code([key], 0, 0, [], [template], []), template)
 
 
-# ---- what `act` is to do
-
-
-def text_of(verb, key, body, number):
-    if verb in STORAGE:
-        swap = f" {number}" if verb == "cas" else ""
-        return f"{verb} {key} 7 0 {len(body)}{swap}\r\n{body}\r\n"
-    if verb in BOTH:
-        return f"{verb} {key} {number}\r\n"
-    return f"{verb} {key} 0\r\n" if verb == "touch" else f"{verb} {key}\r\n"
-
-
-def real_number(verb, number, names):
-    """The number to send: in a cas for the item's own, or for one that no item has."""
-    if verb != "cas":
-        return number
-    return {OLD_NUMBER: next(iter(names), 1), OTHER_NUMBER: 2**63}.get(number, number)
+def item_text(item, names):
+    if item is None:
+        return "nothing"
+    body = item[1].encode("unicode_escape").decode()
+    return f'{item[0]} "{body}" {names.get(item[2], NEW_NUMBER)}'
 
 
 def told(server, key, verb, number, old):
     """The line of one request on the key, which is new; `old` is put there first if it is one."""
-    names = {}
     if old is not None:
-        server.ask(f"set {key} 5 0 {len(old)}\r\n{old}\r\n")
-        names[server.item(key)[2]] = OLD_NUMBER
-    answer = server.ask(text_of(verb, key, "new", real_number(verb, number, names)))
-    if verb == "gets" and len(answer) > 1:
-        head, shown = answer[0].rsplit(" ", 1)
-        answer[0] = f"{head} {names[int(shown)]}"
+        server.lines(f"set {key} 5 0 {len(old)}\r\n{old}\r\n")
+    before = server.item(key)
+    names = {before[2]: OLD_NUMBER} if before else {}
+    answer = server.lines(request_of(verb, key, number, names))
+    if verb == "gets" and before:
+        answer[0] = f"{answer[0].rpartition(' ')[0]} {OLD_NUMBER}"
     answer = " | ".join(answer).replace(key, "k")
-    was = "nothing" if old is None else f'5 "{visible(old)}" {OLD_NUMBER}'
-    after = server.item(key)
-    then = "nothing"
-    if after:
-        then = f'{after[0]} "{visible(after[1])}" {names.get(after[2], NEW_NUMBER)}'
-    return f"{verb} {number}, at {was}: {answer}, then {then}"
-
-
-def visible(body):
-    return body.encode("unicode_escape").decode()
+    then = item_text(server.item(key), names)
+    return f"{verb} {number}, at {item_text(before, names)}: {answer}, then {then}"
 
 
 def acts(server):
@@ -161,16 +124,13 @@ def acts(server):
     return [told(server, f"row-{place}", *row) for place, row in enumerate(rows)]
 
 
-# ---- replies
-
-
 def replies(server):
     lines = []
     for it in REQUESTS:
         verb, words = it if isinstance(it, tuple) else (it.split()[0], it)
         head, is_stored, body = words.partition("|")
         text = (head + "\r\n" + (body + "\r\n" if is_stored else "")).encode("latin-1")
-        # of a long request in short
+        # a long request is cut short
         shown = repr(text if len(text) < 300 else text[:40] + b"..")
         lines.append(f"{verb} {shown} -> {server.reply(text)!r}")
     return lines
@@ -180,24 +140,16 @@ def main():
     parser = argparse.ArgumentParser(prog="ask.py")
     parser.add_argument("what", choices=["acts", "replies"])
     parser.add_argument("--compare", action="store_true")
-    asked = parser.parse_args()
-    program = shutil.which("memcached")
-    if program is None:
-        print("ask.py: memcached is not installed", file=sys.stderr)
-        return 2
-    server = Server(program)
-    try:
-        version = server.ask("version\r\n")[0].replace("VERSION", "memcached")
-        lines = {"acts": acts, "replies": replies}[asked.what](server)
-    finally:
-        server.process.terminate()
-        server.process.wait()
-    if not asked.compare:
-        print(version, *lines, sep="\n")
+    given = parser.parse_args()
+    with memcached() as (port, _):
+        server = Connection(port)
+        lines = {"acts": acts, "replies": replies}[given.what](server)
+    if not given.compare:
+        print(server.version, *lines, sep="\n")
         return 0
-    known, *expected = (HERE / f"{asked.what}.txt").read_text(encoding="utf-8").splitlines()
+    known, *expected = (HERE / f"{given.what}.txt").read_text(encoding="utf-8").splitlines()
     found = [it for it in difflib.ndiff(expected, lines) if it[0] in "-+"]
-    print(f"asked: {version}; {asked.what}.txt: {known}", *found, sep="\n")
+    print(f"asked: {server.version}; {given.what}.txt: {known}", *found, sep="\n")
     return 1 if found else 0
 
 

@@ -1,0 +1,39 @@
+"""What the comparisons share: their options, the program's answers, and the count at the end."""
+
+import argparse
+import collections
+import subprocess
+
+
+def parser_of(doc, program=None, **options):
+    """A parser of a command line: the program, which may be left out if there is one here, and
+    these options, each with what it is if left out."""
+    form = argparse.RawDescriptionHelpFormatter
+    parser = argparse.ArgumentParser(description=doc, formatter_class=form)
+    parser.add_argument("program", nargs="?" if program else None, default=program)
+    for name, value in options.items():
+        kind = {"action": "store_true"} if value is False else {"type": type(value)}
+        parser.add_argument(f"--{name}", default=value, **kind)
+    return parser
+
+
+def asked(program, command, text):
+    """What a command of the program prints for the text, and its status."""
+    ran = subprocess.run([program, command], input=text, capture_output=True, check=False)
+    return ran.stdout.decode(errors="replace"), ran.returncode
+
+
+def close(answers):
+    """Counts the answers, each with words for what was compared, and what is wrong or None. It
+    prints what is wrong, how many had the same words, and last `N passed, M failed`. The result is
+    the exit status, 1 if any failed."""
+    seen, failed = collections.Counter(), 0
+    for words, fault in answers:
+        seen[words] += 1
+        if fault is not None:
+            failed += 1
+            print(f"failed: {fault}", flush=True)
+    for words, count in sorted(seen.items()):
+        print(f"{count:8} {words}")
+    print(f"{sum(seen.values()) - failed} passed, {failed} failed")
+    return 1 if failed else 0
