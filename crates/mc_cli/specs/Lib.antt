@@ -1,0 +1,7 @@
+pub mod Args
+pub mod Asked
+pub mod Asking
+pub mod Commands
+pub mod Kinds
+pub mod Line
+pub mod Rows

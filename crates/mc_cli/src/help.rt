@@ -1,0 +1,47 @@
+//! What help says of each subcommand.
+
+mod asm;
+mod campaign;
+mod check;
+mod drive;
+mod generate;
+mod judge;
+mod run;
+mod selftest;
+mod serve;
+
+pub use asm::ASM;
+pub use campaign::CAMPAIGN;
+pub use check::CHECK;
+pub use drive::DRIVE;
+pub use generate::GENERATE;
+pub use judge::JUDGE;
+pub use run::RUN;
+pub use selftest::SELFTEST;
+pub use serve::SERVE;
+
+/// What help says of a subcommand, beside its options.
+#[derive(Clone, Copy, Debug)]
+pub struct Help {
+    pub name: &'static str,
+    /// How it is called.
+    pub usage: &'static str,
+    /// What it does, in a line.
+    pub about: &'static str,
+    /// What it does, at length.
+    pub long_about: &'static str,
+    /// Its exit statuses, a line for each.
+    pub statuses: &'static str,
+}
+
+/// The exit statuses of all subcommands.
+pub const STATUSES: &str = "Exit status:
+  0  explained, confirmed, accepted or assembled; or help or the version
+  1  unexplained, or not confirmed; or a section failed by BadReply; or the
+     selftest failed
+  2  the command line is wrong
+  3  refused: the input is no history, no script, no image or no step list, a
+     script that is too large, or code with a fault; or has more than 1,048,576
+     bytes
+  4  undecided; a section isn't done; or out of memory; or input or output
+     failed";
