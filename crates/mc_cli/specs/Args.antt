@@ -73,9 +73,9 @@ repeat_by (Some times) time keep_going = Some (record { times = Some times; time
 
 -- the values of the options of `run` say that the script is run repeatedly, if they do; `--keep-going` needs that
 pub record IsRepeat (value : Text → Option Text) (repeat : Option Repeat) : Type 0 where
-  pub {times} : Option ℕ
+  pub times : Option ℕ
   pub are_times : MayBeValue (count 1000000) (value (codes "times")) times
-  pub {time} : Option ℕ
+  pub time : Option ℕ
   pub is_time : MayBeValue kind.Time (value (codes "for")) time
   pub is : repeat ≡ repeat_by times time (is_set (value (codes "keep-going")))
   pub bounded : is_set (value (codes "keep-going")) ≡ true → is_some repeat ≡ true
@@ -111,9 +111,9 @@ until_by (Some time) unexplained = Some (record { time = Some time; unexplained 
 
 -- the values of the options of `campaign` say until when it runs in blocks, if it does; a time doesn't stand beside a number of jobs
 pub record IsUntil (value : Text → Option Text) (until : Option Until) : Type 0 where
-  pub {time} : Option ℕ
+  pub time : Option ℕ
   pub is_time : MayBeValue kind.Time (value (codes "for")) time
-  pub {unexplained} : Option ℕ
+  pub unexplained : Option ℕ
   pub are_unexplained : MayBeValue (count 10000) (value (codes "stop-after")) unexplained
   pub is : until ≡ until_by time unexplained
   pub apart : is_some (value (codes "for")) ≡ true → is_some (value (codes "jobs")) ≡ false

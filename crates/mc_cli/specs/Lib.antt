@@ -4,4 +4,3 @@ pub mod Asking
 pub mod Commands
 pub mod Kinds
 pub mod Line
-pub mod Rows

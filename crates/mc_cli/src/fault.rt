@@ -19,7 +19,7 @@ pub enum OptionFault<'a> {
     LastJob { first: u64, jobs: u64 },
     /// Under the name, the keys of this job are too long.
     LongKey(Namespace<'a>, u64),
-    /// There is no such subcommand. Clap finds it first.
+    /// The subcommand is a topic of help; or there is none, which clap finds first.
     NoSubcommand,
 }
 
@@ -44,7 +44,7 @@ impl OptionFault<'_> {
                 let key = format!(in alloc; "r{job}-0")?;
                 long_key_message(alloc, name, key.as_bytes())
             }
-            OptionFault::NoSubcommand => format!(in alloc; "a subcommand is required"),
+            OptionFault::NoSubcommand => format!(in alloc; "a subcommand is required; 'mcrace help TOPIC' shows a topic"),
         }
     }
 }

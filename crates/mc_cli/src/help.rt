@@ -4,24 +4,33 @@ mod asm;
 mod campaign;
 mod check;
 mod drive;
+mod formats;
 mod generate;
+mod history;
+mod image;
 mod judge;
 mod run;
+mod script;
 mod selftest;
 mod serve;
+mod steps;
 
 pub use asm::ASM;
 pub use campaign::CAMPAIGN;
 pub use check::CHECK;
 pub use drive::DRIVE;
+pub use formats::FORMATS;
 pub use generate::GENERATE;
+pub use history::HISTORY;
+pub use image::IMAGE;
 pub use judge::JUDGE;
 pub use run::RUN;
+pub use script::SCRIPT;
 pub use selftest::SELFTEST;
 pub use serve::SERVE;
+pub use steps::STEPS;
 
 /// What help says of a subcommand, beside its options.
-#[derive(Clone, Copy, Debug)]
 pub struct Help {
     pub name: &'static str,
     /// How it is called.
@@ -30,6 +39,8 @@ pub struct Help {
     pub about: &'static str,
     /// What it does, at length.
     pub long_about: &'static str,
+    /// Its exit statuses in a line, and where to read on.
+    pub short_statuses: &'static str,
     /// Its exit statuses, a line for each.
     pub statuses: &'static str,
 }

@@ -10,6 +10,7 @@ mod decimal;
 mod fault;
 mod file_hint;
 mod help;
+mod help_line;
 mod options;
 mod read;
 mod read_campaign;

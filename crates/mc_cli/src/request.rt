@@ -8,6 +8,7 @@ ghost use Rattle.mc_cli.specs.Line.{line_value};
 use crate::args::{CampaignArgs, RunArgs, Search, ServeArgs};
 use crate::fault::{OptionFault, long_key_message};
 use crate::file_hint::error_text;
+use crate::help_line::help_text;
 use crate::options as rows;
 use crate::read::{read_job, read_run, read_search, read_service};
 use crate::read_campaign::read_campaign;
@@ -116,15 +117,22 @@ fn read_options<'a>(
 
 // What clap says of the line.
 fn clap_fault(alloc: Global, line: &[String], error: &Error) -> LineFault
-    ensures { Says (kind_of error.now) result }
+    ensures says { Says (kind_of error.now) result }
+    ensures memory { kind_of error.now ≡ ErrorKind.OutOfMemory → result ≡ LineFault.OutOfMemory }
 {
     if error.kind() == ErrorKind::OutOfMemory {
         return LineFault::OutOfMemory;
     }
-    match error_text(alloc, line, error) {
-        Ok(text) if error.use_stderr() => LineFault::Wrong(text),
-        Ok(text) => LineFault::Shown(text),
-        Err(_) => LineFault::OutOfMemory,
+    if error.use_stderr() {
+        match error_text(alloc, line, error) {
+            Ok(text) => LineFault::Wrong(text),
+            Err(_) => LineFault::OutOfMemory,
+        }
+    } else {
+        match help_text(alloc, line, error) {
+            Ok(text) => LineFault::Shown(text),
+            Err(_) => LineFault::OutOfMemory,
+        }
     }
 }
 

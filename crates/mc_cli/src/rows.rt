@@ -1,7 +1,7 @@
 //! The options of the program, a row for each.
 
 /// What kind of value an option has.
-#[derive(Clone, Copy, Debug, PartialEq, Eq)]
+#[derive(Clone, Copy, Debug)]
 pub enum Kind {
     /// A decimal from `least` to `greatest`.
     Number { least: u64, greatest: u64 },
@@ -20,7 +20,7 @@ pub enum Kind {
 }
 
 /// Where an option stands.
-#[derive(Clone, Copy, Debug, PartialEq, Eq)]
+#[derive(Clone, Copy, Debug)]
 pub enum Place {
     /// It is an argument, which every line of the subcommand has.
     Required,
@@ -31,7 +31,7 @@ pub enum Place {
 }
 
 /// An option.
-#[derive(Clone, Copy, Debug, PartialEq, Eq)]
+#[derive(Clone, Copy, Debug)]
 pub struct Row {
     pub name: &'static str,
     /// How help shows its value.

@@ -33,12 +33,15 @@ pub fn number<'a>(options: &ArgMatches<'a>, row: &Row) -> Result<u64, OptionFaul
     ensures none { IfErr result (λ _. (n : ℕ)
         → IsValue row.now.kind row.now.default (first_value (found_of options.now) row.now.name.now) n → ⊥) }
 {
-    match optional(options, row)? {
-        Some(number) => Ok(number),
-        None => match row.default {
+    let Some(word) = options.get_str(row.name) else {
+        return match row.default {
             Some(number) => Ok(number),
             None => Err(OptionFault::Missing(*row)),
-        },
+        };
+    };
+    match number_in(row.kind, word.as_bytes()) {
+        Some(number) => Ok(number),
+        None => Err(OptionFault::Value(*row, word)),
     }
 }
 

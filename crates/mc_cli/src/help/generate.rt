@@ -5,9 +5,9 @@ pub const GENERATE: Help = Help {
     name: "generate",
     usage: "mcrace generate [--seed N] [--job N] > FILE",
     about: "Prints a generated script",
-    long_about: "Prints a generated script. One seed and one job give one script, always.
+    long_about: "Prints a generated script. A seed and a job always give the same script.
 
-An example, the script of seed 1 and job 0:
+This is the script of seed 1 and job 0:
 
   script 1
   keys r0-0 r0-1
@@ -27,20 +27,22 @@ An example, the script of seed 1 and job 0:
   append r0-0 0 =0
   end
 
-Scripts of one seed differ by their job, and two jobs have no key in common.
-What is drawn is:
+Scripts of one seed differ by their job, and no two jobs share a key. What is
+random:
   the keys     rJOB-0 and rJOB-1: few, so that the branches meet at one key
-  P            stores the first key and sets the flag `f`; and of two scripts
-               one stores the second key too, so that in the others the branches
+  P            stores the first key and sets the flag `f`; in one script of two
+               it stores the second key too, so that in the others the branches
                find a key that isn't there
-  A and B      each has one to three pieces, drawn evenly of eight: set, add,
+  A and B      each has one to three pieces, drawn evenly from eight: set, add,
                append, incr, decr, delete, get, and gets followed by cas
   get          needs the flag `f`, which P set
   gets, cas    the number that `gets` shows is bound to the variable `v`, and
-               `cas` sends it; where `gets` misses, `cas` is left out
+               `cas` sends it; if `gets` misses, `cas` is left out
 
 Standard input isn't read. To run one:
   mcrace generate --seed 1 --job 17 | mcrace run HOST:PORT",
+    short_statuses: "Exit status: 0 printed, 2 wrong line, 4 otherwise.
+Read on: mcrace generate --help, mcrace help script",
     statuses: "Exit status:
   0  printed
   2  the command line is wrong
