@@ -1,5 +1,6 @@
 -- Why a line asks for nothing.
 use Rattle.std.proofs.Common.{◌≡◌, ◌⊎◌, ℕ, List, String, inl, inr, refl}
+use Rattle.std.specs.Global.{Global}
 use Rattle.mc_cli.specs.Asked.{Asked}
 use Rattle.mc_cli.specs.Asking.{AsksFor, IsFaultOf, MayShow, MayTell}
 use Rattle.mc_cli.specs.declared.request.LineFault.{LineFault}
@@ -14,8 +15,8 @@ asking_lacks_memory words wanted fault.OutOfMemory asks is = refl
 
 -- what a line may be whose reading failed
 pub fault_is : (words : List (List ℕ)) (found : LineFault) → IsFaultOf words found
-    → (found ≡ fault.OutOfMemory) ⊎ (((text : String) × (found ≡ fault.Shown text) × MayShow words)
-    ⊎ ((text : String) × (found ≡ fault.Wrong text) × MayTell words))
+    → (found ≡ fault.OutOfMemory) ⊎ (((text : String Global) × (found ≡ fault.Shown text) × MayShow words)
+    ⊎ ((text : String Global) × (found ≡ fault.Wrong text) × MayTell words))
 fault_is words (fault.Shown text) is = inr (inl (text, refl, is.1))
 fault_is words (fault.Wrong text) is = inr (inr (text, refl, is.1))
 fault_is words fault.OutOfMemory is = inl refl

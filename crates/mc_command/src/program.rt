@@ -1,5 +1,6 @@
 //! The whole program, over any streams.
-ghost use Rattle.std.specs.Prelude.{◌≡◌, ◌≢◌, ◌⊎◌, ℕ, List, Option, true, false, map, string_bytes, IfOk};
+ghost use Rattle.std.specs.Prelude.{◌≡◌, ◌≢◌, ◌⊎◌, ℕ, List, Option, String, true, false, map, string_bytes, IfOk};
+ghost use Rattle.std.specs.Global.{Global};
 ghost use Rattle.mc_cli.specs.Asked as asked;
 ghost use Rattle.mc_cli.specs.Asked.{Asked};
 ghost use Rattle.mc_cli.specs.Asking.{AsksFor, IsFaulty, MayShow, MayTell, asked_by};
@@ -211,10 +212,10 @@ pub fn explain_fault<O: Sink, F: Sink>(fault: &LineFault, output: &mut O, faults
         → O.has_failed output.old ≡ false → O.has_failed output.new ≡ false
         → Grows (O.written output.old) (O.written output.new) out_of_memory_text × (result ≡ Status.NoAnswer) }
     ensures no_fault { fault.now ≡ LineFault.OutOfMemory → faults.new ≡ faults.old }
-    ensures shown { (text : String) → fault.now ≡ LineFault.Shown text → (faults.new ≡ faults.old)
+    ensures shown { (text : String Global) → fault.now ≡ LineFault.Shown text → (faults.new ≡ faults.old)
         × (O.has_failed output.old ≡ false → O.has_failed output.new ≡ false
         → (result ≡ Status.Success) × Grows (O.written output.old) (O.written output.new) (string_bytes text)) }
-    ensures wrong { (text : String) → fault.now ≡ LineFault.Wrong text → (output.new ≡ output.old)
+    ensures wrong { (text : String Global) → fault.now ≡ LineFault.Wrong text → (output.new ≡ output.old)
         × (F.has_failed faults.old ≡ false → F.has_failed faults.new ≡ false
         → (result ≡ Status.WrongLine) × Grows (F.written faults.old) (F.written faults.new) (string_bytes text)) }
     ensures apart { (output.new ≡ output.old) ⊎ (faults.new ≡ faults.old) }
