@@ -3,9 +3,10 @@ use Rattle.std.proofs.Common.{◌≡◌, ◌∙◌, refl, ap, sym, inl, inr, ℕ
 use Rattle.clap.specs.Words.{IsAmong, Text}
 use Rattle.clap.specs.declared.error.kind.ErrorKind.{ErrorKind}
 use Rattle.clap.specs.declared.error.kind.ErrorKind.TheVariants as kind
+use Rattle.mc_protocol.specs.Decimals.{MAX_64}
 use Rattle.mc_cli.proofs.Names as names
 use Rattle.mc_cli.proofs.Once.{plan_once, search_once, service_once, value_once}
-use Rattle.mc_cli.specs.Args.{IsCampaignArgs, IsJob, IsRunArgs, IsSearch, IsService}
+use Rattle.mc_cli.specs.Args.{IsCampaignArgs, IsJob, IsRunArgs, IsSearch, IsService, number}
 use Rattle.mc_cli.specs.Asked.{Asked}
 use Rattle.mc_cli.specs.Asked as asked
 use Rattle.mc_cli.specs.Asking.{AsksFor, HasFault, IsAskedBy, IsAskedWith, IsFaultOf, IsShown, Says, name_of}
@@ -39,19 +40,19 @@ with_once value (asked.Drive how) other named is also =
 with_once value (asked.Run how) other named (args, is, of_args) also =
     let found = names.is_run other named in
     let more = rw found.1 at also in
-    rw found.1 (ap asked.Run (sym of_args ∙ (search_once value args.how more.0.how is.how more.1.0.how ∙ more.1.1)))
+    rw found.1 (ap asked.Run (sym of_args ∙ (search_once value args.how more.0.how is.how more.1.how ∙ more.2)))
 with_once value (asked.Generate seed job) other named is also =
     let found = names.is_generate other named in
-    let are = rw found.1.1 at also in
-    rw found.1.1 (ap (λ n. asked.Generate n job) (value_once _ _ _ seed found.0 is.seed are.seed)
-    ∙ ap (asked.Generate found.0) (value_once _ _ _ job found.1.0 is.job are.job))
+    let are = rw found.2 at also in
+    rw found.2 (ap (λ n. asked.Generate n job) (value_once (number MAX_64) _ _ seed found.0 is.seed are.seed)
+    ∙ ap (asked.Generate found.0) (value_once (number MAX_64) _ _ job found.1 is.job are.job))
 with_once value (asked.Serve service) other named is also =
     let found = names.is_serve other named in
     rw found.1 (ap asked.Serve (service_once value service found.0 is (rw found.1 at also)))
 with_once value (asked.Campaign plan) other named (args, is, of_args) also =
     let found = names.is_campaign other named in
     let more = rw found.1 at also in
-    rw found.1 (ap asked.Campaign (sym of_args ∙ (plan_once value args.plan more.0.plan is.plan more.1.0.plan ∙ more.1.1)))
+    rw found.1 (ap asked.Campaign (sym of_args ∙ (plan_once value args.plan more.0.plan is.plan more.1.plan ∙ more.2)))
 with_once value asked.Selftest other named is also = sym (names.is_selftest other named)
 
 pub asks_once : (words : List (List ℕ)) (one other : Asked) → AsksFor words one → AsksFor words other → one ≡ other
@@ -71,11 +72,11 @@ module _ (value : Text → Option Text) (wanted : Asked) where
   pub no_run : ((args : RunArgs) → IsRunArgs value args → ⊥) → IsAskedBy (Some (codes "run")) value wanted → ⊥
   no_run none asks =
       let found = names.is_run wanted (one_name refl asks.0) in
-      let run = rw found.1 at asks.1 in none run.0 run.1.0
+      let run = rw found.1 at asks.1 in none run.0 run.1
 
   pub no_generate : ((seed job : ℕ) → IsJob value seed job → ⊥) → IsAskedBy (Some (codes "generate")) value wanted → ⊥
   no_generate none asks =
-      let found = names.is_generate wanted (one_name refl asks.0) in none found.0 found.1.0 (rw found.1.1 at asks.1)
+      let found = names.is_generate wanted (one_name refl asks.0) in none found.0 found.1 (rw found.2 at asks.1)
 
   pub no_serve : ((service : ServeArgs) → IsService value service → ⊥) → IsAskedBy (Some (codes "serve")) value wanted → ⊥
   no_serve none asks =
@@ -84,15 +85,15 @@ module _ (value : Text → Option Text) (wanted : Asked) where
   pub no_campaign : ((args : CampaignArgs) → IsCampaignArgs value args → ⊥) → IsAskedBy (Some (codes "campaign")) value wanted → ⊥
   no_campaign none asks =
       let found = names.is_campaign wanted (one_name refl asks.0) in
-      let campaign = rw found.1 at asks.1 in none campaign.0 campaign.1.0
+      let campaign = rw found.1 at asks.1 in none campaign.0 campaign.1
 
 -- ---- faults
 
 -- a line is answered in place of what it asks for, by a fault of this kind
 faulty : (words : List (List ℕ)) (found : ErrorKind) (fault : LineFault) → HasFault words found → Says found fault
     → IsFaultOf words fault
-faulty words found (line_fault.Shown text) is said = (is.faulty, found, is, said)
-faulty words found (line_fault.Wrong text) is said = (is.faulty, found, is, said)
+faulty words found (line_fault.Shown text) is said = (is.faulty, (found, is, said))
+faulty words found (line_fault.Wrong text) is said = (is.faulty, (found, is, said))
 faulty words found line_fault.OutOfMemory is said = tt
 
 -- one that clap finds

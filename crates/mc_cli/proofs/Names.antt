@@ -10,7 +10,7 @@ use Rattle.mc_cli.specs.declared.args.Search.{Search}
 use Rattle.mc_cli.specs.declared.args.ServeArgs.{ServeArgs}
 
 -- the names of subcommands differ, by their first bytes or by their lengths
-mark : Text → ℕ
+abbrev pub mark : Text → ℕ
 mark [] = 0
 mark (b ∷ bs) = b + 256 * length bs
 

@@ -1,5 +1,5 @@
 -- What the values of a subcommand's options say.
-use Rattle.std.specs.Prelude.{◌≡◌, ◌+◌, ◌-◌, ◌≤◌, ◌^◌, ℕ, Bool, true, false, nat_lt, Option, Some, None, is_some, List, codes, option_map}
+use Rattle.std.specs.Prelude.{◌≡◌, ◌+◌, ◌-◌, ◌≤◌, ◌^◌, ◌||◌, ℕ, true, false, nat_lt, Option, Some, None, is_some, List, codes, option_map}
 use Rattle.std.specs.Prelude.{if◌then◌else◌}
 use Rattle.clap.specs.Words.{Text}
 use Rattle.mc_protocol.specs.Decimals.{MAX_64}
@@ -37,9 +37,9 @@ pub record IsSearch (value : Text → Option Text) (how : Search) : Type 0 where
 
 -- ---- generate and serve
 
-pub record IsJob (value : Text → Option Text) (seed job : ℕ) : Type 0 where
-  pub seed : IsValue (number MAX_64) (Some 1) (value (codes "seed")) seed
-  pub job : IsValue (number MAX_64) (Some 0) (value (codes "job")) job
+pub record IsJob (value : Text → Option Text) (n m : ℕ) : Type 0 where
+  pub seed : IsValue (number MAX_64) (Some 1) (value (codes "seed")) n
+  pub job : IsValue (number MAX_64) (Some 0) (value (codes "job")) m
 
 pub record IsService (value : Text → Option Text) (service : ServeArgs) : Type 0 where
   pub port : IsValue (number 65535) None (value (codes "port")) service.port
@@ -65,20 +65,12 @@ abbrev pub MayBeName : Option (List ℕ) → Option (List ℕ) → Type 0
 MayBeName None name = name ≡ None
 MayBeName (Some word) name = (is_namespace word ≡ true) × (name ≡ Some word)
 
--- a script is run repeatedly if the line names a number of runs or a time
-abbrev pub repeat_by : Option ℕ → Option ℕ → Bool → Option Repeat
-repeat_by None None keep_going = None
-repeat_by None (Some time) keep_going = Some (record { times = None; time = Some time; keep_going = keep_going })
-repeat_by (Some times) time keep_going = Some (record { times = Some times; time = time; keep_going = keep_going })
-
--- the values of the options of `run` say that the script is run repeatedly, if they do; `--keep-going` needs that
-pub record IsRepeat (value : Text → Option Text) (repeat : Option Repeat) : Type 0 where
-  pub times : Option ℕ
-  pub are_times : MayBeValue (count 1000000) (value (codes "times")) times
-  pub time : Option ℕ
-  pub is_time : MayBeValue kind.Time (value (codes "for")) time
-  pub is : repeat ≡ repeat_by times time (is_set (value (codes "keep-going")))
-  pub bounded : is_set (value (codes "keep-going")) ≡ true → is_some repeat ≡ true
+-- the values of the options of `run` say how often the script is run: once; or repeatedly, if they name a number of runs or a time
+abbrev pub IsRepeat : (Text → Option Text) → Option Repeat → Type 0
+IsRepeat value None = (value (codes "times") ≡ None) × (value (codes "for") ≡ None) × (is_set (value (codes "keep-going")) ≡ false)
+IsRepeat value (Some repeat) = MayBeValue (count 1000000) (value (codes "times")) repeat.times
+    × MayBeValue kind.Time (value (codes "for")) repeat.time × ((is_some repeat.times || is_some repeat.time) ≡ true)
+    × (repeat.keep_going ≡ is_set (value (codes "keep-going")))
 
 -- the microseconds of `--spread` if the line names none: a script that is run repeatedly is run as the jobs of a campaign are
 abbrev pub default_spread : Option Repeat → ℕ
@@ -103,20 +95,13 @@ pub record IsRunArgs (value : Text → Option Text) (args : RunArgs) : Type 0 wh
 
 -- ---- campaigns
 
--- a campaign runs in blocks if the line names a time or a number of unexplained jobs
-abbrev pub until_by : Option ℕ → Option ℕ → Option Until
-until_by None None = None
-until_by None (Some unexplained) = Some (record { time = None; unexplained = Some unexplained })
-until_by (Some time) unexplained = Some (record { time = Some time; unexplained = unexplained })
-
--- the values of the options of `campaign` say until when it runs in blocks, if it does; a time doesn't stand beside a number of jobs
-pub record IsUntil (value : Text → Option Text) (until : Option Until) : Type 0 where
-  pub time : Option ℕ
-  pub is_time : MayBeValue kind.Time (value (codes "for")) time
-  pub unexplained : Option ℕ
-  pub are_unexplained : MayBeValue (count 10000) (value (codes "stop-after")) unexplained
-  pub is : until ≡ until_by time unexplained
-  pub apart : is_some (value (codes "for")) ≡ true → is_some (value (codes "jobs")) ≡ false
+-- the values of the options of `campaign` say until when it runs in blocks, if they name a time or a number of unexplained jobs; a time
+-- doesn't stand beside a number of jobs
+abbrev pub IsUntil : (Text → Option Text) → Option Until → Type 0
+IsUntil value None = (value (codes "for") ≡ None) × (value (codes "stop-after") ≡ None)
+IsUntil value (Some until) = MayBeValue kind.Time (value (codes "for")) until.time
+    × MayBeValue (count 10000) (value (codes "stop-after")) until.unexplained × ((is_some until.time || is_some until.unexplained) ≡ true)
+    × (is_some until.time ≡ true → value (codes "jobs") ≡ None)
 
 -- how many jobs have a number of 64 bits, from the first on; but one less where these are all of them, as that number has 64 bits too
 abbrev pub jobs_from : ℕ → ℕ

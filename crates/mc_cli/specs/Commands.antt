@@ -24,7 +24,7 @@ abbrev pub argument : Text → Rule
 argument name = record (new_rule name) { value_names = 1; required = true }
 
 abbrev pub rule_by : Place → Kind → Text → Rule
-rule_by place.Required kind name = argument name
+rule_by place.Required _ name = argument name
 rule_by _ kind.Switch name = switch name
 rule_by _ _ name = valued name
 
@@ -93,5 +93,5 @@ asking_app = and_with (and_with (and_with (and_with (and_with reading_app (codes
 
 -- with the topics of help, which are subcommands that ask for nothing
 abbrev pub program_app : App
-program_app = and_with (and_with (and_with (and_with (and_with asking_app (codes "formats") []) (codes "history") []) (codes "image") [])
-    (codes "script") []) (codes "steps") []
+program_app = and_with (and_with (and_with (and_with (and_with (and_with asking_app (codes "formats") []) (codes "history") [])
+    (codes "image") []) (codes "script") []) (codes "steps") []) (codes "all") []

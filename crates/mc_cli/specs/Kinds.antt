@@ -77,10 +77,11 @@ reads _ word n = ⊥
 
 -- the number that the first word says, or the default if there is no word
 abbrev pub IsValue : Kind → Option ℕ → Option (List ℕ) → ℕ → Type 0
-IsValue kind default None n = default ≡ Some n
-IsValue kind default (Some word) n = reads kind word n
+IsValue k default None n = default ≡ Some n
+IsValue k default (Some word) n = reads k word n
 
 -- the number that the first word says, if there is a word
 abbrev pub MayBeValue : Kind → Option (List ℕ) → Option ℕ → Type 0
-MayBeValue kind None n = n ≡ None
-MayBeValue kind (Some word) n = (number : ℕ) × reads kind word number × (n ≡ Some number)
+MayBeValue k None n = n ≡ None
+MayBeValue k (Some word) None = ⊥
+MayBeValue k (Some word) (Some n) = reads k word n

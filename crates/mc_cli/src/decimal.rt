@@ -16,7 +16,7 @@ pub fn number_in(kind: Kind, word: &[u8]) -> Option<u64>
     ensures { MatchOption result ((n : ℕ) → spec.reads kind word.now n → ⊥) (spec.reads kind word.now) }
 {
     match kind {
-        Kind::Number { least, greatest } => {
+        Kind::Number(least, greatest) => {
             let number = read_decimal(greatest, word).ok()?;
             if number >= least { Some(number) } else { None }
         }

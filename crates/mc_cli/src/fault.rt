@@ -44,7 +44,9 @@ impl OptionFault<'_> {
                 let key = format!(in alloc; "r{job}-0")?;
                 long_key_message(alloc, name, key.as_bytes())
             }
-            OptionFault::NoSubcommand => format!(in alloc; "a subcommand is required; 'mcrace help TOPIC' shows a topic"),
+            OptionFault::NoSubcommand => format!(in alloc;
+                "a subcommand is required; 'mcrace help TOPIC' shows a topic"
+            ),
         }
     }
 }
@@ -81,7 +83,7 @@ impl Display for Row {
 impl Display for Kind {
     fn fmt<W: Write>(&self, f: &mut Formatter<W>) -> Result<(), Error> {
         match self {
-            Kind::Number { least, greatest } => write!(f, "a number from {least} to {greatest}"),
+            Kind::Number(least, greatest) => write!(f, "a number from {least} to {greatest}"),
             Kind::Seconds => write!(f, "0.001 to 86400, with at most 3 places"),
             Kind::Time => write!(f, "1s to 86400s, 1m to 1440m or 1h to 24h"),
             Kind::Meeting => write!(f, "drawn, each, first or never"),

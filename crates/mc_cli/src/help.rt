@@ -45,7 +45,13 @@ pub struct Help {
     pub statuses: &'static str,
 }
 
-/// The exit statuses of all subcommands.
+/// The exit statuses of all subcommands in a line, and where to read on.
+pub const SHORT_STATUSES: &str =
+    "Exit status: 0 all is right, 1 the server has a fault, 2 the command line is wrong,
+3 the input is refused, 4 otherwise.
+Read on: mcrace help COMMAND, or mcrace help formats";
+
+/// The exit statuses of all subcommands, and the topics of help.
 pub const STATUSES: &str = "Exit status:
   0  explained, confirmed, accepted or assembled; or help or the version
   1  unexplained, or not confirmed; or a section failed by BadReply; or the
@@ -55,4 +61,17 @@ pub const STATUSES: &str = "Exit status:
      script that is too large, or code with a fault; or has more than 1,048,576
      bytes
   4  undecided; a section isn't done; or out of memory; or input or output
-     failed";
+     failed
+
+Topics:
+  mcrace help formats  what mcrace reads and writes
+  mcrace help history  what a server was sent and answered
+  mcrace help script   what three clients send
+  mcrace help steps    a schedule for a script
+  mcrace help image    a script in bytes
+  mcrace help all      the help of all subcommands, and all topics";
+
+/// The names of the subcommands, in the order of their help.
+pub const NAMES: &[&str] = &[
+    "judge", "check", "asm", "drive", "run", "generate", "serve", "campaign", "selftest",
+];

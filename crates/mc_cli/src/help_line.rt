@@ -1,5 +1,6 @@
 //! What help says of each option, and of the line that calls for help.
 
+use crate::help::{FORMATS, HISTORY, IMAGE, NAMES, SCRIPT, STEPS};
 use crate::rows::{Kind, Row};
 use crate::subcommand::help_of;
 use clap::Error;
@@ -14,7 +15,7 @@ impl Row {
     pub fn help_text(&self, alloc: Global) -> Result<String, AllocError> {
         let help = self.help;
         match self.kind {
-            Kind::Number { least, greatest } => match self.default {
+            Kind::Number(least, greatest) => match self.default {
                 Some(default) => {
                     format!(in alloc; "{help}, {least} to {greatest} [default: {default}]")
                 }
@@ -35,10 +36,30 @@ impl Row {
 /// That there is no memory.
 pub fn help_text(alloc: Global, line: &[String], error: &Error) -> Result<String, AllocError> {
     let is_long = !line.iter().any(|word| word.as_str() == "-h");
-    match help_of(alloc, helped_name(line), is_long)? {
+    let name = helped_name(line);
+    if name == "all" {
+        return all_text(alloc);
+    }
+    match help_of(alloc, name, is_long)? {
         Some(text) => Ok(text),
         None => error.to_string(alloc),
     }
+}
+
+// The help of all subcommands, and all topics.
+fn all_text(alloc: Global) -> Result<String, AllocError> {
+    let mut all = String::new(alloc);
+    for name in NAMES {
+        if let Some(text) = help_of(alloc, name, true)? {
+            all.push_str(text.as_str())?;
+            all.push_str("\n")?;
+        }
+    }
+    for topic in [FORMATS, SCRIPT, STEPS, HISTORY, IMAGE] {
+        all.push_str(topic)?;
+        all.push_str("\n")?;
+    }
+    Ok(all)
 }
 
 // The name of the subcommand of which the line asks for help, if there is one.

@@ -15,7 +15,7 @@ pub const TARGET: Row = Row {
 pub const LIMIT: Row = Row {
     name: "limit",
     value: "N",
-    kind: Kind::Number { least: 0, greatest: 1_000_000_000 },
+    kind: Kind::Number(0, 1_000_000_000),
     default: Some(1_000_000),
     place: Place::Rare,
     help: "The most turns of a search",
@@ -96,7 +96,7 @@ pub const WAIT: Row = Row {
 pub const TIMES: Row = Row {
     name: "times",
     value: "N",
-    kind: Kind::Number { least: 1, greatest: 1_000_000 },
+    kind: Kind::Number(1, 1_000_000),
     default: None,
     place: Place::Daily,
     help: "Run the script up to N times",
@@ -141,7 +141,7 @@ pub const QUIET: Row = Row {
 pub const SPREAD: Row = Row {
     name: "spread",
     value: "MICROS",
-    kind: Kind::Number { least: 0, greatest: 10_000 },
+    kind: Kind::Number(0, 10_000),
     default: None,
     place: Place::Rare,
     help: "Maximum delay of a branch [default: 0, or 64 for several runs]",
@@ -159,7 +159,7 @@ pub const STATS: Row = Row {
 pub const SEED: Row = Row {
     name: "seed",
     value: "N",
-    kind: Kind::Number { least: 0, greatest: u64::MAX },
+    kind: Kind::Number(0, u64::MAX),
     default: Some(1),
     place: Place::Daily,
     help: "The seed of the scripts",
@@ -168,7 +168,7 @@ pub const SEED: Row = Row {
 pub const JOB: Row = Row {
     name: "job",
     value: "N",
-    kind: Kind::Number { least: 0, greatest: u64::MAX },
+    kind: Kind::Number(0, u64::MAX),
     default: Some(0),
     place: Place::Daily,
     help: "The job",
@@ -177,7 +177,7 @@ pub const JOB: Row = Row {
 pub const PORT: Row = Row {
     name: "port",
     value: "PORT",
-    kind: Kind::Number { least: 0, greatest: 65_535 },
+    kind: Kind::Number(0, 65_535),
     default: None,
     place: Place::Required,
     help: "The port; 0 takes a free one",
@@ -186,7 +186,7 @@ pub const PORT: Row = Row {
 pub const CONNECTIONS: Row = Row {
     name: "connections",
     value: "N",
-    kind: Kind::Number { least: 0, greatest: u64::MAX },
+    kind: Kind::Number(0, u64::MAX),
     default: Some(1_000_000),
     place: Place::Daily,
     help: "End after N connections",
@@ -204,7 +204,7 @@ pub const RACY: Row = Row {
 pub const FROM: Row = Row {
     name: "from",
     value: "N",
-    kind: Kind::Number { least: 0, greatest: u64::MAX },
+    kind: Kind::Number(0, u64::MAX),
     default: Some(0),
     place: Place::Rare,
     help: "The first job's number",
@@ -213,7 +213,7 @@ pub const FROM: Row = Row {
 pub const JOBS: Row = Row {
     name: "jobs",
     value: "N",
-    kind: Kind::Number { least: 1, greatest: GREATEST_JOBS },
+    kind: Kind::Number(1, GREATEST_JOBS),
     default: Some(100),
     place: Place::Daily,
     help: "How many jobs",
@@ -222,7 +222,7 @@ pub const JOBS: Row = Row {
 pub const WORKERS: Row = Row {
     name: "workers",
     value: "N",
-    kind: Kind::Number { least: 1, greatest: GREATEST_WORKERS as u64 },
+    kind: Kind::Number(1, GREATEST_WORKERS as u64),
     default: Some(4),
     place: Place::Daily,
     help: "How many jobs run at once",
@@ -258,7 +258,7 @@ pub const WHY_OF_SHOWN: Row = Row {
 pub const TRIES: Row = Row {
     name: "tries",
     value: "N",
-    kind: Kind::Number { least: 1, greatest: 1_000 },
+    kind: Kind::Number(1, 1_000),
     default: Some(1),
     place: Place::Rare,
     help: "Runs of a smaller script",
@@ -267,7 +267,7 @@ pub const TRIES: Row = Row {
 pub const SPREAD_OF_CAMPAIGN: Row = Row {
     name: "spread",
     value: "MICROS",
-    kind: Kind::Number { least: 0, greatest: 10_000 },
+    kind: Kind::Number(0, 10_000),
     default: Some(64),
     place: Place::Rare,
     help: "Maximum delay of a branch",
@@ -285,7 +285,7 @@ pub const FOR_OF_CAMPAIGN: Row = Row {
 pub const STOP_AFTER: Row = Row {
     name: "stop-after",
     value: "N",
-    kind: Kind::Number { least: 1, greatest: 10_000 },
+    kind: Kind::Number(1, 10_000),
     default: None,
     place: Place::Rare,
     help: "Begin no block when N jobs are unexplained",

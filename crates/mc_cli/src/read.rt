@@ -7,9 +7,8 @@ ghost use Rattle.mc_cli.specs.Kinds.{IsValue};
 
 use crate::args::{Repeat, RunArgs, Search, ServeArgs};
 use crate::fault::OptionFault;
-use crate::options as rows;
 use crate::rows::Row;
-use crate::value;
+use crate::{options as rows, value};
 use clap::ArgMatches;
 
 /// The microseconds of `--spread` if several runs meet, and the line names none.
@@ -88,27 +87,17 @@ fn read_repeat<'a>(options: &ArgMatches<'a>) -> Result<Option<Repeat>, OptionFau
     let times = value::optional(options, &rows::TIMES)?;
     let time = value::optional(options, &rows::FOR)?;
     let keep_going = value::is_set(options, &rows::KEEP_GOING);
-    let repeat = repeat_by(times, time, keep_going);
-    if keep_going && repeat.is_none() {
-        return Err(OptionFault::Together(
-            "--keep-going needs --times or --for",
-        ));
+    if times.is_some() || time.is_some() {
+        return Ok(Some(Repeat {
+            times,
+            time,
+            keep_going,
+        }));
     }
-    Ok(repeat)
-}
-
-// How often a script is run with these bounds, if it is run repeatedly.
-fn repeat_by(times: Option<u64>, time: Option<u64>, keep_going: bool) -> Option<Repeat>
-    ensures { result ≡ spec.repeat_by times time keep_going }
-{
-    if times.is_none() && time.is_none() {
-        return None;
+    if keep_going {
+        return Err(OptionFault::Together("--keep-going needs --times or --for"));
     }
-    Some(Repeat {
-        times,
-        time,
-        keep_going,
-    })
+    Ok(None)
 }
 
 // The microseconds of `--spread` if the line of `run` names none.

@@ -8,9 +8,8 @@ ghost use Rattle.mc_cli.specs.Args.{AreJobs, IsCampaignArgs, IsPlan, IsUntil};
 
 use crate::args::{CampaignArgs, Plan, Until, has_last};
 use crate::fault::OptionFault;
-use crate::options as rows;
 use crate::read::{DEFAULT_SPREAD, read_spread};
-use crate::value;
+use crate::{options as rows, value};
 use clap::ArgMatches;
 use mc_campaign::{Namespace, keys_fit};
 
@@ -81,22 +80,13 @@ fn read_until<'a>(options: &ArgMatches<'a>) -> Result<Option<Until>, OptionFault
 {
     let time = value::optional(options, &rows::FOR_OF_CAMPAIGN)?;
     let unexplained = value::optional(options, &rows::STOP_AFTER)?;
-    if options.get_str(rows::FOR_OF_CAMPAIGN.name).is_some()
-        && options.get_str(rows::JOBS.name).is_some()
-    {
+    if time.is_some() && options.get_str(rows::JOBS.name).is_some() {
         return Err(OptionFault::Together("--for and --jobs can't stand together"));
     }
-    Ok(until_by(time, unexplained))
-}
-
-// Until when a campaign with these bounds runs in blocks, if it does.
-fn until_by(time: Option<u64>, unexplained: Option<u64>) -> Option<Until>
-    ensures { result ≡ spec.until_by time unexplained }
-{
-    if time.is_none() && unexplained.is_none() {
-        return None;
+    if time.is_some() || unexplained.is_some() {
+        return Ok(Some(Until { time, unexplained }));
     }
-    Some(Until { time, unexplained })
+    Ok(None)
 }
 
 // How many jobs there are at most, from the first on.
@@ -131,7 +121,7 @@ fn name_fits(name: &Option<Namespace<'_>>, first: u64, jobs: u64) -> bool
 }
 
 // The fault of a name under which the keys of the last of these jobs are too long.
-fn long_key(name: Option<Namespace<'_>>, first: u64, jobs: u64) -> OptionFault<'_> 
+fn long_key(name: Option<Namespace<'_>>, first: u64, jobs: u64) -> OptionFault<'_>
     requires { first + jobs ≤ 2 ^ 64 }
 {
     match name {

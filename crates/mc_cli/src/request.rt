@@ -9,11 +9,10 @@ use crate::args::{CampaignArgs, RunArgs, Search, ServeArgs};
 use crate::fault::{OptionFault, long_key_message};
 use crate::file_hint::error_text;
 use crate::help_line::help_text;
-use crate::options as rows;
 use crate::read::{read_job, read_run, read_search, read_service};
 use crate::read_campaign::read_campaign;
 use crate::subcommand::{program, usage_fault};
-use crate::value;
+use crate::{options as rows, value};
 use clap::error::ErrorKind;
 use clap::{ArgMatches, Error};
 use mc_campaign::Namespace;
@@ -90,10 +89,7 @@ pub fn read_request(alloc: Global, line: &[String]) -> Result<Request<'_>, LineF
 }
 
 // What the subcommand of this name asks for with its options.
-fn read_options<'a>(
-    name: &str,
-    options: &ArgMatches<'a>,
-) -> Result<Request<'a>, OptionFault<'a>>
+fn read_options<'a>(name: &str, options: &ArgMatches<'a>) -> Result<Request<'a>, OptionFault<'a>>
     ensures asked { IfOk result (λ request. IsAskedBy (Some name.now) (first_value (found_of options.now)) (asked_by request)) }
     ensures described { IfOk result (Describes (first_value (found_of options.now))) }
     ensures none { IfErr result (λ _. (wanted : Asked) → IsAskedBy (Some name.now) (first_value (found_of options.now)) wanted → ⊥) }

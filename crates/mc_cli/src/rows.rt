@@ -3,8 +3,8 @@
 /// What kind of value an option has.
 #[derive(Clone, Copy, Debug)]
 pub enum Kind {
-    /// A decimal from `least` to `greatest`.
-    Number { least: u64, greatest: u64 },
+    /// A decimal from the first of these numbers to the second.
+    Number(u64, u64),
     /// 0.001 to 86400 seconds, with at most three places.
     Seconds,
     /// Up to 24 hours, in seconds, minutes or hours, as `90s`, `10m` or `2h`.
@@ -43,4 +43,3 @@ pub struct Row {
     /// What help says of it.
     pub help: &'static str,
 }
-

@@ -6,7 +6,7 @@ ghost use Rattle.mc_cli.specs.Commands.{rule_of_row};
 
 use crate::help::{
     ASM, CAMPAIGN, CHECK, DRIVE, FORMATS, GENERATE, HISTORY, Help, IMAGE, JUDGE, RUN, SCRIPT,
-    SELFTEST, SERVE, STATUSES, STEPS,
+    SELFTEST, SERVE, SHORT_STATUSES, STATUSES, STEPS,
 };
 use crate::options as rows;
 use crate::rows::{Kind, Place, Row};
@@ -80,7 +80,8 @@ pub fn program<'a>(alloc: Global) -> Result<Command<'a>, AllocError>
         .subcommand(topic(alloc, "history", HISTORY))?
         .subcommand(topic(alloc, "image", IMAGE))?
         .subcommand(topic(alloc, "script", SCRIPT))?
-        .subcommand(topic(alloc, "steps", STEPS))
+        .subcommand(topic(alloc, "steps", STEPS))?
+        .subcommand(topic(alloc, "all", FORMATS))
 }
 
 // The program without the topics of its help.
@@ -113,7 +114,8 @@ fn bare_program<'a>(alloc: Global) -> Command<'a>
     Command::new(alloc, "mcrace")
         .about(ABOUT)
         .version(VERSION)
-        .after_help(STATUSES)
+        .after_help(SHORT_STATUSES)
+        .after_long_help(STATUSES)
         .subcommand_required(true)
         .arg_required_else_help(true)
 }

@@ -44,9 +44,9 @@ The script is refused:
   end
 
 B's request at place 0, its `get`, needs a flag that may be clear: A's `set`
-sets `ready`, but B may be faster. The other lines show this by a run: P was
-answered NOT_FOUND, then STORED; B's first request finds `ready` clear. With
-`set item 0 =1 +ready` in P, the script would be accepted:
+sets `ready`, but B may be faster. The other lines show this by a run:
+P was answered NOT_FOUND, then STORED; B's first request finds `ready` clear.
+With `set item 0 =1 +ready` in P, the script would be accepted:
 
   accepted
   P 2 32

@@ -1,7 +1,6 @@
 //! The topic `steps`.
 
-pub const STEPS: &str =
-    "A step list says what happens in the sections of a script, one event after
+pub const STEPS: &str = "A step list says what happens in the sections of a script, one event after
 another: who sends next, what is answered, and which connection fails. It
 follows the script's line `end`, and `mcrace drive` plays it. Here A and B each
 add 1 to what P stores, and A's connection ends before a reply comes:
