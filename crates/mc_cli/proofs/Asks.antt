@@ -1,20 +1,16 @@
--- A line asks for one thing at most, and for none where a value is refused.
-use Rattle.std.proofs.Common.{◌≡◌, ◌∙◌, refl, ap, sym, inl, inr, ℕ, List, [], Option, Some, None, codes, unwrap_or}
+-- A line asks for one thing at most, and what is answered to one that asks for nothing.
+use Rattle.std.proofs.Common.{◌≡◌, ◌∙◌, ap, sym, inl, inr, ℕ, List, [], Option, Some, unwrap_or}
 use Rattle.clap.specs.Words.{IsAmong, Text}
 use Rattle.clap.specs.declared.error.kind.ErrorKind.{ErrorKind}
 use Rattle.clap.specs.declared.error.kind.ErrorKind.TheVariants as kind
 use Rattle.mc_protocol.specs.Decimals.{MAX_64}
 use Rattle.mc_cli.proofs.Names as names
 use Rattle.mc_cli.proofs.Once.{plan_once, search_once, service_once, value_once}
-use Rattle.mc_cli.specs.Args.{IsCampaignArgs, IsJob, IsRunArgs, IsSearch, IsService, number}
+use Rattle.mc_cli.specs.Args.{number}
 use Rattle.mc_cli.specs.Asked.{Asked}
 use Rattle.mc_cli.specs.Asked as asked
 use Rattle.mc_cli.specs.Asking.{AsksFor, HasFault, IsAskedBy, IsAskedWith, IsFaultOf, IsShown, Says, name_of}
-use Rattle.mc_cli.specs.Line.{is_set, line_command, line_faults, line_value}
-use Rattle.mc_cli.specs.declared.args.CampaignArgs.{CampaignArgs}
-use Rattle.mc_cli.specs.declared.args.RunArgs.{RunArgs}
-use Rattle.mc_cli.specs.declared.args.Search.{Search}
-use Rattle.mc_cli.specs.declared.args.ServeArgs.{ServeArgs}
+use Rattle.mc_cli.specs.Line.{line_command, line_faults, line_value}
 use Rattle.mc_cli.specs.declared.request.LineFault.{LineFault}
 use Rattle.mc_cli.specs.declared.request.LineFault.TheVariants as line_fault
 
@@ -58,34 +54,6 @@ with_once value asked.Selftest other named is also = sym (names.is_selftest othe
 pub asks_once : (words : List (List ℕ)) (one other : Asked) → AsksFor words one → AsksFor words other → one ≡ other
 asks_once words one other is also =
     with_once (line_value words) one other (one_name is.1.0 also.1.0) is.1.1 also.1.1
-
--- where a value that a subcommand needs is none, it asks for nothing
-module _ (value : Text → Option Text) (wanted : Asked) where
-  pub no_judge : ((how : Search) → IsSearch value how → ⊥) → IsAskedBy (Some (codes "judge")) value wanted → ⊥
-  no_judge none asks =
-      let found = names.is_judge wanted (one_name refl asks.0) in none found.0 (rw found.1 at asks.1)
-
-  pub no_drive : ((how : Search) → IsSearch value how → ⊥) → IsAskedBy (Some (codes "drive")) value wanted → ⊥
-  no_drive none asks =
-      let found = names.is_drive wanted (one_name refl asks.0) in none found.0 (rw found.1 at asks.1)
-
-  pub no_run : ((args : RunArgs) → IsRunArgs value args → ⊥) → IsAskedBy (Some (codes "run")) value wanted → ⊥
-  no_run none asks =
-      let found = names.is_run wanted (one_name refl asks.0) in
-      let run = rw found.1 at asks.1 in none run.0 run.1
-
-  pub no_generate : ((seed job : ℕ) → IsJob value seed job → ⊥) → IsAskedBy (Some (codes "generate")) value wanted → ⊥
-  no_generate none asks =
-      let found = names.is_generate wanted (one_name refl asks.0) in none found.0 found.1 (rw found.2 at asks.1)
-
-  pub no_serve : ((service : ServeArgs) → IsService value service → ⊥) → IsAskedBy (Some (codes "serve")) value wanted → ⊥
-  no_serve none asks =
-      let found = names.is_serve wanted (one_name refl asks.0) in none found.0 (rw found.1 at asks.1)
-
-  pub no_campaign : ((args : CampaignArgs) → IsCampaignArgs value args → ⊥) → IsAskedBy (Some (codes "campaign")) value wanted → ⊥
-  no_campaign none asks =
-      let found = names.is_campaign wanted (one_name refl asks.0) in
-      let campaign = rw found.1 at asks.1 in none campaign.0 campaign.1
 
 -- ---- faults
 

@@ -1,5 +1,5 @@
 -- What a subcommand's name says of what is asked for.
-use Rattle.std.proofs.Common.{◌≡◌, ◌==◌, ◌+◌, ◌*◌, refl, ap, false, ℕ, Bool, List, [], ◌∷◌, codes, length}
+use Rattle.std.proofs.Common.{◌≡◌, ◌==◌, ◌+◌, ◌*◌, refl, ap, false, ℕ, Bool, [], ◌∷◌, codes, length}
 use Rattle.std.proofs.lemmas.Bool.{eq-eqb}
 use Rattle.clap.specs.Words.{Text}
 use Rattle.mc_cli.specs.Asked.{Asked}

@@ -1,5 +1,5 @@
 -- The program's subcommands and their options, as clap reads them.
-use Rattle.std.specs.Prelude.{List, [], ◌∷◌, Some, true, codes, fold, map}
+use Rattle.std.specs.Prelude.{List, [], ◌∷◌, Some, true, codes, fold}
 use Rattle.clap.specs.Words.{App, Rule, Text, new_app, new_rule, with_rule, with_subcommand}
 use Rattle.clap.specs.Simple.{new_shape}
 use Rattle.clap.specs.declared.builder.action.ArgAction.TheVariants.{SetTrue}

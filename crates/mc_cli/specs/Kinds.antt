@@ -1,6 +1,6 @@
 -- What a word says as the value of an option, by the kind of value that the option has.
 use Rattle.std.specs.Prelude.{◌≡◌, ◌≤◌, ◌+◌, ◌-◌, ◌*◌, ◌^◌, ◌==◌, ℕ, nat_le, Bool, ◌&&◌, Option, Some, None, Ok, Err, Result, List}
-use Rattle.std.specs.Prelude.{codes, length, take, drop, option_and_then, slice_index_or, if◌then◌else◌}
+use Rattle.std.specs.Prelude.{length, take, drop, option_and_then, slice_index_or, if◌then◌else◌}
 use Rattle.std.specs.List.{position}
 use Rattle.mc_protocol.specs.Decimals.{SpellsNumber, decimal_in}
 use Rattle.mc_protocol.specs.declared.decimal.DecimalFault.{DecimalFault}
