@@ -9,13 +9,8 @@ use Rattle.mc_campaign.specs.declared.meeting.Meeting.{Meeting}
 use Rattle.mc_campaign.specs.declared.meeting.Meeting.TheVariants as meeting
 use Rattle.mc_cli.specs.Kinds.{IsValue, MayBeValue}
 use Rattle.mc_cli.specs.Line.{is_set}
-use Rattle.mc_cli.specs.declared.args.CampaignArgs.{CampaignArgs}
-use Rattle.mc_cli.specs.declared.args.Plan.{Plan}
-use Rattle.mc_cli.specs.declared.args.Repeat.{Repeat}
-use Rattle.mc_cli.specs.declared.args.RunArgs.{RunArgs}
-use Rattle.mc_cli.specs.declared.args.Search.{Search}
-use Rattle.mc_cli.specs.declared.args.ServeArgs.{ServeArgs}
-use Rattle.mc_cli.specs.declared.args.Until.{Until}
+use Rattle.mc_cli.specs.declared.args.{CampaignArgs.CampaignArgs, Plan.Plan, Repeat.Repeat, RunArgs.RunArgs, Search.Search}
+use Rattle.mc_cli.specs.declared.args.{ServeArgs.ServeArgs, Until.Until}
 use Rattle.mc_cli.specs.declared.rows.Kind.{Kind}
 use Rattle.mc_cli.specs.declared.rows.Kind.TheVariants as kind
 

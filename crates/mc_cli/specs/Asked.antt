@@ -1,8 +1,6 @@
 -- What a line may ask for, without the server and how it is met: the cases are those of a request.
 use Rattle.std.specs.Prelude.{ℕ, Bool}
-use Rattle.mc_cli.specs.declared.args.Plan.{Plan}
-use Rattle.mc_cli.specs.declared.args.Search.{Search}
-use Rattle.mc_cli.specs.declared.args.ServeArgs.{ServeArgs}
+use Rattle.mc_cli.specs.declared.args.{Plan.Plan, Search.Search, ServeArgs.ServeArgs}
 
 pub data Asked : Type 0 where
   Judge : Search → Asked

@@ -7,11 +7,9 @@ use Rattle.mc_cli.specs.Args.{IsCampaignArgs, IsJob, IsRunArgs, IsSearch, IsServ
 use Rattle.mc_cli.specs.Asked.{Asked}
 use Rattle.mc_cli.specs.Asked as asked
 use Rattle.mc_cli.specs.Line.{is_set, line_command, line_faults, line_value}
-use Rattle.mc_cli.specs.declared.args.CampaignArgs.{CampaignArgs}
-use Rattle.mc_cli.specs.declared.args.RunArgs.{RunArgs}
-use Rattle.mc_cli.specs.declared.request.LineFault.{LineFault}
+use Rattle.mc_cli.specs.declared.args.{CampaignArgs.CampaignArgs, RunArgs.RunArgs}
+use Rattle.mc_cli.specs.declared.request.{LineFault.LineFault, Request.Request}
 use Rattle.mc_cli.specs.declared.request.LineFault.TheVariants as line_fault
-use Rattle.mc_cli.specs.declared.request.Request.{Request}
 use Rattle.mc_cli.specs.declared.request.Request.TheVariants as request
 
 -- what is asked for, without the server and how it is met

@@ -3,11 +3,9 @@ use Rattle.std.specs.Prelude.{List, [], ◌∷◌, Some, true, codes, fold}
 use Rattle.clap.specs.Words.{App, Rule, Text, new_app, new_rule, with_rule, with_subcommand}
 use Rattle.clap.specs.Simple.{new_shape}
 use Rattle.clap.specs.declared.builder.action.ArgAction.TheVariants.{SetTrue}
-use Rattle.mc_cli.specs.declared.rows.Kind.{Kind}
+use Rattle.mc_cli.specs.declared.rows.{Kind.Kind, Place.Place, Row.Row}
 use Rattle.mc_cli.specs.declared.rows.Kind.TheVariants as kind
-use Rattle.mc_cli.specs.declared.rows.Place.{Place}
 use Rattle.mc_cli.specs.declared.rows.Place.TheVariants as place
-use Rattle.mc_cli.specs.declared.rows.Row.{Row}
 
 -- ---- options
 
@@ -52,12 +50,6 @@ run_rules =
     valued (codes "wait") ∷ valued (codes "times") ∷ valued (codes "for") ∷ switch (codes "keep-going") ∷
     switch (codes "reconnect") ∷ switch (codes "quiet") ∷ valued (codes "spread") ∷ switch (codes "stats") ∷ []
 
-abbrev pub generate_rules : List Rule
-generate_rules = valued (codes "seed") ∷ valued (codes "job") ∷ []
-
-abbrev pub serve_rules : List Rule
-serve_rules = argument (codes "port") ∷ valued (codes "connections") ∷ switch (codes "racy") ∷ []
-
 abbrev pub campaign_rules : List Rule
 campaign_rules =
     argument (codes "target") ∷ valued (codes "seed") ∷ valued (codes "from") ∷ valued (codes "jobs") ∷
@@ -88,8 +80,10 @@ reading_app = and_with (and_with (and_with (and_with bare_app (codes "judge") ju
 
 -- with all that ask for something
 abbrev pub asking_app : App
-asking_app = and_with (and_with (and_with (and_with (and_with reading_app (codes "run") run_rules) (codes "generate") generate_rules)
-    (codes "serve") serve_rules) (codes "campaign") campaign_rules) (codes "selftest") []
+asking_app = and_with (and_with (and_with (and_with (and_with reading_app (codes "run") run_rules)
+    (codes "generate") (valued (codes "seed") ∷ valued (codes "job") ∷ []))
+    (codes "serve") (argument (codes "port") ∷ valued (codes "connections") ∷ switch (codes "racy") ∷ []))
+    (codes "campaign") campaign_rules) (codes "selftest") []
 
 -- with the topics of help, which are subcommands that ask for nothing
 abbrev pub program_app : App

@@ -9,12 +9,9 @@ use Rattle.mc_cli.specs.declared.rows.Kind.TheVariants as kind
 
 -- ---- seconds, with up to three places
 
--- the most seconds of a time, and its most milliseconds
+-- the most seconds of a time
 abbrev pub GREATEST_SECONDS : ℕ
 GREATEST_SECONDS = 86400
-
-abbrev pub GREATEST_MILLISECONDS : ℕ
-GREATEST_MILLISECONDS = 86400000
 
 -- this number, if it is at least 1 and at most the greatest
 abbrev pub if_within : ℕ → ℕ → Option ℕ
@@ -38,7 +35,7 @@ thousandths_in places = if are_few places then scaled places (decimal_in 999 pla
 
 -- the time of these seconds and these thousandths
 abbrev pub joined_time : Result ℕ DecimalFault → Option ℕ → Option ℕ
-joined_time (Ok seconds) (Some thousandths) = if_within GREATEST_MILLISECONDS (seconds * 1000 + thousandths)
+joined_time (Ok seconds) (Some thousandths) = if_within 86400000 (seconds * 1000 + thousandths)
 joined_time _ _ = None
 
 -- the time whose point, if it has one, stands here in the word

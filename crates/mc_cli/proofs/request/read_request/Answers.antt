@@ -22,11 +22,10 @@ returns-in-Ok-read_options-clause-asked c =
     let matches = c.in-Ok.ensures.matches in
     let clear = sym (line_faults-is _ words program) ∙ c.in-Ok.ensures.kinds (program_is_simple _ program) in
     let command = command_is _ words _ program matches _ c.in-Some.ensures.name in
-    let same = fun_ext (λ name. sym (value_is _ words _ program matches _ c.in-Some.ensures.rows name)) in
-    (
+    let same = fun_ext (λ name. sym (value_is _ words _ program matches _ c.in-Some.ensures.rows name)) in (
       clear,
       rw command (subst (λ value. IsAskedBy (Some c.in-Some.name.now) value (asked_by c.in-Ok-read_options.request)) same
-      c.in-Ok-read_options.ensures.asked),
+          c.in-Ok-read_options.ensures.asked),
     )
 
 pub returns-in-Ok-read_options-clause-only : goal.returns-in-Ok-read_options-clause-only
