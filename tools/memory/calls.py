@@ -10,7 +10,7 @@ import functions
 
 FILE = "tools/memory/calls.txt"
 # What the program does, and the line that it reads: refused on each case and example.
-PROGRAM = {"mc_command", "mc_line"}
+PROGRAM = {"mc_cli", "mc_command"}
 # The words of answers that say it: of std, of what ended a connection, and a count in which threads
 # are that weren't made.
 WORDS = {"OutOfMemory", "AllocError", "Memory", "Listened"}

@@ -13,9 +13,9 @@ use Rattle.mc_campaign.specs.Outcomes.{HasShortKeys, IsOutcome}
 use Rattle.mc_campaign.specs.declared.outcome.JobResult.{JobResult}
 use Rattle.mc_command.specs.Blocks.{AreReports, BeginsRightly, MOST_IN_BLOCK, jobs_of, unexplained_of}
 use Rattle.mc_command.specs.CampaignAnswers.{AreResults}
-use Rattle.mc_command.specs.CommandLine.{GREATEST_JOBS}
-use Rattle.mc_command.specs.declared.campaign.Plan.{Plan}
-use Rattle.mc_command.specs.declared.until.Until.{Until}
+use Rattle.mc_cli.specs.Args.{GREATEST_JOBS}
+use Rattle.mc_cli.specs.declared.args.Plan.{Plan}
+use Rattle.mc_cli.specs.declared.args.Until.{Until}
 
 -- ---- results
 

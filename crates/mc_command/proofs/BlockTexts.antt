@@ -14,10 +14,10 @@ use Rattle.mc_command.specs.Tallies.{HasReported, HasWritten}
 use Rattle.mc_command.specs.Texts.{out_of_memory_text}
 use Rattle.mc_command.specs.declared.input.InputFault.{InputFault}
 use Rattle.mc_command.specs.declared.input.InputFault.TheVariants as fault
-use Rattle.mc_command.specs.declared.campaign.Plan.{Plan}
+use Rattle.mc_cli.specs.declared.args.Plan.{Plan}
 use Rattle.mc_command.specs.declared.status.Status.{Status}
 use Rattle.mc_command.specs.declared.status.Status.TheVariants as status
-use Rattle.mc_command.specs.declared.until.Until.{Until}
+use Rattle.mc_cli.specs.declared.args.Until.{Until}
 
 -- known bytes that grow twice
 pub grows_more : (old between new : Option (List ℕ)) (one other : List ℕ) → Grows old between one → Grows between new other

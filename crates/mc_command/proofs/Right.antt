@@ -1,7 +1,7 @@
 -- The answer to what was read is right for the whole input.
 use Rattle.std.proofs.Common.{Bool, false, arith, refl, ap, inr, ◌≡◌, ℕ, ◌<◌}
 use Rattle.std.proofs.Common.{List, [], ◌++◌, length, Option, Some, None, length-append}
-use Rattle.mc_command.specs.declared.arguments.Asked.{Asked}
+use Rattle.mc_cli.specs.Asked.{Asked}
 use Rattle.mc_command.specs.Answers.{Does, IsAnswer, IsAnswerBy, out_of_memory_text}
 use Rattle.mc_command.specs.Command.{Answers, AnswersBy, IsWhole}
 use Rattle.mc_command.specs.Input.{FailsBy}

@@ -18,7 +18,7 @@ use Rattle.mc_command.specs.declared.gathered.Gathered.{Gathered}
 use Rattle.mc_command.specs.declared.status.Status.{Status}
 use Rattle.mc_command.specs.declared.status.Status.TheVariants as status
 use Rattle.mc_command.specs.declared.tally.Tally.{Tally}
-use Rattle.mc_command.specs.declared.until.Until.{Until}
+use Rattle.mc_cli.specs.declared.args.Until.{Until}
 
 -- ---- the status
 

@@ -4,7 +4,7 @@ use Rattle.mc_protocol.specs.Lines.{Word}
 use Rattle.mc_code.specs.Code.{Code}
 use Rattle.mc_command.specs.RepeatAnswers.{AnswersFor, Runs}
 use Rattle.mc_command.specs.RunAnswers.{IsRight, IsRightFor, SpellsUnder, is_refusal, status_of, text_of}
-use Rattle.mc_command.specs.declared.repeat.Repeat.{Repeat}
+use Rattle.mc_cli.specs.declared.args.Repeat.{Repeat}
 use Rattle.mc_command.specs.declared.run.Played.{Played}
 use Rattle.mc_command.specs.declared.run.Played.TheVariants as played
 use Rattle.mc_command.specs.declared.status.Status.{Status}

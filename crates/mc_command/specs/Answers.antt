@@ -1,9 +1,9 @@
 -- What is answered to a text, whatever the line asks for.
 use Rattle.std.specs.Prelude.{◌≡◌, ◌⊎◌, ℕ, ◌<◌, ◌≤◌, Bool, Option, None, List, length, codes}
 use Rattle.mc_protocol.specs.Lines.{Word}
-use Rattle.mc_command.specs.declared.arguments.Asked.{Asked}
-use Rattle.mc_command.specs.declared.arguments.Asked.TheVariants as asked
-use Rattle.mc_command.specs.declared.repeat.Repeat.{Repeat}
+use Rattle.mc_cli.specs.Asked.{Asked}
+use Rattle.mc_cli.specs.Asked as asked
+use Rattle.mc_cli.specs.declared.args.Repeat.{Repeat}
 use Rattle.mc_command.specs.declared.status.Status.{Status}
 use Rattle.mc_command.specs.declared.status.Status.TheVariants as status
 use Rattle.mc_command.specs.AsmAnswers.{Assembles}

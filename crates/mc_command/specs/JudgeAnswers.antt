@@ -11,7 +11,7 @@ use Rattle.mc_explain.specs.Verdicts.{IsStated, IsTrueOf, IsWithin}
 use Rattle.mc_command.specs.Refusals.{IsHint, refusal_text}
 use Rattle.mc_command.specs.Verdicts.{verdict_status, verdict_text}
 use Rattle.mc_command.specs.WhyAnswers.{IsWhy, line_in_text}
-use Rattle.mc_command.specs.declared.asking.Search.{Search}
+use Rattle.mc_cli.specs.declared.args.Search.{Search}
 use Rattle.mc_command.specs.declared.refusal.Place.TheVariants as place
 use Rattle.mc_command.specs.declared.status.Status.{Status}
 use Rattle.mc_command.specs.declared.status.Status.TheVariants as status

@@ -2,7 +2,7 @@
 use Rattle.std.specs.Prelude.{◌≡◌, ◌⊎◌, ℕ, ◌<◌, ◌==◌, List, ◌++◌, codes, decimal, if◌then◌else◌}
 use Rattle.mc_server.specs.Listening.{Listens}
 use Rattle.mc_server.specs.declared.counts.Listened.{Listened}
-use Rattle.mc_command.specs.declared.serve.Service.{Service}
+use Rattle.mc_cli.specs.declared.args.ServeArgs.{ServeArgs}
 use Rattle.mc_command.specs.declared.status.Status.{Status}
 use Rattle.mc_command.specs.declared.status.Status.TheVariants as status
 
@@ -21,7 +21,7 @@ abbrev pub status_of : ℕ → Listened → Status
 status_of connections listened = if listened.accepted == connections then status.Success else status.NoAnswer
 
 -- the port that is listened at is written, and the status is that of the connections; or there is no listener
-abbrev pub Serves : Service → List ℕ → Status → Type 0
+abbrev pub Serves : ServeArgs → List ℕ → Status → Type 0
 Serves service output ended =
     ((port : ℕ) × (listened : Listened) × IsPortOf service.port port × Listens service.connections listened
     × (output ≡ listening_text port) × (ended ≡ status_of service.connections listened))

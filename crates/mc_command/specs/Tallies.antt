@@ -7,10 +7,10 @@ use Rattle.mc_command.specs.Blocks.{AreReports, BeginsRightly, jobs_of, unexplai
 use Rattle.mc_command.specs.CampaignAnswers.{ShowsJobs, first_unexplained, text_of_report}
 use Rattle.mc_command.specs.Statuses.{status_number}
 use Rattle.mc_command.specs.Streams.{Grows}
-use Rattle.mc_command.specs.declared.campaign.Plan.{Plan}
+use Rattle.mc_cli.specs.declared.args.Plan.{Plan}
 use Rattle.mc_command.specs.declared.gathered.Gathered.{Gathered}
 use Rattle.mc_command.specs.declared.tally.Tally.{Tally}
-use Rattle.mc_command.specs.declared.until.Until.{Until}
+use Rattle.mc_cli.specs.declared.args.Until.{Until}
 
 -- how many there are, how many of them are unexplained, which is the first of these, and the status of one report of them all
 pub record IsTally {S : Type 0} (results : List (JobResult S)) (tally : Tally) : Type 0 where

@@ -1,28 +1,23 @@
 //! What is answered to a text, whatever the line asks for.
-ghost use Rattle.std.specs.Prelude.{◌≡◌, ◌<◌, ◌≤◌, ℕ, List, length, IfErr, IfOk, None};
+ghost use Rattle.std.specs.Prelude.{◌≡◌, ◌<◌, ◌≤◌, ℕ, List, length, true, IfErr, IfOk, None};
+ghost use Rattle.mc_cli.specs.Asking.{asked_by};
 ghost use Rattle.mc_command.specs.Answers as answers;
 ghost use Rattle.mc_command.specs.AsmAnswers.{Assembles};
 ghost use Rattle.mc_command.specs.CheckAnswers.{Checks};
-ghost use Rattle.mc_command.specs.Command.{IsWhole};
+ghost use Rattle.mc_command.specs.Command.{IsWhole, reads_input};
 ghost use Rattle.mc_command.specs.DriveAnswers.{Drives};
 ghost use Rattle.mc_command.specs.GenerateAnswers.{Generates};
 ghost use Rattle.mc_command.specs.Input as input_rule;
 ghost use Rattle.mc_command.specs.JudgeAnswers.{Judges};
 ghost use Rattle.mc_command.specs.RunAnswers.{Plays};
-ghost use Rattle.mc_command.specs.SelftestAnswers.{failed_text};
-ghost use Rattle.mc_command.specs.ServeAnswers.{no_listener_text};
 ghost use Rattle.mc_command.specs.Streams.{TakesAtMost};
 
-use crate::arguments::Asked;
-use crate::asking::Search;
-use crate::campaigning::not_run;
 use crate::input::{InputFault, read_input};
 use crate::loading::load_script;
-use crate::selftest::FAILED;
-use crate::serving::NO_LISTENER;
 use crate::status::Status;
 use crate::streams::Source;
 use crate::{asm, check, drive, generate, judge, run};
+use mc_cli::{Request, Search};
 use std::alloc::{AllocError, Global};
 
 /// The most bytes of an input.
@@ -60,23 +55,20 @@ pub fn read_text<I: Source>(
 }
 
 /// Does what is asked for with the text.
-pub fn answer_to(alloc: Global, asked: Asked, text: &[u8]) -> Result<Answer, AllocError>
-    ensures { IfOk result (λ answer. answers.Does asked text.now answer.output.items answer.status) }
+pub fn answer_to(alloc: Global, request: &Request<'_>, text: &[u8]) -> Result<Answer, AllocError>
+    requires { reads_input (asked_by request.now) ≡ true }
+    ensures { IfOk result (λ answer. answers.Does (asked_by request.now) text.now answer.output.items answer.status) }
 {
-    match asked {
-        Asked::Judge(how) => judge_answer(alloc, text, how),
-        Asked::Check(why) => check_answer(alloc, text, why),
-        Asked::Asm(why) => asm_answer(alloc, text, why),
-        Asked::Drive(how) => drive_answer(alloc, text, how),
-        // Whoever can reach a server answers by `run_command`.
-        Asked::Run(how) => unplayed_answer(alloc, text, how),
-        // The text, which isn't read for it, counts for nothing.
-        Asked::Generate(seed, job) => generate_answer(alloc, seed, job),
-        // Whoever can reach a network answers by `serve_connections`.
-        Asked::Serve(_) => no_listener_answer(alloc),
-        // Whoever can reach a network answers by `run_campaign_at` and by `run_selftest`.
-        Asked::Campaign(_) => not_run(alloc),
-        Asked::Selftest => failed_answer(alloc),
+    match request {
+        Request::Judge(how) => judge_answer(alloc, text, *how),
+        Request::Check(why) => check_answer(alloc, text, *why),
+        Request::Asm(why) => asm_answer(alloc, text, *why),
+        Request::Drive(how) => drive_answer(alloc, text, *how),
+        // Who can reach a server calls `run_target`.
+        Request::Run(target) => unplayed_answer(alloc, text, target.how),
+        Request::Generate(..) | Request::Serve(_) | Request::Campaign(_) | Request::Selftest => {
+            unreachable!()
+        }
     }
 }
 
@@ -136,26 +128,6 @@ pub fn generate_answer(alloc: Global, seed: u64, job: u64) -> Result<Answer, All
     Ok(Answer {
         output,
         status: Status::Success,
-    })
-}
-
-fn no_listener_answer(alloc: Global) -> Result<Answer, AllocError>
-    ensures { IfOk result (λ answer. (answer.output.items ≡ no_listener_text) × (answer.status ≡ Status.NoAnswer)) }
-{
-    let output = Vec::from_slice(alloc, NO_LISTENER)?;
-    Ok(Answer {
-        output,
-        status: Status::NoAnswer,
-    })
-}
-
-fn failed_answer(alloc: Global) -> Result<Answer, AllocError>
-    ensures { IfOk result (λ answer. (answer.output.items ≡ failed_text) × (answer.status ≡ Status.Unexplained)) }
-{
-    let output = Vec::from_slice(alloc, FAILED)?;
-    Ok(Answer {
-        output,
-        status: Status::Unexplained,
     })
 }
 

@@ -7,25 +7,22 @@ ghost use Rattle.std.specs.Option.{option_copied};
 ghost use Rattle.mc_campaign.specs.declared.outcome.JobResult.{JobResult};
 ghost use Rattle.mc_command.specs.Blocks.{EndsWith, InBlocks, MOST_IN_BLOCK};
 ghost use Rattle.mc_command.specs.CampaignAnswers.{AreResults};
-ghost use Rattle.mc_command.specs.CommandLine as line;
+ghost use Rattle.mc_cli.specs.Args as args;
 ghost use Rattle.mc_command.specs.Streams.{Grows};
 ghost use Rattle.mc_command.specs.Tallies.{HasGathered, HasReported, HasWritten, IsOver, Stands};
 ghost use Rattle.mc_command.specs.Texts.{out_of_memory_text};
 ghost use Rattle.mc_command.specs.declared.status.Status.TheVariants as status;
 
 use crate::answer::Answer;
-use crate::asking::Search;
-use crate::campaign::{GREATEST_WORKERS, Plan, has_last};
-use crate::campaign_line::CampaignTarget;
 use crate::campaigning::{end_text, not_run, text_of_report};
 use crate::gathered::Gathered;
 use crate::input::InputFault;
 use crate::repeating::is_late;
 use crate::streams::{Broken, Sink};
 use crate::tally::Tally;
-use crate::until::Until;
 use crate::watching::Teller;
 use mc_campaign::{Campaign, CampaignError, Connector, Report, run_jobs};
+use mc_cli::{CampaignArgs, GREATEST_WORKERS, Plan, Search, Until, has_last};
 use mc_lane::Stream;
 use mc_run::FreeGate;
 use std::alloc::{AllocError, Global};
@@ -72,7 +69,7 @@ impl From<Broken> for Stop {
 pub fn answer_in_blocks<S, C, R, O>(
     rt: &R,
     alloc: Global,
-    target: &CampaignTarget<'_>,
+    target: &CampaignArgs<'_>,
     until: Until,
     connector: &C,
     teller: &mut Teller<'_, R>,
@@ -113,7 +110,7 @@ fn may_run(plan: Plan) -> bool
 fn run_blocks<S, C, R, O>(
     rt: &R,
     alloc: Global,
-    target: &CampaignTarget<'_>,
+    target: &CampaignArgs<'_>,
     until: Until,
     connector: &C,
     teller: &mut Teller<'_, R>,
@@ -184,7 +181,7 @@ fn has_reached(until: Until, tally: Tally) -> bool
 fn run_next<S, C, R, O>(
     rt: &R,
     alloc: Global,
-    target: &CampaignTarget<'_>,
+    target: &CampaignArgs<'_>,
     until: Until,
     connector: &C,
     teller: &mut Teller<'_, R>,
@@ -230,7 +227,7 @@ where
     R: Wait + Clock + Eprint,
     O: Sink,
     ensures unbroken { OnOk result (O.has_failed output.new ≡ O.has_failed output.old) }
-    ensures room { OnOk result (length gathered.new.results.items < line.GREATEST_JOBS) }
+    ensures room { OnOk result (length gathered.new.results.items < args.GREATEST_JOBS) }
     ensures tally { OnOk result (gathered.new.tally ≡ gathered.old.tally) }
     ensures stands { OnOk result ((plan : Plan) (until : Until) (name : Option (List ℕ)) (earlier : Option (List ℕ)) → plan.brief ≡ brief
         → (whole : List (List (JobResult S))) → Stands plan until name whole gathered.old
@@ -252,7 +249,7 @@ where
 fn run_more<S, C, R>(
     rt: &R,
     alloc: Global,
-    target: &CampaignTarget<'_>,
+    target: &CampaignArgs<'_>,
     until: Until,
     connector: &C,
     teller: &mut Teller<'_, R>,
@@ -267,7 +264,7 @@ where
     requires jobs { target.now.plan.jobs < 2 ^ 64 }
     requires more { gathered.old.tally.jobs < target.now.plan.jobs }
     requires allowed { (most : ℕ) → until.unexplained ≡ Some most → gathered.old.tally.unexplained < most }
-    requires room { length gathered.old.results.items < line.GREATEST_JOBS }
+    requires room { length gathered.old.results.items < args.GREATEST_JOBS }
     ensures more { OnOk result (gathered.old.tally.jobs < gathered.new.tally.jobs) }
     ensures some { OnOk result (0 < length gathered.new.results.items) }
     ensures stands { OnOk result ((whole : List (List (JobResult S))) → Stands target.now.plan until target.now.name whole gathered.old
@@ -291,7 +288,7 @@ where
 fn run_block<S, C, R>(
     rt: &R,
     alloc: Global,
-    target: &CampaignTarget<'_>,
+    target: &CampaignArgs<'_>,
     done: u64,
     jobs: u64,
     connector: &C,
@@ -321,7 +318,7 @@ where
 }
 
 // The campaign of some of the jobs alone.
-fn campaign_of<'a>(target: &'a CampaignTarget<'_>, first: u64, jobs: u64) -> Campaign<'a>
+fn campaign_of<'a>(target: &'a CampaignArgs<'_>, first: u64, jobs: u64) -> Campaign<'a>
     ensures seed { result.seed ≡ target.now.plan.seed }
     ensures first { result.first ≡ first }
     ensures jobs { result.jobs ≡ jobs }
@@ -342,7 +339,7 @@ fn campaign_of<'a>(target: &'a CampaignTarget<'_>, first: u64, jobs: u64) -> Cam
 fn last_answer<S, C, R>(
     rt: &R,
     alloc: Global,
-    target: &CampaignTarget<'_>,
+    target: &CampaignArgs<'_>,
     connector: &C,
     gathered: Gathered<S>,
 ) -> Result<Answer, AllocError>

@@ -9,10 +9,7 @@ ghost use Rattle.mc_command.specs.Streams.{Grows};
 ghost use Rattle.mc_command.specs.Texts.{out_of_memory_text};
 
 use crate::answer::Answer;
-use crate::asking::Search;
 use crate::blocks::answer_in_blocks;
-use crate::campaign::{GREATEST_JOBS, GREATEST_WORKERS, Plan, has_last};
-use crate::campaign_line::CampaignTarget;
 use crate::dialer::Dialer;
 use crate::failures::Failures;
 use crate::input::InputFault;
@@ -28,6 +25,7 @@ use mc_campaign::{
     Campaign, CampaignError, Connector, JobResult, Meeting, Namespace, Report, Standing, Watcher,
     print_brief_report, print_report, report_status, run_jobs,
 };
+use mc_cli::{CampaignArgs, GREATEST_JOBS, GREATEST_WORKERS, Plan, Search, has_last};
 use mc_lane::Stream;
 use mc_run::FreeGate;
 use mc_script::{Script, print};
@@ -46,7 +44,7 @@ pub const NOT_RUN: &[u8] = b"not run\n";
 pub fn run_campaign_at<'a, R, O: Sink>(
     rt: &'a R,
     alloc: Global,
-    target: &'a CampaignTarget<'a>,
+    target: &'a CampaignArgs<'a>,
     columns: Option<usize>,
     output: &mut O,
 ) -> Status
@@ -88,7 +86,7 @@ where
 fn target_answer<S, C, R, O>(
     rt: &R,
     alloc: Global,
-    target: &CampaignTarget<'_>,
+    target: &CampaignArgs<'_>,
     connector: &C,
     teller: &mut Teller<'_, R>,
     output: &mut O,

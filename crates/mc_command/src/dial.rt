@@ -1,9 +1,8 @@
 //! Connections to a server over TCP.
-use crate::arguments::Target;
 use crate::network::{Network, Unconnected};
 use crate::quitting::Closing;
-use crate::seconds::Seconds;
 use crate::timed_stream::TimedStream;
+use mc_cli::{RunArgs, Seconds};
 use mc_protocol::{Actor, Sections};
 use std::io;
 use std::io::ErrorKind;
@@ -38,7 +37,7 @@ impl<'a, R: Net<Stream = TcpStream> + Clock + Sync> Network for TcpNetwork<'a, R
     /// their own, whose addresses each of them tries once.
     fn connect(
         &mut self,
-        target: &Target<'_>,
+        target: &RunArgs<'_>,
     ) -> Result<Sections<TimedStream<'a, R>>, Unconnected> {
         let p = self.connect_p(target, Place::Named(target.server))?;
         let a = self.reconnect(target, Actor::A)?;
@@ -48,7 +47,7 @@ impl<'a, R: Net<Stream = TcpStream> + Clock + Sync> Network for TcpNetwork<'a, R
 
     fn reconnect(
         &mut self,
-        target: &Target<'_>,
+        target: &RunArgs<'_>,
         section: Actor,
     ) -> Result<TimedStream<'a, R>, Unconnected> {
         let place = match self.address {
@@ -78,7 +77,7 @@ impl<'a, R: Net<Stream = TcpStream> + Clock> TcpNetwork<'a, R> {
     // A connection of P, and the address that took it is known from now on.
     fn connect_p(
         &mut self,
-        target: &Target<'_>,
+        target: &RunArgs<'_>,
         place: Place<'_>,
     ) -> Result<TimedStream<'a, R>, Unconnected> {
         match connect_patiently(self.rt, place, target.timeout, target.wait) {
@@ -96,7 +95,7 @@ impl<'a, R: Net<Stream = TcpStream> + Clock> TcpNetwork<'a, R> {
     // A connection of a branch to its own server, or else to P's.
     fn connect_branch(
         &self,
-        target: &Target<'_>,
+        target: &RunArgs<'_>,
         own: Option<&str>,
         place: Place<'_>,
         section: Actor,
@@ -111,7 +110,7 @@ impl<'a, R: Net<Stream = TcpStream> + Clock> TcpNetwork<'a, R> {
         }
     }
 
-    fn timed(&self, stream: TcpStream, target: &Target<'_>) -> TimedStream<'a, R> {
+    fn timed(&self, stream: TcpStream, target: &RunArgs<'_>) -> TimedStream<'a, R> {
         let limit = target.timeout.map(|timeout| timeout.duration());
         TimedStream::new(self.rt, stream, limit)
     }

@@ -5,7 +5,6 @@ ghost use Rattle.mc_protocol.specs.declared.lines.Separator.TheVariants.{Space};
 ghost use Rattle.mc_command.specs.DriveAnswers as answers;
 ghost use Rattle.mc_command.specs.Refusals as refusals;
 
-use crate::asking::Search;
 use crate::driven_why::driven_why_text;
 use crate::loading;
 use crate::loading::{LoadFault, load_front, told_unsound_text, verify_code};
@@ -13,6 +12,7 @@ use crate::outcome::{endings_text, status_of_run, verdict_text};
 use crate::refusal::{Place, Refusal, told_refusal_text};
 use crate::refusal_hint::{code_hint, steps_hint, unsound_hint};
 use crate::status::Status;
+use mc_cli::Search;
 use mc_core::World;
 use mc_explain::Verdict;
 use mc_history::{StepsFault, parse_steps};

@@ -11,8 +11,8 @@ ghost use Rattle.mc_history.specs.StepText.{SpellsSteps};
 ghost use Rattle.mc_command.specs.StepLines.{IsStepLine, MakesNote};
 ghost use Rattle.mc_command.specs.WhyAnswers.{IsWhyBy};
 
-use crate::asking::Search;
 use crate::why::line_after_header;
+use mc_cli::Search;
 use mc_core::{World, folds_once};
 use mc_explain::Verdict;
 use mc_history::{Event, parse_steps, texts_spell_one_step_list};

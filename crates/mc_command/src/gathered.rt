@@ -3,15 +3,14 @@ ghost use Rattle.std.specs.Prelude.{◌≡◌, ◌+◌, ◌-◌, ◌<◌, ◌≤
 ghost use Rattle.mc_campaign.specs.declared.outcome.JobResult.{JobResult};
 ghost use Rattle.mc_command.specs.Blocks.{MOST_IN_BLOCK};
 ghost use Rattle.mc_command.specs.CampaignAnswers as answers;
-ghost use Rattle.mc_command.specs.CommandLine as line;
+ghost use Rattle.mc_cli.specs.Args as args;
 ghost use Rattle.mc_command.specs.Tallies.{Gathers};
 
-use crate::asking::Search;
-use crate::campaign::GREATEST_JOBS;
 use crate::campaigning::{text_of_report, text_of_shown};
 use crate::showing::MOST_SHOWN;
 use crate::tally::Tally;
 use mc_campaign::{JobResult, Report};
+use mc_cli::{GREATEST_JOBS, Search};
 use mc_lane::Stream;
 use std::alloc::{AllocError, Global};
 use std::mem;
@@ -66,20 +65,20 @@ impl<S: Stream> Gathered<S> {
 
     /// The report has as many jobs as one may have.
     pub fn is_whole(&self) -> bool
-        ensures whole { result ≡ true → line.GREATEST_JOBS ≤ length self.now.results.items }
-        ensures part { result ≡ false → length self.now.results.items < line.GREATEST_JOBS }
+        ensures whole { result ≡ true → args.GREATEST_JOBS ≤ length self.now.results.items }
+        ensures part { result ≡ false → length self.now.results.items < args.GREATEST_JOBS }
     {
         self.results.len() as u64 >= GREATEST_JOBS
     }
 
     /// How many jobs the next block has, where `left` are left of the campaign.
     pub fn next_block(&self, left: u64) -> u64
-        requires room { length self.now.results.items < line.GREATEST_JOBS }
+        requires room { length self.now.results.items < args.GREATEST_JOBS }
         requires left { 0 < left }
         ensures some { 0 < result }
         ensures few { result ≤ MOST_IN_BLOCK }
         ensures left { result ≤ left }
-        ensures fits { length self.now.results.items + result ≤ line.GREATEST_JOBS }
+        ensures fits { length self.now.results.items + result ≤ args.GREATEST_JOBS }
     {
         let room = GREATEST_JOBS - self.results.len() as u64;
         MOST_IN_BLOCK.min(left).min(room)

@@ -4,13 +4,13 @@ ghost use Rattle.mc_command.specs.JudgeAnswers as answers;
 ghost use Rattle.mc_command.specs.Refusals as refusals;
 ghost use Rattle.mc_command.specs.Verdicts as verdicts;
 
-use crate::asking::Search;
 use crate::outcome::{verdict_status, verdict_text};
 use crate::refusal::{Place, Refusal, told_refusal_text};
 use crate::refusal_hint::history_hint;
 use crate::status::Status;
 use crate::why::{Counted, why_text};
 use mc_claims::confirms;
+use mc_cli::Search;
 use mc_explain::{Verdict, judge};
 use mc_history::{Explanation, HistoryFault, parse_history};
 use mc_model::History;

@@ -2,10 +2,10 @@
 ghost use Rattle.std.specs.Prelude.{◌≡◌, IfOk};
 ghost use Rattle.mc_command.specs.RunAnswers as answers;
 
-use crate::arguments::Target;
 use crate::network::{Connection, Network, Unconnected};
 use crate::run::{Played, Remarks, no_connection, play_connections, status_of};
 use crate::socket::{Connections, is_idle};
+use mc_cli::RunArgs;
 use mc_protocol::{Actor, Sections};
 use mc_verify::Checked;
 use std::alloc::{AllocError, Global};
@@ -28,7 +28,7 @@ impl<C: Connection> Kept<C> {
     // The connections that are kept, or else new ones.
     fn take_or_connect<N: Network<Connection = C>>(
         &mut self,
-        target: &Target<'_>,
+        target: &RunArgs<'_>,
         network: &mut N,
     ) -> Result<Connections<C>, Unconnected> {
         let streams = match self.connections.take() {
@@ -52,7 +52,7 @@ impl<C: Connection> Kept<C> {
 pub fn play_kept<R: Threads + Wait + Clock + Sync, N: Network>(
     rt: &R,
     alloc: Global,
-    target: &Target<'_>,
+    target: &RunArgs<'_>,
     checked: &Checked,
     network: &mut N,
     kept: &mut Kept<N::Connection>,
@@ -75,7 +75,7 @@ pub fn play_kept<R: Threads + Wait + Clock + Sync, N: Network>(
 
 // The connections, with a new one in place of each that isn't idle.
 fn renewed<N: Network>(
-    target: &Target<'_>,
+    target: &RunArgs<'_>,
     network: &mut N,
     streams: Sections<N::Connection>,
 ) -> Result<Sections<N::Connection>, Unconnected> {
@@ -88,7 +88,7 @@ fn renewed<N: Network>(
 }
 
 fn idle_or_new<N: Network>(
-    target: &Target<'_>,
+    target: &RunArgs<'_>,
     network: &mut N,
     stream: N::Connection,
     section: Actor,

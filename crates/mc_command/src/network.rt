@@ -1,7 +1,7 @@
 //! What runs need from outside: connections to the servers that are tested.
 ghost use Rattle.std.specs.Prelude.{◌≤◌, IfOk, length};
 
-use crate::arguments::Target;
+use mc_cli::RunArgs;
 use mc_protocol::{Actor, Sections};
 use std::io;
 
@@ -48,7 +48,7 @@ pub trait Network {
     /// # Errors
     ///
     /// The first section that gets none, and why.
-    fn connect(&mut self, target: &Target<'_>) -> Result<Sections<Self::Connection>, Unconnected>;
+    fn connect(&mut self, target: &RunArgs<'_>) -> Result<Sections<Self::Connection>, Unconnected>;
 
     /// A new connection of one section, in place of an earlier one which the server has closed: to the server that `target` names for the
     /// section, and where that is P's, at the address that took P.
@@ -58,7 +58,7 @@ pub trait Network {
     /// That the section gets none, and why.
     fn reconnect(
         &mut self,
-        target: &Target<'_>,
+        target: &RunArgs<'_>,
         section: Actor,
     ) -> Result<Self::Connection, Unconnected>;
 

@@ -1,5 +1,6 @@
 //! The command `run`, over any streams for input and output.
 ghost use Rattle.std.specs.Prelude.{◌≡◌, ℕ, List, true, false, IfOk};
+ghost use Rattle.mc_cli.specs.Asked as asked;
 ghost use Rattle.mc_command.specs.Answers.{IsTargetAnswer};
 ghost use Rattle.mc_command.specs.Command.{Answers, AnswersTarget, IsWhole};
 ghost use Rattle.mc_command.specs.Input as input_rule;
@@ -9,8 +10,6 @@ ghost use Rattle.mc_command.specs.Statuses.{status_number};
 ghost use Rattle.mc_command.specs.Streams.{TakesAtMost};
 
 use crate::answer::{Answer, read_text};
-use crate::arguments::{Asked, Target};
-use crate::asking::Search;
 use crate::dial::TcpNetwork;
 use crate::input::InputFault;
 use crate::network::Network;
@@ -21,6 +20,7 @@ use crate::run_teller::{RunObserver, Unobserved};
 use crate::status::Status;
 use crate::streams::{Sink, Source};
 use mc_campaign::Meeting;
+use mc_cli::{RunArgs, Search};
 use mc_verify::Checked;
 use std::alloc::{AllocError, Global};
 use std::net::{Net, TcpStream};
@@ -46,13 +46,13 @@ where
     ensures answered { I.has_failed input.old ≡ false → I.has_failed input.new ≡ false
         → O.has_failed output.old ≡ false → O.has_failed output.new ≡ false
         → (ended : Status) × (result ≡ status_number ended)
-        × Answers (Asked.Run how) (I.left input.old) (O.written output.old) (O.written output.new) ended }
+        × Answers (asked.Run how) (I.left input.old) (O.written output.old) (O.written output.new) ended }
     ensures broken_input { I.has_failed input.old ≡ false → I.has_failed input.new ≡ true
         → (result ≡ 4) × (output.new ≡ output.old) }
     ensures broken_output { O.has_failed output.old ≡ false → O.has_failed output.new ≡ true → result ≡ 4 }
     ensures taken { TakesAtMost 1048577 (I.left input.old) (I.left input.new) }
 {
-    let target = Target {
+    let target = RunArgs {
         server: target,
         a: None,
         b: None,
@@ -86,7 +86,7 @@ where
 pub fn run_target<R, N: Network, T: RunObserver, I: Source, O: Sink>(
     rt: &R,
     alloc: Global,
-    target: &Target<'_>,
+    target: &RunArgs<'_>,
     network: &mut N,
     observer: &mut T,
     input: &mut I,
@@ -116,7 +116,7 @@ where
 fn read_and_run<R, N: Network, T: RunObserver, I: Source>(
     rt: &R,
     alloc: Global,
-    target: &Target<'_>,
+    target: &RunArgs<'_>,
     network: &mut N,
     observer: &mut T,
     input: &mut I,
@@ -142,7 +142,7 @@ where
 fn run_code<R: Threads + Wait + Clock + Sync, N: Network, T: RunObserver>(
     rt: &R,
     alloc: Global,
-    target: &Target<'_>,
+    target: &RunArgs<'_>,
     network: &mut N,
     observer: &mut T,
     checked: &Checked,

@@ -1,30 +1,26 @@
 //! The whole program, over any streams.
-ghost use Rattle.std.specs.Prelude.{◌≡◌, ◌≢◌, ◌⊎◌, ℕ, List, Option, true, false, map, string_bytes, IfOk};
+ghost use Rattle.std.specs.Prelude.{◌≡◌, ◌≢◌, ◌⊎◌, ℕ, List, Option, String, true, false, map, string_bytes, IfOk};
+ghost use Rattle.std.specs.Global.{Global};
+ghost use Rattle.mc_cli.specs.Asked as asked;
+ghost use Rattle.mc_cli.specs.Asked.{Asked};
+ghost use Rattle.mc_cli.specs.Asking.{AsksFor, IsFaulty, MayShow, MayTell, asked_by};
+ghost use Rattle.mc_cli.specs.Line.{line_name};
 ghost use Rattle.mc_command.specs.Answers.{IsAnswer, not_utf8_text, out_of_memory_text};
-ghost use Rattle.mc_command.specs.Command.{AsksFor, Answers, Hosts, IsFaulty, IsShown, IsWhole, MayShow, MayTell, Prints};
-ghost use Rattle.mc_command.specs.Command.{WritesReport, WritesSelftest, reads_input};
-ghost use Rattle.mc_command.specs.CommandLine.{line_name};
+ghost use Rattle.mc_command.specs.Command.{Answers, Hosts, IsWhole, Prints, WritesReport, WritesSelftest, reads_input};
 ghost use Rattle.mc_command.specs.Input as input_rule;
 ghost use Rattle.mc_command.specs.Statuses.{status_number};
 ghost use Rattle.mc_command.specs.Streams.{Grows, TakesAtMost};
-ghost use Rattle.clap.specs.Words.{kind_of};
 ghost use Rattle.std.specs.IoError.{error_kind};
 ghost use Rattle.std.specs.declared.io.ErrorKind.TheVariants as io_kind;
 
 use crate::answer::{Answer, OUT_OF_MEMORY, answer_to, generate_answer, read_text};
-use crate::arguments::Asked;
-use crate::campaign::Plan;
 use crate::campaigning::write_not_run;
-use crate::file_hint::error_text;
 use crate::input::InputFault;
-use crate::invocation::read_invocation;
 use crate::selftest::write_failed;
-use crate::serve::Service;
 use crate::serving::write_no_listener;
 use crate::status::Status;
 use crate::streams::{Sink, Source};
-use clap::Error;
-use clap::error::ErrorKind;
+use mc_cli::{LineFault, Plan, Request, ServeArgs, read_request};
 use std::alloc::Global;
 use std::io;
 
@@ -47,23 +43,23 @@ pub fn command<I: Source, O: Sink, F: Sink>(
         → O.has_failed output.old ≡ false → O.has_failed output.new ≡ false
         → (ended : Status) × (result ≡ status_number ended)
         × Answers asked (I.left input.old) (O.written output.old) (O.written output.new) ended }
-    ensures generated { (seed : ℕ) (job : ℕ) → AsksFor (map string_bytes line.now) (Asked.Generate seed job)
+    ensures generated { (seed : ℕ) (job : ℕ) → AsksFor (map string_bytes line.now) (asked.Generate seed job)
         → O.has_failed output.old ≡ false → O.has_failed output.new ≡ false
         → (ended : Status) × (result ≡ status_number ended) × Prints seed job (O.written output.old) (O.written output.new) ended }
-    ensures served { (service : Service) → AsksFor (map string_bytes line.now) (Asked.Serve service)
+    ensures served { (service : ServeArgs) → AsksFor (map string_bytes line.now) (asked.Serve service)
         → O.has_failed output.old ≡ false → O.has_failed output.new ≡ false
         → (ended : Status) × (result ≡ status_number ended) × Hosts service (O.written output.old) (O.written output.new) ended }
-    ensures reported { (plan : Plan) → AsksFor (map string_bytes line.now) (Asked.Campaign plan)
+    ensures reported { (plan : Plan) → AsksFor (map string_bytes line.now) (asked.Campaign plan)
         → O.has_failed output.old ≡ false → O.has_failed output.new ≡ false
         → (ended : Status) × (result ≡ status_number ended)
         × WritesReport plan (line_name (map string_bytes line.now)) (O.written output.old) (O.written output.new) ended }
-    ensures tested { AsksFor (map string_bytes line.now) Asked.Selftest
+    ensures tested { AsksFor (map string_bytes line.now) asked.Selftest
         → O.has_failed output.old ≡ false → O.has_failed output.new ≡ false
         → (ended : Status) × (result ≡ status_number ended) × WritesSelftest (O.written output.old) (O.written output.new) ended }
-    ensures no_input { (seed : ℕ) (job : ℕ) → AsksFor (map string_bytes line.now) (Asked.Generate seed job) → input.new ≡ input.old }
-    ensures unread_by_serve { (service : Service) → AsksFor (map string_bytes line.now) (Asked.Serve service) → input.new ≡ input.old }
-    ensures unread_by_campaign { (plan : Plan) → AsksFor (map string_bytes line.now) (Asked.Campaign plan) → input.new ≡ input.old }
-    ensures unread_by_selftest { AsksFor (map string_bytes line.now) Asked.Selftest → input.new ≡ input.old }
+    ensures no_input { (seed : ℕ) (job : ℕ) → AsksFor (map string_bytes line.now) (asked.Generate seed job) → input.new ≡ input.old }
+    ensures unread_by_serve { (service : ServeArgs) → AsksFor (map string_bytes line.now) (asked.Serve service) → input.new ≡ input.old }
+    ensures unread_by_campaign { (plan : Plan) → AsksFor (map string_bytes line.now) (asked.Campaign plan) → input.new ≡ input.old }
+    ensures unread_by_selftest { AsksFor (map string_bytes line.now) asked.Selftest → input.new ≡ input.old }
     ensures no_fault { (asked : Asked) → AsksFor (map string_bytes line.now) asked → faults.new ≡ faults.old }
 
     ensures fault { IsFaulty (map string_bytes line.now)
@@ -82,47 +78,46 @@ pub fn command<I: Source, O: Sink, F: Sink>(
     ensures broken_faults { F.has_failed faults.old ≡ false → F.has_failed faults.new ≡ true → result ≡ 4 }
     ensures taken { TakesAtMost 1048577 (I.left input.old) (I.left input.new) }
 {
-    match read_invocation(alloc, line) {
-        Ok(invocation) => answer_offline(alloc, invocation.asked(), input, output).number(),
-        Err(error) => explain_fault(alloc, line, &error, output, faults).number(),
+    match read_request(alloc, line) {
+        Ok(request) => answer_offline(alloc, &request, input, output).number(),
+        Err(fault) => explain_fault(&fault, output, faults).number(),
     }
 }
 
 /// Does what is asked for where there is no network, by which a run, a server, a campaign and the selftest come to nothing.
 pub fn answer_offline<I: Source, O: Sink>(
     alloc: Global,
-    asked: Asked,
+    request: &Request<'_>,
     input: &mut I,
     output: &mut O,
 ) -> Status
-    ensures answered { reads_input asked ≡ true → I.has_failed input.old ≡ false → I.has_failed input.new ≡ false
+    ensures answered { reads_input (asked_by request.now) ≡ true → I.has_failed input.old ≡ false → I.has_failed input.new ≡ false
         → O.has_failed output.old ≡ false → O.has_failed output.new ≡ false
-        → Answers asked (I.left input.old) (O.written output.old) (O.written output.new) result }
-    ensures generated { (seed : ℕ) (job : ℕ) → asked ≡ Asked.Generate seed job
+        → Answers (asked_by request.now) (I.left input.old) (O.written output.old) (O.written output.new) result }
+    ensures generated { (seed : ℕ) (job : ℕ) → asked_by request.now ≡ asked.Generate seed job
         → O.has_failed output.old ≡ false → O.has_failed output.new ≡ false
         → Prints seed job (O.written output.old) (O.written output.new) result }
-    ensures served { (service : Service) → asked ≡ Asked.Serve service
+    ensures served { (service : ServeArgs) → asked_by request.now ≡ asked.Serve service
         → O.has_failed output.old ≡ false → O.has_failed output.new ≡ false
         → Hosts service (O.written output.old) (O.written output.new) result }
-    ensures reported { (plan : Plan) → asked ≡ Asked.Campaign plan
+    ensures reported { (plan : Plan) → asked_by request.now ≡ asked.Campaign plan
         → O.has_failed output.old ≡ false → O.has_failed output.new ≡ false
         → (name : Option (List ℕ)) → WritesReport plan name (O.written output.old) (O.written output.new) result }
-    ensures tested { asked ≡ Asked.Selftest → O.has_failed output.old ≡ false → O.has_failed output.new ≡ false
+    ensures tested { asked_by request.now ≡ asked.Selftest → O.has_failed output.old ≡ false → O.has_failed output.new ≡ false
         → WritesSelftest (O.written output.old) (O.written output.new) result }
-    ensures unread { reads_input asked ≡ false → input.new ≡ input.old }
+    ensures unread { reads_input (asked_by request.now) ≡ false → input.new ≡ input.old }
     ensures broken_input { I.has_failed input.old ≡ false → I.has_failed input.new ≡ true
         → (result ≡ Status.NoAnswer) × (output.new ≡ output.old) }
     ensures broken_output { O.has_failed output.old ≡ false → O.has_failed output.new ≡ true → result ≡ Status.NoAnswer }
     ensures taken { TakesAtMost 1048577 (I.left input.old) (I.left input.new) }
 {
-    match asked {
-        Asked::Generate(seed, job) => print_generated(alloc, seed, job, output),
-        // Whoever can reach a network answers by `serve_connections`.
-        Asked::Serve(_) => write_no_listener(output),
-        // Whoever can reach a network answers by `run_campaign_at`, and by `run_selftest`.
-        Asked::Campaign(_) => write_not_run(output),
-        Asked::Selftest => write_failed(output),
-        asked => answer(alloc, asked, input, output),
+    match request {
+        Request::Generate(seed, job) => print_generated(alloc, *seed, *job, output),
+        // Who can reach a network calls `serve_connections`, `run_campaign_at`, `run_selftest` and `run_target`.
+        Request::Serve(_) => write_no_listener(output),
+        Request::Campaign(_) => write_not_run(output),
+        Request::Selftest => write_failed(output),
+        _ => answer(alloc, request, input, output),
     }
 }
 
@@ -159,16 +154,22 @@ fn print_generated<O: Sink>(alloc: Global, seed: u64, job: u64, output: &mut O) 
 }
 
 // Reads the input, and writes what is answered to it.
-fn answer<I: Source, O: Sink>(alloc: Global, asked: Asked, input: &mut I, output: &mut O) -> Status
+fn answer<I: Source, O: Sink>(
+    alloc: Global,
+    request: &Request<'_>,
+    input: &mut I,
+    output: &mut O,
+) -> Status
+    requires { reads_input (asked_by request.now) ≡ true }
     ensures answered { I.has_failed input.old ≡ false → I.has_failed input.new ≡ false
         → O.has_failed output.old ≡ false → O.has_failed output.new ≡ false
-        → Answers asked (I.left input.old) (O.written output.old) (O.written output.new) result }
+        → Answers (asked_by request.now) (I.left input.old) (O.written output.old) (O.written output.new) result }
     ensures broken_input { I.has_failed input.old ≡ false → I.has_failed input.new ≡ true
         → (result ≡ Status.NoAnswer) × (output.new ≡ output.old) }
     ensures broken_output { O.has_failed output.old ≡ false → O.has_failed output.new ≡ true → result ≡ Status.NoAnswer }
     ensures taken { TakesAtMost 1048577 (I.left input.old) (I.left input.new) }
 {
-    match read_answer(alloc, asked, input) {
+    match read_answer(alloc, request, input) {
         Ok(answer) => write_text(answer.output.as_slice(), answer.status, output),
         Err(fault) => write_fault(fault, output),
     }
@@ -188,51 +189,43 @@ pub fn write_fault<O: Sink>(fault: InputFault, output: &mut O) -> Status
 }
 
 // Reads the input whole, and finds the answer to it.
-fn read_answer<I: Source>(alloc: Global, asked: Asked, input: &mut I) -> Result<Answer, InputFault>
+fn read_answer<I: Source>(
+    alloc: Global,
+    request: &Request<'_>,
+    input: &mut I,
+) -> Result<Answer, InputFault>
+    requires { reads_input (asked_by request.now) ≡ true }
     ensures right { IfOk result (λ answer. (text : List ℕ) × IsWhole (I.left input.old) text
-        × IsAnswer asked text answer.output.items answer.status) }
+        × IsAnswer (asked_by request.now) text answer.output.items answer.status) }
     ensures fails { input_rule.Fails (I.has_failed input.old) (I.has_failed input.new) result }
     ensures taken { TakesAtMost 1048577 (I.left input.old) (I.left input.new) }
 {
     match read_text(alloc, input)? {
-        Ok(text) => Ok(answer_to(alloc, asked, text.as_slice())?),
+        Ok(text) => Ok(answer_to(alloc, request, text.as_slice())?),
         Err(too_long) => Ok(too_long),
     }
 }
 
 /// Writes help and the version to the output, and a fault of the line to the faults; or to the output that memory ran out.
-pub fn explain_fault<O: Sink, F: Sink>(
-    alloc: Global,
-    line: &[String],
-    error: &Error,
-    output: &mut O,
-    faults: &mut F,
-) -> Status
-    ensures memory { kind_of error.now ≡ ErrorKind.OutOfMemory
+pub fn explain_fault<O: Sink, F: Sink>(fault: &LineFault, output: &mut O, faults: &mut F) -> Status
+    ensures memory { fault.now ≡ LineFault.OutOfMemory
         → O.has_failed output.old ≡ false → O.has_failed output.new ≡ false
         → Grows (O.written output.old) (O.written output.new) out_of_memory_text × (result ≡ Status.NoAnswer) }
-    ensures no_fault { kind_of error.now ≡ ErrorKind.OutOfMemory → faults.new ≡ faults.old }
-    ensures fault { O.has_failed output.old ≡ false → O.has_failed output.new ≡ false
-        → F.has_failed faults.old ≡ false → F.has_failed faults.new ≡ false
-        → ((result ≡ Status.WrongLine) × (output.new ≡ output.old) × (IsShown (kind_of error.now) → ⊥))
-        ⊎ (((result ≡ Status.Success) × (faults.new ≡ faults.old) × IsShown (kind_of error.now))
-        ⊎ ((result ≡ Status.NoAnswer) × (faults.new ≡ faults.old)
-        × Grows (O.written output.old) (O.written output.new) out_of_memory_text)) }
+    ensures no_fault { fault.now ≡ LineFault.OutOfMemory → faults.new ≡ faults.old }
+    ensures shown { (text : String Global) → fault.now ≡ LineFault.Shown text → (faults.new ≡ faults.old)
+        × (O.has_failed output.old ≡ false → O.has_failed output.new ≡ false
+        → (result ≡ Status.Success) × Grows (O.written output.old) (O.written output.new) (string_bytes text)) }
+    ensures wrong { (text : String Global) → fault.now ≡ LineFault.Wrong text → (output.new ≡ output.old)
+        × (F.has_failed faults.old ≡ false → F.has_failed faults.new ≡ false
+        → (result ≡ Status.WrongLine) × Grows (F.written faults.old) (F.written faults.new) (string_bytes text)) }
     ensures apart { (output.new ≡ output.old) ⊎ (faults.new ≡ faults.old) }
     ensures broken_output { O.has_failed output.old ≡ false → O.has_failed output.new ≡ true → result ≡ Status.NoAnswer }
     ensures broken_faults { F.has_failed faults.old ≡ false → F.has_failed faults.new ≡ true → result ≡ Status.NoAnswer }
 {
-    if error.kind() == ErrorKind::OutOfMemory {
-        return write_text(OUT_OF_MEMORY, Status::NoAnswer, output);
-    }
-    let Ok(text) = error_text(alloc, line, error) else {
-        return write_text(OUT_OF_MEMORY, Status::NoAnswer, output);
-    };
-    match error.kind() {
-        ErrorKind::DisplayHelp | ErrorKind::DisplayVersion => {
-            write_text(text.as_bytes(), Status::Success, output)
-        }
-        _ => write_text(text.as_bytes(), Status::WrongLine, faults),
+    match fault {
+        LineFault::Shown(text) => write_text(text.as_bytes(), Status::Success, output),
+        LineFault::Wrong(text) => write_text(text.as_bytes(), Status::WrongLine, faults),
+        LineFault::OutOfMemory => write_text(OUT_OF_MEMORY, Status::NoAnswer, output),
     }
 }
 

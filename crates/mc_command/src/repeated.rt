@@ -3,12 +3,11 @@ ghost use Rattle.std.specs.Prelude.{◌≡◌, string_bytes, IfOk};
 ghost use Rattle.mc_command.specs.RepeatAnswers as answers;
 
 use crate::answer::Answer;
-use crate::arguments::Target;
 use crate::network::Network;
-use crate::repeat::Repeat;
 use crate::repeating::{Runs, repeat_code};
 use crate::run::{Remarks, status_of, text_of};
 use crate::run_teller::RunObserver;
+use mc_cli::{Repeat, RunArgs};
 use mc_verify::Checked;
 use std::alloc::{AllocError, Global};
 use std::rt::Clock;
@@ -20,7 +19,7 @@ use std::thread::Threads;
 pub fn answer_of_runs<R: Threads + Wait + Clock + Sync, N: Network, T: RunObserver>(
     rt: &R,
     alloc: Global,
-    target: &Target<'_>,
+    target: &RunArgs<'_>,
     repeat: Repeat,
     network: &mut N,
     observer: &mut T,

@@ -6,14 +6,13 @@ ghost use Rattle.mc_command.specs.RunAnswers.{IsRightFor};
 ghost use Rattle.mc_command.specs.SoFar.{IsSoFar};
 ghost use Rattle.mc_command.specs.declared.run.Played.{Played};
 
-use crate::arguments::Target;
 use crate::keeping::{Kept, play_kept};
 use crate::network::Network;
 use crate::renaming::{Renaming, leaves_request};
-use crate::repeat::Repeat;
 use crate::run::{Played, Remarks, status_of};
 use crate::run_teller::RunObserver;
 use crate::totals::Totals;
+use mc_cli::{Repeat, RunArgs};
 use mc_verify::Checked;
 use std::alloc::{AllocError, Global};
 use std::io;
@@ -119,7 +118,7 @@ impl Runs {
 pub fn repeat_code<R: Threads + Wait + Clock + Sync, N: Network, T: RunObserver>(
     rt: &R,
     alloc: Global,
-    target: &Target<'_>,
+    target: &RunArgs<'_>,
     repeat: Repeat,
     checked: &Checked,
     network: &mut N,
@@ -143,7 +142,7 @@ pub fn repeat_code<R: Threads + Wait + Clock + Sync, N: Network, T: RunObserver>
 fn repeat_over<R: Threads + Wait + Clock + Sync, N: Network, T: RunObserver>(
     rt: &R,
     alloc: Global,
-    target: &Target<'_>,
+    target: &RunArgs<'_>,
     repeat: Repeat,
     checked: &Checked,
     network: &mut N,

@@ -2,12 +2,10 @@
 ghost use Rattle.std.specs.Prelude.{◌≡◌, Bool, Option, IfErr, IfOk, List, None, true, ℕ};
 ghost use Rattle.mc_command.specs.RunAnswers as answers;
 
-use crate::arguments::Target;
 use crate::evidence::evidence_of;
 use crate::loading;
 use crate::loading::{LoadFault, load_script, told_unsound_text, verify_code};
 use crate::meeting::draw_meet;
-use crate::namespace::long_key_text;
 use crate::network::{Connection, Network, Unconnected};
 use crate::outcome::{endings_text, status_of_run, verdict_text};
 use crate::refusal::told_refusal_text;
@@ -17,10 +15,10 @@ use crate::status::Status;
 use crate::why::{Counted, why_text};
 use core::thread::Stack;
 use mc_campaign::{Namespace, PutFault, put_under};
+use mc_cli::{RunArgs, long_key_text};
 use mc_core::World;
 use mc_explain::Verdict;
 use mc_history::print_history;
-use mc_line::Subcommand;
 use mc_model::History;
 use mc_protocol::Actor;
 use mc_run::{FreeGate, Judged, Run, RunError, play};
@@ -94,7 +92,7 @@ pub fn read_code(
 /// run, with what standard error says.
 pub fn read_target_code(
     alloc: Global,
-    target: &Target<'_>,
+    target: &RunArgs<'_>,
     text: &[u8],
 ) -> Result<Result<Checked, (Played, Remarks)>, AllocError>
     ensures code { IfOk result (λ read. IfOk read (λ checked. answers.SpellsUnder target.now.name text.now checked.code)) }
@@ -129,7 +127,8 @@ pub fn put_code_under(
             Err(refusal) => { Ok(Err((Played::Unsound(refusal, Vec::new(alloc)), Remarks::None))) }
         },
         Err(PutFault::KeyTooLong(index)) => {
-            let text = long_key_text(alloc, Subcommand::Run, name, &checked.code().keys()[index])?;
+            let key = &checked.code().keys()[index];
+            let text = long_key_text(alloc, name, key.as_slice())?;
             Ok(Err((Played::KeyTooLong(index), Remarks::WrongLine(text))))
         }
         Err(PutFault::OutOfMemory) => Err(AllocError),
@@ -141,7 +140,7 @@ pub fn put_code_under(
 pub fn play_code<R: Threads + Wait + Clock + Sync, N: Network>(
     rt: &R,
     alloc: Global,
-    target: &Target<'_>,
+    target: &RunArgs<'_>,
     network: &mut N,
     checked: &Checked,
 ) -> Result<(Played, Remarks), AllocError>
@@ -170,7 +169,7 @@ pub fn no_connection(section: Actor, error: io::Error) -> (Played, Remarks)
 pub fn play_connections<R: Threads + Wait + Clock + Sync, C: Connection>(
     rt: &R,
     alloc: Global,
-    target: &Target<'_>,
+    target: &RunArgs<'_>,
     checked: &Checked,
     connections: &Connections<C>,
 ) -> Result<(Played, Remarks), AllocError>

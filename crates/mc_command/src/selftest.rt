@@ -3,8 +3,6 @@ ghost use Rattle.std.specs.Prelude.{◌≡◌, false, true, IfOk};
 ghost use Rattle.mc_command.specs.Command.{WritesSelftest};
 ghost use Rattle.mc_command.specs.SelftestAnswers as answers;
 
-use crate::arguments::Target;
-use crate::asking::Search;
 use crate::both_read::BothRead;
 use crate::dial::TcpNetwork;
 use crate::dialer::Dialer;
@@ -12,10 +10,10 @@ use crate::failures::Failures;
 use crate::late_calls::LateCalls;
 use crate::program::write_text;
 use crate::run::{Played, play_code, read_target_code};
-use crate::seconds::Seconds;
 use crate::status::Status;
 use crate::streams::Sink;
 use mc_campaign::{Campaign, Meeting, Unwatched, report_status, run_jobs};
+use mc_cli::{RunArgs, Search, Seconds};
 use mc_explain::Verdict;
 use mc_run::FreeGate;
 use mc_server::{Caller, Racy, Shared, listen};
@@ -200,7 +198,7 @@ where
     R: Net<Stream = TcpStream> + Threads + Wait + Clock + Sync,
     ensures { result ≡ true → answers.IsRaceSeen }
 {
-    let target = Target {
+    let target = RunArgs {
         server,
         a: None,
         b: None,

@@ -5,9 +5,9 @@ ghost use Rattle.mc_command.specs.ServeAnswers as answers;
 
 use crate::input::InputFault;
 use crate::program::{write_fault, write_text};
-use crate::serve::Service;
 use crate::status::Status;
 use crate::streams::Sink;
+use mc_cli::ServeArgs;
 use mc_server::{Caller, FreeBetween, Listened, Racy, Shared, listen};
 use std::alloc::{AllocError, Global};
 use std::io;
@@ -35,7 +35,7 @@ pub enum Told {
 pub fn serve_connections<R, O: Sink>(
     rt: &R,
     alloc: Global,
-    service: Service,
+    service: ServeArgs,
     output: &mut O,
 ) -> (Status, Told)
 where
@@ -80,7 +80,7 @@ fn listen_at<R: Net<Listener = TcpListener, Stream = TcpStream>>(
 fn serve_all<R, C: Caller, O: Sink>(
     rt: &R,
     alloc: Global,
-    service: Service,
+    service: ServeArgs,
     listener: &TcpListener,
     port: u16,
     caller: &C,
@@ -123,7 +123,7 @@ fn status_of(connections: u64, listened: Listened) -> Status
 /// Says that there is no listener.
 pub fn write_no_listener<O: Sink>(output: &mut O) -> Status
     ensures answered { O.has_failed output.old ≡ false → O.has_failed output.new ≡ false
-        → (service : Service) → Hosts service (O.written output.old) (O.written output.new) result }
+        → (service : ServeArgs) → Hosts service (O.written output.old) (O.written output.new) result }
     ensures broken { O.has_failed output.old ≡ false → O.has_failed output.new ≡ true → result ≡ Status.NoAnswer }
 {
     write_text(NO_LISTENER, Status::NoAnswer, output)

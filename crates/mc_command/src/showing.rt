@@ -3,10 +3,10 @@ ghost use Rattle.std.specs.Prelude.{◌≡◌, ◌++◌, ℕ, All, List, IfOk, O
 ghost use Rattle.mc_explain.specs.Verdicts.{IsTrueOf};
 ghost use Rattle.mc_command.specs.CampaignAnswers as answers;
 
-use crate::asking::Search;
 use crate::campaigning::is_unexplained;
 use crate::why::{Counted, why_text};
 use mc_campaign::{JobOutcome, JobResult};
+use mc_cli::Search;
 use mc_explain::Verdict;
 use mc_history::print_history;
 use mc_lane::Stream;

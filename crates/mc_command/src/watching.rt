@@ -1,14 +1,11 @@
 //! What the program says of jobs while a campaign runs.
-use crate::campaign::Plan;
-use crate::campaign_line::CampaignTarget;
 use crate::evidence::failure_text;
 use crate::failures::Failures;
 use crate::late_calls::LateCalls;
 use crate::progress::{Progress, lead};
-use crate::seconds::Seconds;
 use crate::statistics::Statistics;
-use crate::until::Until;
 use mc_campaign::{JobOutcome, Standing, Watcher};
+use mc_cli::{CampaignArgs, Plan, Seconds, Until};
 use mc_lane::Stream;
 use mc_protocol::{Actor, Sections};
 use std::alloc::Global;
@@ -44,7 +41,7 @@ impl<'a, R: Eprint + Clock + Wait> Teller<'a, R> {
     pub fn new(
         rt: &'a R,
         alloc: Global,
-        target: &CampaignTarget<'a>,
+        target: &CampaignArgs<'a>,
         columns: Option<usize>,
         late_calls: &'a LateCalls<'a, R>,
         failures: &'a Failures<'a, R>,

@@ -5,7 +5,7 @@ ghost use Rattle.mc_explain.specs.Hopeless.{IsUnexplained};
 ghost use Rattle.mc_explain.specs.Verdicts.{IsTrueOf};
 ghost use Rattle.mc_command.specs.WhyAnswers as answers;
 
-use crate::asking::Search;
+use mc_cli::Search;
 use mc_explain::Verdict;
 use mc_model::History;
 use mc_protocol::{Actor, Lines, Separator, words_in};

@@ -6,11 +6,11 @@ ghost use Rattle.mc_command.specs.Command.{AnswersTarget, Hosts, WritesReport, W
 ghost use Rattle.mc_command.specs.Statuses.{status_number};
 ghost use Rattle.mc_command.specs.Streams.{TakesAtMost};
 
+use mc_cli::{CampaignArgs, Request, RunArgs, ServeArgs, read_request};
 use mc_command::{
-    Asked, CampaignTarget, HeldDescriptors, Invocation, Reader, Remarks, RunTeller, STANDARD_INPUT,
-    STANDARD_OUTPUT, Service, Sink, Source, Status, Target, TcpNetwork, Told, Unconnected, Writer,
-    answer_offline, explain_fault, input_name, read_invocation, run_campaign_at, run_selftest,
-    run_target, serve_connections, unread_line,
+    HeldDescriptors, Reader, Remarks, RunTeller, STANDARD_INPUT, STANDARD_OUTPUT, Sink, Source,
+    Status, TcpNetwork, Told, Unconnected, Writer, answer_offline, explain_fault, input_name,
+    run_campaign_at, run_selftest, run_target, serve_connections, unread_line,
 };
 use std::alloc::Global;
 use std::io::{Eprint, ErrorKind, IsTerminal};
@@ -87,21 +87,21 @@ fn obey<R, I: Source, O: Sink, F: Sink>(
 where
     R: Net<Listener = TcpListener, Stream = TcpStream> + Threads + Wait + Clock + Sync + Eprint,
 {
-    match read_invocation(alloc, line) {
-        Ok(invocation) => {
+    match read_request(alloc, line) {
+        Ok(request) => {
             if terminal.is_input {
-                tell_terminal(rt, invocation.asked());
+                tell_terminal(rt, &request);
             }
-            perform(rt, alloc, &invocation, terminal.columns, input, output)
+            perform(rt, alloc, &request, terminal.columns, input, output)
         }
-        Err(error) => explain_fault(alloc, line, &error, output, faults).number(),
+        Err(fault) => explain_fault(&fault, output, faults).number(),
     }
 }
 
 fn perform<R, I: Source, O: Sink>(
     rt: &R,
     alloc: Global,
-    invocation: &Invocation<'_>,
+    request: &Request<'_>,
     columns: Option<usize>,
     input: &mut I,
     output: &mut O,
@@ -109,12 +109,12 @@ fn perform<R, I: Source, O: Sink>(
 where
     R: Net<Listener = TcpListener, Stream = TcpStream> + Threads + Wait + Clock + Sync + Eprint,
 {
-    match invocation {
-        Invocation::Run(target) => play(rt, alloc, target, columns, input, output),
-        Invocation::Serve(service) => host(rt, alloc, *service, output),
-        Invocation::Campaign(target) => report(rt, alloc, target, columns, output),
-        Invocation::Selftest => test(rt, alloc, output),
-        Invocation::Offline(asked) => answer_offline(alloc, *asked, input, output).number(),
+    match request {
+        Request::Run(target) => play(rt, alloc, target, columns, input, output),
+        Request::Serve(service) => host(rt, alloc, *service, output),
+        Request::Campaign(target) => report(rt, alloc, target, columns, output),
+        Request::Selftest => test(rt, alloc, output),
+        _ => answer_offline(alloc, request, input, output).number(),
     }
 }
 
@@ -131,8 +131,8 @@ fn columns_of<R: Env + AllocGlobal>(rt: &R) -> Option<usize> {
 }
 
 // Says on standard error what is read, where a person is to type it.
-fn tell_terminal<R: Eprint>(rt: &R, asked: Asked) {
-    if let Some(name) = input_name(asked) {
+fn tell_terminal<R: Eprint>(rt: &R, request: &Request<'_>) {
+    if let Some(name) = input_name(request) {
         // There is nowhere else to say that this could not be said.
         let _ = eprintln!(rt; "mcrace: reading {name} from the terminal; Ctrl-D ends it");
     }
@@ -152,7 +152,7 @@ fn tell_failure<R: Eprint>(rt: &R, stream: &str, error: Option<&io::Error>) {
 fn play<R, I: Source, O: Sink>(
     rt: &R,
     alloc: Global,
-    target: &Target<'_>,
+    target: &RunArgs<'_>,
     columns: Option<usize>,
     input: &mut I,
     output: &mut O,
@@ -192,7 +192,7 @@ where
 }
 
 // Serves connections. Why there is no listener, or what came of the connections where some were refused, goes to standard error.
-fn host<R, O: Sink>(rt: &R, alloc: Global, service: Service, output: &mut O) -> u8
+fn host<R, O: Sink>(rt: &R, alloc: Global, service: ServeArgs, output: &mut O) -> u8
 where
     R: Net<Listener = TcpListener, Stream = TcpStream> + Threads + Wait + Clock + Sync + Eprint,
     ensures answered { O.has_failed output.old ≡ false → O.has_failed output.new ≡ false
@@ -217,7 +217,7 @@ where
 fn report<R, O: Sink>(
     rt: &R,
     alloc: Global,
-    target: &CampaignTarget<'_>,
+    target: &CampaignArgs<'_>,
     columns: Option<usize>,
     output: &mut O,
 ) -> u8

@@ -1,10 +1,8 @@
 //! `campaign` where there is no server, and what a line of it asks for.
 
 use mc_campaign::Meeting;
-use mc_command::{
-    CampaignTarget, Invocation, Plan, Seconds, Status, Until, Writer, read_invocation,
-    run_campaign_at,
-};
+use mc_cli::{CampaignArgs, Plan, Request, Seconds, Until, read_request};
+use mc_command::{Status, Writer, run_campaign_at};
 use std::alloc::{AllocError, Global};
 use std::io::Eprint;
 use std::net::{Net, TcpListener, TcpStream};
@@ -48,7 +46,7 @@ fn answer<R>(rt: &R, alloc: Global, jobs: u64, until: Option<Until>) -> Vec<u8>
 where
     R: Net<Listener = TcpListener, Stream = TcpStream> + Threads + Wait + Clock + Sync + Eprint,
 {
-    let target = CampaignTarget {
+    let target = CampaignArgs {
         server: "127.0.0.1:0",
         plan: Plan {
             seed: 1,
@@ -375,16 +373,16 @@ fn lines_ask_for_the_selftest(rt: HostRuntime) -> Result<(), Fail> {
         (["mcrace", "--help"].as_slice(), false),
     ] {
         let line = line_of(rt.alloc(), words)?;
-        let invocation = read_invocation(rt.alloc(), line.as_slice());
-        assert!(rt; matches!(invocation, Ok(Invocation::Selftest)) == asks);
+        let request = read_request(rt.alloc(), line.as_slice());
+        assert!(rt; matches!(request, Ok(Request::Selftest)) == asks);
     }
     Ok(())
 }
 
 // The campaign that the line asks for; or nothing, where it asks for something else or has a fault.
-fn campaign_of<'a>(alloc: Global, line: &'a [String]) -> Option<CampaignTarget<'a>> {
-    let target: CampaignTarget<'a> = match read_invocation(alloc, line) {
-        Ok(Invocation::Campaign(target)) => target,
+fn campaign_of<'a>(alloc: Global, line: &'a [String]) -> Option<CampaignArgs<'a>> {
+    let target: CampaignArgs<'a> = match read_request(alloc, line) {
+        Ok(Request::Campaign(target)) => target,
         _ => return None,
     };
     Some(target)

@@ -2,10 +2,8 @@
 
 use crate::driven::SCRIPT;
 use mc_campaign::Meeting;
-use mc_command::{
-    Asked, Invocation, Reader, Repeat, Search, Seconds, Service, Status, Target, Writer,
-    answer_offline, explain_fault, input_name, read_invocation,
-};
+use mc_cli::{Repeat, Request, RunArgs, Search, Seconds, ServeArgs, read_request};
+use mc_command::{Reader, Status, Writer, answer_offline, explain_fault, input_name};
 use std::alloc::{AllocError, Global};
 use std::test::Fail;
 
@@ -14,11 +12,24 @@ const SEARCH: Search = Search {
     why: true,
 };
 
-const SERVICE: Service = Service {
+const SERVICE: ServeArgs = ServeArgs {
     port: 0,
     connections: 1_000_000,
     racy: false,
 };
+
+/// What a line asks for, without its server.
+#[derive(Clone, Copy, Debug, Drop, PartialEq, Eq)]
+enum Asked {
+    Judge(Search),
+    Check(bool),
+    Asm(bool),
+    Drive(Search),
+    Run(Search),
+    Generate(u64, u64),
+    Serve(ServeArgs),
+    Selftest,
+}
 
 /// Lines, what they ask for, and what is read for it on standard input.
 static LINES: &[(&[&str], Option<Asked>, Option<&str>)] = &[
@@ -64,24 +75,29 @@ static LINES: &[(&[&str], Option<Asked>, Option<&str>)] = &[
 fn lines_ask_for_what_they_say(rt: HostRuntime) -> Result<(), Fail> {
     for (words, wanted, input) in LINES {
         let line = line_of(rt.alloc(), words)?;
-        let asked = asked_by(rt.alloc(), line.as_slice());
-        assert!(rt; asked == *wanted);
-        let name = match asked {
-            Some(asked) => input_name(asked),
-            None => None,
+        let request = read_request(rt.alloc(), line.as_slice());
+        let (asked, name) = match &request {
+            Ok(request) => (asked_by(request), input_name(request)),
+            Err(_) => (None, None),
         };
+        assert!(rt; asked == *wanted);
         assert_eq!(rt; name, *input);
     }
     Ok(())
 }
 
-// What the line asks for, if it asks for something.
-fn asked_by(alloc: Global, line: &[String]) -> Option<Asked> {
-    let invocation: Invocation<'_> = match read_invocation(alloc, line) {
-        Ok(invocation) => invocation,
-        Err(_) => return None,
-    };
-    Some(invocation.asked())
+fn asked_by(request: &Request<'_>) -> Option<Asked> {
+    match request {
+        Request::Judge(how) => Some(Asked::Judge(*how)),
+        Request::Check(why) => Some(Asked::Check(*why)),
+        Request::Asm(why) => Some(Asked::Asm(*why)),
+        Request::Drive(how) => Some(Asked::Drive(*how)),
+        Request::Run(args) => Some(Asked::Run(args.how)),
+        Request::Generate(seed, job) => Some(Asked::Generate(*seed, *job)),
+        Request::Serve(service) => Some(Asked::Serve(*service)),
+        Request::Campaign(_) => None,
+        Request::Selftest => Some(Asked::Selftest),
+    }
 }
 
 #[test]
@@ -109,8 +125,8 @@ fn lines_of_run_say_how_scripts_run(rt: HostRuntime) -> Result<(), Fail> {
 
 // Whether the line asks for the run whose options stand above.
 fn is_that_run(alloc: Global, line: &[String]) -> bool {
-    let target: Target<'_> = match read_invocation(alloc, line) {
-        Ok(Invocation::Run(target)) => target,
+    let target: RunArgs<'_> = match read_request(alloc, line) {
+        Ok(Request::Run(target)) => target,
         _ => return false,
     };
     let name = match &target.name {
@@ -139,31 +155,32 @@ fn is_that_run(alloc: Global, line: &[String]) -> bool {
         && target.spread == 64
 }
 
-/// What is asked for where there is no network, what is written then, and the status.
-static OFFLINE: &[(Asked, &str, Status)] = &[
-    (
-        Asked::Check(false),
-        "accepted\nP 2 26\nA 1 10\nB 1 10\n",
-        Status::Success,
-    ),
-    (Asked::Serve(SERVICE), "no listener\n", Status::NoAnswer),
-    (Asked::Selftest, "failed\n", Status::Unexplained),
-];
-
 #[test]
-fn answers_without_a_network(rt: HostRuntime) -> Result<(), Fail> {
-    for (asked, wanted, status) in OFFLINE {
-        let mut output = Vec::new(rt.alloc());
-        let ended = answer_offline(
-            rt.alloc(),
-            *asked,
-            &mut Reader::new(SCRIPT.as_bytes()),
-            &mut Writer::new(&mut output),
-        );
-        assert!(rt; ended == *status);
-        assert_eq!(rt; output.as_slice(), wanted.as_bytes());
-    }
-    Ok(())
+fn answers_without_a_network(rt: HostRuntime) {
+    let alloc = rt.alloc();
+    let accepted = "accepted\nP 2 26\nA 1 10\nB 1 10\n";
+    assert!(rt; is_answer(alloc, &Request::Check(false), accepted, Status::Success));
+    assert!(rt;
+        is_answer(
+            alloc,
+            &Request::Serve(SERVICE),
+            "no listener\n",
+            Status::NoAnswer
+        )
+    );
+    assert!(rt; is_answer(alloc, &Request::Selftest, "failed\n", Status::Unexplained));
+}
+
+// Whether this is what is written for the request where there is no network, and this the status.
+fn is_answer(alloc: Global, request: &Request<'_>, wanted: &str, status: Status) -> bool {
+    let mut output = Vec::new(alloc);
+    let ended = answer_offline(
+        alloc,
+        request,
+        &mut Reader::new(SCRIPT.as_bytes()),
+        &mut Writer::new(&mut output),
+    );
+    ended == status && output.as_slice() == wanted.as_bytes()
 }
 
 // A fault goes to the faults, and a call for the version to the output.
@@ -179,16 +196,14 @@ fn faults_are_explained(rt: HostRuntime) -> Result<(), Fail> {
     Ok(())
 }
 
-// Whether the line's error has this status, and is written to the faults alone, or else to the output alone.
+// Whether the line's fault has this status, and is written to the faults alone, or else to the output alone.
 fn is_explained(alloc: Global, line: &[String], status: Status, is_fault: bool) -> bool {
     let mut output = Vec::new(alloc);
     let mut faults = Vec::new(alloc);
-    let ended = match read_invocation(alloc, line) {
+    let ended = match read_request(alloc, line) {
         Ok(_) => return false,
-        Err(error) => explain_fault(
-            alloc,
-            line,
-            &error,
+        Err(fault) => explain_fault(
+            &fault,
             &mut Writer::new(&mut output),
             &mut Writer::new(&mut faults),
         ),

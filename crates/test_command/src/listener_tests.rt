@@ -1,7 +1,8 @@
 //! `run` against a server in the same process, which answers three connections.
 
 use crate::driven::SCRIPT;
-use mc_command::{Reader, Search, Writer, run_command};
+use mc_cli::Search;
+use mc_command::{Reader, Writer, run_command};
 use std::alloc::Global;
 use std::io::{Read, Write};
 use std::net::{Net, TcpListener, TcpStream};

@@ -2,10 +2,8 @@
 
 use crate::canned::{Answers, CannedNetwork};
 use mc_campaign::Meeting;
-use mc_command::{
-    Reader, Remarks, Repeat, RunTeller, Search, Statistics, Status, Target, Unconnected, Writer,
-    run_target,
-};
+use mc_cli::{Repeat, RunArgs, Search};
+use mc_command::{Reader, Remarks, RunTeller, Statistics, Status, Unconnected, Writer, run_target};
 use mc_protocol::Actor;
 use std::alloc::Global;
 use std::io::Eprint;
@@ -203,7 +201,7 @@ fn run<R>(
 where
     R: Threads + Wait + Clock + Sync + Eprint,
 {
-    let target = Target {
+    let target = RunArgs {
         server: "127.0.0.1:0",
         a: None,
         b: None,

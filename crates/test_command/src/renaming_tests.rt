@@ -2,9 +2,8 @@
 
 use crate::canned::{Answers, CannedNetwork};
 use mc_campaign::Meeting;
-use mc_command::{
-    Played, Reader, Remarks, Repeat, RunObserver, Search, Status, Target, Writer, run_target,
-};
+use mc_cli::{Repeat, RunArgs, Search};
+use mc_command::{Played, Reader, Remarks, RunObserver, Status, Writer, run_target};
 use mc_protocol::Actor;
 use std::alloc::{AllocError, Global};
 use std::rt::Clock;
@@ -157,7 +156,7 @@ fn run_three<R>(
 where
     R: Threads + Wait + Clock + Sync,
 {
-    let target = Target {
+    let target = RunArgs {
         server: "127.0.0.1:0",
         a: None,
         b: None,

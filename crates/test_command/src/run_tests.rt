@@ -2,9 +2,8 @@
 
 use crate::driven::SCRIPT;
 use mc_campaign::Meeting;
-use mc_command::{
-    Reader, Repeat, Search, Status, Target, TcpNetwork, Unobserved, Writer, run_command, run_target,
-};
+use mc_cli::{Repeat, RunArgs, Search};
+use mc_command::{Reader, Status, TcpNetwork, Unobserved, Writer, run_command, run_target};
 use std::alloc::Global;
 use std::io;
 use std::net::{Net, TcpListener, TcpStream};
@@ -91,7 +90,7 @@ fn repeated<R>(rt: &R, alloc: Global, repeat: Repeat) -> Vec<u8>
 where
     R: Net<Stream = TcpStream> + Threads + Wait + Clock + Sync,
 {
-    let target = Target {
+    let target = RunArgs {
         server: "127.0.0.1:0",
         a: None,
         b: None,

@@ -1,6 +1,7 @@
 //! `serve` where no connection is to come, and where its port is taken; and what a line of it asks for.
 
-use mc_command::{Invocation, Service, Status, Told, Writer, read_invocation, serve_connections};
+use mc_cli::{Request, ServeArgs, read_request};
+use mc_command::{Status, Told, Writer, serve_connections};
 use std::alloc::{AllocError, Global};
 use std::io;
 use std::net::{Net, TcpListener, TcpStream};
@@ -22,7 +23,7 @@ fn listens_and_ends<R>(rt: &R, alloc: Global, racy: bool) -> bool
 where
     R: Net<Listener = TcpListener, Stream = TcpStream> + Threads + Wait + Clock + Sync,
 {
-    let service = Service {
+    let service = ServeArgs {
         port: 0,
         connections: 0,
         racy,
@@ -48,7 +49,7 @@ where
     R: Net<Listener = TcpListener, Stream = TcpStream> + Threads + Wait + Clock + Sync,
 {
     let other = TcpListener::bind(rt, "127.0.0.1:0")?;
-    let service = Service {
+    let service = ServeArgs {
         port: other.local_addr()?.port(),
         connections: 0,
         racy: false,
@@ -60,10 +61,10 @@ where
 }
 
 /// Lines, and the servers that they ask for.
-static LINES: &[(&[&str], Option<Service>)] = &[
+static LINES: &[(&[&str], Option<ServeArgs>)] = &[
     (
         &["mcrace", "serve", "11211"],
-        Some(Service {
+        Some(ServeArgs {
             port: 11_211,
             connections: 1_000_000,
             racy: false,
@@ -71,7 +72,7 @@ static LINES: &[(&[&str], Option<Service>)] = &[
     ),
     (
         &["mcrace", "serve", "--connections", "3", "0", "--racy"],
-        Some(Service {
+        Some(ServeArgs {
             port: 0,
             connections: 3,
             racy: true,
@@ -90,13 +91,13 @@ fn lines_ask_for_servers(rt: HostRuntime) -> Result<(), Fail> {
 }
 
 // The server that a line of these words asks for.
-fn asked(alloc: Global, words: &[&str]) -> Result<Option<Service>, AllocError> {
+fn asked(alloc: Global, words: &[&str]) -> Result<Option<ServeArgs>, AllocError> {
     let mut line = Vec::new(alloc);
     for word in words {
         line.push(String::from_str(alloc, word)?)?;
     }
-    match read_invocation(alloc, line.as_slice()) {
-        Ok(Invocation::Serve(service)) => Ok(Some(service)),
+    match read_request(alloc, line.as_slice()) {
+        Ok(Request::Serve(service)) => Ok(Some(service)),
         _ => Ok(None),
     }
 }

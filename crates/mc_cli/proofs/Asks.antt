@@ -1,0 +1,82 @@
+-- A line asks for one thing at most, and what is answered to one that asks for nothing.
+use Rattle.std.proofs.Common.{◌≡◌, ◌∙◌, ap, sym, inl, inr, ℕ, List, [], Option, Some, unwrap_or}
+use Rattle.clap.specs.Words.{IsAmong, Text}
+use Rattle.clap.specs.declared.error.kind.ErrorKind.{ErrorKind}
+use Rattle.clap.specs.declared.error.kind.ErrorKind.TheVariants as kind
+use Rattle.mc_protocol.specs.Decimals.{MAX_64}
+use Rattle.mc_cli.proofs.Names as names
+use Rattle.mc_cli.proofs.Once.{plan_once, search_once, service_once, value_once}
+use Rattle.mc_cli.specs.Args.{number}
+use Rattle.mc_cli.specs.Asked.{Asked}
+use Rattle.mc_cli.specs.Asked as asked
+use Rattle.mc_cli.specs.Asking.{AsksFor, HasFault, IsAskedBy, IsAskedWith, IsFaultOf, IsShown, Says, name_of}
+use Rattle.mc_cli.specs.Line.{line_command, line_faults, line_value}
+use Rattle.mc_cli.specs.declared.request.LineFault.{LineFault}
+use Rattle.mc_cli.specs.declared.request.LineFault.TheVariants as line_fault
+
+-- of two things that are asked for, each has the name of the subcommand
+one_name : {command : Option Text} {one other : Text} → command ≡ Some one → command ≡ Some other → other ≡ one
+one_name is also = ap (λ (o : Option Text). unwrap_or o []) (sym also ∙ is)
+
+-- the values of options ask a subcommand for one thing
+with_once : (value : Text → Option Text) (one other : Asked) → name_of other ≡ name_of one → IsAskedWith value one
+    → IsAskedWith value other → one ≡ other
+with_once value (asked.Judge how) other named is also =
+    let found = names.is_judge other named in
+    rw found.1 (ap asked.Judge (search_once value how found.0 is (rw found.1 at also)))
+with_once value (asked.Check why) other named is also =
+    let found = names.is_check other named in
+    rw found.1 (ap asked.Check (is ∙ sym (rw found.1 at also)))
+with_once value (asked.Asm why) other named is also =
+    let found = names.is_asm other named in
+    rw found.1 (ap asked.Asm (is ∙ sym (rw found.1 at also)))
+with_once value (asked.Drive how) other named is also =
+    let found = names.is_drive other named in
+    rw found.1 (ap asked.Drive (search_once value how found.0 is (rw found.1 at also)))
+with_once value (asked.Run how) other named (args, is, of_args) also =
+    let found = names.is_run other named in
+    let more = rw found.1 at also in
+    rw found.1 (ap asked.Run (sym of_args ∙ (search_once value args.how more.0.how is.how more.1.how ∙ more.2)))
+with_once value (asked.Generate seed job) other named is also =
+    let found = names.is_generate other named in
+    let are = rw found.2 at also in
+    rw found.2 (ap (λ n. asked.Generate n job) (value_once (number MAX_64) _ _ seed found.0 is.seed are.seed)
+    ∙ ap (asked.Generate found.0) (value_once (number MAX_64) _ _ job found.1 is.job are.job))
+with_once value (asked.Serve service) other named is also =
+    let found = names.is_serve other named in
+    rw found.1 (ap asked.Serve (service_once value service found.0 is (rw found.1 at also)))
+with_once value (asked.Campaign plan) other named (args, is, of_args) also =
+    let found = names.is_campaign other named in
+    let more = rw found.1 at also in
+    rw found.1 (ap asked.Campaign (sym of_args ∙ (plan_once value args.plan more.0.plan is.plan more.1.plan ∙ more.2)))
+with_once value asked.Selftest other named is also = sym (names.is_selftest other named)
+
+pub asks_once : (words : List (List ℕ)) (one other : Asked) → AsksFor words one → AsksFor words other → one ≡ other
+asks_once words one other is also =
+    with_once (line_value words) one other (one_name is.1.0 also.1.0) is.1.1 also.1.1
+
+-- ---- faults
+
+-- a line is answered in place of what it asks for, by a fault of this kind
+faulty : (words : List (List ℕ)) (found : ErrorKind) (fault : LineFault) → HasFault words found → Says found fault
+    → IsFaultOf words fault
+faulty words found (line_fault.Shown text) is said = (is.faulty, (found, is, said))
+faulty words found (line_fault.Wrong text) is said = (is.faulty, (found, is, said))
+faulty words found line_fault.OutOfMemory is said = tt
+
+-- one that clap finds
+pub fault_by_clap : (words : List (List ℕ)) (found : ErrorKind) (fault : LineFault) → IsAmong found (line_faults words)
+    → Says found fault → IsFaultOf words fault
+fault_by_clap words found fault among said =
+    faulty words found fault (record { faulty = λ wanted asks. rw asks.0 at among; which = inl among }) said
+
+-- and one that the program finds: the subcommand that the words name asks for nothing with its options
+pub fault_of_values : (words : List (List ℕ)) (fault : LineFault) → line_faults words ≡ []
+    → ((wanted : Asked) → IsAskedBy (line_command words) (line_value words) wanted → ⊥) → Says kind.ValueValidation fault
+    → IsFaultOf words fault
+fault_of_values words fault clear none said =
+    faulty words kind.ValueValidation fault (record { faulty = λ wanted asks. none wanted asks.1; which = inr (clear, is_told) }) said
+  where
+    is_told : IsShown kind.ValueValidation → ⊥
+    is_told (inl is) = absurd (cc)
+    is_told (inr is) = absurd (cc)

@@ -1,0 +1,156 @@
+-- The words of a line say one thing at most.
+use Rattle.std.proofs.Common.{◌≡◌, ◌∙◌, ◌||◌, ◌+◌, ◌≤◌, ◌^◌, refl, ap, ap₂, sym, true, ℕ, List, Option, Some, None, codes, is_some, unwrap_or}
+use Rattle.std.proofs.lemmas.Bool.{false≢true}
+use Rattle.clap.specs.Words.{Text}
+use Rattle.mc_protocol.specs.Decimals.{MAX_64}
+use Rattle.mc_cli.specs.Args.{AreJobs, GREATEST_JOBS, IsPlan, IsRepeat, IsSearch, IsService, IsUntil, MayBeName, count, jobs_from, number}
+use Rattle.mc_cli.specs.Kinds.{IsValue, MayBeValue, reads}
+use Rattle.mc_cli.specs.Line.{is_set}
+use Rattle.mc_cli.specs.declared.args.Plan.{Plan}
+use Rattle.mc_cli.specs.declared.args.Repeat.{Repeat}
+use Rattle.mc_cli.specs.declared.args.Search.{Search}
+use Rattle.mc_cli.specs.declared.args.ServeArgs.{ServeArgs}
+use Rattle.mc_cli.specs.declared.args.Until.{Until}
+use Rattle.mc_cli.specs.declared.rows.Kind.{Kind}
+use Rattle.mc_cli.specs.declared.rows.Kind.TheVariants as kind
+
+same : (one other : ℕ) → Some one ≡ Some other → one ≡ other
+same one other is = ap (λ (o : Option ℕ). unwrap_or o 0) is
+
+read_once : (k : Kind) (word : List ℕ) (one other : ℕ) → reads k word one → reads k word other → one ≡ other
+read_once (kind.Number least greatest) word one other is also = sym is.0.value ∙ also.0.value
+read_once kind.Seconds word one other is also = same one other (sym is ∙ also)
+read_once kind.Time word one other is also = same one other (sym is ∙ also)
+read_once kind.Meeting word one other is also = absurd is
+read_once kind.Name word one other is also = absurd is
+read_once kind.Address word one other is also = absurd is
+read_once kind.Switch word one other is also = absurd is
+
+pub value_once : (k : Kind) (default : Option ℕ) (word : Option (List ℕ)) (one other : ℕ) → IsValue k default word one
+    → IsValue k default word other → one ≡ other
+value_once k default None one other is also = same one other (sym is ∙ also)
+value_once k default (Some word) one other is also = read_once k word one other is also
+
+pub maybe_once : (k : Kind) (word : Option (List ℕ)) (one other : Option ℕ) → MayBeValue k word one → MayBeValue k word other
+    → one ≡ other
+maybe_once k None one other is also = is ∙ sym also
+maybe_once k (Some word) None other is also = absurd is
+maybe_once k (Some word) (Some n) None is also = absurd also
+maybe_once k (Some word) (Some n) (Some m) is also = ap Some (read_once k word n m is also)
+
+-- there is no word where nothing is read
+pub no_word : (k : Kind) (word : Option (List ℕ)) → MayBeValue k word None → word ≡ None
+no_word k None is = refl
+no_word k (Some word) is = absurd is
+
+-- two words bound nothing if there are none
+no_bounds : (k l : Kind) (word other : Option (List ℕ)) (n m : Option ℕ) → word ≡ None → other ≡ None → MayBeValue k word n
+    → MayBeValue l other m → (is_some n || is_some m) ≡ true → ⊥
+no_bounds k l None None n m _ _ no_n no_m some = false≢true (ap₂ (λ a b. is_some a || is_some b) (sym no_n) (sym no_m) ∙ some)
+no_bounds k l (Some word) other n m is _ _ _ _ = absurd (cc (is))
+no_bounds k l None (Some other) n m _ is _ _ _ = absurd (cc (is))
+
+pub search_once : (value : Text → Option Text) (one other : Search) → IsSearch value one → IsSearch value other → one ≡ other
+search_once value one other is also =
+    ap (λ n. record { limit = n; why = one.why }) (value_once (number 1000000000) _ _ one.limit other.limit is.limit also.limit)
+    ∙ ap (λ b. record { limit = other.limit; why = b }) (is.why ∙ sym also.why)
+
+pub service_once : (value : Text → Option Text) (one other : ServeArgs) → IsService value one → IsService value other → one ≡ other
+service_once value one other is also =
+    ap (λ p. record { port = p; connections = one.connections; racy = one.racy }) (value_once (number 65535) _ _ one.port other.port is.port also.port)
+    ∙ (ap (λ n. record { port = other.port; connections = n; racy = one.racy })
+    (value_once (number MAX_64) _ _ one.connections other.connections is.connections also.connections)
+    ∙ ap (λ b. record { port = other.port; connections = other.connections; racy = b }) (is.racy ∙ sym also.racy))
+
+pub repeat_once : (value : Text → Option Text) (one other : Option Repeat) → IsRepeat value one → IsRepeat value other → one ≡ other
+repeat_once value None None is also = refl
+repeat_once value None (Some other) is also =
+    absurd (no_bounds (count 1000000) kind.Time _ _ other.times other.time is.0 is.1 also.0 also.1 also.2)
+repeat_once value (Some one) None is also =
+    absurd (no_bounds (count 1000000) kind.Time _ _ one.times one.time also.0 also.1 is.0 is.1 is.2)
+repeat_once value (Some one) (Some other) is also =
+    ap Some (ap (λ n. record one { times = n }) (maybe_once (count 1000000) _ one.times other.times is.0 also.0)
+    ∙ (ap (λ n. record other { time = n; keep_going = one.keep_going }) (maybe_once kind.Time _ one.time other.time is.1 also.1)
+    ∙ ap (λ b. record other { keep_going = b }) (is.3 ∙ sym also.3)))
+
+-- a script that `--keep-going` stands alone for is run not even once
+pub alone : (value : Text → Option Text) (repeat : Option Repeat) → value (codes "times") ≡ None → value (codes "for") ≡ None
+    → is_set (value (codes "keep-going")) ≡ true → IsRepeat value repeat → ⊥
+alone value None times time set is = false≢true (sym is.2 ∙ set)
+alone value (Some repeat) times time set is = no_bounds (count 1000000) kind.Time _ _ repeat.times repeat.time times time is.0 is.1 is.2
+
+pub until_once : (value : Text → Option Text) (one other : Option Until) → IsUntil value one → IsUntil value other → one ≡ other
+until_once value None None is also = refl
+until_once value None (Some other) is also =
+    absurd (no_bounds kind.Time (count 10000) _ _ other.time other.unexplained is.0 is.1 also.0 also.1 also.2)
+until_once value (Some one) None is also =
+    absurd (no_bounds kind.Time (count 10000) _ _ one.time one.unexplained also.0 also.1 is.0 is.1 is.2)
+until_once value (Some one) (Some other) is also =
+    ap Some (ap (λ n. record one { time = n }) (maybe_once kind.Time _ one.time other.time is.0 also.0)
+    ∙ ap (λ n. record other { unexplained = n }) (maybe_once (count 10000) _ one.unexplained other.unexplained is.1 also.1))
+
+-- where a time stands beside a number of jobs, nothing is said
+pub beside : (value : Text → Option Text) (time : Option ℕ) (until : Option Until) → MayBeValue kind.Time (value (codes "for")) time
+    → is_some time ≡ true → is_some (value (codes "jobs")) ≡ true → IsUntil value until → ⊥
+beside value time None is_time some jobs is =
+    false≢true (ap is_some (sym (maybe_once kind.Time _ time None is_time (rw is.0 refl))) ∙ some)
+beside value time (Some until) is_time some jobs is =
+    let same_time = maybe_once kind.Time _ time until.time is_time is.0 in
+    false≢true (ap is_some (sym (is.3 (ap is_some (sym same_time) ∙ some))) ∙ jobs)
+
+pub jobs_once : (time word : Option (List ℕ)) (first same_first one other : ℕ) → first ≡ same_first
+    → AreJobs time word first one → AreJobs time word same_first other → one ≡ other
+jobs_once None word first same_first one other same_as is also = value_once (count GREATEST_JOBS) _ _ one other is also
+jobs_once (Some time) word first same_first one other same_as is also = is ∙ (ap jobs_from same_as ∙ sym also)
+
+pub plan_once : (value : Text → Option Text) (one other : Plan) → IsPlan value one → IsPlan value other → one ≡ other
+plan_once value one other is also =
+    let seed = value_once (number MAX_64) _ _ one.seed other.seed is.seed also.seed in
+    let first = value_once (number MAX_64) _ _ one.first other.first is.first also.first in
+    let jobs = jobs_once _ _ one.first other.first one.jobs other.jobs first is.jobs also.jobs in
+    let workers = value_once (count 16) _ _ one.workers other.workers is.workers also.workers in
+    let limit = value_once (number 1000000000) _ _ one.limit other.limit is.limit also.limit in
+    let brief = is.brief ∙ sym also.brief in
+    let show = is.show ∙ sym also.show in
+    let why = is.why ∙ sym also.why in
+    let tries = value_once (count 1000) _ _ one.tries other.tries is.tries also.tries in
+    let until = until_once value one.until other.until is.until also.until in
+    ap (λ n. record one { seed = n }) seed
+    ∙ (ap (λ n. record one { seed = other.seed; first = n }) first
+    ∙ (ap (λ n. record one { seed = other.seed; first = other.first; jobs = n }) jobs
+    ∙ (ap (λ n. record one { seed = other.seed; first = other.first; jobs = other.jobs; workers = n }) workers
+    ∙ (ap (λ n. record one { seed = other.seed; first = other.first; jobs = other.jobs; workers = other.workers; limit = n }) limit
+    ∙ (ap (λ b. record other { brief = b; show = one.show; why = one.why; tries = one.tries; until = one.until }) brief
+    ∙ (ap (λ b. record other { show = b; why = one.why; tries = one.tries; until = one.until }) show
+    ∙ (ap (λ b. record other { why = b; tries = one.tries; until = one.until }) why
+    ∙ (ap (λ n. record other { tries = n; until = one.until }) tries ∙ ap (λ u. record other { until = u }) until))))))))
+
+-- ---- values that are refused
+
+-- a number of runs, or a time, that is none
+pub no_times : (value : Text → Option Text) → ((n : Option ℕ) → MayBeValue (count 1000000) (value (codes "times")) n → ⊥)
+    → (repeat : Option Repeat) → IsRepeat value repeat → ⊥
+no_times value none None is = none None (rw is.0 refl)
+no_times value none (Some repeat) is = none repeat.times is.0
+
+pub no_time : (value : Text → Option Text) → ((n : Option ℕ) → MayBeValue kind.Time (value (codes "for")) n → ⊥)
+    → (until : Option Until) → IsUntil value until → ⊥
+no_time value none None is = none None (rw is.0 refl)
+no_time value none (Some until) is = none until.time is.0
+
+-- a number of jobs that is none, or by which the last one has a greater number
+pub no_jobs : (value : Text → Option Text) (first : ℕ) → IsValue (number MAX_64) (Some 0) (value (codes "from")) first
+    → ((jobs : ℕ) → AreJobs (value (codes "for")) (value (codes "jobs")) first jobs → ⊥) → (plan : Plan) → IsPlan value plan → ⊥
+no_jobs value first is_first none plan is =
+    none plan.jobs (rw (value_once (number MAX_64) _ _ first plan.first is_first is.first) is.jobs)
+
+pub no_last : (value : Text → Option Text) (first jobs : ℕ) → IsValue (number MAX_64) (Some 0) (value (codes "from")) first
+    → AreJobs (value (codes "for")) (value (codes "jobs")) first jobs → (first + jobs ≤ 2 ^ 64 → ⊥) → (plan : Plan) → IsPlan value plan → ⊥
+no_last value first jobs is_first are_jobs above plan is =
+    let same_first = value_once (number MAX_64) _ _ first plan.first is_first is.first in
+    above (rw (same_first, jobs_once _ _ first plan.first jobs plan.jobs same_first are_jobs is.jobs) is.last)
+
+-- the name is the word
+pub name_is : (word name : Option (List ℕ)) → MayBeName word name → name ≡ word
+name_is None name is = is
+name_is (Some word) name is = is.1

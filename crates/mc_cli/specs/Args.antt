@@ -1,0 +1,137 @@
+-- What the values of a subcommand's options say.
+use Rattle.std.specs.Prelude.{◌≡◌, ◌+◌, ◌-◌, ◌≤◌, ◌^◌, ◌||◌, ℕ, true, false, nat_lt, Option, Some, None, is_some, List, codes, option_map}
+use Rattle.std.specs.Prelude.{if◌then◌else◌}
+use Rattle.clap.specs.Words.{Text}
+use Rattle.mc_protocol.specs.Decimals.{MAX_64}
+use Rattle.mc_campaign.specs.JobCodes.{NameFits}
+use Rattle.mc_campaign.specs.Namespaces.{is_namespace}
+use Rattle.mc_campaign.specs.declared.meeting.Meeting.{Meeting}
+use Rattle.mc_campaign.specs.declared.meeting.Meeting.TheVariants as meeting
+use Rattle.mc_cli.specs.Kinds.{IsValue, MayBeValue}
+use Rattle.mc_cli.specs.Line.{is_set}
+use Rattle.mc_cli.specs.declared.args.{CampaignArgs.CampaignArgs, Plan.Plan, Repeat.Repeat, RunArgs.RunArgs, Search.Search}
+use Rattle.mc_cli.specs.declared.args.{ServeArgs.ServeArgs, Until.Until}
+use Rattle.mc_cli.specs.declared.rows.Kind.{Kind}
+use Rattle.mc_cli.specs.declared.rows.Kind.TheVariants as kind
+
+-- the most jobs that a line may name
+abbrev pub GREATEST_JOBS : ℕ
+GREATEST_JOBS = 10000
+
+-- a decimal of at least 0, or of at least 1, and at most the greatest
+abbrev pub number : ℕ → Kind
+number greatest = kind.Number 0 greatest
+
+abbrev pub count : ℕ → Kind
+count greatest = kind.Number 1 greatest
+
+-- the values of `--limit` and `--why` say how an explanation is searched for
+pub record IsSearch (value : Text → Option Text) (how : Search) : Type 0 where
+  pub limit : IsValue (number 1000000000) (Some 1000000) (value (codes "limit")) how.limit
+  pub why : how.why ≡ is_set (value (codes "why"))
+
+-- ---- generate and serve
+
+pub record IsJob (value : Text → Option Text) (n m : ℕ) : Type 0 where
+  pub seed : IsValue (number MAX_64) (Some 1) (value (codes "seed")) n
+  pub job : IsValue (number MAX_64) (Some 0) (value (codes "job")) m
+
+pub record IsService (value : Text → Option Text) (service : ServeArgs) : Type 0 where
+  pub port : IsValue (number 65535) None (value (codes "port")) service.port
+  pub connections : IsValue (number MAX_64) (Some 1000000) (value (codes "connections")) service.connections
+  pub racy : service.racy ≡ is_set (value (codes "racy"))
+
+-- ---- runs
+
+-- the word of a meeting
+abbrev pub meeting_word : Meeting → List ℕ
+meeting_word meeting.Drawn = codes "drawn"
+meeting_word meeting.Each = codes "each"
+meeting_word meeting.First = codes "first"
+meeting_word meeting.Never = codes "never"
+
+-- the meeting that a word names, or the default if there is no word
+abbrev pub IsMeeting : Option (List ℕ) → Meeting → Type 0
+IsMeeting None wanted = wanted ≡ meeting.Drawn
+IsMeeting (Some word) wanted = word ≡ meeting_word wanted
+
+-- the name that a word is, if there is a word: one that keys may be put under
+abbrev pub MayBeName : Option (List ℕ) → Option (List ℕ) → Type 0
+MayBeName None name = name ≡ None
+MayBeName (Some word) name = (is_namespace word ≡ true) × (name ≡ Some word)
+
+-- the values of the options of `run` say how often the script is run: once; or repeatedly, if they name a number of runs or a time
+abbrev pub IsRepeat : (Text → Option Text) → Option Repeat → Type 0
+IsRepeat value None = (value (codes "times") ≡ None) × (value (codes "for") ≡ None) × (is_set (value (codes "keep-going")) ≡ false)
+IsRepeat value (Some repeat) = MayBeValue (count 1000000) (value (codes "times")) repeat.times
+    × MayBeValue kind.Time (value (codes "for")) repeat.time × ((is_some repeat.times || is_some repeat.time) ≡ true)
+    × (repeat.keep_going ≡ is_set (value (codes "keep-going")))
+
+-- the microseconds of `--spread` if the line names none: a script that is run repeatedly is run as the jobs of a campaign are
+abbrev pub default_spread : Option Repeat → ℕ
+default_spread None = 0
+default_spread (Some repeat) = 64
+
+-- the values of the options of `run` say this
+pub record IsRunArgs (value : Text → Option Text) (args : RunArgs) : Type 0 where
+  pub server : value (codes "target") ≡ Some args.server.now
+  pub a : option_map (λ server. server.now) args.a ≡ value (codes "a")
+  pub b : option_map (λ server. server.now) args.b ≡ value (codes "b")
+  pub how : IsSearch value args.how
+  pub meeting : IsMeeting (value (codes "meet")) args.meeting
+  pub name : MayBeName (value (codes "name")) args.name
+  pub timeout : MayBeValue kind.Seconds (value (codes "timeout")) (option_map (λ time. time.milliseconds) args.timeout)
+  pub wait : MayBeValue kind.Seconds (value (codes "wait")) (option_map (λ time. time.milliseconds) args.wait)
+  pub repeat : IsRepeat value args.repeat
+  pub reconnect : args.reconnect ≡ is_set (value (codes "reconnect"))
+  pub quiet : args.quiet ≡ is_set (value (codes "quiet"))
+  pub stats : args.stats ≡ is_set (value (codes "stats"))
+  pub spread : IsValue (number 10000) (Some (default_spread args.repeat)) (value (codes "spread")) args.spread
+
+-- ---- campaigns
+
+-- the values of the options of `campaign` say until when it runs in blocks, if they name a time or a number of unexplained jobs; a time
+-- doesn't stand beside a number of jobs
+abbrev pub IsUntil : (Text → Option Text) → Option Until → Type 0
+IsUntil value None = (value (codes "for") ≡ None) × (value (codes "stop-after") ≡ None)
+IsUntil value (Some until) = MayBeValue kind.Time (value (codes "for")) until.time
+    × MayBeValue (count 10000) (value (codes "stop-after")) until.unexplained × ((is_some until.time || is_some until.unexplained) ≡ true)
+    × (is_some until.time ≡ true → value (codes "jobs") ≡ None)
+
+-- how many jobs have a number of 64 bits, from the first on; but one less where these are all of them, as that number has 64 bits too
+abbrev pub jobs_from : ℕ → ℕ
+jobs_from first = if nat_lt 0 first then 2 ^ 64 - first else MAX_64
+
+-- how many jobs there are at most if the first word names a time, should there be one, and the second one a number of jobs
+abbrev pub AreJobs : Option (List ℕ) → Option (List ℕ) → ℕ → ℕ → Type 0
+AreJobs None word first jobs = IsValue (count GREATEST_JOBS) (Some 100) word jobs
+AreJobs (Some time) word first jobs = jobs ≡ jobs_from first
+
+-- the values of the options of `campaign` name these jobs, the last of which has a number of 64 bits
+pub record IsPlan (value : Text → Option Text) (plan : Plan) : Type 0 where
+  pub seed : IsValue (number MAX_64) (Some 1) (value (codes "seed")) plan.seed
+  pub first : IsValue (number MAX_64) (Some 0) (value (codes "from")) plan.first
+  pub until : IsUntil value plan.until
+  pub jobs : AreJobs (value (codes "for")) (value (codes "jobs")) plan.first plan.jobs
+  pub workers : IsValue (count 16) (Some 4) (value (codes "workers")) plan.workers
+  pub limit : IsValue (number 1000000000) (Some 1000000) (value (codes "limit")) plan.limit
+  pub tries : IsValue (count 1000) (Some 1) (value (codes "tries")) plan.tries
+  pub last : plan.first + plan.jobs ≤ 2 ^ 64
+  pub brief : plan.brief ≡ is_set (value (codes "brief"))
+  pub show : plan.show ≡ is_set (value (codes "show"))
+  pub why : plan.why ≡ is_set (value (codes "why"))
+
+-- the values of the options of `campaign` say this; the keys of all jobs are short under the name, if there is one, and `--why` stands
+-- beside `--show`
+pub record IsCampaignArgs (value : Text → Option Text) (args : CampaignArgs) : Type 0 where
+  pub server : value (codes "target") ≡ Some args.server.now
+  pub plan : IsPlan value args.plan
+  pub meeting : IsMeeting (value (codes "meet")) args.meeting
+  pub name : MayBeName (value (codes "name")) args.name
+  pub timeout : MayBeValue kind.Seconds (value (codes "timeout")) (option_map (λ time. time.milliseconds) args.timeout)
+  pub wait : MayBeValue kind.Seconds (value (codes "wait")) (option_map (λ time. time.milliseconds) args.wait)
+  pub quiet : args.quiet ≡ is_set (value (codes "quiet"))
+  pub stats : args.stats ≡ is_set (value (codes "stats"))
+  pub spread : IsValue (number 10000) (Some 64) (value (codes "spread")) args.spread
+  pub keys : NameFits (value (codes "name")) args.plan.first args.plan.jobs
+  pub shown : args.plan.why ≡ true → args.plan.show ≡ true

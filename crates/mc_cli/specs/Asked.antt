@@ -1,0 +1,14 @@
+-- What a line may ask for, without the server and how it is met: the cases are those of a request.
+use Rattle.std.specs.Prelude.{ℕ, Bool}
+use Rattle.mc_cli.specs.declared.args.{Plan.Plan, Search.Search, ServeArgs.ServeArgs}
+
+pub data Asked : Type 0 where
+  Judge : Search → Asked
+  Check : Bool → Asked
+  Asm : Bool → Asked
+  Drive : Search → Asked
+  Run : Search → Asked
+  Generate : ℕ → ℕ → Asked
+  Serve : ServeArgs → Asked
+  Campaign : Plan → Asked
+  Selftest : Asked

@@ -1,0 +1,91 @@
+-- The program's subcommands and their options, as clap reads them.
+use Rattle.std.specs.Prelude.{List, [], ◌∷◌, Some, true, codes, fold}
+use Rattle.clap.specs.Words.{App, Rule, Text, new_app, new_rule, with_rule, with_subcommand}
+use Rattle.clap.specs.Simple.{new_shape}
+use Rattle.clap.specs.declared.builder.action.ArgAction.TheVariants.{SetTrue}
+use Rattle.mc_cli.specs.declared.rows.{Kind.Kind, Place.Place, Row.Row}
+use Rattle.mc_cli.specs.declared.rows.Kind.TheVariants as kind
+use Rattle.mc_cli.specs.declared.rows.Place.TheVariants as place
+
+-- ---- options
+
+-- the option `--NAME` with a word as its value
+abbrev pub valued : Text → Rule
+valued name = record (new_rule name) { long = Some name; value_names = 1 }
+
+-- the switch `--NAME`
+abbrev pub switch : Text → Rule
+switch name = record (new_rule name) { long = Some name; action = Some SetTrue }
+
+-- the argument with this name, which has to be there
+abbrev pub argument : Text → Rule
+argument name = record (new_rule name) { value_names = 1; required = true }
+
+abbrev pub rule_by : Place → Kind → Text → Rule
+rule_by place.Required _ name = argument name
+rule_by _ kind.Switch name = switch name
+rule_by _ _ name = valued name
+
+abbrev pub rule_of_row : Row → Rule
+rule_of_row row = rule_by row.place row.kind row.name.now
+
+-- ---- subcommands
+
+-- the subcommand with these options
+abbrev pub app_with : Text → List Rule → App
+app_with name rules = fold with_rule (new_app name) rules
+
+-- of `judge` and `drive`
+abbrev pub judge_rules : List Rule
+judge_rules = valued (codes "limit") ∷ switch (codes "why") ∷ []
+
+-- of `check` and `asm`
+abbrev pub refused_rules : List Rule
+refused_rules = switch (codes "why") ∷ []
+
+abbrev pub run_rules : List Rule
+run_rules =
+    argument (codes "target") ∷ valued (codes "limit") ∷ switch (codes "why") ∷ valued (codes "meet") ∷
+    valued (codes "a") ∷ valued (codes "b") ∷ valued (codes "name") ∷ valued (codes "timeout") ∷
+    valued (codes "wait") ∷ valued (codes "times") ∷ valued (codes "for") ∷ switch (codes "keep-going") ∷
+    switch (codes "reconnect") ∷ switch (codes "quiet") ∷ valued (codes "spread") ∷ switch (codes "stats") ∷ []
+
+abbrev pub campaign_rules : List Rule
+campaign_rules =
+    argument (codes "target") ∷ valued (codes "seed") ∷ valued (codes "from") ∷ valued (codes "jobs") ∷
+    valued (codes "workers") ∷ valued (codes "limit") ∷ valued (codes "meet") ∷ valued (codes "name") ∷
+    valued (codes "timeout") ∷ valued (codes "wait") ∷ switch (codes "brief") ∷ switch (codes "show") ∷
+    switch (codes "why") ∷ valued (codes "tries") ∷ switch (codes "quiet") ∷ valued (codes "spread") ∷
+    switch (codes "stats") ∷ valued (codes "for") ∷ valued (codes "stop-after") ∷ []
+
+-- the program without its subcommands
+abbrev pub bare_app : App
+bare_app = record {
+  top = record (new_shape (codes "mcrace")) {
+    subcommand_required = true;
+    arg_required_else_help = true;
+    has_version = true;
+  };
+  subs = [];
+}
+
+-- the program with one subcommand more
+abbrev pub and_with : App → Text → List Rule → App
+and_with app name rules = with_subcommand app (app_with name rules).top
+
+-- with those that answer to an input, and need no server
+abbrev pub reading_app : App
+reading_app = and_with (and_with (and_with (and_with bare_app (codes "judge") judge_rules) (codes "check") refused_rules)
+    (codes "asm") refused_rules) (codes "drive") judge_rules
+
+-- with all that ask for something
+abbrev pub asking_app : App
+asking_app = and_with (and_with (and_with (and_with (and_with reading_app (codes "run") run_rules)
+    (codes "generate") (valued (codes "seed") ∷ valued (codes "job") ∷ []))
+    (codes "serve") (argument (codes "port") ∷ valued (codes "connections") ∷ switch (codes "racy") ∷ []))
+    (codes "campaign") campaign_rules) (codes "selftest") []
+
+-- with the topics of help, which are subcommands that ask for nothing
+abbrev pub program_app : App
+program_app = and_with (and_with (and_with (and_with (and_with (and_with asking_app (codes "formats") []) (codes "history") [])
+    (codes "image") []) (codes "script") []) (codes "steps") []) (codes "all") []

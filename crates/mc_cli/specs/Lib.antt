@@ -1,0 +1,6 @@
+pub mod Args
+pub mod Asked
+pub mod Asking
+pub mod Commands
+pub mod Kinds
+pub mod Line

@@ -1,0 +1,171 @@
+//! What a line asks for, part by part.
+ghost use Rattle.std.specs.Prelude.{◌≡◌, ◌↔◌, ◌+◌, ◌*◌, ◌≤◌, ◌^◌, true};
+ghost use Rattle.std.specs.Duration.{as_nanos};
+ghost use Rattle.mc_cli.specs.Line.{section_server};
+
+use mc_campaign::{Meeting, Namespace};
+use mc_protocol::Actor;
+use std::time::Duration;
+
+/// The most jobs that a line may name.
+pub const GREATEST_JOBS: u64 = 10_000;
+
+/// The most workers that a line may name.
+pub const GREATEST_WORKERS: u32 = 16;
+
+/// How an explanation is searched for.
+#[derive(Clone, Copy, Debug, Drop, PartialEq, Eq)]
+pub struct Search {
+    /// The most turns of a search.
+    pub limit: u64,
+    /// Whether the answer says why nothing explains a history, and which word of a refused text is at fault. Each search for it takes
+    /// at most `limit` turns.
+    pub why: bool,
+}
+
+/// A time of 0.001 to 86,400 seconds.
+#[derive(Clone, Copy, Debug, Drop, PartialEq, Eq)]
+pub struct Seconds<'a> {
+    /// As the command line has it.
+    pub word: &'a str,
+    /// How many milliseconds it has.
+    pub milliseconds: u64,
+}
+
+impl Seconds<'_> {
+    /// The same time.
+    pub fn duration(&self) -> Duration
+        ensures { as_nanos result ≡ self.now.milliseconds * 1_000_000 }
+    {
+        Duration::from_millis(self.milliseconds)
+    }
+}
+
+/// How often a script is run. One of the two bounds is there.
+#[derive(Clone, Copy, Debug, Drop, PartialEq, Eq)]
+pub struct Repeat {
+    /// The most runs, 1 to 1,000,000, if there is such a number.
+    pub times: Option<u64>,
+    /// For how many seconds runs begin, 1 to 86,400, if there is such a time.
+    pub time: Option<u64>,
+    /// Whether there is a next run after one whose status isn't 0.
+    pub keep_going: bool,
+}
+
+/// A run of a script against a server.
+#[derive(Debug, Drop)]
+pub struct RunArgs<'a> {
+    /// The server, as HOST:PORT.
+    pub server: &'a str,
+    /// A's server, if it isn't P's.
+    pub a: Option<&'a str>,
+    /// B's server, if it isn't P's.
+    pub b: Option<&'a str>,
+    /// How an explanation is searched for.
+    pub how: Search,
+    /// How the branches meet.
+    pub meeting: Meeting,
+    /// The name that the script's keys are put under, if they are.
+    pub name: Option<Namespace<'a>>,
+    /// The longest that one connect to one address, one read or one write may take, if there is such a time.
+    pub timeout: Option<Seconds<'a>>,
+    /// How long P may try again to connect, if it may.
+    pub wait: Option<Seconds<'a>>,
+    /// How often the script is run, if that isn't once.
+    pub repeat: Option<Repeat>,
+    /// Whether each of several runs has connections of its own.
+    pub reconnect: bool,
+    /// Whether standard error doesn't say how many runs there were.
+    pub quiet: bool,
+    /// Whether standard error says at the end how requests were answered.
+    pub stats: bool,
+    /// The maximum delay of a branch after the branches met, in microseconds; 0 disables it.
+    pub spread: u16,
+}
+
+impl<'a> RunArgs<'a> {
+    /// The server of a section, as HOST:PORT.
+    pub fn server_of(&self, section: Actor) -> &'a str
+        ensures { result ≡ section_server section self.now.server self.now.a self.now.b }
+    {
+        match section {
+            Actor::P => self.server,
+            Actor::A => self.a.unwrap_or(self.server),
+            Actor::B => self.b.unwrap_or(self.server),
+        }
+    }
+}
+
+/// A server of the program's own.
+#[derive(Clone, Copy, Debug, Drop, PartialEq, Eq)]
+pub struct ServeArgs {
+    /// The port of 127.0.0.1, or 0 for one that is free.
+    pub port: u16,
+    /// How many connections are served.
+    pub connections: u64,
+    /// Whether `incr` has a race.
+    pub racy: bool,
+}
+
+/// Until when a campaign begins blocks of jobs. One of the two bounds is there.
+#[derive(Clone, Copy, Debug, Drop, PartialEq, Eq)]
+pub struct Until {
+    /// For how many seconds, 1 to 86,400, if there is such a time.
+    pub time: Option<u64>,
+    /// Until as many jobs are unexplained, 1 to 10,000, if there is such a number.
+    pub unexplained: Option<u64>,
+}
+
+/// The jobs of a campaign.
+#[derive(Clone, Copy, Debug, Drop, PartialEq, Eq)]
+pub struct Plan {
+    /// What the scripts of the jobs are made of, beside the jobs' numbers.
+    pub seed: u64,
+    /// The number of the first job.
+    pub first: u64,
+    /// How many jobs there are; with `until`, at most.
+    pub jobs: u64,
+    /// How many of them run at once.
+    pub workers: u32,
+    /// The search for an explanation of one takes at most this many turns.
+    pub limit: u64,
+    /// Whether the report has no lines of jobs with which nothing was wrong.
+    pub brief: bool,
+    /// Whether the histories of unexplained jobs follow.
+    pub show: bool,
+    /// Whether each of them comes with why nothing explains it. Each search for that takes at most `limit` turns.
+    pub why: bool,
+    /// How often a smaller script is run, before it counts as explained.
+    pub tries: u64,
+    /// Until when it runs in blocks of jobs, if it does.
+    pub until: Option<Until>,
+}
+
+/// A campaign against a server.
+#[derive(Debug, Drop)]
+pub struct CampaignArgs<'a> {
+    /// The server, as HOST:PORT.
+    pub server: &'a str,
+    pub plan: Plan,
+    /// How the branches of each job meet.
+    pub meeting: Meeting,
+    /// The name that the keys of each job are put under, if they are.
+    pub name: Option<Namespace<'a>>,
+    /// The longest that one connect to one address, one read or one write may take, if there is such a time.
+    pub timeout: Option<Seconds<'a>>,
+    /// How long P of a job may try again to connect, if it may.
+    pub wait: Option<Seconds<'a>>,
+    /// Whether standard error doesn't say how far the campaign is.
+    pub quiet: bool,
+    /// Whether standard error says at the end how requests were answered.
+    pub stats: bool,
+    /// The maximum delay of a branch of a job after the branches met, in microseconds; 0 disables it.
+    pub spread: u16,
+}
+
+/// Whether the last of this many jobs, from the first on, has a number of 64 bits.
+pub fn has_last(first: u64, jobs: u64) -> bool
+    ensures { (result ≡ true) ↔ (first + jobs ≤ 2 ^ 64) }
+{
+    jobs == 0 || jobs - 1 <= u64::MAX - first
+}

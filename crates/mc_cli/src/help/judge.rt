@@ -1,0 +1,45 @@
+//! What help says of the subcommand `judge`.
+use crate::help::Help;
+
+pub const JUDGE: Help = Help {
+    name: "judge",
+    usage: "mcrace judge [--limit N] [--why] < FILE",
+    about: "Judges the history on standard input",
+    long_about: "Judges the history on standard input: whether one cache can have given every
+reply in it, that is, whether it is linearizable (`history 2`) or sequentially
+consistent (`history 1`).
+
+  history 2
+  P begin delete a
+  P reply NOT_FOUND
+  A begin set a 0 =1
+  A reply STORED
+  B begin get a
+  B reply HIT 0 =1
+  end
+
+P runs alone first, then A and B run at once. `mcrace help history` describes
+the format, the lines of an explanation, and why a text is refused.
+
+The answer:
+  explained    an explanation was found; its lines follow, and `end`
+  unexplained  there is none: the search was complete
+  undecided    the search used up its turns before either was known
+If the history claims an explanation, the answer is `confirmed` or `not
+confirmed`.
+
+A turn tries one request at one place of the order. The search remembers its
+dead ends in up to 256 MiB; beyond that it may need more turns.
+
+With `--why`, `unexplained` is followed by the first line that no order can
+explain, an order for everything before it, and what a correct cache answers
+there; and a refusal by the line at fault.",
+    short_statuses: "Exit status: 0 explained, 1 unexplained, 2 wrong line, 3 refused, 4 otherwise.
+Read on: mcrace judge --help, mcrace help history",
+    statuses: "Exit status:
+  0  explained, or confirmed
+  1  unexplained, or not confirmed
+  2  the command line is wrong
+  3  refused: the input is no history, or has more than 1,048,576 bytes
+  4  undecided; out of memory; or input or output failed",
+};

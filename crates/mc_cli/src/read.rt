@@ -1,0 +1,125 @@
+//! What the values of each subcommand's options ask for.
+ghost use Rattle.std.specs.Prelude.{◌≡◌, ◌≤◌, ℕ, Option, codes, IfErr, IfOk};
+ghost use Rattle.clap.specs.Words.{first_value, found_of};
+ghost use Rattle.mc_cli.specs.Args as spec;
+ghost use Rattle.mc_cli.specs.Args.{IsJob, IsRepeat, IsRunArgs, IsSearch, IsService};
+ghost use Rattle.mc_cli.specs.Kinds.{IsValue};
+
+use crate::args::{Repeat, RunArgs, Search, ServeArgs};
+use crate::fault::OptionFault;
+use crate::rows::Row;
+use crate::{options as rows, value};
+use clap::ArgMatches;
+
+/// The microseconds of `--spread` if several runs meet, and the line names none.
+pub const DEFAULT_SPREAD: u64 = 64;
+
+/// The search that `judge`, `drive` and `run` ask for.
+pub fn read_search<'a>(options: &ArgMatches<'a>) -> Result<Search, OptionFault<'a>>
+    ensures how { IfOk result (IsSearch (first_value (found_of options.now))) }
+    ensures none { IfErr result (λ _. (how : Search) → IsSearch (first_value (found_of options.now)) how → ⊥) }
+{
+    Ok(Search {
+        limit: value::number(options, &rows::LIMIT)?,
+        why: value::is_set(options, &rows::WHY),
+    })
+}
+
+/// The seed and the job that `generate` asks for.
+pub fn read_job<'a>(options: &ArgMatches<'a>) -> Result<(u64, u64), OptionFault<'a>>
+    ensures job { IfOk result (λ found. IsJob (first_value (found_of options.now)) found.0 found.1) }
+    ensures none { IfErr result (λ _. (seed job : ℕ) → IsJob (first_value (found_of options.now)) seed job → ⊥) }
+{
+    let seed = value::number(options, &rows::SEED)?;
+    let job = value::number(options, &rows::JOB)?;
+    Ok((seed, job))
+}
+
+/// The server that `serve` asks for.
+pub fn read_service<'a>(options: &ArgMatches<'a>) -> Result<ServeArgs, OptionFault<'a>>
+    ensures service { IfOk result (IsService (first_value (found_of options.now))) }
+    ensures none { IfErr result (λ _. (service : ServeArgs) → IsService (first_value (found_of options.now)) service → ⊥) }
+{
+    let port = value::number(options, &rows::PORT)?;
+    let connections = value::number(options, &rows::CONNECTIONS)?;
+    Ok(ServeArgs {
+        port: port as u16,
+        connections,
+        racy: value::is_set(options, &rows::RACY),
+    })
+}
+
+/// The run that `run` asks for.
+pub fn read_run<'a>(options: &ArgMatches<'a>) -> Result<RunArgs<'a>, OptionFault<'a>>
+    ensures args { IfOk result (IsRunArgs (first_value (found_of options.now))) }
+    ensures none { IfErr result (λ _. (args : RunArgs) → IsRunArgs (first_value (found_of options.now)) args → ⊥) }
+{
+    let server = value::address(options, &rows::TARGET)?;
+    let how = read_search(options)?;
+    let meeting = value::meeting(options, &rows::MEET)?;
+    let name = value::name(options, &rows::NAME)?;
+    let timeout = value::seconds(options, &rows::TIMEOUT)?;
+    let wait = value::seconds(options, &rows::WAIT)?;
+    let repeat = read_repeat(options)?;
+    let spread = read_spread(options, default_spread(repeat))?;
+    Ok(RunArgs {
+        server,
+        a: options.get_str(rows::SERVER_OF_A.name),
+        b: options.get_str(rows::SERVER_OF_B.name),
+        how,
+        meeting,
+        name,
+        timeout,
+        wait,
+        repeat,
+        reconnect: value::is_set(options, &rows::RECONNECT),
+        quiet: value::is_set(options, &rows::QUIET),
+        stats: value::is_set(options, &rows::STATS),
+        spread,
+    })
+}
+
+// How often the script is run, if that isn't once.
+fn read_repeat<'a>(options: &ArgMatches<'a>) -> Result<Option<Repeat>, OptionFault<'a>>
+    ensures repeat { IfOk result (IsRepeat (first_value (found_of options.now))) }
+    ensures none { IfErr result (λ _. (repeat : Option Repeat) → IsRepeat (first_value (found_of options.now)) repeat → ⊥) }
+{
+    let times = value::optional(options, &rows::TIMES)?;
+    let time = value::optional(options, &rows::FOR)?;
+    let keep_going = value::is_set(options, &rows::KEEP_GOING);
+    if times.is_some() || time.is_some() {
+        return Ok(Some(Repeat {
+            times,
+            time,
+            keep_going,
+        }));
+    }
+    if keep_going {
+        return Err(OptionFault::Together("--keep-going needs --times or --for"));
+    }
+    Ok(None)
+}
+
+// The microseconds of `--spread` if the line of `run` names none.
+fn default_spread(repeat: Option<Repeat>) -> u64
+    ensures { result ≡ spec.default_spread repeat }
+{
+    match repeat {
+        Some(_) => DEFAULT_SPREAD,
+        None => 0,
+    }
+}
+
+/// The microseconds that `--spread` names, or these.
+pub fn read_spread<'a>(options: &ArgMatches<'a>, default: u64) -> Result<u16, OptionFault<'a>>
+    requires { default ≤ 64 }
+    ensures spread { IfOk result (IsValue (spec.number 10000) (Some default) (first_value (found_of options.now) (codes "spread"))) }
+    ensures none { IfErr result (λ _. (spread : ℕ)
+        → IsValue (spec.number 10000) (Some default) (first_value (found_of options.now) (codes "spread")) spread → ⊥) }
+{
+    let row = Row {
+        default: Some(default),
+        ..rows::SPREAD
+    };
+    Ok(value::number(options, &row)? as u16)
+}

@@ -1,0 +1,131 @@
+//! What the values of the options of `campaign` ask for.
+ghost use Rattle.std.specs.Prelude.{◌≡◌, ◌+◌, ◌≤◌, ◌^◌, ◌↔◌, ℕ, Option, codes, true, IfErr, IfOk};
+ghost use Rattle.std.specs.Option.{option_copied};
+ghost use Rattle.clap.specs.Words.{first_value, found_of};
+ghost use Rattle.mc_campaign.specs.JobCodes.{NameFits};
+ghost use Rattle.mc_cli.specs.Args as spec;
+ghost use Rattle.mc_cli.specs.Args.{AreJobs, IsCampaignArgs, IsPlan, IsUntil};
+
+use crate::args::{CampaignArgs, Plan, Until, has_last};
+use crate::fault::OptionFault;
+use crate::read::{DEFAULT_SPREAD, read_spread};
+use crate::{options as rows, value};
+use clap::ArgMatches;
+use mc_campaign::{Namespace, keys_fit};
+
+/// The campaign that `campaign` asks for.
+pub fn read_campaign<'a>(options: &ArgMatches<'a>) -> Result<CampaignArgs<'a>, OptionFault<'a>>
+    ensures args { IfOk result (IsCampaignArgs (first_value (found_of options.now))) }
+    ensures none { IfErr result (λ _. (args : CampaignArgs) → IsCampaignArgs (first_value (found_of options.now)) args → ⊥) }
+{
+    let server = value::address(options, &rows::TARGET)?;
+    let plan = read_plan(options)?;
+    let name = value::name(options, &rows::NAME)?;
+    if !name_fits(&name, plan.first, plan.jobs) {
+        return Err(long_key(name, plan.first, plan.jobs));
+    }
+    if plan.why && !plan.show {
+        return Err(OptionFault::Together("--why needs --show"));
+    }
+    let meeting = value::meeting(options, &rows::MEET)?;
+    let spread = read_spread(options, DEFAULT_SPREAD)?;
+    let timeout = value::seconds(options, &rows::TIMEOUT)?;
+    let wait = value::seconds(options, &rows::WAIT)?;
+    Ok(CampaignArgs {
+        server,
+        plan,
+        meeting,
+        name,
+        timeout,
+        wait,
+        quiet: value::is_set(options, &rows::QUIET),
+        stats: value::is_set(options, &rows::STATS),
+        spread,
+    })
+}
+
+// The jobs of the campaign.
+fn read_plan<'a>(options: &ArgMatches<'a>) -> Result<Plan, OptionFault<'a>>
+    ensures plan { IfOk result (IsPlan (first_value (found_of options.now))) }
+    ensures none { IfErr result (λ _. (plan : Plan) → IsPlan (first_value (found_of options.now)) plan → ⊥) }
+{
+    let seed = value::number(options, &rows::SEED)?;
+    let first = value::number(options, &rows::FROM)?;
+    let until = read_until(options)?;
+    let jobs = read_jobs(options, first)?;
+    let workers = value::number(options, &rows::WORKERS)?;
+    let limit = value::number(options, &rows::LIMIT)?;
+    let tries = value::number(options, &rows::TRIES)?;
+    if !has_last(first, jobs) {
+        return Err(OptionFault::LastJob { first, jobs });
+    }
+    Ok(Plan {
+        seed,
+        first,
+        jobs,
+        workers: workers as u32,
+        limit,
+        brief: value::is_set(options, &rows::BRIEF),
+        show: value::is_set(options, &rows::SHOW),
+        why: value::is_set(options, &rows::WHY_OF_SHOWN),
+        tries,
+        until,
+    })
+}
+
+// Until when the campaign runs in blocks, if it does.
+fn read_until<'a>(options: &ArgMatches<'a>) -> Result<Option<Until>, OptionFault<'a>>
+    ensures until { IfOk result (IsUntil (first_value (found_of options.now))) }
+    ensures none { IfErr result (λ _. (until : Option Until) → IsUntil (first_value (found_of options.now)) until → ⊥) }
+{
+    let time = value::optional(options, &rows::FOR_OF_CAMPAIGN)?;
+    let unexplained = value::optional(options, &rows::STOP_AFTER)?;
+    if time.is_some() && options.get_str(rows::JOBS.name).is_some() {
+        return Err(OptionFault::Together("--for and --jobs can't stand together"));
+    }
+    if time.is_some() || unexplained.is_some() {
+        return Ok(Some(Until { time, unexplained }));
+    }
+    Ok(None)
+}
+
+// How many jobs there are at most, from the first on.
+fn read_jobs<'a>(options: &ArgMatches<'a>, first: u64) -> Result<u64, OptionFault<'a>>
+    ensures jobs { IfOk result
+        (AreJobs (first_value (found_of options.now) (codes "for")) (first_value (found_of options.now) (codes "jobs")) first) }
+    ensures none { IfErr result (λ _. (jobs : ℕ) → AreJobs (first_value (found_of options.now) (codes "for"))
+        (first_value (found_of options.now) (codes "jobs")) first jobs → ⊥) }
+{
+    match options.get_str(rows::FOR_OF_CAMPAIGN.name) {
+        Some(_) => Ok(jobs_from(first)),
+        None => value::number(options, &rows::JOBS),
+    }
+}
+
+// How many jobs have a number of 64 bits, from the first on; but one less where these are all of them.
+fn jobs_from(first: u64) -> u64
+    ensures jobs { result ≡ spec.jobs_from first }
+{
+    (u64::MAX - first).saturating_add(1)
+}
+
+// Whether no key of these jobs is too long under the name, if there is one.
+fn name_fits(name: &Option<Namespace<'_>>, first: u64, jobs: u64) -> bool
+    requires { first + jobs ≤ 2 ^ 64 }
+    ensures { (result ≡ true) ↔ NameFits name.now first jobs }
+{
+    match name {
+        Some(name) => keys_fit(name, first, jobs),
+        None => true,
+    }
+}
+
+// The fault of a name under which the keys of the last of these jobs are too long.
+fn long_key(name: Option<Namespace<'_>>, first: u64, jobs: u64) -> OptionFault<'_>
+    requires { first + jobs ≤ 2 ^ 64 }
+{
+    match name {
+        Some(name) => OptionFault::LongKey(name, first + jobs.saturating_sub(1)),
+        None => OptionFault::Missing(rows::NAME),
+    }
+}

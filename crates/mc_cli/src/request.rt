@@ -1,0 +1,166 @@
+//! What a line asks for: it is read here, once.
+ghost use Rattle.std.specs.Prelude.{◌≡◌, map, string_bytes, IfErr, IfOk, Some};
+ghost use Rattle.clap.specs.Words.{first_value, found_of, kind_of};
+ghost use Rattle.mc_cli.specs.Asked.{Asked};
+ghost use Rattle.mc_cli.specs.Asking.{AsksFor, Describes, IsAskedBy, IsFaultOf, Says, asked_by};
+ghost use Rattle.mc_cli.specs.Line.{line_value};
+
+use crate::args::{CampaignArgs, RunArgs, Search, ServeArgs};
+use crate::fault::{OptionFault, long_key_message};
+use crate::file_hint::error_text;
+use crate::help_line::help_text;
+use crate::read::{read_job, read_run, read_search, read_service};
+use crate::read_campaign::read_campaign;
+use crate::subcommand::{program, usage_fault};
+use crate::{options as rows, value};
+use clap::error::ErrorKind;
+use clap::{ArgMatches, Error};
+use mc_campaign::Namespace;
+use std::alloc::{AllocError, Global};
+
+/// What a line asks for, with all that its words say of it.
+#[derive(Debug, Drop)]
+pub enum Request<'a> {
+    /// A judgement of a history, by this search.
+    Judge(Search),
+    /// Whether the code of a script or of an image is sound; and whether the answer shows the line for which a script is refused.
+    Check(bool),
+    /// The image of a script; and whether the answer shows the line for which a script is refused.
+    Asm(bool),
+    /// What the steps after a script come to, judged by this search.
+    Drive(Search),
+    /// Runs of a script against a server.
+    Run(RunArgs<'a>),
+    /// The script of this seed and this job.
+    Generate(u64, u64),
+    /// A server of the program's own.
+    Serve(ServeArgs),
+    /// The jobs of a campaign against a server.
+    Campaign(CampaignArgs<'a>),
+    /// Whether a server that is right is explained, and one with a race isn't.
+    Selftest,
+}
+
+/// Why a line asks for nothing.
+#[derive(Debug, Drop)]
+pub enum LineFault {
+    /// It calls for help or for the version: this text, for standard output.
+    Shown(String),
+    /// It has a fault, as this text says, for standard error.
+    Wrong(String),
+    /// There was no memory to read it, or to say what is wrong.
+    OutOfMemory,
+}
+
+impl From<AllocError> for LineFault {
+    ghost use Rattle.std.specs.Prelude.{◌≡◌};
+    ghost use Rattle.mc_cli.specs.declared.request.LineFault.TheVariants.{OutOfMemory};
+
+    ghost from_gives = { λ _ e. e ≡ OutOfMemory };
+
+    fn from(_e: AllocError) -> LineFault {
+        LineFault::OutOfMemory
+    }
+}
+
+/// Reads the line, whose first word is the program's name.
+///
+/// # Errors
+///
+/// The line calls for help or for the version, or has a fault; or memory ran out, and then nothing is known of the line.
+pub fn read_request(alloc: Global, line: &[String]) -> Result<Request<'_>, LineFault>
+    ensures asked { IfOk result (λ request. AsksFor (map string_bytes line.now) (asked_by request)) }
+    ensures only { IfOk result (λ request.
+        (wanted : Asked) → AsksFor (map string_bytes line.now) wanted → asked_by request ≡ wanted) }
+    ensures described { IfOk result (Describes (line_value (map string_bytes line.now))) }
+    ensures fault { IfErr result (IsFaultOf (map string_bytes line.now)) }
+{
+    let matches = match program(alloc)?.try_get_matches_from(line) {
+        Ok(matches) => matches,
+        Err(error) => return Err(clap_fault(alloc, line, &error)),
+    };
+    match matches.subcommand() {
+        Some((name, options)) => match read_options(name, options) {
+            Ok(request) => Ok(request),
+            Err(fault) => Err(option_fault(alloc, name, &fault)),
+        },
+        None => Err(option_fault(alloc, "", &OptionFault::NoSubcommand)),
+    }
+}
+
+// What the subcommand of this name asks for with its options.
+fn read_options<'a>(name: &str, options: &ArgMatches<'a>) -> Result<Request<'a>, OptionFault<'a>>
+    ensures asked { IfOk result (λ request. IsAskedBy (Some name.now) (first_value (found_of options.now)) (asked_by request)) }
+    ensures described { IfOk result (Describes (first_value (found_of options.now))) }
+    ensures none { IfErr result (λ _. (wanted : Asked) → IsAskedBy (Some name.now) (first_value (found_of options.now)) wanted → ⊥) }
+{
+    match name {
+        "judge" => Ok(Request::Judge(read_search(options)?)),
+        "check" => Ok(Request::Check(value::is_set(options, &rows::REFUSED))),
+        "asm" => Ok(Request::Asm(value::is_set(options, &rows::REFUSED))),
+        "drive" => Ok(Request::Drive(read_search(options)?)),
+        "run" => Ok(Request::Run(read_run(options)?)),
+        "generate" => {
+            let (seed, job) = read_job(options)?;
+            Ok(Request::Generate(seed, job))
+        }
+        "serve" => Ok(Request::Serve(read_service(options)?)),
+        "campaign" => Ok(Request::Campaign(read_campaign(options)?)),
+        "selftest" => Ok(Request::Selftest),
+        _ => Err(OptionFault::NoSubcommand),
+    }
+}
+
+// What clap says of the line.
+fn clap_fault(alloc: Global, line: &[String], error: &Error) -> LineFault
+    ensures says { Says (kind_of error.now) result }
+    ensures memory { kind_of error.now ≡ ErrorKind.OutOfMemory → result ≡ LineFault.OutOfMemory }
+{
+    if error.kind() == ErrorKind::OutOfMemory {
+        return LineFault::OutOfMemory;
+    }
+    if error.use_stderr() {
+        match error_text(alloc, line, error) {
+            Ok(text) => LineFault::Wrong(text),
+            Err(_) => LineFault::OutOfMemory,
+        }
+    } else {
+        match help_text(alloc, line, error) {
+            Ok(text) => LineFault::Shown(text),
+            Err(_) => LineFault::OutOfMemory,
+        }
+    }
+}
+
+// What is said of the options of the subcommand of this name.
+fn option_fault(alloc: Global, name: &str, fault: &OptionFault<'_>) -> LineFault
+    ensures { Says ErrorKind.ValueValidation result }
+{
+    match option_fault_text(alloc, name, fault) {
+        Ok(text) => LineFault::Wrong(text),
+        Err(_) => LineFault::OutOfMemory,
+    }
+}
+
+// The same, as clap writes it: with the usage of the subcommand.
+fn option_fault_text(
+    alloc: Global,
+    name: &str,
+    fault: &OptionFault<'_>,
+) -> Result<String, AllocError> {
+    usage_fault(alloc, name, fault.message(alloc)?.as_str())
+}
+
+/// What is said of a line of `run` under whose name this key of the script is too long.
+///
+/// # Errors
+///
+/// That there is no memory.
+pub fn long_key_text(
+    alloc: Global,
+    name: &Namespace<'_>,
+    key: &[u8],
+) -> Result<String, AllocError> {
+    let message = long_key_message(alloc, name, key)?;
+    usage_fault(alloc, "run", message.as_str())
+}
