@@ -4,7 +4,7 @@ import pathlib
 import re
 import sys
 
-sys.path.append(str(pathlib.Path(__file__).resolve().parents[1] / "mutants"))
+sys.path.append(str(pathlib.Path(__file__).resolve().parents[1]))
 
 import functions
 
@@ -44,7 +44,7 @@ def public_calls(folder):
     Laws, whose bodies are empty, are left out."""
     root = (folder / "src/lib.rt").read_text(encoding="utf-8")
     used = " ".join(re.findall(r"^pub use ([^;]*);", root, re.M))
-    for item in functions.public_functions(folder, functions.items_of(folder)):
+    for item in functions.public_functions(folder, functions.functions_of(folder)):
         lines = (folder / item.file).read_text(encoding="utf-8").split("\n")
         head = lines[item.first : item.body + 1]
         text = "\n".join(it for it in head if not it.lstrip().startswith("//"))
