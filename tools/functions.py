@@ -11,8 +11,8 @@ ITEM = re.compile(
     r"(?P<public>pub )?(?:pub\([^)]*\) )?(?:const |unsafe )*"
     r"(?P<kind>fn|trait|impl)\b *(?P<name>\w*)"
 )
-# What ends an item, after its indent.
-END = r"(?=\S)(?:\}|.*(?:\{\}|;| \})$)"
+# What ends an item, after its indent; the last clause ends a function that has no body.
+END = r"(?:(?=\S)(?:\}|.*(?:\{\}|;| \})$)| {4}(?:requires|ensures)\b.*;$)"
 # What stands in angle brackets, with others inside.
 ANGLES = r"<(?:[^<>]|<(?:[^<>]|<[^<>]*>)*>)*>"
 OF_TESTS = re.compile(r"#\[cfg\(test\)\]\n(?:pub )?mod (\w+);")
