@@ -26,7 +26,7 @@ class RightServers(servers.ServedTest, CampaignTest):
     """All jobs are explained, but if a verdict may take no turn."""
 
     def test_memcached(self):
-        self.assert_right(self.enter(servers.need_memcached()), 300)
+        self.assert_right(self.enter(servers.memcached()), 300)
 
     @rows([("300 jobs", 300), ("in time", 100, "--timeout 20")])
     def test_serve(self, *options):

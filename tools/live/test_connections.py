@@ -4,12 +4,11 @@ import re
 import resource
 import signal
 import socket
-import subprocess
 import threading
 import time
 
 from . import servers
-from .program import COUNTER, PROGRAM, SECONDS, LiveTest, play, rows, run, three_times
+from .program import COUNTER, SECONDS, LiveTest, begun, play, rows, run, three_times
 from .servers import A, B, P, Replying, Scripted, Step
 
 REFUSED = "Connection refused (os error 111)"
@@ -119,15 +118,10 @@ class Interrupts(LiveTest):
     @rows([("run", COUNTER, b""), ("campaign", b"", b"mcrace: seed 1, jobs 0 to 99, 4 workers\n")])
     def test_waiting(self, given, first_line):
         """The first line of a campaign is there at once."""
-        command = "run" if given else "campaign"
-        pipe = subprocess.PIPE
         server = self.enter(Replying([Step.READ]))
-        words = [PROGRAM, command, f"127.0.0.1:{server.port}"]
-        process = self.enter(subprocess.Popen(words, stdin=pipe, stdout=pipe, stderr=pipe))
+        command = "run" if given else "campaign"
+        process = self.enter(begun([command, f"127.0.0.1:{server.port}"], given))
         self.addCleanup(process.kill)
-        process.stdin.write(given)
-        process.stdin.close()
-        process.stdin = None
         if first_line:
             self.assertEqual(process.stderr.readline(), first_line)
         time.sleep(0.2)

@@ -2,10 +2,9 @@
 server is sent what is meant for it."""
 
 import os
-import subprocess
 
 from . import servers
-from .program import COUNTER, PROGRAM, SECONDS, LiveTest, rows
+from .program import COUNTER, SECONDS, LiveTest, begun, rows, run
 from .servers import A, B, P, Replying, Scripted, answers, answers_both
 
 HISTORY = b"history 1\nP delete a -> NOT_FOUND\nend\n"
@@ -21,19 +20,10 @@ THREE_RUNS = [SURPLUS, tuple(2 * steps for steps in (P, A, B))]
 CLOSED = [("input", 0, 4, NO_INPUT), ("output", 1, 4, NO_OUTPUT), ("errors", 2, 0, b"")]
 
 
-def begin(words, descriptor):
-    """The program, begun with this descriptor closed."""
-    pipe = subprocess.PIPE
-    streams = {"stdin": pipe, "stdout": pipe, "stderr": pipe}
-    close = lambda: os.close(descriptor)
-    return subprocess.Popen([PROGRAM, *words], preexec_fn=close, **streams)
-
-
 def run_without(descriptor, words, given=b""):
-    """The same, and what it answers to this input."""
-    with begin(words, descriptor) as process:
-        output, told = process.communicate(given, SECONDS)
-    return process.returncode, output, told
+    """What the program answers with this descriptor closed."""
+    answer = run(words, given, preexec_fn=lambda: os.close(descriptor))
+    return answer.returncode, answer.stdout, answer.stderr
 
 
 class ClosedStreams(LiveTest):
@@ -83,7 +73,8 @@ class ClosedStreams(LiveTest):
     @rows([("input", 0), ("errors", 2)])
     def test_serve(self, descriptor):
         """The client reads replies alone, and the program ends as ever."""
-        with begin(["serve", "0", "--connections", "1"], descriptor) as process:
+        words = ["serve", "0", "--connections", "1"]
+        with begun(words, preexec_fn=lambda: os.close(descriptor)) as process:
             port = int(servers.LISTENING.fullmatch(process.stdout.readline())[1])
             with servers.connect(port) as stream:
                 stream.sendall(b"get a\r\nquit\r\n")

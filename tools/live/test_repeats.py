@@ -259,4 +259,4 @@ class RightMemcached(RightServer):
     """At memcached."""
 
     def setUp(self):
-        self.port = self.enter(servers.need_memcached())
+        self.port = self.enter(servers.memcached())

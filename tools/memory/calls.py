@@ -44,7 +44,7 @@ def public_calls(folder):
     asked = [it for it in of_crate if it.kind == "trait" and it.owner in used]
     for it in functions.public_functions(folder, of_crate) + asked:
         lines = (folder / it.file).read_text(encoding="utf-8").split("\n")
-        head = (line for line in lines[it.first : it.body + 1] if not line.lstrip().startswith("//"))
+        head = [at for at in lines[it.first : it.body + 1] if not at.lstrip().startswith("//")]
         yield "::".join(filter(None, [it.owner, it.name])), "\n".join(head)
 
 

@@ -18,7 +18,7 @@ import mutants
 
 FILE = "tools/mutants/kept"
 ONE_IN = 20
-# What judges mutants, beside the toolchain's logic. Toolchains with the same logic have other names.
+# What makes and judges mutants, beside the logic, which toolchains of other names may have too.
 JUDGES = ["functions.py", *(f"mutants/{it}.py" for it in "by_test copies mutants verdicts".split())]
 LOGIC = re.compile(r"logic \w+$")
 # The files in which a function's proof is written, but for lemmas.

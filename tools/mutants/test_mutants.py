@@ -152,7 +152,7 @@ class Runner(unittest.TestCase):
         self.assertEqual(failed.keys(), {"forgets_the_third"}, said)
 
     def test_forged_outcomes(self):
-        """A kept sum that isn't that of the texts counts for nothing, and with --whole none does."""
+        """A kept sum that isn't that of the texts counts for nothing, with --whole none does."""
         self.write(KILLED + NONE + FAILED.splitlines()[0])
         self.kept.write_text(f"small {'0' * 64}\n", encoding="utf-8")
         self.assertEqual(self.run_it()[0].keys(), {"weak"})
