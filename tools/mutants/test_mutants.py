@@ -12,64 +12,8 @@ import time
 import unittest
 
 TOOLS = pathlib.Path(__file__).resolve().parents[1]
-# Of `largest` the contract is too weak.
-LIBRARY = """//! A library with a few functions.
-#![tactic(auto)]
-ghost use Rattle.std.specs.Prelude.{◌≡◌, ◌≤◌, ◌/◌};
-
-pub fn larger(a: u8, b: u8) -> u8
-    ensures first { a ≤ result }
-    ensures second { b ≤ result }
-{
-    if a < b { b } else { a }
-}
-
-pub fn largest(a: u8, b: u8, c: u8) -> u8
-    ensures third { c ≤ result }
-{
-    let two = larger(a, b);
-    larger(two, c)
-}
-
-pub fn quarter(n: u8) -> u8
-    ensures below { result ≤ n }
-    ensures exact { result ≡ n / 4 }
-{
-    n / 4
-}
-
-pub fn is_short(n: u8) -> bool {
-    n < 10
-}
-
-pub fn itself(n: u8) -> u8
-    ensures { result ≡ n }
-{
-    n
-}
-"""
-# Only the clause `exact` of `quarter` has a written proof.
-ANSWERS = """use Rattle.std.proofs.Common.{refl}
-use Rattle.small.proofs.quarter.Goals as goal
-
-pub returns-clause-exact : goal.returns-clause-exact
-returns-clause-exact c = refl
-"""
-TESTS = """//! Tests of small.
-#![tactic(auto)]
-use small::is_short;
-
-#[test]
-fn tells_short_numbers(rt: HostRuntime) {
-    assert!(rt; is_short(9) && !is_short(10), "9 and 10");
-}
-"""
-FILES = {
-    "crates.txt": "small:\ntest_small: small\n",
-    "crates/small/src/lib.rt": LIBRARY,
-    "crates/small/proofs/quarter/Answers.antt": ANSWERS,
-    "crates/test_small/src/lib.rt": TESTS,
-}
+REPOSITORY = (TOOLS / "mutants/small-repository").read_text(encoding="utf-8")
+FILES = dict(re.findall(r"(?ms)^== (\S+)\n(.*?)(?=^== |\Z)", REPOSITORY))
 # The mutants that are killed, each in a line, without its line `file:`.
 KILLED = """answers_the_smaller; named: it answers the smaller; old: if a < b {; new: if b < a {
 a_fifth; named: it answers a fifth; by: proof; old:     n / 4; new:     n / 5
@@ -146,8 +90,9 @@ class Runner(unittest.TestCase):
         _, last, said = self.run_it()
         tried = int(re.search(r"small: (\d) of 5 tried", said)[1])
         self.assertEqual((last, 3 <= tried < 5), ("5 passed, 0 failed", True), said)
-        weak = LIBRARY.replace("third { c ≤", "third { 0 ≤")
-        (self.root / "crates/small/src/lib.rt").write_text(weak, encoding="utf-8")
+        library = self.root / "crates/small/src/lib.rt"
+        weak = FILES["crates/small/src/lib.rt"].replace("third { c ≤", "third { 0 ≤")
+        library.write_text(weak, encoding="utf-8")
         failed, _, said = self.run_it()
         self.assertEqual(failed.keys(), {"forgets_the_third"}, said)
 

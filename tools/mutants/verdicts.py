@@ -66,20 +66,19 @@ class Answer:
         error may be in what is written for another. There are none if it is in its invariants."""
         if any(file == "Invariants" for file, _ in errors):
             return []
-        *modules, last = name.split("::")[1:]
-        place = self.folder.joinpath("proofs", *modules)
-        files = [(place / last / "Answers.antt", "")]
-        files += [(it, f"{last}-") for it in sorted(place.glob("+*/Answers.antt"))]
-        written = [
-            goal
-            for file, begin in files
-            if file.is_file()
-            for goal in WRITTEN.findall(file.read_text(encoding="utf-8"))
-            if goal.startswith(begin)
-        ]
+        written = self.written_for(name)
         heads = tuple(f"{it}-clause-" for it in written)
         is_written = lambda goal: goal in written or goal.startswith(heads)
         return [it for it in self.goals[name] if not is_written(it[0])]
+
+    def written_for(self, name):
+        """The goals for which the function's file has an answer, or that of its cycle."""
+        *modules, last = name.split("::")[1:]
+        place = self.folder.joinpath("proofs", *modules)
+        answers = lambda form: "".join(it.read_text("utf-8") for it in place.glob(form))
+        of_cycle = WRITTEN.findall(answers("+*/Answers.antt"))
+        own = WRITTEN.findall(answers(f"{last}/Answers.antt"))
+        return own + [it for it in of_cycle if it.startswith(f"{last}-")]
 
 
 def function_of(place, file, said):
