@@ -18,15 +18,11 @@ OF_CRATE = re.compile(r"(?m)^#!\[.*\]\n")
 LIB = "#![tactic(auto)]\n"
 
 
-def between(mutant, crate):
-    """The mutant's crate, and those between it and this one."""
-    return [it for it in crate.below() if mutant.crate in [of.name for of in (*it.below(), it)]]
-
-
 def add(mutant, number, program, crate, home):
     """Adds to a program the copies with this number and the module of the mutant's test. Answers
     whether the crate has that test once."""
-    found, copies = between(mutant, crate), {}
+    is_above = lambda it: mutant.crate in (it.name, *(of.name for of in it.below()))
+    found, copies = [it for it in crate.below() if is_above(it)], {}
     name = re.compile(rf"\b({'|'.join(re.escape(it.name) for it in found)})\b")
     numbered = lambda text: name.sub(rf"\1_{number}", text)
     for it in found:

@@ -27,11 +27,8 @@ OF_PROOFS = ("Proof.antt", "Invariants.antt", "Answers.antt")
 
 def sum_of(*texts):
     """One sum of these texts, each with its length, so that no text passes for two."""
-    made = hashlib.sha256()
-    for text in texts:
-        data = text.encode(errors="surrogateescape")
-        made.update(b"%d:" % len(data) + data)
-    return made.hexdigest()
+    data = [text.encode(errors="surrogateescape") for text in texts]
+    return hashlib.sha256(b"".join(b"%d:%b" % (len(it), it) for it in data)).hexdigest()
 
 
 def read(path):

@@ -108,19 +108,20 @@ class Runner(unittest.TestCase):
         self.assertEqual(self.run_it()[0], {})
         self.assertEqual(self.run_it("--whole")[0].keys(), {"weak"})
 
-    def copies(self):
-        """The processes that run in the folder of a mutant's copy."""
-        found = [os.path.realpath(it) for it in pathlib.Path("/proc").glob("[0-9]*/cwd")]
-        return [it for it in found if it.startswith(f"{self.root}/mutants-")]
-
     def test_signals(self):
         """A signal to the runner alone ends all that it started."""
         self.write(KILLED + NONE)
-        environment = os.environ | {"TMPDIR": str(self.root)}
-        with subprocess.Popen([self.runner], stdout=subprocess.PIPE, env=environment) as started:
+        words = ["env", f"TMPDIR={self.root}", self.runner]
+        with subprocess.Popen(words, stdout=subprocess.PIPE) as started:
             started.stdout.readline()
             time.sleep(3)
-            before = self.copies()
+            self.assertTrue(running_below(self.root))
             started.send_signal(signal.SIGTERM)
-            self.assertEqual((started.wait(60), self.copies()), (143, []))
-        self.assertNotEqual(before, [])
+            self.assertEqual(started.wait(60), 143)
+        self.assertEqual(running_below(self.root), [])
+
+
+def running_below(root):
+    """The processes that run in the folder of a mutant's copy."""
+    folders = map(os.path.realpath, pathlib.Path("/proc").glob("[0-9]*/cwd"))
+    return [it for it in folders if it.startswith(f"{root}/mutants-")]
