@@ -54,6 +54,18 @@ class Function:
         return at < self.body and any(CLAUSE.match(it) for it in lines[self.first : at + 1])
 
 
+@dataclass
+class Block:
+    """What functions stand in: a file, or methods of a type or a trait in it."""
+
+    file: str
+    lines: list
+    module: tuple
+    kind: str = ""
+    owner: str = ""
+    indent: str = ""
+
+
 def items_in(lines, first, last, indent):
     """The functions and blocks at this indent, but those of tests: of each its head, the first of
     the lines of `#` and comments above it, the line of the head, and the last one."""
@@ -88,32 +100,40 @@ def owner_of(header):
     return "impl of a trait", "".join(map(name_of, (owner, trait, *types)))
 
 
-def functions_in(file, module, homes, lines):
-    """The functions of a file. A type's own methods are named by the module that declares it."""
-    for head, first, at, last in items_in(lines, 0, len(lines) - 1, ""):
+def functions_in(block, first, last, homes):
+    """The functions among these lines of a block. A type's own methods are named by the module
+    that declares it."""
+    for head, above, at, end in items_in(block.lines, first, last, block.indent):
         if head["kind"] == "fn":
-            yield function(lines, head, (first, at, last), file, (module, "", ""), "")
-            continue
-        opens = next((it for it in range(at, last + 1) if lines[it].endswith("{")), last)
-        kind, owner = owner_of(" ".join(lines[at : opens + 1]))
-        block = homes.get(owner, module) if kind == "impl" else module, kind, owner
-        for head, *inside in items_in(lines, opens + 1, last - 1, " " * 4):
-            if head["kind"] == "fn":
-                yield function(lines, head, inside, file, block, " " * 4)
+            yield function(block, head, above, at, end)
+        elif not block.kind:
+            opens = next((it for it in range(at, end + 1) if block.lines[it].endswith("{")), end)
+            kind, owner = owner_of(" ".join(block.lines[at : opens + 1]))
+            module = homes.get(owner, block.module) if kind == "impl" else block.module
+            inner = Block(block.file, block.lines, module, kind, owner, " " * 4)
+            yield from functions_in(inner, opens + 1, end - 1, homes)
 
 
-def function(lines, head, inside, file, block, indent):
-    """The function with this head."""
-    (first, at, last), (module, kind, owner) = inside, block
-    opens = re.compile(indent + r"(?=\S).*\{$")
-    body = next((it for it in range(at, last + 1) if opens.match(lines[it])), last)
-    above, is_law = "\n".join(lines[first : body + 1]), lines[last].endswith("{}")
-    cycle = CYCLE.search(above)
-    has_body = not lines[last].endswith(";") and (body < last or is_law)
-    is_used = cycle or "const fn" in above or kind == "trait" or owner and head["name"] == "drop"
-    path = (*module, *[owner] * bool(owner), head["name"])
-    of_body = is_law, cycle[1] if cycle else "", bool(is_used or not has_body)
-    return Function(file, path, first, body, last, bool(head["public"]), kind, owner, *of_body)
+def function(block, head, first, at, last):
+    """The function with this head, in the line at."""
+    opens = re.compile(block.indent + r"(?=\S).*\{$")
+    body = next((it for it in range(at, last + 1) if opens.match(block.lines[it])), last)
+    above, end = "\n".join(block.lines[first : body + 1]), block.lines[last]
+    cycle, is_law = CYCLE.search(above), end.endswith("{}")
+    is_used = cycle or "const fn" in above or block.kind == "trait"
+    is_used = is_used or block.kind and head["name"] == "drop"
+    has_body = not end.endswith(";") and (body < last or is_law)
+    return Function(
+        block.file,
+        (*block.module, *filter(None, [block.owner]), head["name"]),
+        *(first, body, last),
+        is_public=bool(head["public"]),
+        kind=block.kind,
+        owner=block.owner,
+        is_law=is_law,
+        cycle=cycle[1] if cycle else "",
+        keeps_body=bool(is_used or not has_body),
+    )
 
 
 def functions_of(folder):
@@ -128,7 +148,8 @@ def functions_of(folder):
         homes |= dict.fromkeys(DECLARED.findall(text), module)
     for module, (file, text) in texts.items():
         if not any(module[: len(it)] == it for it in of_tests):
-            found += functions_in(file, module, homes, text.split("\n"))
+            lines = text.split("\n")
+            found += functions_in(Block(file, lines, module), 0, len(lines) - 1, homes)
     return found
 
 
