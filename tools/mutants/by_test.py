@@ -13,7 +13,8 @@ import crates
 import parts
 
 RAN = re.compile(r"(?m)^test mutant_(\d+)::\S+ \.\.\. (\w+)")
-TEST = re.compile(r"( *)#\[test\]\n( *fn (\w+))")
+# A test, with the comments above it.
+TEST = re.compile(r"(?m)(?:^ *//.*\n)*^( *)#\[test\]\n\1fn (\w+)(?:.*\n)*?\1\}\n")
 OF_CRATE = re.compile(r"(?m)^#!\[.*\]\n")
 LIB = "#![tactic(auto)]\n"
 
@@ -46,8 +47,8 @@ def add_module(test, module, numbered, to, crate):
     count = 0
     for file in (crate.folder / "src").rglob("*.rt"):
         text = file.read_text(encoding="utf-8")
-        count += [found[3] for found in TEST.finditer(text)].count(test)
-        text = TEST.sub(lambda found: found[0] if found[3] == test else "\n" + found[2], text)
+        count += [found[2] for found in TEST.finditer(text)].count(test)
+        text = TEST.sub(lambda found: found[0] if found[2] == test else "", text)
         text = numbered(text).replace("crate::", f"crate::{module}::")
         place = file.relative_to(crate.folder / "src")
         made = to / (f"{module}.rt" if str(place) == "lib.rt" else module / place)
