@@ -49,8 +49,8 @@ class NoConnections(LiveTest):
     @rows(NO_TARGETS)
     def test_no_such_server(self, target, told):
         answer = run(["run", target], COUNTER)
-        self.assertEqual((answer.stdout, answer.returncode), (b"no connection P\n", 4), answer)
-        self.assertIn(told, answer.stderr.decode())
+        self.assertEqual((answer.output, answer.status), (b"no connection P\n", 4), answer)
+        self.assertIn(told, answer.faults)
 
     @rows([("A", "A"), ("B", "B")])
     def test_nobody_listens_at_a_branch_s_own_server(self, section):
@@ -108,8 +108,8 @@ class Waits(LiveTest):
     def test_no_server_comes(self, target, told):
         with self.assert_takes(0.3, 5.3):
             answer = run(["run", target, "--wait=0.3"], COUNTER)
-        self.assertEqual((answer.stdout, answer.returncode), (b"no connection P\n", 4), answer)
-        self.assertRegex(answer.stderr.decode(), rf"^mcrace: [^\n]*{re.escape(told)}[^\n]*\n$")
+        self.assertEqual((answer.output, answer.status), (b"no connection P\n", 4), answer)
+        self.assertRegex(answer.faults, rf"^mcrace: [^\n]*{re.escape(told)}[^\n]*\n$")
 
 
 class Interrupts(LiveTest):
