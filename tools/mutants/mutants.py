@@ -29,7 +29,7 @@ class Mutant:
     # The functions in which it stands: one, unless a test kills it.
     functions: list = field(default_factory=list)
     # The crate and the name of the test that kills it.
-    test: tuple | None = None
+    test: tuple = ()
     named: str = ""
     by: str = GOAL
 
