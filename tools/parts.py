@@ -35,6 +35,12 @@ def jobs():
     return int(os.environ.get("RT_JOBS") or fitting)
 
 
+def kit():
+    """The folder of the toolchain."""
+    said = subprocess.run(["rt", "doc"], capture_output=True, text=True, check=True).stdout
+    return pathlib.Path(said.strip()).parent
+
+
 def run(words, folder):
     """Runs a command. Answers its status, all that it wrote and its processor seconds."""
     how = {"stdin": subprocess.DEVNULL, "stdout": subprocess.PIPE, "stderr": subprocess.STDOUT}

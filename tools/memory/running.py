@@ -7,18 +7,19 @@ import subprocess
 import sys
 
 HERE = pathlib.Path(__file__).resolve().parent
+sys.path.append(str(HERE.parent))
+
+import parts
+
 ROOT = HERE.parents[1]
 SECONDS = 60
-# For modules that other tools have too.
-sys.path.append(str(HERE.parent))
 
 
 def library(folder):
     """The shared object, made in the folder by the toolchain's own compiler."""
-    doc = subprocess.run(["rt", "doc"], check=True, capture_output=True, text=True).stdout.strip()
     made = pathlib.Path(folder, "allocations.so")
-    words = [pathlib.Path(doc).parent / "toolchain/bin/clang", "-O1", "-Wall", "-Werror", "-shared"]
-    words += ["-fPIC", "-nostdlib", "-fuse-ld=lld", "-o", made, HERE / "allocations.c"]
+    words = [parts.kit() / "toolchain/bin/clang", "-O1", "-Wall", "-Werror", "-shared", "-fPIC"]
+    words += ["-nostdlib", "-fuse-ld=lld", "-o", made, HERE / "allocations.c"]
     subprocess.run(words, check=True)
     return made
 
