@@ -10,6 +10,7 @@ import signal
 import subprocess
 import sys
 import tempfile
+import threading
 import time
 
 COUNTS = re.compile(r"(\d+) passed, (\d+) failed(?:, (\d+) skipped)?")
@@ -19,6 +20,39 @@ MOST_LINES, MOST_OF_LINE = 20, 900
 # How long a process may take to end after SIGTERM.
 PATIENCE = 5
 PR_SET_CHILD_SUBREAPER = 36
+# A command of `run` ends after so many seconds.
+SECONDS = 3600
+
+# Held while a command is begun; once all are ended, none is.
+beginning, ending = threading.Lock(), threading.Event()
+
+
+def jobs():
+    """How many proofs are to run side by side: RT_JOBS, or as many as there are processors, but
+    one for each three gigabytes that are free."""
+    free = re.search(r"MemAvailable: *(\d+)", pathlib.Path("/proc/meminfo").read_text())[1]
+    fitting = max(1, min(len(os.sched_getaffinity(0)), int(free) // (3 << 20)))
+    return int(os.environ.get("RT_JOBS") or fitting)
+
+
+def kit():
+    """The folder of the toolchain."""
+    said = subprocess.run(["rt", "doc"], capture_output=True, text=True, check=True).stdout
+    return pathlib.Path(said.strip()).parent
+
+
+def run(words, folder):
+    """Runs a command. Answers its status, all that it wrote and its processor seconds."""
+    how = {"stdin": subprocess.DEVNULL, "stdout": subprocess.PIPE, "stderr": subprocess.STDOUT}
+    with beginning:
+        if ending.is_set():
+            raise InterruptedError
+        started = subprocess.Popen(["timeout", str(SECONDS), *words], cwd=folder, **how)
+    with started.stdout:
+        said = started.stdout.read().decode(errors="replace")
+    _, status, used = os.wait4(started.pid, 0)
+    started.returncode = os.waitstatus_to_exitcode(status)
+    return started.returncode, said, used.ru_utime + used.ru_stime
 
 
 def counted(passed, failed, skipped):
@@ -112,6 +146,8 @@ def below():
 
 def end_all():
     """Ends all processes below this one: with SIGTERM, and soon with SIGKILL."""
+    with beginning:
+        ending.set()
     for number in (signal.SIGTERM, signal.SIGKILL):
         told, until = set(), time.monotonic() + PATIENCE
         while (left := below()) and time.monotonic() < until:

@@ -60,7 +60,3 @@ class Fuzz(unittest.TestCase):
         lines = its.stdout.splitlines()
         self.assertEqual((its.returncode, len(lines)), (1, 2), its)
         self.assertRegex(lines[0], "^failed: missed-write.history .*signal 11")
-
-
-if __name__ == "__main__":
-    unittest.main()

@@ -42,15 +42,15 @@ class Campaign:
 def campaign(port, options=""):
     """What a campaign against the server on this port of 127.0.0.1 answers."""
     words = ["campaign", f"127.0.0.1:{port}", *options.split()]
-    ran = run(words, seconds=10 * SECONDS)
-    reports, jobs, rest = [], [], collections.deque(ran.stdout.decode().splitlines())
+    answer = run(words, seconds=10 * SECONDS)
+    reports, jobs, rest = [], [], collections.deque(answer.text.splitlines())
     while rest and (JOB.fullmatch(rest[0]) or TOTALS.fullmatch(rest[0])):
         jobs.append(rest.popleft())
         totals = TOTALS.fullmatch(jobs[-1])
         if totals:
             reports.append((jobs[:-1], tuple(map(int, totals.groups()))))
             jobs = []
-    return Campaign(ran.returncode, reports, [*jobs, *rest], ran.stderr.decode())
+    return Campaign(answer.status, reports, [*jobs, *rest], answer.faults)
 
 
 def steps_of(script):

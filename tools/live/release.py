@@ -3,49 +3,61 @@
 `./test --prove` runs these tests, with the program that was just proved and built.
 """
 
+import hashlib
 import pathlib
 import subprocess
 import tempfile
 
-from .program import PROGRAM, ROOT, LiveTest
+from .program import PROGRAM, ROOT, LiveTest, rows
 
+KEPT, BUILT_FROM = ROOT / "release/mcrace", ROOT / "release/built-from"
 HISTORY = (ROOT / "examples/lost-update.history").read_bytes()
 
 
 def shell(line):
     """What a line of the shell prints, with the functions of tools/sources.sh."""
     words = ["bash", "-c", f". tools/sources.sh; {line}"]
-    return subprocess.run(words, cwd=ROOT, capture_output=True, text=True, check=True).stdout
+    told = subprocess.run(words, cwd=ROOT, capture_output=True, text=True, check=True).stdout
+    return told.strip()
 
 
 class Release(LiveTest):
     """`release/` and `./mcrace`, which runs what is there."""
 
+    def setUp(self):
+        self.kept = KEPT.read_bytes()
+        lines = BUILT_FROM.read_text(encoding="utf-8").splitlines()
+        self.built_from = dict(line.split(" ", 1) for line in lines)
+
+    def test_built_from(self):
+        """It has the sources at hand, the sum of the bytes, and the toolchain that made them."""
+        self.assertEqual(list(self.built_from), ["sources", "program", "toolchain"])
+        self.assertEqual(self.built_from["sources"], shell("source_hash ."))
+        self.assertEqual(self.built_from["program"], hashlib.sha256(self.kept).hexdigest())
+        self.assertRegex(self.built_from["toolchain"], r"\Arattle-kit-\S+ logic [0-9a-f]{16}\Z")
+
     def test_bytes(self):
-        kept = (ROOT / "release/mcrace").read_bytes()
-        self.assertTrue(kept == PROGRAM.read_bytes(), f"release/mcrace isn't {PROGRAM}")
+        """The same toolchain builds the same bytes. Another one may build others."""
+        there, here = self.built_from["toolchain"], shell("rt version")
+        if self.kept == PROGRAM.read_bytes():
+            print(f"{PROGRAM}, built by {here}, is release/mcrace, built by {there}")
+        elif there == here:
+            self.fail(f"release/mcrace isn't {PROGRAM}, and {here} built both")
+        else:
+            self.skipTest(f"{there} built release/mcrace, and {here} built other bytes")
 
-    def test_sources(self):
-        self.assertEqual(shell("kept_hash ."), shell("source_hash ."))
-
-    def test_toolchain(self):
-        built_from = (ROOT / "release/built-from").read_text(encoding="utf-8")
-        self.assertIn(f"toolchain {shell('rt version').strip()}", built_from.splitlines())
-
-    def assert_runs(self, program):
+    @rows([("itself", 0), ("a link", 1), ("a link to a link", 2)])
+    def test_mcrace(self, links):
+        folder = pathlib.Path(self.enter(tempfile.TemporaryDirectory()))
+        program = ROOT / "mcrace"
+        for number in range(links):
+            link = folder / f"link-{number}"
+            link.symlink_to(program if number == 0 else program.name)
+            program = link
         ran = subprocess.run([program, "judge"], input=HISTORY, capture_output=True, check=False)
         self.assertEqual((ran.stdout, ran.returncode), (b"unexplained\n", 1), ran)
 
-    def test_mcrace(self):
-        self.assert_runs(ROOT / "mcrace")
-
-    def test_symbolic_links(self):
-        folder = pathlib.Path(self.enter(tempfile.TemporaryDirectory()))
-        (folder / "link").symlink_to(ROOT / "mcrace")
-        (folder / "mcrace").symlink_to("link")
-        self.assert_runs(folder / "mcrace")
-
-    def test_built_from(self):
+    def test_mcrace_tells_what_it_was_built_from(self):
         words = [ROOT / "mcrace", "--built-from"]
         told = subprocess.run(words, capture_output=True, check=True).stdout
-        self.assertEqual(told, (ROOT / "release/built-from").read_bytes())
+        self.assertEqual(told, BUILT_FROM.read_bytes())

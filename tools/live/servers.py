@@ -62,20 +62,13 @@ def started(words, port):
 
 
 def memcached():
-    """A memcached with one thread, as the user nobody if root starts it; None if there is none."""
+    """A memcached with one thread, as the user nobody if root starts it; without one the test is
+    skipped."""
     program, port = shutil.which("memcached"), free_port()
     if program is None:
-        return None
+        raise unittest.SkipTest("memcached is not installed; on Debian: apt-get install memcached")
     words = [program, "-t", "1", "-u", "nobody", "-l", "127.0.0.1", "-p", str(port)]
     return started(words, port)
-
-
-def need_memcached():
-    """The same; the test is skipped if there is none."""
-    server = memcached()
-    if server is None:
-        raise unittest.SkipTest("memcached is not installed; on Debian: apt-get install memcached")
-    return server
 
 
 def losing_updates(seconds=1):
@@ -257,12 +250,11 @@ class Scripted(Talking):
                 if number == len(self.runs):
                     self.listener.close()
                 # A connection that is reset unread is gone before another one is answered.
-                for connection, talk in taken:
-                    if talk[:1] == [Step.RESET]:
-                        self.talk(connection, talk, meeting)
-                for connection, talk in taken:
-                    if talk[:1] != [Step.RESET]:
-                        self.start(connection, talk, meeting)
+                is_reset = lambda it: it[1][:1] == [Step.RESET]
+                for connection, talk in filter(is_reset, taken):
+                    self.talk(connection, talk, meeting)
+                for connection, talk in itertools.filterfalse(is_reset, taken):
+                    self.start(connection, talk, meeting)
 
 
 class Replying(Talking):

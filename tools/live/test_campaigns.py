@@ -26,7 +26,7 @@ class RightServers(servers.ServedTest, CampaignTest):
     """All jobs are explained, but if a verdict may take no turn."""
 
     def test_memcached(self):
-        self.assert_right(self.enter(servers.need_memcached()), 300)
+        self.assert_right(self.enter(servers.memcached()), 300)
 
     @rows([("300 jobs", 300), ("in time", 100, "--timeout 20")])
     def test_serve(self, *options):
@@ -182,7 +182,7 @@ class StatisticsOfCampaigns(servers.ServedTest, CampaignTest):
 
     def requests(self, jobs):
         """How many requests of each verb the scripts of so many jobs have, and P's deletes."""
-        scripts = (run(["generate", "--job", str(job)]).stdout.decode() for job in range(jobs))
+        scripts = (run(["generate", "--job", str(job)]).text for job in range(jobs))
         verbs = [step.split()[0] for script in scripts for step in steps_of(script)]
         return {it: verbs.count(it) + (2 * jobs if it == "delete" else 0) for it in SURE}
 
@@ -211,4 +211,4 @@ class Selftest(LiveTest):
     def test_ten_times(self):
         for _ in range(10):
             answer = run(["selftest"])
-            self.assertEqual((answer.returncode, answer.stdout.splitlines()[-1:]), (0, [b"ok"]))
+            self.assertEqual((answer.status, answer.output.splitlines()[-1:]), (0, [b"ok"]))

@@ -110,8 +110,8 @@ class ClosingServers(servers.ServedTest):
             answer = run(["run", f"127.0.0.1:{server.port}", "--times", str(KEPT_RUNS)], COUNTER)
         begin = f"run {KEPT_RUNS} of {KEPT_RUNS}\nruns {KEPT_RUNS} explained {KEPT_RUNS} "
         begin += "unexplained 0 other 0 "
-        found = answer.stdout.decode()
-        self.assertEqual((answer.returncode, found[: len(begin)]), (0, begin), answer)
+        found = answer.text
+        self.assertEqual((answer.status, found[: len(begin)]), (0, begin), answer)
         self.assertEqual(found.splitlines(True)[2:5], ALL_DONE.splitlines(True))
         self.assertEqual(server.taken, of_p + 2 * of_branch)
 
@@ -120,7 +120,7 @@ class ClosingServers(servers.ServedTest):
         with Late(self.port) as server:
             words = ["run", f"127.0.0.1:{server.port}", "--times", str(times)]
             answer = run([*words, "--keep-going", "--reconnect"], script)
-        return answer, [*map(int, TOTALS.search(answer.stdout).groups())], server.lost
+        return answer, [*map(int, TOTALS.search(answer.output).groups())], server.lost
 
     def test_runs_that_go_on(self):
         answer, counts, lost = self.run_late(RUNS)
@@ -133,7 +133,7 @@ class ClosingServers(servers.ServedTest):
         self.assertTrue(0 < runs < 50, answer)
         told = f"mcrace: no run follows run {runs}: the server may still act on a request of it, "
         told += "and no new name fits its keys\n"
-        self.assertEqual(answer.stderr.decode(), told)
+        self.assertEqual(answer.faults, told)
 
     def test_shrinking(self):
         """The first number of the job is made wrong, so its run is unexplained, and all is right
@@ -142,6 +142,6 @@ class ClosingServers(servers.ServedTest):
             options = f"--seed 1 --from {JOB} --jobs 1 --workers 1 --tries {RUNS // 10}"
             found = campaign(server.port, options)
         self.assertEqual(found.unexplained, [str(JOB)], found)
-        whole = run(["generate", "--seed", "1", "--job", str(JOB)]).stdout.decode()
+        whole = run(["generate", "--seed", "1", "--job", str(JOB)]).text
         self.assertEqual(found.shrunk, whole)
         self.assertGreater(server.lost, RUNS / 4)

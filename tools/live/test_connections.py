@@ -1,18 +1,17 @@
 """What `mcrace run` does if it gets no connection, and how it ends by ctrl-C."""
 
-import re
 import resource
 import signal
 import socket
-import subprocess
 import threading
 import time
 
 from . import servers
-from .program import COUNTER, PROGRAM, SECONDS, LiveTest, play, rows, run, three_times
+from .program import COUNTER, SECONDS, LiveTest, begun, play, rows, run, three_times
 from .servers import A, B, P, Replying, Scripted, Step
 
 REFUSED = "Connection refused (os error 111)"
+TIMED_OUT = "mcrace: 127.0.0.1:{}: connection timed out\n"
 NOBODY = "127.0.0.1:1"
 # Open files of a process that has its standard input, output and error, and P's connection.
 WITH_P = 4
@@ -27,13 +26,16 @@ NO_TARGETS = [
 ]
 
 
-class NoConnections(LiveTest):
-    """Nobody listens, no descriptor is left, or there is no such server."""
-
+class ConnectionTest(LiveTest):
     def assert_no_connection(self, section, told, found):
-        output = f"no connection {section}\n".encode()
-        self.assertEqual((found.output, found.status), (output, 4), found)
+        """There is none for this section, and one line tells why."""
+        self.assertEqual((found.text, found.status), (f"no connection {section}\n", 4), found)
+        self.assertRegex(found.faults, r"\Amcrace: [^\n]*\n\Z")
         self.assertIn(told, found.faults)
+
+
+class NoConnections(ConnectionTest):
+    """Nobody listens, no descriptor is left, or there is no such server."""
 
     def test_nobody_listens(self):
         self.assert_no_connection("P", REFUSED, play(servers.free_port()))
@@ -49,17 +51,14 @@ class NoConnections(LiveTest):
 
     @rows(NO_TARGETS)
     def test_no_such_server(self, target, told):
-        answer = run(["run", target], COUNTER)
-        self.assertEqual((answer.stdout, answer.returncode), (b"no connection P\n", 4), answer)
-        self.assertIn(told, answer.stderr.decode())
+        self.assert_no_connection("P", told, run(["run", target], COUNTER))
 
     @rows([("A", "A"), ("B", "B")])
     def test_nobody_listens_at_a_branch_s_own_server(self, section):
         nobody = f"127.0.0.1:{servers.free_port()}"
         with Scripted((P, A, B)) as server:
             found = play(server.port, f"--{section.lower()}", nobody)
-        told = f"mcrace: {nobody}: {REFUSED}\n"
-        self.assert_answer(found, f"no connection {section}\n".encode(), 4, told)
+        self.assert_no_connection(section, f"mcrace: {nobody}: {REFUSED}\n", found)
 
     def test_script_is_read_first(self):
         """A script with a fault is refused before anything is connected."""
@@ -69,18 +68,14 @@ class NoConnections(LiveTest):
         self.assertEqual(found.status, 3, found)
 
 
-class Waits(LiveTest):
+class Waits(ConnectionTest):
     """Connects with a time limit, and waits for a server that comes late, or for none."""
-
-    def assert_times_out(self, found, section, port):
-        told = f"mcrace: 127.0.0.1:{port}: connection timed out\n"
-        self.assert_answer(found, f"no connection {section}\n".encode(), 4, told)
 
     @rows([("one", "--timeout", "0.2"), ("none of several", "--timeout=0.05", "--wait=0.2")])
     def test_connect_of_p_is_not_answered(self, *options):
         with servers.unanswering() as port, self.assert_takes(0.2, 5.2):
             found = play(port, *options)
-        self.assert_times_out(found, "P", port)
+        self.assert_no_connection("P", TIMED_OUT.format(port), found)
 
     @rows([("A", "A"), ("B", "B")])
     @three_times
@@ -89,7 +84,7 @@ class Waits(LiveTest):
         with servers.unanswering() as port, Scripted((P, A, B)) as server:
             own = f"--{section.lower()}", f"127.0.0.1:{port}"
             found = play(server.port, *own, "--timeout", "0.2", "--wait", "50")
-        self.assert_times_out(found, section, port)
+        self.assert_no_connection(section, TIMED_OUT.format(port), found)
 
     def test_server_comes_late(self):
         port, done = servers.free_port(), threading.Event()
@@ -109,8 +104,7 @@ class Waits(LiveTest):
     def test_no_server_comes(self, target, told):
         with self.assert_takes(0.3, 5.3):
             answer = run(["run", target, "--wait=0.3"], COUNTER)
-        self.assertEqual((answer.stdout, answer.returncode), (b"no connection P\n", 4), answer)
-        self.assertRegex(answer.stderr.decode(), rf"^mcrace: [^\n]*{re.escape(told)}[^\n]*\n$")
+        self.assert_no_connection("P", told, answer)
 
 
 class Interrupts(LiveTest):
@@ -119,15 +113,10 @@ class Interrupts(LiveTest):
     @rows([("run", COUNTER, b""), ("campaign", b"", b"mcrace: seed 1, jobs 0 to 99, 4 workers\n")])
     def test_waiting(self, given, first_line):
         """The first line of a campaign is there at once."""
-        command = "run" if given else "campaign"
-        pipe = subprocess.PIPE
         server = self.enter(Replying([Step.READ]))
-        words = [PROGRAM, command, f"127.0.0.1:{server.port}"]
-        process = self.enter(subprocess.Popen(words, stdin=pipe, stdout=pipe, stderr=pipe))
+        command = "run" if given else "campaign"
+        process = self.enter(begun([command, f"127.0.0.1:{server.port}"], given))
         self.addCleanup(process.kill)
-        process.stdin.write(given)
-        process.stdin.close()
-        process.stdin = None
         if first_line:
             self.assertEqual(process.stderr.readline(), first_line)
         time.sleep(0.2)

@@ -2,15 +2,14 @@
 server is sent what is meant for it."""
 
 import os
-import subprocess
 
 from . import servers
-from .program import COUNTER, PROGRAM, SECONDS, LiveTest, rows
+from .program import COUNTER, SECONDS, LiveTest, begun, rows, run
 from .servers import A, B, P, Replying, Scripted, answers, answers_both
 
 HISTORY = b"history 1\nP delete a -> NOT_FOUND\nend\n"
 NO_INPUT, NO_OUTPUT = (
-    f"mcrace: standard {it}: Bad file descriptor (os error 9)\n".encode()
+    f"mcrace: standard {it}: Bad file descriptor (os error 9)\n"
     for it in ("input", "output")
 )
 # Three runs. The reply to A in the first one has more bytes. That is told when the second one has
@@ -18,22 +17,12 @@ NO_INPUT, NO_OUTPUT = (
 SURPLUS = (P, answers_both(b"6\r\nSTORED\r\n"), B)
 THREE_RUNS = [SURPLUS, tuple(2 * steps for steps in (P, A, B))]
 # A closed stream, the status, and what is told of it.
-CLOSED = [("input", 0, 4, NO_INPUT), ("output", 1, 4, NO_OUTPUT), ("errors", 2, 0, b"")]
-
-
-def begin(words, descriptor):
-    """The program, begun with this descriptor closed."""
-    pipe = subprocess.PIPE
-    streams = {"stdin": pipe, "stdout": pipe, "stderr": pipe}
-    close = lambda: os.close(descriptor)
-    return subprocess.Popen([PROGRAM, *words], preexec_fn=close, **streams)
+CLOSED = [("input", 0, 4, NO_INPUT), ("output", 1, 4, NO_OUTPUT), ("errors", 2, 0, "")]
 
 
 def run_without(descriptor, words, given=b""):
-    """The same, and what it answers to this input."""
-    with begin(words, descriptor) as process:
-        output, told = process.communicate(given, SECONDS)
-    return process.returncode, output, told
+    """What the program answers with this descriptor closed."""
+    return run(words, given, preexec_fn=lambda: os.close(descriptor))
 
 
 class ClosedStreams(LiveTest):
@@ -46,44 +35,44 @@ class ClosedStreams(LiveTest):
 
     @rows(CLOSED)
     def test_judge(self, descriptor, status, told):
-        found = run_without(descriptor, ["judge"], HISTORY)
         output = b"explained\nP 0\nend\n" if descriptor == 2 else b""
-        self.assertEqual(found, (status, output, told))
+        self.assert_answer(run_without(descriptor, ["judge"], HISTORY), output, status, told)
 
     @rows(CLOSED)
     def test_run(self, descriptor, status, told):
         with Scripted(*THREE_RUNS) as server:
             words = ["run", f"127.0.0.1:{server.port}", "--times", "3"]
-            found, output, errors = run_without(descriptor, words, COUNTER)
-            self.assertEqual((found, errors.endswith(told)), (status, True), errors)
+            found = run_without(descriptor, words, COUNTER)
+            self.assertEqual((found.status, found.faults.endswith(told)), (status, True), found)
             begin = b"run 3 of 3\nruns 3 explained 3 unexplained 0 "
-            self.assertEqual(output[: len(begin)], begin if descriptor == 2 else b"")
+            self.assertEqual(found.output[: len(begin)], begin if descriptor == 2 else b"")
             self.assertEqual(server.taken, 0 if descriptor == 0 else 6)
             self.assert_sent_nothing_else(server)
 
-    @rows([("input", 0, b""), ("output", 1, NO_OUTPUT), ("errors", 2, b"")])
+    @rows([("input", 0, ""), ("output", 1, NO_OUTPUT), ("errors", 2, "")])
     def test_campaign(self, descriptor, told):
         """Each job fails by a line that reports an error, which is told. It reads no input."""
         with Replying(answers(b"ERROR\r\n")) as server:
             words = ["campaign", f"127.0.0.1:{server.port}", "--jobs", "40"]
-            status, output, errors = run_without(descriptor, words)
-            self.assertEqual((status, errors.endswith(told)), (4, True), errors)
+            found = run_without(descriptor, words)
+            self.assertEqual((found.status, found.faults.endswith(told)), (4, True), found)
             wanted = "".join(f"{job} explained P ErrorLine\n" for job in range(40))
             wanted += "jobs 40 explained 40 unexplained 0 other 0\n"
-            self.assertEqual(output.decode(), "" if descriptor == 1 else wanted)
+            self.assertEqual(found.text, "" if descriptor == 1 else wanted)
             self.assert_sent_nothing_else(server)
 
     def test_campaign_without_input(self):
         with servers.serving() as (_, port):
             words = ["campaign", f"127.0.0.1:{port}", "--jobs", "20"]
-            status, output, _ = run_without(0, words)
-        totals = b"jobs 20 explained 20 unexplained 0 other 0"
-        self.assertEqual((status, output.splitlines()[-1:]), (0, [totals]))
+            found = run_without(0, words)
+        totals = "jobs 20 explained 20 unexplained 0 other 0"
+        self.assertEqual((found.status, found.text.splitlines()[-1:]), (0, [totals]))
 
     @rows([("input", 0), ("errors", 2)])
     def test_serve(self, descriptor):
         """The client reads replies alone, and the program ends as ever."""
-        with begin(["serve", "0", "--connections", "1"], descriptor) as process:
+        words = ["serve", "0", "--connections", "1"]
+        with begun(words, preexec_fn=lambda: os.close(descriptor)) as process:
             port = int(servers.LISTENING.fullmatch(process.stdout.readline())[1])
             with servers.connect(port) as stream:
                 stream.sendall(b"get a\r\nquit\r\n")
@@ -93,4 +82,4 @@ class ClosedStreams(LiveTest):
 
     def test_serve_without_output(self):
         """It can't say where it listens, so it ends at once."""
-        self.assertEqual(run_without(1, ["serve", "0"]), (4, b"", NO_OUTPUT))
+        self.assert_answer(run_without(1, ["serve", "0"]), b"", 4, NO_OUTPUT)

@@ -93,7 +93,7 @@ class Races(RacesTest):
     def assert_reasons(self, reasons, history):
         """This is what `judge` says of it too; what stands before the line that it names is
         explained, and isn't with the line."""
-        answer = run(["judge", "--why"], history.encode()).stdout.decode()
+        answer = run(["judge", "--why"], history.encode()).text
         self.assertEqual(answer, f"unexplained\n{reasons}", history)
         line = int(re.match(r"why\nline (\d+) ", reasons)[1])
         lines = history.splitlines(keepends=True)

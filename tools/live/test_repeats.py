@@ -81,18 +81,18 @@ def head(which, counts):
 
 def numbers_in(answer):
     """The seven numbers of the first two lines; 0 for one that isn't there."""
-    found = NUMBERS.match(answer.stdout)
+    found = NUMBERS.match(answer.output)
     return [int(it or 0) for it in found.groups()] if found else 7 * [0]
 
 
 class RunsTest(LiveTest):
     def assert_begins(self, answer, begin, status):
-        found = answer.stdout.decode()[: len(begin)]
-        self.assertEqual((found, answer.returncode), (begin, status), answer)
+        found = answer.text[: len(begin)]
+        self.assertEqual((found, answer.status), (begin, status), answer)
 
     def assert_history(self, answer):
         """The history that is written is judged as the run was."""
-        before, _, history = answer.stdout.partition(b"\nhistory 2\n")
+        before, _, history = answer.output.partition(b"\nhistory 2\n")
         verdict = re.search(rb"\nB [^\n]*\n(.*)", before + b"\n", re.S)[1]
         self.assertEqual(judged(b"history 2\n" + history), verdict.decode())
 
@@ -109,7 +109,7 @@ class Repeats(RunsTest):
         begin = head(which, counts) + endings + word + "\n"
         self.assert_begins(answer, begin, status if endings == ALL_DONE else 4)
         self.assert_history(answer)
-        self.assertEqual(answer.stderr.decode(), told)
+        self.assertEqual(answer.faults, told)
 
     test_rows = rows(ROWS)(assert_written)
 
@@ -122,8 +122,8 @@ class Repeats(RunsTest):
         with Scripted(GOOD, GOOD) as server:
             answer = runs(server.port, "--times 9 --reconnect")
         wanted = head("3 of 9", (3, 2, 0, 1, 2)) + "no connection P\n"
-        self.assertEqual((answer.stdout.decode(), answer.returncode), (wanted, 4), answer)
-        self.assertIn(b"Connection refused", answer.stderr)
+        self.assertEqual((answer.text, answer.status), (wanted, 4), answer)
+        self.assertIn("Connection refused", answer.faults)
 
     @rows([("all of the first run", [THREE_GOOD], 3), ("surplus", [SURPLUS, GOOD_TWICE], 6)])
     def test_connections_are_kept(self, served, connections):
@@ -149,7 +149,7 @@ class Repeats(RunsTest):
             answer = runs(server.port, options + " --reconnect")
         told = r'A: after its last reply came 8 bytes more: "STORED\r\n"'
         wanted = "".join(f"mcrace: {it}{told}\n" for it in of_runs)
-        self.assertEqual(answer.stderr.decode(), wanted)
+        self.assertEqual(answer.faults, wanted)
 
 
 class ManyRuns(RunsTest):
@@ -160,7 +160,7 @@ class ManyRuns(RunsTest):
         with servers.serving() as (_, port), self.assert_takes(least, most):
             answer = runs(port, options)
         number, _, count, explained, unexplained, other, overlapped = numbers_in(answer)
-        self.assertEqual((answer.returncode, answer.stderr), (0, b""), answer)
+        self.assertEqual((answer.status, answer.faults), (0, ""), answer)
         self.assertEqual((number, explained, unexplained, other), (count, count, 0, 0), answer)
         self.assertTrue(0 < overlapped <= count, answer)
         self.assert_history(answer)
@@ -171,7 +171,7 @@ class ManyRuns(RunsTest):
             answer = runs(port, "--times 100000")
         *found, overlapped = numbers_in(answer)
         count = found[0]
-        self.assertEqual(answer.returncode, 1, answer)
+        self.assertEqual(answer.status, 1, answer)
         self.assertEqual(found, [count, 100_000, count, count - 1, 1, 0], answer)
         self.assertLessEqual(overlapped, count)
         self.assert_history(answer)
@@ -216,23 +216,22 @@ class StatisticsOfRuns(LiveTest):
     def test_rows(self, script, served, options, *wanted):
         with Scripted(*served) as server:
             answer = runs(server.port, options + " --reconnect --stats", script)
-        found = statistics_in(answer.stderr.decode())
+        found = statistics_in(answer.faults)
         self.assertEqual(found, ("", Statistics(*wanted)), answer)
 
     def test_they_come_last(self):
         """They stand after what is said of the last run."""
         with Scripted(SURPLUS) as server:
             answer = runs(server.port, "--stats")
-        before, found = statistics_in(answer.stderr.decode())
+        before, found = statistics_in(answer.faults)
         told = 'mcrace: A: after its last reply came 8 bytes more: "STORED\\r\\n"\n'
         self.assertEqual((before, found and found.runs), (told, 1), answer)
 
     def test_nothing_ran(self):
         refused = runs(1, "--times 3 --stats", b"history 1\n")
-        self.assertEqual((refused.stderr, refused.returncode), (b"", 3), refused)
+        self.assertEqual((refused.faults, refused.status), ("", 3), refused)
         lost = runs(servers.free_port(), "--times 3 --stats")
-        self.assertEqual(lost.stderr.count(b"\n"), 1, lost)
-        self.assertIn(b"Connection refused", lost.stderr)
+        self.assertRegex(lost.faults, "\\A[^\n]*Connection refused[^\n]*\n\\Z")
 
 
 class RightServer(servers.ServedTest):
@@ -240,14 +239,14 @@ class RightServer(servers.ServedTest):
 
     def test_reads_that_miss(self):
         answer = runs(self.port, "--times 50 --stats", READS)
-        before, found = statistics_in(answer.stderr.decode())
+        before, found = statistics_in(answer.faults)
         self.assertEqual((before, found and found.runs), ("", 50), answer)
         self.assertEqual(found.answers, {"get": {"miss": 100}, "delete": {"notfound": 50}})
 
     def test_sums(self):
         """The key is there but for the first run."""
         answer = runs(self.port, "--times 300 --stats")
-        before, found = statistics_in(answer.stderr.decode())
+        before, found = statistics_in(answer.faults)
         self.assertTrue(found and not before, answer)
         numbers = found.runs, found.overlapped, found.answered
         self.assertEqual(numbers, (300, numbers_in(answer)[6], 300), answer)
@@ -259,4 +258,4 @@ class RightMemcached(RightServer):
     """At memcached."""
 
     def setUp(self):
-        self.port = self.enter(servers.need_memcached())
+        self.port = self.enter(servers.memcached())

@@ -193,7 +193,7 @@ class Scripts(LiveTest):
             self.assert_judged_again(found)
 
     def setUp(self):
-        self.port = self.enter(servers.need_memcached())
+        self.port = self.enter(servers.memcached())
 
 
 class ScriptsAtServe(Scripts):

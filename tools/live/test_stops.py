@@ -1,10 +1,9 @@
 """The program is stopped and goes on, as by ctrl-Z and `fg`, while it waits for a server."""
 
 import signal
-import subprocess
 import time
 
-from .program import ALL_DONE, COUNTER, PROGRAM, SECONDS, LiveTest, rows, three_times
+from .program import ALL_DONE, COUNTER, SECONDS, LiveTest, begun, rows, three_times
 from .servers import A, B, Replying, Scripted, Step, answers
 
 # P's first reply comes half a second after its request.
@@ -20,11 +19,8 @@ REPLIES = [
 
 def stopped(words, stops, given=b""):
     """The status, output and errors of the program that is stopped so."""
-    pipe, began = subprocess.PIPE, time.monotonic()
-    with subprocess.Popen([PROGRAM, *words], stdin=pipe, stdout=pipe, stderr=pipe) as process:
-        process.stdin.write(given)
-        process.stdin.close()
-        process.stdin = None
+    began = time.monotonic()
+    with begun(words, given) as process:
         for at, number in zip(sum(stops, ()), len(stops) * [signal.SIGSTOP, signal.SIGCONT]):
             time.sleep(max(0, began + at - time.monotonic()))
             process.send_signal(number)

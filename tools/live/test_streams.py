@@ -44,7 +44,7 @@ class BesideMemcached(LiveTest):
         return without_numbers(got)
 
     def test_streams(self):
-        ports = self.enter(servers.serving())[1], self.enter(servers.need_memcached())
+        ports = self.enter(servers.serving())[1], self.enter(servers.memcached())
         both = [servers.connect(port) for port in ports]
         for connection in both:
             connection.sendall(b"set end-of-the-stream 0 0 1\r\n.\r\n")

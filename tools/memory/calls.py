@@ -1,14 +1,16 @@
-"""The public calls of the libraries, and the list of those whose answer can say want of memory."""
+"""The public calls of the libraries; the list of those whose answer can say want of memory, and the
+list of all in docs/PROOFS.md.
+"""
 
-import pathlib
 import re
-import sys
 
-sys.path.append(str(pathlib.Path(__file__).resolve().parents[1] / "mutants"))
+import running  # finds the modules of other tools
 
 import functions
 
 FILE = "tools/memory/calls.txt"
+DOCUMENT, HEADING = "docs/PROOFS.md", "## Every call ends\n"
+ROW = re.compile(r"(?m)^\| `(mc_\w+)` \| ([^|]*) \|")
 # What the program does, and the line that it reads: refused on each case and example.
 PROGRAM = {"mc_cli", "mc_command"}
 # The words of answers that say it: of std, of what ended a connection, and a count in which threads
@@ -16,8 +18,6 @@ PROGRAM = {"mc_cli", "mc_command"}
 WORDS = {"OutOfMemory", "AllocError", "Memory", "Listened"}
 DECLARED = re.compile(r"^pub (?:enum|struct) (\w+)[^;{]*\{(.*?)^\}", re.S | re.M)
 ALIAS = re.compile(r"^pub type (\w+)[^=]*= ([^;]*);", re.M)
-TRAIT = re.compile(r"^pub trait (\w+)[^{]*\{\n(.*?)^\}", re.S | re.M)
-METHOD = re.compile(r"^    (?:unsafe )?fn (\w+)(.*?)(?:^    \{$|;$|\{\}?$)", re.S | re.M)
 ANSWER = re.compile(r"->\s*(.*?)(?:\b(?:where|ensures|requires)\b|\{|;|\Z)", re.S)
 
 
@@ -40,28 +40,29 @@ def types_that_say_so(texts):
 
 
 def public_calls(folder):
-    """What a library offers, and what its public traits ask for: names, and texts up to the body.
-    Laws, whose bodies are empty, are left out."""
+    """What a library offers, but for laws, and what its public traits ask for: names, and texts up
+    to the body."""
+    of_crate = functions.functions_of(folder)
     root = (folder / "src/lib.rt").read_text(encoding="utf-8")
-    used = " ".join(re.findall(r"^pub use ([^;]*);", root, re.M))
-    for item in functions.public_functions(folder, functions.items_of(folder)):
-        lines = (folder / item.file).read_text(encoding="utf-8").split("\n")
-        head = lines[item.first : item.body + 1]
-        text = "\n".join(it for it in head if not it.lstrip().startswith("//"))
-        yield "::".join([*[item.owner] * bool(item.owner), item.name]), text
-    for path in sorted(folder.glob("src/**/*.rt")):
-        for owner, body in TRAIT.findall(path.read_text(encoding="utf-8")):
-            if re.search(rf"\b{owner}\b", used):
-                yield from ((f"{owner}::{name}", text) for name, text in METHOD.findall(body))
+    used = set(re.findall(r"\w+", " ".join(re.findall(r"(?m)^pub use ([^;]*);", root))))
+    asked = [it for it in of_crate if it.kind == "trait" and it.owner in used]
+    for it in functions.public_functions(folder, of_crate) + asked:
+        lines = (folder / it.file).read_text(encoding="utf-8").split("\n")
+        head = [at for at in lines[it.first : it.body + 1] if not at.lstrip().startswith("//")]
+        yield "::".join(filter(None, [it.owner, it.name])), "\n".join(head)
 
 
 def calls(root):
     """The public calls whose answer can say want of memory, by crate and name."""
     folders = libraries(root)
-    types = types_that_say_so(it.read_text(encoding="utf-8")
-                              for folder in folders for it in folder.glob("src/*.rt"))
-    return {f"{folder.name}::{name}" for folder in folders for name, text in public_calls(folder)
-            if (answer := ANSWER.search(text)) and types & set(re.findall(r"\w+", answer[1]))}
+    texts = (it.read_text(encoding="utf-8") for of in folders for it in of.glob("src/*.rt"))
+    types, found = types_that_say_so(texts), set()
+    for folder in folders:
+        for name, text in public_calls(folder):
+            answer = ANSWER.search(text)
+            if answer and types & set(re.findall(r"\w+", answer[1])):
+                found.add(f"{folder.name}::{name}")
+    return found
 
 
 def listed(root):
@@ -77,7 +78,18 @@ def listed(root):
 def faults(root):
     """What is wrong with the list: a call that it lacks, or one that is no such call."""
     wanted, found = calls(root), {call for call, _ in listed(root)}
-    lacking = [f"{FILE} lacks {it}, whose answer can say want of memory"
-               for it in sorted(wanted - found)]
-    return lacking + [f"{FILE} has {it}, which is no public function whose answer can say it"
-                      for it in sorted(found - wanted)]
+    lacks = [f"{FILE} lacks {it}, whose answer can say want of memory" for it in wanted - found]
+    has = [f"{FILE} has {it}, which is no public function that can say it" for it in found - wanted]
+    return sorted(lacks) + sorted(has)
+
+
+def faults_of_document(root):
+    """What is wrong with the document's list of all public calls, which says how each ends."""
+    text = (root / DOCUMENT).read_text(encoding="utf-8")
+    rows = ROW.findall(text.partition(HEADING)[2].partition("\n## ")[0])
+    found = [f"{of}::{name}" for of, names in rows for name in re.findall(r"`([\w:]+)`", names)]
+    offered = {f"{of.name}::{name}" for of in libraries(root) for name, _ in public_calls(of)}
+    faults = [f"{DOCUMENT} doesn't list {it}" for it in offered - set(found)]
+    faults += [f"{DOCUMENT} lists {it}, which no library offers" for it in set(found) - offered]
+    faults += [f"{DOCUMENT} lists {it} twice" for it in set(found) if found.count(it) > 1]
+    return sorted(faults)

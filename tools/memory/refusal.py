@@ -5,12 +5,12 @@ import re
 import subprocess
 import sys
 import tempfile
+from dataclasses import dataclass
 
-from running import ROOT, Server, ran
-
-sys.path.append(str(ROOT / "tools"))
+from running import ROOT, ran
 
 import cases
+from live import servers
 
 # What has a time limit is tried as often as this: the machine may stand still for longer.
 TRIES = 3
@@ -21,38 +21,42 @@ LINES = [[], ["--help"], *([it, word] for it in COMMANDS for word in ("--help", 
 EXAMPLES = [("judge", "history"), ("check", "script"), ("asm", "script"), ("drive", "drive")]
 # P alone sends, so what comes of it doesn't rest on the schedule.
 SCRIPT = b"script 1\nkeys a\nbudget P 2 26\nbudget A 0 0\nbudget B 0 0\nP\nset a 0 =5\nA\nB\nend\n"
+MISS, STORED = b"NOT_FOUND\r\n", b"STORED\r\n"
 # What a server answers to P's requests, and the options of the run.
 AT_SERVERS = [
-    ("more comes than the replies", [b"NOT_FOUND\r\n", b"STORED\r\nSTORED\r\n"], []),
+    ("more comes than the replies", [MISS, STORED + STORED], []),
     ("what comes is no reply", [b"NOT_FOUND\n"], []),
     ("nothing comes in time", [], ["--timeout", "0.05"]),
-    ("no more comes in time", [b"NOT_FOUND\r\n", b"STO"], ["--timeout=0.05", "--wait", "1"]),
-    ("all is answered under a name", [b"NOT_FOUND\r\n", b"STORED\r\n"],
-     ["--name", "ci7", "--timeout", "50"]),
+    ("no more comes in time", [MISS, b"STO"], ["--timeout=0.05", "--wait", "1"]),
+    ("all is answered under a name", [MISS, STORED], ["--name", "ci7", "--timeout", "50"]),
 ]
-# What a run may write where there is no memory: that, no run, or that P failed for it.
+# What a run may write if there is no memory: that, no run, or that P failed for it.
 NO_MEMORY = re.compile(
-    rb"(?:out of memory\n|not run\n|no connection [PAB]\n|P failed 8 Memory\n.*)?", re.S)
+    rb"(?:out of memory\n|not run\n|no connection [PAB]\n|P failed 8 Memory\n.*)?", re.S
+)
 WANT = r"\b(OutOfMemory|AllocError|AllocFailed)\b"
 # How a test ends whose call answered that there is no memory, perhaps for a thread: it gives that
 # on, or compares it with what it expected.
 SAYS_SO = re.compile(
     rf"\Aerror: [^\n]*(?:{WANT}|\bNoThread\b)"
-    rf"|\Aassertion `left == right` failed.*^ +left: [^\n]*{WANT}", re.S | re.M)
+    rf"|\Aassertion `left == right` failed.*^ +left: [^\n]*{WANT}",
+    re.S | re.M,
+)
 
 
 class NoCount(Exception):
     """Why the allocations of a command can't be counted."""
 
 
+@dataclass
 class Sweep:
-    """A command, with what its runs may answer where allocations fail."""
+    """A command, with what its runs may answer if allocations fail."""
 
-    def __init__(self, name, words, may_end, made, given="/dev/null"):
-        self.name, self.words = name, [str(it) for it in words]
-        self.may_end, self.made, self.given = may_end, made, given
-        is_timed = any(it.startswith(TIME_LIMITS) for it in self.words)
-        self.tries = TRIES if is_timed else 1
+    name: str
+    words: list
+    may_end: object
+    made: object
+    given: object = "/dev/null"
 
     def run(self, failing=None):
         """How a run ended, and how often it allocated."""
@@ -71,21 +75,22 @@ class Sweep:
     def odd_runs(self, numbers, until_none=False):
         """The runs that don't end as they may, as lines to print; and how many end as with memory.
         It may go on until the first of the numbers that no run meets."""
+        tries = TRIES if any(str(it).startswith(TIME_LIMITS) for it in self.words) else 1
         (whole, _), odd, same = self.run(), [], 0
         for number, sign in itertools.product(numbers, ("", "+")):
-            for _ in range(self.tries):
+            for _ in range(tries):
                 ended, met = self.run(f"{number}{sign}")
                 is_odd = ended is None or not self.may_end(whole, ended)
                 if not is_odd:
                     break
                 whole, _ = self.run()
             if until_none and not is_odd and met < number:
-                return odd, same, number - 1
+                break
             if is_odd:
-                odd.append(f"{self.name}, allocation {number}{sign}: {shown(ended)}; "
-                           f"with memory {shown(whole)}")
+                failed = f"{self.name}, allocation {number}{sign}"
+                odd.append(f"{failed}: {shown(ended)}; with memory {shown(whole)}")
             same += not is_odd and ended[0] == whole[0]
-        return odd, same, max(numbers, default=0)
+        return odd, same
 
 
 def shown(ended):
@@ -97,18 +102,13 @@ def program_may_end(whole, ended):
     return ended == whole or ended[0] == 4 and ended[1] in (b"", b"out of memory\n")
 
 
-def lines_of_report(output):
-    """A campaign's lines, those of jobs without memory like those without a connection."""
-    other = rb"^(\d+) (?:not made|not run|no connection [PAB])$"
-    return re.sub(other, rb"\1 no connection", output, flags=re.M)
-
-
 def campaign_may_end(whole, ended):
     """Without connections a job wasn't made or run, or there is no report. Why is said of fewer."""
     if program_may_end(whole, ended) or ended[:2] == (4, b"not run\n"):
         return True
-    said = all(line.startswith(b"mcrace: ") for line in ended[2].splitlines())
-    return ended[0] == whole[0] and lines_of_report(ended[1]) == lines_of_report(whole[1]) and said
+    without = lambda it: re.sub(rb"(?m)^(\d+) (?:not made|not run|no connection .)$", rb"\1", it[1])
+    is_told = all(line.startswith(b"mcrace: ") for line in ended[2].splitlines())
+    return ended[0] == whole[0] and without(ended) == without(whole) and is_told
 
 
 def selftest_may_end(whole, ended):
@@ -121,16 +121,16 @@ def serve_may_end(whole, ended):
     return program_may_end(*both)
 
 
-# How the commands may end that do more than to read and answer.
-MAY_END = {"campaign": campaign_may_end, "serve": serve_may_end, "selftest": selftest_may_end}
-
-
 def run_may_end(whole, ended):
     return ended == whole or ended[0] == 4 and NO_MEMORY.fullmatch(ended[1]) is not None
 
 
 def test_may_end(_, ended):
     return ended[0] == 0 or ended[0] in (101, -6) and bool(SAYS_SO.search(ended[2].decode()))
+
+
+# How the commands may end that do more than to read and answer.
+MAY_END = {"campaign": campaign_may_end, "serve": serve_may_end, "selftest": selftest_may_end}
 
 
 def inputs():
@@ -158,23 +158,27 @@ def sweeps_at_servers(program, made, folder, ending):
     script = folder / "script"
     script.write_bytes(SCRIPT)
     for name, texts, options in AT_SERVERS:
-        port = ending.enter_context(Server(texts)).port
+        port = ending.enter_context(servers.Replying(servers.answers(*texts))).port
         words = [program, "run", f"127.0.0.1:{port}", *options]
         yield Sweep(name, words, run_may_end, made, script)
 
 
-def sweeps_of_tests(made, crates=()):
-    found = sorted(it.parents[1].name for it in ROOT.glob("crates/test_*/src/lib.rt"))
-    for crate in crates or found:
+def sweeps_of_tests(made, crates):
+    """Each test of these crates, by its crate and name."""
+    found = {}
+    for crate in sorted(crates):
         program = ROOT / "crates" / crate / "out" / f"{crate}_tests"
         if not program.is_file():
             sys.exit(f"{program.relative_to(ROOT)} isn't there: run rt ci first, which builds it")
         asked = subprocess.run([program, "--list"], check=True, capture_output=True, text=True)
         for test in re.findall(r"^(.*): test$", asked.stdout, re.M):
-            yield Sweep(f"{crate} {test}", [program, test], test_may_end, made)
+            name = f"{crate} {test}"
+            found[name] = Sweep(name, [program, test], test_may_end, made)
+    return found
 
 
 def spread(count, many):
     """So many numbers up to the count, evenly spread, or all."""
-    return sorted({1 + i * count // many for i in range(many)} if count > many
-                  else range(1, count + 1))
+    if count <= many:
+        return list(range(1, count + 1))
+    return [1 + i * count // many for i in range(many)]

@@ -2,13 +2,8 @@
 memory, one that never says it, a test that ends in another way; and nothing else."""
 
 import pathlib
-import sys
 import tempfile
 import unittest
-
-# nothing is left beside the sources
-sys.dont_write_bytecode = True
-sys.path.insert(0, str(pathlib.Path(__file__).resolve().parent))
 
 import calls
 import refusal
@@ -81,7 +76,3 @@ class Memory(unittest.TestCase):
             with self.subTest(said):
                 may_end = refusal.test_may_end(None, (status, b"", said.encode()))
                 self.assertEqual(may_end, (status, said) in MAY_END)
-
-
-if __name__ == "__main__":
-    unittest.main()

@@ -14,17 +14,21 @@ branch sends nothing meanwhile, it waits for the held one, as it may before the 
 alone.
 """
 
+import pathlib
 import re
 import tempfile
 from dataclasses import dataclass
 
-from running import Server, ran
+from running import ran
+
+from live import servers
 
 SECTION = b"get a\nset a 0 =abc\nget a\nget a\n"
 HEAD = b"script 1\nkeys a\nbudget P 2 60\nbudget A 4 300\nbudget B 4 300\nP\nset a 0 =120\n"
 SCRIPT = HEAD + b"A\n" + SECTION + b"B\n" + SECTION + b"end\n"
 HIT = b"VALUE a 0 3\r\nabc\r\nEND\r\n"
-PROLOGUE, BRANCH = [b"NOT_FOUND\r\n", b"STORED\r\n"], [HIT, b"STORED\r\n", HIT, HIT]
+BRANCH = servers.answers(HIT, b"STORED\r\n", HIT, HIT)
+TALKS = servers.answers(b"NOT_FOUND\r\n", b"STORED\r\n"), BRANCH, BRANCH
 # How many bodies the reply to each request has.
 BODIES = [1, 0, 1, 1]
 CALLS = ("malloc", "calloc", "realloc", "free")
@@ -53,14 +57,14 @@ class Watched:
     """A run, with what its branches did."""
 
     def __init__(self, program, made, **settings):
-        with tempfile.NamedTemporaryFile("w+") as file, tempfile.NamedTemporaryFile() as script, \
-                Server(PROLOGUE, BRANCH, BRANCH) as server:
-            script.write(SCRIPT)
-            script.flush()
-            words = [str(program), "run", f"127.0.0.1:{server.port}", "--meet", "each"]
-            ended = ran(words, made, script.name, ALLOCATIONS_SEEN=file.name, PROLOGUE_REPLIES=2,
-                        **settings)
-            lines = [line.split() for line in file.read().splitlines()]
+        with tempfile.TemporaryDirectory() as folder, servers.Replying(*TALKS) as server:
+            script, seen = pathlib.Path(folder, "script"), pathlib.Path(folder, "seen")
+            script.write_bytes(SCRIPT)
+            seen.touch()
+            words = [program, "run", f"127.0.0.1:{server.port}", "--meet", "each"]
+            settings |= {"ALLOCATIONS_SEEN": seen, "PROLOGUE_REPLIES": 2}
+            ended = ran(words, made, script, **settings)
+            lines = [line.split() for line in seen.read_text().splitlines()]
         if ended is None or not ended[1].startswith(b"P done\nA done\nB done\n"):
             raise RuntimeError(f"a watched run ended with {ended}")
         self.seen = [Seen(int(thread), done, int(number)) for thread, done, number in lines]

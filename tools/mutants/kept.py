@@ -1,14 +1,16 @@
 """Outcomes that are kept: `tools/mutants/kept` has a line `CRATE SUM` for each crate whose mutants
 were all killed over the texts of this sum.
 
-The sum is over all that they rest on: the toolchain, the texts of the runner, the crate's own texts
-and its mutants, and of the crates below it what a proof above can cite: lines of crates.txt,
-definitions, lemmas, and sources without the bodies of functions. Anybody can compute it, so a line
-is no evidence by itself; one in twenty mutants of such a crate is tried all the same, others on
-each commit.
+The sum is over all that they rest on: the logic by which it is proved, what judges mutants, the
+crate's own texts and its mutants, and of the crates below it what a proof above can cite: lines of
+crates.txt, definitions, lemmas, and sources without the bodies of functions. Anybody can compute
+it, so a line is no evidence by itself; one in twenty mutants of such a crate is tried all the same,
+others on each commit.
 """
 
+import functools
 import hashlib
+import re
 import subprocess
 
 import functions
@@ -16,66 +18,60 @@ import mutants
 
 FILE = "tools/mutants/kept"
 ONE_IN = 20
+# What makes and judges mutants, beside the logic, which toolchains of other names may have too.
+JUDGES = ["functions.py", *(f"mutants/{it}.py" for it in "by_test copies mutants verdicts".split())]
+LOGIC = re.compile(r"logic \w+$")
 # The files in which a function's proof is written, but for lemmas.
 OF_PROOFS = ("Proof.antt", "Invariants.antt", "Answers.antt")
 
 
-def sum_of(*parts):
+def sum_of(*texts):
     """One sum of these texts, each with its length, so that no text passes for two."""
-    made = hashlib.sha256()
-    for part in parts:
-        data = part.encode(errors="surrogateescape")
-        made.update(b"%d:" % len(data) + data)
-    return made.hexdigest()
+    data = [text.encode(errors="surrogateescape") for text in texts]
+    return hashlib.sha256(b"".join(b"%d:%b" % (len(it), it) for it in data)).hexdigest()
 
 
 def read(path):
-    return path.read_text(encoding="utf-8", errors="surrogateescape")
+    return path.read_text(encoding="utf-8", errors="surrogateescape") if path.is_file() else ""
 
 
-def text_of(crate, path, items=()):
-    """A file's name and text, without the bodies of these items that are its and without lines
-    that are a comment or blank."""
-    place, lines = path.relative_to(crate.folder).as_posix(), read(path).split("\n")
-    for item in [it for it in items if it.file == place and it.can_lose_body(lines)]:
-        lines[item.body + 1 : item.last] = [""] * (item.last - item.body - 1)
-    mark = "--" if path.suffix == ".antt" else "//"
-    left = [it for it in lines if it.strip() and not it.lstrip().startswith(mark)]
-    return "\n".join([place, *left])
+@functools.cache
+def texts_of(crate, is_below):
+    """The line of a crate and its files, without comments and blank lines. A crate below has no
+    bodies of functions, and nothing that is written of their proofs."""
+    found, bodies = [crate.line], {}
+    for it in functions.functions_of(crate.folder) if is_below else ():
+        if not it.keeps_body:
+            bodies.setdefault(it.file, []).append(range(it.body + 1, it.last))
+    for path in crate.files():
+        if not is_below or path.name not in OF_PROOFS:
+            place = path.relative_to(crate.folder).as_posix()
+            mark = "//" if path.suffix == ".rt" else "--"
+            taken = {at for it in bodies.get(place, ()) for at in it}
+            lines = [it for at, it in enumerate(read(path).split("\n")) if at not in taken]
+            left = [it for it in lines if it.strip() and not it.lstrip().startswith(mark)]
+            found.append("\n".join([place, *left]))
+    return found
 
 
-class Sums:
-    """The sums of a repository's crates."""
+@functools.cache
+def judges(root):
+    """The sum of what judges mutants."""
+    told = subprocess.run(["rt", "version"], capture_output=True, text=True, check=True).stdout
+    logic = LOGIC.search(told.strip())[0]
+    return sum_of(logic, *(read(root / "tools" / it) for it in JUDGES))
 
-    def __init__(self, root, kit):
-        runner = [read(it) for it in sorted(root.glob("tools/mutants/*.py"))]
-        prover = hashlib.sha256((kit / "bin/rattle").read_bytes()).hexdigest()
-        self.judge = sum_of(read(kit / "KIT-ID"), prover, read(root / "tools/mutants/run"), *runner)
-        self.declared = {}
 
-    def of(self, crate):
-        """The sum of all that the outcomes of the crate's mutants rest on."""
-        own = sorted(text_of(crate, it) for it in crate.sources() if it.is_file())
-        below = [self.of_declared(it) for it in crate.below()]
-        file = crate.folder / mutants.FILE
-        text = read(file) if file.is_file() else ""
-        return sum_of(self.judge, crate.line, text, *own, *below)
-
-    def of_declared(self, crate):
-        """The sum of what the proofs of crates above can rest on."""
-        if crate.name not in self.declared:
-            items = functions.items_of(crate.folder)
-            files = [it for it in crate.sources() if it.is_file() and it.name not in OF_PROOFS]
-            texts = sorted(text_of(crate, it, items) for it in files)
-            self.declared[crate.name] = sum_of(crate.line, *texts)
-        return self.declared[crate.name]
+def sum_for(root, crate):
+    """The sum of all that the outcomes of the crate's mutants rest on."""
+    below = [text for it in crate.below() for text in texts_of(it, True)]
+    file = crate.folder / mutants.FILE
+    return sum_of(judges(root), read(file), *texts_of(crate, False), *below)
 
 
 def listed(root):
     """The sum of each crate for which one is kept."""
-    file = root / FILE
-    lines = file.read_text(encoding="utf-8").splitlines() if file.is_file() else []
-    return dict(it.split() for it in lines if len(it.split()) == 2)
+    return dict(it.split() for it in read(root / FILE).splitlines() if len(it.split()) == 2)
 
 
 def write(root, sums):
@@ -83,8 +79,8 @@ def write(root, sums):
     (root / FILE).write_text("".join(lines), encoding="utf-8")
 
 
-def drawn(root, found):
-    """The names of those of these mutants that are tried though an outcome is kept."""
+def drawn(root, names):
+    """Those of these mutants' names that are tried though an outcome is kept."""
     words = ["git", "-C", str(root), "rev-parse", "HEAD^{tree}"]
     tree = subprocess.run(words, capture_output=True, text=True, check=False).stdout
-    return {it for it in map(str, found) if int(sum_of(tree, it), 16) % ONE_IN == 0}
+    return {it for it in names if int(sum_of(tree, it), 16) % ONE_IN == 0}

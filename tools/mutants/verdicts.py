@@ -1,52 +1,84 @@
 """What a check says of each mutant: whether its function's contract kills it, and by what."""
 
 import re
-from dataclasses import dataclass, field
+from collections import defaultdict
 
-import checks
+import crates
+import parts
 from copies import NO_OFFER
 from mutants import GOAL, PROOF
 
 GOAL_LINE = re.compile(r"note: (?:\./)?src/\S+: .*? \(`([^`]+)`\)(.*)")
 PROOF_ERROR = re.compile(r"(?:\./)?proofs/(\S+)/(\w+)\.antt:\d+:\d+: error: (.*)")
+LAST_LINE = re.compile(r"(?m)^only=\d+ (?:proved|holes)=\d+$")
 WRITTEN = re.compile(r"(?m)^pub (\S+) :")
 NOT_PROVED = "`search` did not prove "
 
 
-@dataclass
 class Answer:
-    """What a check wrote: of each function its words and its open goals, and errors of proofs."""
+    """What a check wrote: of each function its words and its open goals, and the errors of its
+    proof files, each with the file."""
 
-    said: str
-    words: dict = field(default_factory=dict)
-    goals: dict = field(default_factory=dict)
-    # Each error of a function's proof files, by the function's path: the file and what is said.
-    errors: dict = field(default_factory=dict)
-    # The goals of a function for which a proof is written.
-    written: dict = field(default_factory=dict)
+    def __init__(self, said, folder):
+        self.said, self.folder = said, folder
+        self.has_verdict = bool(LAST_LINE.search(said))
+        self.words, self.goals, self.errors = {}, {}, defaultdict(list)
+        goals = []
+        for line in said.splitlines():
+            if found := GOAL_LINE.match(line):
+                goals.append(found.groups())
+            elif line.startswith("fn "):
+                name, _, self.words[name] = line[3:].partition(": ")
+                self.goals[name], goals = goals, []
+            elif (found := PROOF_ERROR.match(line)) and not found[3].startswith(f"`{NO_OFFER}`: "):
+                self.errors[function_of(*found.groups())].append((found[2], found[3]))
 
-    @property
-    def has_verdict(self):
-        return bool(re.search(r"(?m)^only=\d+ (?:proved|holes)=\d+$", self.said))
+    def errors_of_sources(self):
+        """The first errors of the sources, or the last words if there are none."""
+        lines = self.said.splitlines()
+        found = [it for it in lines if "error" in it or "no verdict" in it] or lines
+        return " / ".join(found[:3])[:400]
 
+    def killed_by(self, function):
+        """What kills the mutant in this function, and what is said of it; None if nothing does."""
+        of_proof = None
+        for name in self.parts_of(function):
+            words, errors = self.words[name], self.errors[name.partition("::")[2]]
+            if NOT_PROVED in words:
+                return GOAL, f"{name}: {' '.join(*self.goals[name][:1]) or words}"
+            if words.startswith("not proved"):
+                if goals := self.open_goals(name, errors):
+                    return GOAL, f"{name}: {' '.join(goals[0])}"
+                if errors:
+                    of_proof = of_proof or (PROOF, f"{name}: {errors[0][1]}")
+        return of_proof
 
-def check(crate, folder, names, kit_folder):
-    """Checks these functions of the crate in this copy. Answers what was said and the seconds."""
-    asked = [it for name in names for it in ("--only", name)]
-    words = [f"{kit_folder}/bin/rattle", "check", *checks.words_of(crate, kit_folder)]
-    _, said, seconds = checks.run([*words, "--allow-holes", *asked], folder)
-    answer, goals = Answer(said), []
-    for line in said.splitlines():
-        if found := GOAL_LINE.match(line):
-            goals.append(found.groups())
-        elif line.startswith("fn "):
-            name, _, rest = line[3:].partition(": ")
-            answer.words[name], answer.goals[name], goals = rest, goals, []
-            answer.written[name] = written_for(folder, name)
-        elif (found := PROOF_ERROR.match(line)) and not found[3].startswith(f"`{NO_OFFER}`: "):
-            errors = answer.errors.setdefault(function_of(*found.groups()), [])
-            errors.append((found[2], found[3]))
-    return answer, seconds
+    def parts_of(self, function):
+        """The functions of the answer that are this one, or a closure in it: the path of that has
+        `fn` somewhere before the function's name."""
+        crate, *path = function.split("::")
+        inner = ["::".join([crate, *path[:at], "fn", *path[at:], ""]) for at in range(len(path))]
+        heads = (f"{function}+", *inner)
+        return [it for it in self.words if it == function or it.startswith(heads)]
+
+    def open_goals(self, name, errors):
+        """The goals of a function, whose proof files have errors, for which nothing is written: an
+        error may be in what is written for another. There are none if it is in its invariants."""
+        if any(file == "Invariants" for file, _ in errors):
+            return []
+        written = self.written_for(name)
+        heads = tuple(f"{it}-clause-" for it in written)
+        is_written = lambda goal: goal in written or goal.startswith(heads)
+        return [it for it in self.goals[name] if not is_written(it[0])]
+
+    def written_for(self, name):
+        """The goals for which the function's file has an answer, or that of its cycle."""
+        *modules, last = name.split("::")[1:]
+        place = self.folder.joinpath("proofs", *modules)
+        answers = lambda form: "".join(it.read_text("utf-8") for it in place.glob(form))
+        of_cycle = WRITTEN.findall(answers("+*/Answers.antt"))
+        own = WRITTEN.findall(answers(f"{last}/Answers.antt"))
+        return own + [it for it in of_cycle if it.startswith(f"{last}-")]
 
 
 def function_of(place, file, said):
@@ -60,51 +92,8 @@ def function_of(place, file, said):
     return "::".join((*modules, last))
 
 
-def written_for(folder, name):
-    """The goals of a function for which a proof is written, in its own file or one of a cycle."""
-    *modules, last = name.split("::")[1:]
-    place = folder.joinpath("proofs", *modules)
-    found, own = [], place / last / "Answers.antt"
-    if own.is_file():
-        found += WRITTEN.findall(own.read_text(encoding="utf-8"))
-    for file in sorted(place.glob("+*/Answers.antt")):
-        of_cycle = WRITTEN.findall(file.read_text(encoding="utf-8"))
-        found += [it for it in of_cycle if it.startswith(f"{last}-")]
-    return found
-
-
-def parts_of(answer, function):
-    """The functions of the answer that are this one, or a closure in it."""
-    crate, *parts = function.split("::")
-    # A closure's path has `fn` somewhere before the function's name.
-    inner = [[crate, *parts[:at], "fn", *parts[at:], ""] for at in range(len(parts))]
-    heads = (f"{function}+", *("::".join(it) for it in inner))
-    return [it for it in answer.words if it == function or it.startswith(heads)]
-
-
-def killed_by(answer, function):
-    """What kills the mutant in this function, and what is said of it; None if nothing does."""
-    of_proof = None
-    for name in parts_of(answer, function):
-        words, errors = answer.words[name], answer.errors.get(name.partition("::")[2], [])
-        if goals := open_goals(answer, name, errors):
-            return GOAL, f"{name}: {goals[0][0]}{goals[0][1]}"
-        if NOT_PROVED in words:
-            return GOAL, f"{name}: {words}"
-        if errors and words.startswith("not proved"):
-            of_proof = of_proof or (PROOF, f"{name}: {errors[0][1]}")
-    return of_proof
-
-
-def open_goals(answer, name, errors):
-    """The goals of a function that the search left open. If its proof file has an error, these are
-    the goals for which nothing is written, since the error may be in what is written for another;
-    and none if the error is in its invariants."""
-    if NOT_PROVED in answer.words[name]:
-        return answer.goals[name]
-    is_refused = answer.words[name].startswith("not proved")
-    if not is_refused or any(file == "Invariants" for file, _ in errors):
-        return []
-    written = answer.written[name]
-    heads = tuple(f"{it}-clause-" for it in written)
-    return [it for it in answer.goals[name] if it[0] not in written and not it[0].startswith(heads)]
+def check(crate, folder, names, kit):
+    """Checks these functions of the crate in this copy. Answers what was said and the seconds."""
+    words = crates.words_of_check(crate, names, kit)
+    _, said, seconds = parts.run(words, folder)
+    return Answer(said, folder), seconds
