@@ -2,9 +2,9 @@
 use Rattle.std.specs.Prelude.{◌≡◌, ℕ, Bool, List, ◌++◌, Ok, Err, Result}
 use Rattle.mc_code.specs.Code.{Code}
 use Rattle.mc_code.specs.Image.{image_of}
-use Rattle.mc_command.specs.Loading.{LoadsScript, load_refusal}
-use Rattle.mc_command.specs.Refusals.{IsHint}
-use Rattle.mc_command.specs.declared.loading.LoadFault.{LoadFault}
+use Rattle.mc_hints.specs.Refusals.{IsHint, load_refusal}
+use Rattle.mc_hints.specs.declared.refused.LoadFault.{LoadFault}
+use Rattle.mc_command.specs.Loading.{LoadsScript}
 use Rattle.mc_command.specs.declared.status.Status.{Status}
 use Rattle.mc_command.specs.declared.status.Status.TheVariants as status
 

@@ -7,9 +7,8 @@ use Rattle.mc_protocol.specs.declared.sections.Sections.{Sections}
 use Rattle.mc_code.specs.Code.{Code}
 use Rattle.mc_verify.specs.Checked.{IsChecked, IsRightRefusal}
 use Rattle.mc_flow.specs.declared.cost.Cost.{Cost}
-use Rattle.mc_command.specs.Loading.{Loads, load_refusal}
-use Rattle.mc_command.specs.Refusals.{IsHint}
-use Rattle.mc_command.specs.Soundness.{unsound_text}
+use Rattle.mc_hints.specs.Refusals.{IsHint, load_refusal, unsound_text}
+use Rattle.mc_command.specs.Loading.{Loads}
 use Rattle.mc_command.specs.declared.status.Status.{Status}
 use Rattle.mc_command.specs.declared.status.Status.TheVariants as status
 use Rattle.mc_command.specs.declared.check.Verification.{Verification}

@@ -7,7 +7,6 @@ use Rattle.mc_verify.specs.Checked.{IsRightRefusal}
 use Rattle.mc_verify.specs.Faults.{IsSound}
 use Rattle.mc_core.specs.Held.{Held, IsHeldBy}
 use Rattle.mc_core.specs.Histories.{history_of}
-use Rattle.mc_history.specs.StepKinds.{kind_name, kind_number}
 use Rattle.mc_history.specs.StepText.{SpellsSteps}
 use Rattle.mc_core.specs.Worlds.{Noted}
 use Rattle.mc_history.specs.declared.steps_fault.StepsKind.{StepsKind}
@@ -16,15 +15,13 @@ use Rattle.mc_explain.specs.Verdicts.{IsStated}
 use Rattle.mc_explain.specs.declared.verdict.Verdict.{Verdict}
 use Rattle.mc_run.specs.Headline.{IsTrial}
 use Rattle.mc_command.specs.Endings.{endings_text, run_status}
-use Rattle.mc_command.specs.Loading.{IsFrontCode, IsFrontFault, load_refusal}
-use Rattle.mc_command.specs.Refusals.{IsHint, refusal_text}
-use Rattle.mc_command.specs.Soundness.{unsound_text}
+use Rattle.mc_hints.specs.Refusals.{IsHint, load_refusal, steps_refusal, unsound_text}
+use Rattle.mc_command.specs.Loading.{IsFrontCode, IsFrontFault}
 use Rattle.mc_command.specs.StepLines.{IsStepLine}
 use Rattle.mc_command.specs.Verdicts.{verdict_text}
 use Rattle.mc_command.specs.WhyAnswers.{IsWhyBy}
 use Rattle.mc_command.specs.declared.drive.Driven.{Driven}
 use Rattle.mc_command.specs.declared.drive.Driven.TheVariants as driven
-use Rattle.mc_command.specs.declared.refusal.Place.TheVariants as place
 use Rattle.mc_command.specs.declared.status.Status.{Status}
 use Rattle.mc_command.specs.declared.status.Status.TheVariants as status
 
@@ -71,10 +68,6 @@ IsRight why text (driven.NoCode fault hint) = IsFrontFault text fault × IsHint 
 IsRight why text (driven.Unsound refusal hint) =
     (code : Code) × (size : ℕ) × IsFrontCode text code size × IsRightRefusal code refusal × IsHint why hint.items
 IsRight why text (driven.NoSteps fault hint) = LacksSteps text fault.kind fault.line × IsHint why hint.items
-
--- what is written for a text whose script no step list follows
-abbrev pub steps_refusal : StepsKind → ℕ → List ℕ
-steps_refusal fault line = refusal_text (codes "steps") (kind_number fault) (kind_name fault) (place.Line line)
 
 -- what is written for steps: how many were refused and skipped, how the sections ended, the verdict, and why nothing explains the
 -- history, where that is asked

@@ -1,18 +1,15 @@
 -- What `judge` answers to a text.
 use Rattle.std.specs.Prelude.{◌≡◌, ◌≢◌, ℕ, Option, Some, None, List, ◌++◌, codes}
 use Rattle.mc_model.specs.Notes.{History}
-use Rattle.mc_model.specs.Kinds.{kind_name, kind_number}
-use Rattle.mc_model.specs.declared.rules.HistoryKind.{HistoryKind}
 use Rattle.mc_model.specs.declared.rules.HistoryKind.TheVariants as kind
 use Rattle.mc_history.specs.Claim.{Claim}
 use Rattle.mc_history.specs.HistoryText.{SpellsHistory}
 use Rattle.mc_claims.specs.Explains.{Explains}
 use Rattle.mc_explain.specs.Verdicts.{IsStated, IsTrueOf, IsWithin}
-use Rattle.mc_command.specs.Refusals.{IsHint, refusal_text}
+use Rattle.mc_hints.specs.Refusals.{IsHint, history_refusal}
 use Rattle.mc_command.specs.Verdicts.{verdict_status, verdict_text}
 use Rattle.mc_command.specs.WhyAnswers.{IsWhy, line_in_text}
 use Rattle.mc_cli.specs.declared.args.Search.{Search}
-use Rattle.mc_command.specs.declared.refusal.Place.TheVariants as place
 use Rattle.mc_command.specs.declared.status.Status.{Status}
 use Rattle.mc_command.specs.declared.status.Status.TheVariants as status
 use Rattle.mc_command.specs.declared.judge.Judgement.{Judgement}
@@ -33,10 +30,6 @@ IsRight how text (judgement.Judged found turns why) =
     × IsWhy how.why (line_in_text text h) h found why.items
 IsRight how text (judgement.Refused fault hint) =
     (fault.kind ≢ kind.OutOfMemory) × SpellsNone text × IsHint how.why hint.items
-
--- what is written for a history that is refused
-abbrev pub history_refusal : HistoryKind → ℕ → List ℕ
-history_refusal fault line = refusal_text (codes "history") (kind_number fault) (kind_name fault) (place.Line line)
 
 -- what is written for an answer
 abbrev pub text_of : Judgement → List ℕ

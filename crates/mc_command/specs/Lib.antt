@@ -12,7 +12,6 @@ pub mod Input
 pub mod JudgeAnswers
 pub mod Loading
 pub mod Overlaps
-pub mod Refusals
 pub mod Renaming
 pub mod RepeatAnswers
 pub mod Replies
@@ -20,7 +19,6 @@ pub mod RunAnswers
 pub mod SelftestAnswers
 pub mod ServeAnswers
 pub mod SoFar
-pub mod Soundness
 pub mod Statistics
 pub mod Statuses
 pub mod StepLines

@@ -1,27 +1,19 @@
 -- The code of an input: that of the script which it spells, or that whose image it is; or why it has none.
 use Rattle.std.specs.Prelude.{◌≡◌, ◌≢◌, ◌⊎◌, ◌==◌, ℕ, Bool, true, false, List, Result, MatchResult, codes}
 use Rattle.std.specs.List.{starts_with}
-use Rattle.mc_script.specs.Kinds as script_kinds
-use Rattle.mc_script.specs.declared.fault.ScriptFault.{ScriptFault}
 use Rattle.mc_script.specs.declared.fault.ScriptKind.TheVariants as script_kind
 use Rattle.mc_script.specs.Script.{Script}
 use Rattle.mc_script.specs.FrontText.{SpellsFront}
 use Rattle.mc_script.specs.ScriptText.{SpellsScript}
-use Rattle.mc_code.specs.AsmKinds as asm_kinds
-use Rattle.mc_code.specs.ImageKinds as image_kinds
 use Rattle.mc_code.specs.declared.fault.AsmFault.{AsmFault}
 use Rattle.mc_code.specs.declared.fault.AsmFault.TheVariants as asm_fault
-use Rattle.mc_code.specs.declared.fault.ImageFault.{ImageFault}
 use Rattle.mc_code.specs.declared.fault.ImageKind.TheVariants as image_kind
 use Rattle.mc_code.specs.Agreement.{Agrees}
 use Rattle.mc_code.specs.Code.{Code, IsCode}
 use Rattle.mc_code.specs.Image.{IsImageOf}
 use Rattle.mc_code.specs.Layout.{IsExceeded, IsFirst, code_of}
-use Rattle.mc_command.specs.Refusals.{refusal_text}
-use Rattle.mc_command.specs.declared.loading.LoadFault.{LoadFault}
-use Rattle.mc_command.specs.declared.loading.LoadFault.TheVariants as load_fault
-use Rattle.mc_command.specs.declared.refusal.Place.{Place}
-use Rattle.mc_command.specs.declared.refusal.Place.TheVariants as place
+use Rattle.mc_hints.specs.declared.refused.LoadFault.{LoadFault}
+use Rattle.mc_hints.specs.declared.refused.LoadFault.TheVariants as load_fault
 
 -- ---- scripts
 
@@ -89,34 +81,6 @@ begins_as_image input = starts_with (◌==◌) input (codes "MCR")
 abbrev pub Loads : List ℕ → Result Code LoadFault → Type 0
 Loads input loaded =
     ((begins_as_image input ≡ true) × LoadsImage input loaded) ⊎ ((begins_as_image input ≡ false) × LoadsScript input loaded)
-
--- ---- what is written where there is no code
-
--- what is written for a text that is no script
-abbrev pub script_refusal : ScriptFault → List ℕ
-script_refusal found = refusal_text (codes "script") (script_kinds.kind_number found.kind) (script_kinds.kind_name found.kind)
-    (place.Line found.line)
-
--- a section that is too large is named
-abbrev pub place_of : AsmFault → Place
-place_of asm_fault.TooManyTemplates = place.Whole
-place_of (asm_fault.TooManyInstructions actor) = place.Section actor
-place_of asm_fault.OutOfMemory = place.Whole
-
--- what is written for a script that is too large
-abbrev pub size_refusal : AsmFault → List ℕ
-size_refusal limit = refusal_text (codes "asm") (asm_kinds.kind_number limit) (asm_kinds.kind_name limit) (place_of limit)
-
--- what is written for bytes that are no image
-abbrev pub image_refusal : ImageFault → List ℕ
-image_refusal found = refusal_text (codes "image") (image_kinds.kind_number found.kind) (image_kinds.kind_name found.kind)
-    (place.Byte found.offset)
-
--- what is written for each of them
-abbrev pub load_refusal : LoadFault → List ℕ
-load_refusal (load_fault.NoScript found) = script_refusal found
-load_refusal (load_fault.TooLarge limit) = size_refusal limit
-load_refusal (load_fault.NoImage found) = image_refusal found
 
 -- ---- a part that a private clause cites
 

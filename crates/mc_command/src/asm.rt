@@ -1,14 +1,12 @@
 //! What `asm` answers to a text.
 ghost use Rattle.std.specs.Prelude.{◌≡◌, IfOk};
 ghost use Rattle.mc_code.specs.Image.{image_of};
+ghost use Rattle.mc_hints.specs.Refusals.{IsHint};
 ghost use Rattle.mc_command.specs.AsmAnswers as answers;
-ghost use Rattle.mc_command.specs.Refusals as refusals;
 
-use crate::loading::{LoadFault, refusal_of};
-use crate::refusal::told_refusal_text;
-use crate::refusal_hint::code_hint;
 use crate::status::Status;
 use mc_code::{Code, encode};
+use mc_hints::{LoadFault, Refused, hint, refusal_with_hint};
 use std::alloc::{AllocError, Global};
 
 /// What is said after the refusal of a text without code, where `asked` says so.
@@ -18,11 +16,11 @@ pub fn hint_of(
     text: &[u8],
     loaded: &Result<Code, LoadFault>,
 ) -> Result<Vec<u8>, AllocError>
-    ensures { IfOk result (λ hint. refusals.IsHint asked hint.items) }
+    ensures { IfOk result (λ hint. IsHint asked hint.items) }
 {
     match loaded {
         Ok(_) => Ok(Vec::new(alloc)),
-        Err(fault) => code_hint(alloc, asked, text, *fault),
+        Err(fault) => hint(alloc, asked, text, Refused::NoCode(*fault)),
     }
 }
 
@@ -36,7 +34,7 @@ pub fn text_of(
 {
     match loaded {
         Ok(code) => image(alloc, code),
-        Err(fault) => told_refusal_text(alloc, refusal_of(*fault), hint),
+        Err(fault) => refusal_with_hint(alloc, Refused::NoCode(*fault), hint),
     }
 }
 

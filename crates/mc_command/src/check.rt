@@ -4,11 +4,10 @@ ghost use Rattle.mc_verify.specs.Checked.{IsChecked};
 ghost use Rattle.mc_command.specs.CheckAnswers as answers;
 
 use crate::loading;
-use crate::loading::{LoadFault, told_unsound_text, verify_code};
-use crate::refusal::told_refusal_text;
-use crate::refusal_hint::{code_hint, unsound_hint};
+use crate::loading::verify_code;
 use crate::status::Status;
 use mc_code::Code;
+use mc_hints::{LoadFault, Refused, hint, refusal_with_hint};
 use mc_protocol::{Actor, Sections};
 use mc_verify::{Checked, Cost};
 use std::alloc::{AllocError, Global};
@@ -31,7 +30,7 @@ pub fn check_input(alloc: Global, input: &[u8], asked: bool) -> Result<Verificat
     match loading::load(alloc, input)? {
         Ok(code) => check_code(alloc, code, input, asked),
         Err(fault) => {
-            let hint = code_hint(alloc, asked, input, fault)?;
+            let hint = hint(alloc, asked, input, Refused::NoCode(fault))?;
             Ok(Verification::NoCode(fault, hint))
         }
     }
@@ -48,7 +47,7 @@ fn check_code(
     match verify_code(alloc, code)? {
         Ok(checked) => Ok(Verification::Accepted(maxima_of(&checked))),
         Err(refusal) => {
-            let hint = unsound_hint(alloc, asked, input, &refusal)?;
+            let hint = hint(alloc, asked, input, Refused::Unsound(&refusal))?;
             Ok(Verification::Unsound(refusal, hint))
         }
     }
@@ -73,9 +72,11 @@ pub fn text_of(alloc: Global, answer: &Verification) -> Result<Vec<u8>, AllocErr
 {
     match answer {
         Verification::Accepted(maxima) => accepted_text(alloc, maxima),
-        Verification::Unsound(refusal, hint) => told_unsound_text(alloc, refusal, hint.as_slice()),
+        Verification::Unsound(refusal, hint) => {
+            refusal_with_hint(alloc, Refused::Unsound(refusal), hint.as_slice())
+        }
         Verification::NoCode(fault, hint) => {
-            told_refusal_text(alloc, loading::refusal_of(*fault), hint.as_slice())
+            refusal_with_hint(alloc, Refused::NoCode(*fault), hint.as_slice())
         }
     }
 }

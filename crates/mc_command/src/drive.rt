@@ -3,18 +3,15 @@ ghost use Rattle.std.specs.Prelude.{◌≡◌, IfOk};
 ghost use Rattle.mc_protocol.specs.Lines.{line_count, lines_of_text};
 ghost use Rattle.mc_protocol.specs.declared.lines.Separator.TheVariants.{Space};
 ghost use Rattle.mc_command.specs.DriveAnswers as answers;
-ghost use Rattle.mc_command.specs.Refusals as refusals;
 
 use crate::driven_why::driven_why_text;
-use crate::loading;
-use crate::loading::{LoadFault, load_front, told_unsound_text, verify_code};
+use crate::loading::{load_front, verify_code};
 use crate::outcome::{endings_text, status_of_run, verdict_text};
-use crate::refusal::{Place, Refusal, told_refusal_text};
-use crate::refusal_hint::{code_hint, steps_hint, unsound_hint};
 use crate::status::Status;
 use mc_cli::Search;
 use mc_core::World;
 use mc_explain::Verdict;
+use mc_hints::{LoadFault, Refused, hint, refusal_with_hint};
 use mc_history::{StepsFault, parse_steps};
 use mc_protocol::{Lines, Separator, fault_of_input};
 use mc_run::trial;
@@ -44,12 +41,12 @@ pub fn drive_text(alloc: Global, text: &[u8], how: Search) -> Result<Driven, All
             Ok(checked) => drive_steps(alloc, &checked, text, size, how),
             Err(refusal) => {
                 let script = &text[..size.min(text.len())];
-                let hint = unsound_hint(alloc, how.why, script, &refusal)?;
+                let hint = hint(alloc, how.why, script, Refused::Unsound(&refusal))?;
                 Ok(Driven::Unsound(refusal, hint))
             }
         },
         Err(fault) => {
-            let hint = code_hint(alloc, how.why, text, fault)?;
+            let hint = hint(alloc, how.why, text, Refused::NoCode(fault))?;
             Ok(Driven::NoCode(fault, hint))
         }
     }
@@ -77,7 +74,7 @@ fn drive_steps(
         }
         Err(fault) => {
             fault_of_input(fault.kind)?;
-            let hint = steps_hint(alloc, how.why, text, fault)?;
+            let hint = hint(alloc, how.why, text, Refused::NoSteps(fault))?;
             Ok(Driven::NoSteps(fault, hint))
         }
     }
@@ -101,11 +98,13 @@ pub fn text_of(alloc: Global, answer: &Driven) -> Result<Vec<u8>, AllocError>
             ended_text(alloc, world, *skipped, verdict, why.as_slice())
         }
         Driven::NoCode(fault, hint) => {
-            told_refusal_text(alloc, loading::refusal_of(*fault), hint.as_slice())
+            refusal_with_hint(alloc, Refused::NoCode(*fault), hint.as_slice())
         }
-        Driven::Unsound(refusal, hint) => told_unsound_text(alloc, refusal, hint.as_slice()),
+        Driven::Unsound(refusal, hint) => {
+            refusal_with_hint(alloc, Refused::Unsound(refusal), hint.as_slice())
+        }
         Driven::NoSteps(fault, hint) => {
-            told_refusal_text(alloc, refusal_of(*fault), hint.as_slice())
+            refusal_with_hint(alloc, Refused::NoSteps(*fault), hint.as_slice())
         }
     }
 }
@@ -125,12 +124,6 @@ fn ended_text(
     text.extend_from_slice(verdict.as_slice())?;
     text.extend_from_slice(why)?;
     Ok(text)
-}
-
-fn refusal_of(fault: StepsFault) -> Refusal
-    ensures { refusals.text_of result ≡ answers.steps_refusal fault.kind fault.line }
-{
-    Refusal::of("steps", fault.kind, Place::Line(fault.line))
 }
 
 /// The exit status of an answer.

@@ -1,17 +1,15 @@
 //! What `judge` answers to a text.
 ghost use Rattle.std.specs.Prelude.{◌≡◌, ◌++◌, IfOk};
 ghost use Rattle.mc_command.specs.JudgeAnswers as answers;
-ghost use Rattle.mc_command.specs.Refusals as refusals;
 ghost use Rattle.mc_command.specs.Verdicts as verdicts;
 
 use crate::outcome::{verdict_status, verdict_text};
-use crate::refusal::{Place, Refusal, told_refusal_text};
-use crate::refusal_hint::history_hint;
 use crate::status::Status;
 use crate::why::{Counted, why_text};
 use mc_claims::confirms;
 use mc_cli::Search;
 use mc_explain::{Verdict, judge};
+use mc_hints::{Refused, hint, refusal_with_hint};
 use mc_history::{Explanation, HistoryFault, parse_history};
 use mc_model::History;
 use mc_protocol::fault_of_input;
@@ -45,7 +43,7 @@ pub fn judge_text(alloc: Global, text: &[u8], how: Search) -> Result<Judgement, 
         }
         Err(fault) => {
             fault_of_input(fault.kind)?;
-            let hint = history_hint(alloc, how.why, text, fault)?;
+            let hint = hint(alloc, how.why, text, Refused::NoHistory(fault))?;
             Ok(Judgement::Refused(fault, hint))
         }
     }
@@ -87,7 +85,7 @@ pub fn text_of(alloc: Global, answer: &Judgement) -> Result<Vec<u8>, AllocError>
         Judgement::NotConfirmed => Vec::from_slice(alloc, b"not confirmed\n"),
         Judgement::Judged(verdict, _, why) => judged_text(alloc, verdict, why.as_slice()),
         Judgement::Refused(fault, hint) => {
-            told_refusal_text(alloc, refusal_of(*fault), hint.as_slice())
+            refusal_with_hint(alloc, Refused::NoHistory(*fault), hint.as_slice())
         }
     }
 }
@@ -98,12 +96,6 @@ fn judged_text(alloc: Global, verdict: &Verdict, why: &[u8]) -> Result<Vec<u8>, 
     let mut text = verdict_text(alloc, verdict)?;
     text.extend_from_slice(why)?;
     Ok(text)
-}
-
-fn refusal_of(fault: HistoryFault) -> Refusal
-    ensures { refusals.text_of result ≡ answers.history_refusal fault.kind fault.line }
-{
-    Refusal::of("history", fault.kind, Place::Line(fault.line))
 }
 
 /// The exit status of an answer.

@@ -1,12 +1,12 @@
 //! What the program does with a line of words and an input, over any streams and any network.
 //!
-//! The program `mcrace` is a thin `main` above this library. Below it stand `mc_run`, which leads scripts through steps and runs them
-//! over three lanes, `mc_explain`, which judges histories, `mc_server`, and the readers of scripts, images and step lists.
-//! `mc_cli` reads a line: what it asks for, with all that its words say. Over a `Network` `run_target` answers a line of `run`, and tells
-//! a `RunObserver` of each run; `run_command` is that for one run at a server alone, over TCP. `serve_connections` answers one of `serve`,
-//! `run_campaign_at` one of `campaign`, and `run_selftest` one of `selftest`. `command` answers any line where there is no network: what
-//! it writes is right for the input that it read, whatever that is (`specs/Command.antt`, and for each subcommand the definitions that
-//! `specs/Answers.antt` names).
+//! The program `mcrace` is a thin `main` above this library. Below it stand `mc_run`, which leads scripts through steps and runs them over
+//! three lanes, `mc_explain`, which judges histories, `mc_hints`, which says why an input is refused, `mc_server`, and the readers of
+//! scripts, images and step lists. `mc_cli` reads a line: what it asks for, with all that its words say. Over a `Network` `run_target`
+//! answers a line of `run`, and tells a `RunObserver` of each run; `run_command` is that for one run at a server alone, over TCP.
+//! `serve_connections` answers one of `serve`, `run_campaign_at` one of `campaign`, and `run_selftest` one of `selftest`. `command` answers
+//! any line where there is no network: what it writes is right for the input that it read, whatever that is (`specs/Command.antt`, and for
+//! each subcommand the definitions that `specs/Answers.antt` names).
 #![tactic(auto)]
 
 mod answer;
@@ -14,7 +14,6 @@ mod asm;
 mod blocks;
 mod both_read;
 mod campaigning;
-mod caret;
 mod check;
 mod descriptors;
 mod dial;
@@ -25,7 +24,6 @@ mod evidence;
 mod failures;
 mod gathered;
 mod generate;
-mod history_sentences;
 mod input;
 mod judge;
 mod keeping;
@@ -39,19 +37,15 @@ mod playing;
 mod program;
 mod progress;
 mod quitting;
-mod refusal;
-mod refusal_hint;
 mod renaming;
 mod repeated;
 mod repeating;
 mod replies;
 mod run;
 mod run_teller;
-mod script_sentences;
 mod selftest;
 mod serving;
 mod showing;
-mod shown_run;
 mod shrinking;
 mod socket;
 mod statistics;
@@ -61,8 +55,6 @@ mod tally;
 mod terminal;
 mod timed_stream;
 mod totals;
-mod unsound_hint;
-mod unsound_sentences;
 mod watching;
 mod why;
 

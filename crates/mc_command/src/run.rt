@@ -3,13 +3,10 @@ ghost use Rattle.std.specs.Prelude.{◌≡◌, Bool, Option, IfErr, IfOk, List, 
 ghost use Rattle.mc_command.specs.RunAnswers as answers;
 
 use crate::evidence::evidence_of;
-use crate::loading;
-use crate::loading::{LoadFault, load_script, told_unsound_text, verify_code};
+use crate::loading::{load_script, verify_code};
 use crate::meeting::draw_meet;
 use crate::network::{Connection, Network, Unconnected};
 use crate::outcome::{endings_text, status_of_run, verdict_text};
-use crate::refusal::told_refusal_text;
-use crate::refusal_hint::{code_hint, unsound_hint};
 use crate::socket::Connections;
 use crate::status::Status;
 use crate::why::{Counted, why_text};
@@ -18,6 +15,7 @@ use mc_campaign::{Namespace, PutFault, put_under};
 use mc_cli::{RunArgs, long_key_text};
 use mc_core::World;
 use mc_explain::Verdict;
+use mc_hints::{LoadFault, Refused, hint, refusal_with_hint};
 use mc_history::print_history;
 use mc_model::History;
 use mc_protocol::Actor;
@@ -77,12 +75,12 @@ pub fn read_code(
         Ok(code) => match verify_code(alloc, code)? {
             Ok(checked) => Ok(Ok(checked)),
             Err(refusal) => {
-                let hint = unsound_hint(alloc, asked, text, &refusal)?;
+                let hint = hint(alloc, asked, text, Refused::Unsound(&refusal))?;
                 Ok(Err(Played::Unsound(refusal, hint)))
             }
         },
         Err(fault) => {
-            let hint = code_hint(alloc, asked, text, fault)?;
+            let hint = hint(alloc, asked, text, Refused::NoCode(fault))?;
             Ok(Err(Played::NoCode(fault, hint)))
         }
     }
@@ -222,9 +220,11 @@ pub fn text_of(alloc: Global, answer: &Played) -> Result<Vec<u8>, AllocError>
         Played::NoConnection(section) => no_connection_text(alloc, *section),
         Played::NotRun => Vec::from_slice(alloc, b"not run\n"),
         Played::NoCode(fault, hint) => {
-            told_refusal_text(alloc, loading::refusal_of(*fault), hint.as_slice())
+            refusal_with_hint(alloc, Refused::NoCode(*fault), hint.as_slice())
         }
-        Played::Unsound(refusal, hint) => told_unsound_text(alloc, refusal, hint.as_slice()),
+        Played::Unsound(refusal, hint) => {
+            refusal_with_hint(alloc, Refused::Unsound(refusal), hint.as_slice())
+        }
         Played::KeyTooLong(_) => Ok(Vec::new(alloc)),
     }
 }

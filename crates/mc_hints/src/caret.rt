@@ -7,7 +7,7 @@ use std::alloc::{AllocError, Global};
 /// The most columns of a line that is written.
 pub const WIDTH: usize = 80;
 
-// What stands where a line is cut.
+// Stands in place of what is cut off a line.
 const CUT: &[u8] = b"..";
 
 /// The place of a word in a text.
@@ -21,8 +21,8 @@ pub struct Spot<'a> {
     word: &'a [u8],
 }
 
-/// The place of the word with this index in the line with this number. A word that is missing stands after the last one. Where no line
-/// with words has the number the text ends too early, and the place is after the end of its last line.
+/// The place of the word with this index in the line with this number. A word that is missing stands after the last one. If no line
+/// with words has the number, the text ends too early, and the place is after the end of its last line.
 pub fn find_spot<'a>(text: &'a [u8], separator: Separator, number: u32, index: usize) -> Spot<'a> {
     let (number, line, start) = match line_of(text, separator, number) {
         Some(line) => (number, line, start_of(separator, line, index)),
@@ -39,7 +39,7 @@ pub fn find_spot<'a>(text: &'a [u8], separator: Separator, number: u32, index: u
     }
 }
 
-/// The place of the only word of the line with this number that begins with this byte; that of its first word, where none or more than
+/// The place of the only word of the line with this number that begins with this byte; that of its first word if none or more than
 /// one does.
 pub fn find_mark<'a>(text: &'a [u8], separator: Separator, number: u32, mark: u8) -> Spot<'a> {
     let index = match line_of(text, separator, number) {
@@ -97,7 +97,7 @@ fn last_line<'a>(text: &'a [u8]) -> (u32, &'a [u8]) {
     }
 }
 
-// How many bytes of the line stand before the word with this index, or before the place of one more where it has no such word.
+// How many bytes of the line stand before the word with this index, or before the place of one more if it has no such word.
 fn start_of(separator: Separator, line: &[u8], index: usize) -> usize {
     let mut left = index;
     let mut inside = false;
@@ -125,7 +125,7 @@ fn end_of(separator: Separator, line: &[u8]) -> usize {
     end
 }
 
-// The word of the line whose first byte has the index `start`. It is empty where the line ends before.
+// The word of the line whose first byte has the index `start`. It is empty if the line ends before.
 fn word_from<'a>(separator: Separator, line: &'a [u8], start: usize) -> &'a [u8] {
     if start >= line.len() {
         return &[];
@@ -138,7 +138,7 @@ fn word_from<'a>(separator: Separator, line: &'a [u8], start: usize) -> &'a [u8]
 }
 
 impl<'a> Spot<'a> {
-    /// The word at the place. It is empty where the word is missing.
+    /// The word at the place. It is empty if the word is missing.
     pub fn word(&self) -> &'a [u8] {
         self.word
     }
@@ -197,7 +197,7 @@ impl<'a> Spot<'a> {
         if !self.line.is_empty() {
             out.push(b' ')?;
         }
-        // Where both sides are wide the caret stands in the middle.
+        // If both sides are wide, the caret stands in the middle.
         let column = append_head(out, head, before, room.saturating_sub(after.min(room / 2)))?;
         append_cut(out, tail, room.saturating_sub(column))?;
         out.push(b'\n')?;
@@ -220,7 +220,7 @@ fn append_spaces(out: &mut Vec<u8>, count: usize) -> Result<(), AllocError> {
     Ok(())
 }
 
-// Appends what stands before the caret, cut at its front where it is wider than `room`; and answers how many columns before the caret
+// Appends what stands before the caret, cut at its front if it is wider than `room`; and answers how many columns before the caret
 // are left.
 fn append_head(
     out: &mut Vec<u8>,
@@ -247,7 +247,7 @@ fn append_head(
     Ok(column.saturating_add(CUT.len()))
 }
 
-/// Appends the bytes as they are shown, cut at their end where they are wider than `room`.
+/// Appends the bytes as they are shown, cut at their end if they are wider than `room`.
 pub fn append_cut(out: &mut Vec<u8>, bytes: &[u8], room: usize) -> Result<(), AllocError> {
     if columns_of(bytes) <= room {
         return append_shown(out, bytes);

@@ -1,4 +1,4 @@
-//! What is said of a script whose code isn't sound: the run that shows it, in the lines of the script, and the line of the step.
+//! The hint on a script whose code isn't sound: the run that shows it, in the lines of the script, and the line of the step.
 
 use crate::caret::{Spot, WIDTH, append_cut, find_mark};
 use crate::shown_run::{label_on, step_of_reply};
@@ -20,7 +20,7 @@ struct Unsound<'a> {
 }
 
 /// The lines: each reply of the run with the line that asked for it, and the line of the step that is at fault with a caret and a
-/// sentence. There are none for an image; and of a delete before P's steps, which stands in no line, it is said that it is one.
+/// sentence. There are none for an image. A delete before P's steps stands in no line: one sentence names it.
 pub fn unsound_lines(alloc: Global, text: &[u8], refusal: &Refusal) -> Result<Vec<u8>, AllocError> {
     match parse_lines(alloc, text) {
         Ok((script, lines)) => {
@@ -54,12 +54,12 @@ impl Unsound<'_> {
         };
         let spot = self.spot(*line);
         let sentence = self.sentence(alloc, step, spot.word())?;
-        let told = spot.text(alloc, sentence.as_slice())?;
-        out.extend_from_slice(told.as_slice())?;
+        let shown = spot.text(alloc, sentence.as_slice())?;
+        out.extend_from_slice(shown.as_slice())?;
         Ok(out)
     }
 
-    // The word of the line that is at fault; its first one where no word alone is.
+    // The word of the line that is at fault; its first one if no word alone is.
     fn spot(&self, line: u32) -> Spot<'_> {
         let refusal = self.refusal;
         let mark = match refusal.kind {
@@ -71,7 +71,7 @@ impl Unsound<'_> {
         find_mark(self.text, Separator::SpaceOrTab, line, mark)
     }
 
-    // Appends what is said of a delete of a key before P's steps: it may be too much for P's budget.
+    // Appends the sentence about a delete of a key before P's steps: it may be too much for P's budget.
     fn append_why_delete(&self, out: &mut Vec<u8>) -> Result<(), AllocError> {
         let refusal = self.refusal;
         match refusal.kind {
@@ -105,7 +105,7 @@ impl Unsound<'_> {
         Ok(out)
     }
 
-    // The name of the variable that the step at fault needs, where this step should have given it a number.
+    // The name of the variable that the step at fault needs, if this step should have given it a number.
     fn left_unbound(&self, section: Actor, step: usize) -> Option<&[u8]> {
         let refusal = self.refusal;
         let (variable, name) = self.unbound()?;
@@ -135,7 +135,7 @@ impl Unsound<'_> {
         }
     }
 
-    // The sentence below the line of the step; and where a variable has no number, why, and which jumps before it would pass it over.
+    // The sentence below the line of the step; and if a variable has no number, why, and which jumps before it would pass it over.
     fn sentence(&self, alloc: Global, step: usize, word: &[u8]) -> Result<Vec<u8>, AllocError> {
         let mut sentence = unsound_sentence(alloc, self.script, self.refusal, step, word)?;
         if self.unbound().is_some() {
@@ -179,7 +179,7 @@ impl Unsound<'_> {
     }
 }
 
-// Appends which jumps are to be written on this line, so that the step at fault is passed over where the reply shows no number; or, where
+// Appends which jumps are to be written on this line, so that the step at fault is passed over if the reply shows no number; or, if
 // the line has a jump on the reply that was received, that it is to lead further down.
 fn append_jumps(
     alloc: Global,

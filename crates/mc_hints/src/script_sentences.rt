@@ -1,15 +1,16 @@
-//! What is said of a word of a script that isn't what was expected in its place, and of a script that is too large.
+//! The sentences about a word of a script that isn't what was expected in its place, and about a script that is too large.
 
 use crate::caret::append_cut;
+use crate::sentences::{BODY_ALONE, END_OF_TEXT, FLAGS, KEY, append_replies};
 use mc_code::AsmFault;
-use mc_protocol::{Actor, Verb, append_all, has_digits_alone, is_word};
+use mc_protocol::{Actor, Verb, has_digits_alone, is_word};
 use mc_script::{Expected, Sort};
 use std::alloc::{AllocError, Global};
 
 // The most columns of a name in a sentence.
 const NAME_WIDTH: usize = 40;
 
-/// The sentence: what was expected. `found` is the word that was found, after its mark; it is empty where the word is missing.
+/// The sentence: what was expected. `found` is the word that was found, after its mark; it is empty if the word is missing.
 pub fn script_sentence(
     alloc: Global,
     expected: Expected,
@@ -17,15 +18,7 @@ pub fn script_sentence(
 ) -> Result<Vec<u8>, AllocError> {
     let mut out = Vec::new(alloc);
     match expected {
-        Expected::ReplyTo(verb) => append_all(
-            &mut out,
-            &[
-                b"a reply to `",
-                verb.word().as_bytes(),
-                b"` is ",
-                classes_for(verb).as_bytes(),
-            ],
-        )?,
+        Expected::ReplyTo(verb) => append_replies(&mut out, verb, classes_for(verb))?,
         Expected::KnownName(sort) => append_unknown(&mut out, sort, found)?,
         _ => out.extend_from_slice(sentence_of(expected).as_bytes())?,
     }
@@ -50,7 +43,7 @@ pub fn mark_length(expected: Expected, word: &[u8]) -> usize {
     }
 }
 
-// What is said of a name that isn't declared, or of a label that isn't there. It may have any bytes.
+// Appends that a name isn't declared, or that a label isn't there. The name may have any bytes.
 fn append_unknown(out: &mut Vec<u8>, sort: Sort, name: &[u8]) -> Result<(), AllocError> {
     let (front, back) = match sort {
         Sort::Key => ("`keys` doesn't declare `", "`"),
@@ -63,7 +56,7 @@ fn append_unknown(out: &mut Vec<u8>, sort: Sort, name: &[u8]) -> Result<(), Allo
     out.extend_from_slice(back.as_bytes())
 }
 
-/// What is said of a script that is too large, in lines.
+/// The sentence about a script that exceeds this limit, in lines.
 pub fn size_sentence(fault: AsmFault) -> &'static str {
     match fault {
         AsmFault::TooManyTemplates =>
@@ -75,7 +68,7 @@ pub fn size_sentence(fault: AsmFault) -> &'static str {
     }
 }
 
-// What is said, but of a reply to a known request.
+// The sentence, unless it is about a reply to a known request or a name.
 fn sentence_of(expected: Expected) -> &'static str {
     match expected {
         Expected::Header => "a script begins with the line `script 1` or `script 2`",
@@ -91,7 +84,7 @@ fn sentence_of(expected: Expected) -> &'static str {
             "a jump leads further down, and this label stands above: there are no loops",
         Expected::Section(actor) => section_due(actor),
         Expected::End => "the line `end` must end section B",
-        Expected::NothingAfterEnd => "nothing follows the line `end`",
+        Expected::NothingAfterEnd => END_OF_TEXT,
         Expected::Step =>
             "a step is a request (set, add, replace, append, prepend, cas, get, gets, incr, decr, \
                                delete or touch), `bind`, `goto` or `halt`; a label is `NAME:`",
@@ -102,10 +95,10 @@ fn sentence_of(expected: Expected) -> &'static str {
     }
 }
 
-// What is said of a word of a request, or of any line.
+// The sentence about a word of a request, or of any line.
 fn sentence_of_request(expected: Expected) -> &'static str {
     match expected {
-        Expected::Flags => "flags are a decimal below 2^32",
+        Expected::Flags => FLAGS,
         Expected::Body => "a body is `=` and its letters and digits",
         Expected::LettersAndDigits => "a body has at most 64 bytes, and all are letters or digits",
         Expected::NoExpiry =>
@@ -149,7 +142,7 @@ fn section_due(actor: Actor) -> &'static str {
 
 fn name_form(sort: Sort) -> &'static str {
     match sort {
-        Sort::Key => "a key is 1 to 40 of a-z, 0-9 and `-`",
+        Sort::Key => KEY,
         Sort::Flag => "the name of a flag is 1 to 20 of a-z, 0-9 and `-`",
         Sort::Variable => "the name of a variable is 1 to 20 of a-z, 0-9 and `-`",
         Sort::Label => "the name of a label is 1 to 20 of a-z, 0-9 and `-`",
@@ -186,7 +179,7 @@ fn classes_for(verb: Verb) -> &'static str {
     }
 }
 
-// What is added where the word is the protocol's own. It is empty for any other.
+// What is added if the word is the protocol's own. It is empty for any other.
 fn hint_on(expected: Expected, found: &[u8]) -> &'static str {
     match expected {
         Expected::ReplyClass if found.starts_with(b"END:") => "; END is miss here",
@@ -197,8 +190,7 @@ fn hint_on(expected: Expected, found: &[u8]) -> &'static str {
         Expected::Step if is_word(found, b"flush_all") => {
             "; P deletes each key before its steps without being asked"
         }
-        Expected::Body if has_digits_alone(found) =>
-            "; no time of expiry and no length stand before it",
+        Expected::Body if has_digits_alone(found) => BODY_ALONE,
         _ => "",
     }
 }

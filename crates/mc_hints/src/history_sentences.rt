@@ -1,12 +1,13 @@
-//! What is said of a word of a history or of a step list that isn't what was expected in its place.
+//! The sentences about a word of a history or of a step list that isn't what was expected in its place.
 
+use crate::sentences::{BODY_ALONE, END_OF_TEXT, FLAGS, KEY, append_replies};
 use mc_history::Expected;
 use mc_model::ExpectedWord;
-use mc_protocol::{Verb, append_all, has_digits_alone, is_word};
+use mc_protocol::{Verb, has_digits_alone, is_word};
 use std::alloc::{AllocError, Global};
 
-/// The sentence: what was expected, and where the word that was found is the protocol's own, how it is written here. `found` is that
-/// word; it is empty where the word is missing.
+/// The sentence: what was expected, and if the word that was found is the protocol's own, how it is written here. `found` is that
+/// word; it is empty if the word is missing.
 pub fn history_sentence(
     alloc: Global,
     expected: Expected,
@@ -14,22 +15,14 @@ pub fn history_sentence(
 ) -> Result<Vec<u8>, AllocError> {
     let mut out = Vec::new(alloc);
     match expected {
-        Expected::ReplyTo(verb) => append_all(
-            &mut out,
-            &[
-                b"a reply to `",
-                verb.word().as_bytes(),
-                b"` is ",
-                replies_to(verb).as_bytes(),
-            ],
-        )?,
+        Expected::ReplyTo(verb) => append_replies(&mut out, verb, replies_to(verb))?,
         _ => out.extend_from_slice(sentence_of(expected).as_bytes())?,
     }
     out.extend_from_slice(hint_on(expected, found).as_bytes())?;
     Ok(out)
 }
 
-// What is said, but of a reply to a known request.
+// The sentence, unless it is about a reply to a known request.
 fn sentence_of(expected: Expected) -> &'static str {
     match expected {
         Expected::Word(word) => sentence_of_word(word),
@@ -46,7 +39,7 @@ fn sentence_of(expected: Expected) -> &'static str {
         Expected::MoveNumber => "after the client must stand the number of the version, in decimal",
         Expected::Marks => "after the number stand `pad`, `refuse`, both in this order, or none",
         Expected::EndLine => "the text ends before the line `end`",
-        Expected::EndOfText => "nothing follows the line `end`",
+        Expected::EndOfText => END_OF_TEXT,
         Expected::RoomForRequest => "a client has at most 24 requests, and a history 8 keys",
         Expected::RequestInTurn =>
             "P must come before A and B, and a client must wait for each reply",
@@ -71,8 +64,8 @@ fn sentence_of_word(expected: ExpectedWord) -> &'static str {
         ExpectedWord::Verb => {
             "a request is set, add, replace, append, prepend, cas, get, gets, incr, decr, delete or touch"
         }
-        ExpectedWord::Key => "a key is 1 to 40 of a-z, 0-9 and `-`",
-        ExpectedWord::Flags => "flags are a decimal below 2^32",
+        ExpectedWord::Key => KEY,
+        ExpectedWord::Flags => FLAGS,
         ExpectedWord::Body => "after the flags stands a body: `=` and its bytes",
         ExpectedWord::VisibleByte =>
             "such a byte of a body is written `%` and two hexadecimal digits",
@@ -107,7 +100,7 @@ fn replies_to(verb: Verb) -> &'static str {
     }
 }
 
-// What is added where the word is one that the protocol has there. It is empty for any other.
+// What is added if the word is one that the protocol has there. It is empty for any other.
 fn hint_on(expected: Expected, found: &[u8]) -> &'static str {
     match expected {
         Expected::SectionOrEnd if is_word(found, b"start") => {
@@ -118,9 +111,7 @@ fn hint_on(expected: Expected, found: &[u8]) -> &'static str {
         Expected::ReplyTo(_)
         | Expected::ReplyToLastRequest
         | Expected::Word(ExpectedWord::ReplyWord) => hint_on_reply(found),
-        Expected::Word(ExpectedWord::Body) if has_digits_alone(found) => {
-            "; no time of expiry and no length stand before it"
-        }
+        Expected::Word(ExpectedWord::Body) if has_digits_alone(found) => BODY_ALONE,
         Expected::Word(ExpectedWord::Verb) if is_word(found, b"flush_all") => {
             "; write a delete of each key in its place"
         }

@@ -1,11 +1,11 @@
-//! What is said of a step for which a script's code isn't sound.
+//! The sentences about a step for which a script's code isn't sound.
 
 use mc_protocol::{Actor, Bytes, Class, Verb, append_all};
 use mc_script::{Argument, Script, Step, Template};
 use mc_verify::{Refusal, RefusalKind};
 use std::alloc::{AllocError, Global};
 
-/// The sentence. `word` is the word of the step's line that is at fault; the line's first word where more than one may be.
+/// The sentence. `word` is the word of the step's line that is at fault; the line's first word if more than one may be.
 pub fn unsound_sentence(
     alloc: Global,
     script: &Script,
@@ -49,7 +49,7 @@ pub fn unsound_sentence(
             let most = script.budget(refusal.actor).bytes;
             append_budget(alloc, &mut out, refusal.actor, "bytes", most)?
         }
-        // Only images have these, and of no memory nothing is said.
+        // Only images have the first four, and want of memory has no sentence.
         RefusalKind::BadTarget
         | RefusalKind::BadIndex
         | RefusalKind::NoHalt
@@ -70,7 +70,7 @@ pub fn needed_variable(script: &Script, section: Actor, step: usize) -> Option<(
     }
 }
 
-/// The classes of replies to the verb that show no number, where others do.
+/// The classes of replies to the verb that show no number, if others do.
 pub fn unbinding_classes(verb: Verb) -> &'static [Class] {
     match verb {
         Verb::Gets => &[Class::Miss],
@@ -87,7 +87,7 @@ fn name_in(word: &[u8]) -> &[u8] {
     }
 }
 
-// What is said of a flag. Its name is in the word, if that is its mark.
+// Appends the state that a flag may be in. Its name is in the word, if that is its mark.
 fn append_flag(out: &mut Vec<u8>, word: &[u8], mark: u8, state: &[u8]) -> Result<(), AllocError> {
     match word {
         [first, name @ ..] if *first == mark => append_all(
@@ -98,7 +98,7 @@ fn append_flag(out: &mut Vec<u8>, word: &[u8], mark: u8, state: &[u8]) -> Result
     }
 }
 
-// What is said where there may be more of something than a section's budget has.
+// Appends that there may be more of something than a section's budget has.
 fn append_budget(
     alloc: Global,
     out: &mut Vec<u8>,
