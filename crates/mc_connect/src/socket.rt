@@ -1,13 +1,6 @@
-//! Connections that tell whether a read or a write took longer than it may, and the lanes of a run over them.
-ghost use Rattle.std.specs.Prelude.{◌≡◌, false};
-ghost use Rattle.mc_lane.specs.Streams.{silent, no_counts};
-ghost use Rattle.mc_run.specs.Running.{AreNew, IsNew};
-
+//! Connections that tell whether a read or a write took longer than it may.
 use crate::network::Connection;
-use mc_campaign::RECEIVED_LIMIT;
-use mc_lane::{Lane, Stream, Wire};
 use mc_protocol::{Actor, Sections};
-use mc_run::Lanes;
 use std::alloc::Global;
 use std::io;
 use std::io::{ErrorKind, Read, Write};
@@ -38,24 +31,9 @@ impl<C: Connection> Connections<C> {
         }
     }
 
-    /// A new lane of each section, over its connection.
-    pub fn lanes(&self, alloc: Global) -> Lanes<Wire<Socket<'_, C>>>
-        ensures new { AreNew result }
-        ensures limits { (result.p.limit ≡ 262144) × (result.a.limit ≡ 262144) × (result.b.limit ≡ 262144) }
-    {
-        Lanes {
-            p: self.lane(alloc, Actor::P),
-            a: self.lane(alloc, Actor::A),
-            b: self.lane(alloc, Actor::B),
-        }
-    }
-
-    fn lane(&self, alloc: Global, section: Actor) -> Lane<Wire<Socket<'_, C>>>
-        ensures new { IsNew result }
-        ensures limit { result.limit ≡ 262144 }
-    {
-        let socket = Socket::new(self.streams.get(section), self.late.get(section));
-        Lane::new(alloc, Wire::new(socket), RECEIVED_LIMIT)
+    /// What reads and writes over the section's connection, and notes that a call took too long.
+    pub fn socket(&self, section: Actor) -> Socket<'_, C> {
+        Socket::new(self.streams.get(section), self.late.get(section))
     }
 
     /// The connection of a section.

@@ -1,18 +1,17 @@
 //! What connects the jobs of a campaign to its server.
-use crate::dial::{Place, connect, connect_patiently};
+use crate::closing::Closing;
+use crate::dial::{connect, dial};
 use crate::failures::Failures;
 use crate::late_calls::LateCalls;
-use crate::quitting::Closing;
+use crate::servers::Servers;
 use crate::socket::JobSocket;
-use mc_campaign::Connector;
-use mc_cli::Seconds;
-use mc_lane::Wire;
 use mc_protocol::{Actor, Sections};
 use std::io;
 use std::io::Eprint;
 use std::net::{Net, SocketAddr, TcpListener, TcpStream};
 use std::rt::Clock;
 use std::sync::{Mutex, Wait};
+use std::time::Duration;
 
 /// Connects the sections of all jobs to one server, from any thread. The server's name is looked up until one of its addresses takes
 /// a connection; from then on all connections go to that one. The server is asked to close those of a job that has ended, and does so
@@ -20,9 +19,7 @@ use std::sync::{Mutex, Wait};
 #[derive(Drop)]
 pub struct Dialer<'a, R> {
     rt: &'a R,
-    server: &'a str,
-    timeout: Option<Seconds<'a>>,
-    wait: Option<Seconds<'a>>,
+    servers: Servers<'a>,
     address: Mutex<Option<SocketAddr>>,
     /// The connections of the job that has ended last.
     closing: Mutex<Option<Closing>>,
@@ -40,16 +37,14 @@ where
     pub fn new(
         rt: &'a R,
         server: &'a str,
-        timeout: Option<Seconds<'a>>,
-        wait: Option<Seconds<'a>>,
+        timeout: Option<Duration>,
+        wait: Option<Duration>,
         failures: &'a Failures<'a, R>,
         late_calls: &'a LateCalls<'a, R>,
     ) -> Self {
         Dialer {
             rt,
-            server,
-            timeout,
-            wait,
+            servers: Servers::one(server, timeout, wait),
             address: Mutex::new(None),
             closing: Mutex::new(None),
             failures,
@@ -65,27 +60,44 @@ where
         }
     }
 
+    /// A new connection of a job's section, or nothing where there is none, which is noted.
+    pub fn connect(&self, job: u64, section: Actor) -> Option<JobSocket> {
+        match self.dial(section) {
+            Ok(stream) => Some(self.watched(job, section, stream)),
+            Err(error) => {
+                self.failures.add(job, error);
+                None
+            }
+        }
+    }
+
+    /// Takes back the connections of a job that has ended, and waits until the server has closed those of the job before.
+    pub fn release(&self, connections: Sections<Option<JobSocket>>) {
+        let Sections { p, a, b } = connections;
+        let closing = Closing::ask(Sections {
+            p: p.map(JobSocket::into_stream),
+            a: a.map(JobSocket::into_stream),
+            b: b.map(JobSocket::into_stream),
+        });
+        let earlier = self.closing.lock(self.rt).replace(closing);
+        if let Some(earlier) = earlier {
+            earlier.wait(self.rt);
+        }
+    }
+
     fn dial(&self, section: Actor) -> io::Result<TcpStream> {
-        let wait = match section {
-            Actor::P => self.wait,
-            Actor::A | Actor::B => None,
-        };
-        let place = match self.address() {
-            Some(address) => Place::At(address),
-            None => Place::Named(self.server),
-        };
-        let (stream, address) = connect_patiently(self.rt, place, self.timeout, wait)?;
+        let (stream, address) = dial(self.rt, &self.servers, section, self.address())?;
         let first = self.first_address(address);
         if first == address {
             Ok(stream)
         } else {
-            connect(self.rt, first, self.timeout)
+            connect(self.rt, first, self.servers.timeout)
         }
     }
 
     // The connection of a job's section. Where its calls have no limit, or there is no memory, it isn't noted that one took too long.
     fn watched(&self, job: u64, section: Actor, stream: TcpStream) -> JobSocket {
-        let is_late = match self.timeout {
+        let is_late = match self.servers.timeout {
             Some(_) => self.late_calls.add(job, section).ok(),
             None => None,
         };
@@ -108,37 +120,4 @@ where
             }
         }
     }
-}
-
-impl<'a, R> Connector<Wire<JobSocket>> for Dialer<'a, R>
-where
-    R: Net<Listener = TcpListener, Stream = TcpStream> + Clock + Wait + Eprint + Sync,
-{
-    fn connect(&self, job: u64, section: Actor) -> Option<Wire<JobSocket>> {
-        match self.dial(section) {
-            Ok(stream) => Some(Wire::new(self.watched(job, section, stream))),
-            Err(error) => {
-                self.failures.add(job, error);
-                None
-            }
-        }
-    }
-
-    fn release(&self, streams: Sections<Option<Wire<JobSocket>>>) {
-        let Sections { p, a, b } = streams;
-        let closing = Closing::ask(Sections {
-            p: stream_of(p),
-            a: stream_of(a),
-            b: stream_of(b),
-        });
-        let earlier = self.closing.lock(self.rt).replace(closing);
-        if let Some(earlier) = earlier {
-            earlier.wait(self.rt);
-        }
-    }
-}
-
-// The connection, if there is one.
-fn stream_of(wire: Option<Wire<JobSocket>>) -> Option<TcpStream> {
-    Some(wire?.into_inner().into_stream())
 }
