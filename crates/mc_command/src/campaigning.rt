@@ -10,12 +10,11 @@ ghost use Rattle.mc_command.specs.Texts.{out_of_memory_text};
 
 use crate::answer::Answer;
 use crate::blocks::answer_in_blocks;
-use crate::dialer::Dialer;
-use crate::failures::Failures;
 use crate::input::InputFault;
-use crate::late_calls::LateCalls;
+use crate::job_connector::JobConnector;
 use crate::program::{write_fault, write_text};
 use crate::progress::lead;
+use crate::servers::duration_of;
 use crate::showing::{MOST_SHOWN, shown_text};
 use crate::shrinking::shrunk_script;
 use crate::status::Status;
@@ -26,6 +25,7 @@ use mc_campaign::{
     print_brief_report, print_report, report_status, run_jobs,
 };
 use mc_cli::{CampaignArgs, GREATEST_JOBS, GREATEST_WORKERS, Plan, Search, has_last};
+use mc_connect::{Dialer, Failures, LateCalls};
 use mc_lane::Stream;
 use mc_run::FreeGate;
 use mc_script::{Script, print};
@@ -61,14 +61,15 @@ where
     let dialer = Dialer::new(
         rt,
         target.server,
-        target.timeout,
-        target.wait,
+        duration_of(target.timeout),
+        duration_of(target.wait),
         &failures,
         &late_calls,
     );
+    let connector = JobConnector { dialer };
     let mut teller = Teller::new(rt, alloc, &*target, columns, &late_calls, &failures);
-    let answer = target_answer(rt, alloc, target, &dialer, &mut teller, output);
-    dialer.wait_for_the_last();
+    let answer = target_answer(rt, alloc, target, &connector, &mut teller, output);
+    connector.dialer.wait_for_the_last();
     teller.end_report();
     match answer {
         Ok(answer) => {

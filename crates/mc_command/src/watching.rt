@@ -1,11 +1,10 @@
 //! What the program says of jobs while a campaign runs.
 use crate::evidence::failure_text;
-use crate::failures::Failures;
-use crate::late_calls::LateCalls;
 use crate::progress::{Progress, lead};
 use crate::statistics::Statistics;
 use mc_campaign::{JobOutcome, Standing, Watcher};
 use mc_cli::{CampaignArgs, Plan, Seconds, Until};
+use mc_connect::{Failures, LateCalls};
 use mc_lane::Stream;
 use mc_protocol::{Actor, Sections};
 use std::alloc::Global;

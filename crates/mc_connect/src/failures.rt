@@ -1,4 +1,6 @@
 //! Connections of a campaign that were not made, and what standard error says of them.
+ghost use Rattle.std.specs.Prelude.{◌≡◌};
+
 use std::alloc::Global;
 use std::fmt::{Display, Error, Formatter, Write};
 use std::io::{Eprint, ErrorKind};
@@ -25,7 +27,9 @@ struct Failure {
 
 impl<'a, R: Wait + Eprint> Failures<'a, R> {
     /// None so far, at this server. Each line written while the campaign runs begins with `lead`.
-    pub fn new(rt: &'a R, alloc: Global, server: &'a str, lead: &'static str) -> Self {
+    pub fn new(rt: &'a R, alloc: Global, server: &'a str, lead: &'static str) -> Self
+        ensures { (result.server ≡ server) × (result.lead ≡ lead) }
+    {
         Failures {
             rt,
             alloc,
@@ -36,7 +40,7 @@ impl<'a, R: Wait + Eprint> Failures<'a, R> {
     }
 
     /// A job had no connection. Where there is no memory to note it, the ranges that are written at the end leave it out.
-    pub fn add(&self, job: u64, error: io::Error) {
+    pub(crate) fn add(&self, job: u64, error: io::Error) {
         if self.note(job, error) {
             let unreached = Unreached {
                 server: self.server,
@@ -112,11 +116,12 @@ fn tell_range<R: Eprint>(rt: &R, server: &str, range: &Failure) {
     };
 }
 
-// A server to which there is no connection, and why.
+/// A server to which there is no connection, and why.
 #[derive(Clone, Copy, Drop)]
-struct Unreached<'a> {
-    server: &'a str,
-    error: io::Error,
+pub struct Unreached<'a> {
+    /// What was to be HOST:PORT.
+    pub server: &'a str,
+    pub error: io::Error,
 }
 
 impl<'a> Display for Unreached<'a> {

@@ -1,4 +1,6 @@
 //! Connections that serve the next run too.
+ghost use Rattle.std.specs.Prelude.{◌≡◌, None, Some};
+
 use crate::network::{Connection, Network, Unconnected};
 use crate::socket::{Connections, is_idle};
 use mc_protocol::{Actor, Sections};
@@ -11,7 +13,9 @@ pub struct Kept<C> {
 
 impl<C: Connection> Kept<C> {
     /// No connections.
-    pub fn new() -> Self {
+    pub fn new() -> Self
+        ensures { result.streams ≡ None }
+    {
         Kept { streams: None }
     }
 
@@ -32,7 +36,9 @@ impl<C: Connection> Kept<C> {
     }
 
     /// The next run may use these connections.
-    pub fn keep(&mut self, connections: Connections<C>) {
+    pub fn keep(&mut self, connections: Connections<C>)
+        ensures { self.new.streams ≡ Some connections.streams }
+    {
         self.streams = Some(connections.into_streams());
     }
 

@@ -32,7 +32,7 @@ impl<'a, R: Wait> LateCalls<'a, R> {
     }
 
     /// A new connection of the job's section is known in place of an earlier one. It is to note in the answer that a call took too long.
-    pub fn add(&self, job: u64, section: Actor) -> Result<Arc<AtomicBool, Global>, AllocError> {
+    pub(crate) fn add(&self, job: u64, section: Actor) -> Result<Arc<AtomicBool, Global>, AllocError> {
         let is_late = Arc::new(self.alloc, AtomicBool::new(false))?;
         let noted = Arc::try_clone(&is_late)?;
         let mut list = self.list.lock(self.rt);

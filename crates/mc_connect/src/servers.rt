@@ -1,4 +1,6 @@
 //! Which servers are connected, and within which times.
+ghost use Rattle.std.specs.Prelude.{◌≡◌, None};
+
 use mc_protocol::Actor;
 use std::time::Duration;
 
@@ -19,7 +21,9 @@ pub struct Servers<'a> {
 
 impl<'a> Servers<'a> {
     /// One server for all sections.
-    pub fn one(server: &'a str, timeout: Option<Duration>, wait: Option<Duration>) -> Self {
+    pub fn one(server: &'a str, timeout: Option<Duration>, wait: Option<Duration>) -> Self
+        ensures { result ≡ record { server = server; a = None; b = None; timeout = timeout; wait = wait } }
+    {
         Servers {
             server,
             a: None,

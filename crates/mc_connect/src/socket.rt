@@ -1,4 +1,7 @@
 //! Connections that tell whether a read or a write took longer than it may.
+ghost use Rattle.std.specs.Prelude.{◌≡◌};
+ghost use Rattle.mc_protocol.specs.Sections.{section_of};
+
 use crate::network::Connection;
 use mc_protocol::{Actor, Sections};
 use std::alloc::Global;
@@ -20,7 +23,9 @@ pub struct Connections<C> {
 
 impl<C: Connection> Connections<C> {
     /// Connections on which nothing took too long.
-    pub fn new(streams: Sections<C>) -> Self {
+    pub fn new(streams: Sections<C>) -> Self
+        ensures { result.streams ≡ streams }
+    {
         Connections {
             streams,
             late: Sections {
@@ -37,7 +42,9 @@ impl<C: Connection> Connections<C> {
     }
 
     /// The connection of a section.
-    pub fn stream(&self, section: Actor) -> &C {
+    pub fn stream(&self, section: Actor) -> &C
+        ensures { result.now ≡ section_of self.now.streams section }
+    {
         self.streams.get(section)
     }
 
@@ -47,7 +54,9 @@ impl<C: Connection> Connections<C> {
     }
 
     /// The connections themselves.
-    pub fn into_streams(self) -> Sections<C> {
+    pub fn into_streams(self) -> Sections<C>
+        ensures { result ≡ self.streams }
+    {
         let Connections { streams, .. } = self;
         streams
     }
@@ -62,7 +71,7 @@ pub struct Socket<'a, C> {
 
 impl<'a, C> Socket<'a, C> {
     /// What reads and writes over the connection, and notes in `is_late` that a call took too long.
-    pub fn new(stream: &'a C, is_late: &'a AtomicBool) -> Self {
+    pub(crate) fn new(stream: &'a C, is_late: &'a AtomicBool) -> Self {
         Socket { stream, is_late }
     }
 }
@@ -76,12 +85,12 @@ pub struct JobSocket {
 
 impl JobSocket {
     /// What reads and writes over the connection, and notes in `is_late`, if it is there, that a call took too long.
-    pub fn new(stream: TcpStream, is_late: Option<Arc<AtomicBool, Global>>) -> Self {
+    pub(crate) fn new(stream: TcpStream, is_late: Option<Arc<AtomicBool, Global>>) -> Self {
         JobSocket { stream, is_late }
     }
 
     /// The connection.
-    pub fn into_stream(self) -> TcpStream {
+    pub(crate) fn into_stream(self) -> TcpStream {
         let JobSocket { stream, .. } = self;
         stream
     }
