@@ -25,7 +25,7 @@ use mc_campaign::{
     print_brief_report, print_report, report_status, run_jobs,
 };
 use mc_cli::{CampaignArgs, GREATEST_JOBS, GREATEST_WORKERS, Plan, Search, has_last};
-use mc_connect::{Dialer, Failures, LateCalls};
+use mc_connect::Dialer;
 use mc_lane::Stream;
 use mc_run::FreeGate;
 use mc_script::{Script, print};
@@ -56,20 +56,18 @@ where
 {
     tell_start(rt, target.plan);
     let columns = if target.quiet { None } else { columns };
-    let failures = Failures::new(rt, alloc, target.server, lead(columns));
-    let late_calls = LateCalls::new(rt, alloc);
     let dialer = Dialer::new(
         rt,
+        alloc,
         target.server,
         duration_of(target.timeout),
         duration_of(target.wait),
-        &failures,
-        &late_calls,
+        lead(columns),
     );
-    let connector = JobConnector { dialer };
-    let mut teller = Teller::new(rt, alloc, &*target, columns, &late_calls, &failures);
+    let connector = JobConnector { dialer: &dialer };
+    let mut teller = Teller::new(rt, alloc, &*target, columns, &dialer);
     let answer = target_answer(rt, alloc, target, &connector, &mut teller, output);
-    connector.dialer.wait_for_the_last();
+    dialer.wait_for_the_last();
     teller.end_report();
     match answer {
         Ok(answer) => {

@@ -11,7 +11,7 @@ use std::sync::Wait;
 /// The connections that a dialer makes, as streams of the jobs' lanes.
 #[derive(Drop)]
 pub struct JobConnector<'a, R> {
-    pub dialer: Dialer<'a, R>,
+    pub dialer: &'a Dialer<'a, R>,
 }
 
 impl<'a, R> Connector<Wire<JobSocket>> for JobConnector<'a, R>

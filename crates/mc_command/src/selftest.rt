@@ -12,7 +12,7 @@ use crate::status::Status;
 use crate::streams::Sink;
 use mc_campaign::{Campaign, Meeting, Unwatched, report_status, run_jobs};
 use mc_cli::{RunArgs, Search, Seconds};
-use mc_connect::{Dialer, Failures, LateCalls, TcpNetwork};
+use mc_connect::{Dialer, TcpNetwork};
 use mc_explain::Verdict;
 use mc_run::FreeGate;
 use mc_server::{Caller, Racy, Shared, listen};
@@ -174,16 +174,14 @@ where
     R: Net<Listener = TcpListener, Stream = TcpStream> + Threads + Wait + Clock + Sync + Eprint,
     ensures { result ≡ true → answers.IsHonestSeen }
 {
-    let failures = Failures::new(rt, alloc, server, "");
-    let late_calls = LateCalls::new(rt, alloc);
     let timeout = Some(TIMEOUT.duration());
-    let dialer = Dialer::new(rt, server, timeout, None, &failures, &late_calls);
+    let dialer = Dialer::new(rt, alloc, server, timeout, None, "");
     match run_jobs(
         rt,
         alloc,
         CAMPAIGN,
         WORKERS,
-        &JobConnector { dialer },
+        &JobConnector { dialer: &dialer },
         &FreeGate,
         &mut Unwatched,
     ) {

@@ -6,6 +6,7 @@ use crate::late_calls::LateCalls;
 use crate::servers::Servers;
 use crate::socket::JobSocket;
 use mc_protocol::{Actor, Sections};
+use std::alloc::Global;
 use std::io;
 use std::io::Eprint;
 use std::net::{Net, SocketAddr, TcpListener, TcpStream};
@@ -15,48 +16,48 @@ use std::time::Duration;
 
 /// Connects the sections of all jobs to one server, from any thread. The server's name is looked up until one of its addresses takes
 /// a connection; from then on all connections go to that one. The server is asked to close those of a job that has ended, and does so
-/// while another one runs.
+/// while another one runs. It knows which jobs had no connection, and which calls took too long.
 #[derive(Drop)]
 pub struct Dialer<'a, R> {
     rt: &'a R,
     servers: Servers<'a>,
     address: Mutex<Option<SocketAddr>>,
-    /// The connections of the job that has ended last.
+    // The connections of the job that has ended last.
     closing: Mutex<Option<Closing>>,
-    failures: &'a Failures<'a, R>,
-    late_calls: &'a LateCalls<'a, R>,
+    failures: Failures<'a, R>,
+    late_calls: LateCalls<'a, R>,
 }
 
 impl<'a, R> Dialer<'a, R>
 where
     R: Net<Listener = TcpListener, Stream = TcpStream> + Clock + Wait + Eprint,
 {
-    /// What connects to `server`, which is HOST:PORT, and notes in `failures` the connections that are not made. `timeout` is the
-    /// longest that one connect to one address, one read or one write may take, and `wait` how long P of a job may try again to connect.
-    /// Where one took longer, `late_calls` has it.
+    /// What connects to `server`, which is HOST:PORT. `timeout` is the longest that one connect to one address, one read or one write may
+    /// take, and `wait` how long P of a job may try again to connect. The first connection that isn't made is written to standard error
+    /// at once, in a line that begins with `lead`.
     pub fn new(
         rt: &'a R,
+        alloc: Global,
         server: &'a str,
         timeout: Option<Duration>,
         wait: Option<Duration>,
-        failures: &'a Failures<'a, R>,
-        late_calls: &'a LateCalls<'a, R>,
+        lead: &'static str,
     ) -> Self {
         Dialer {
             rt,
             servers: Servers::one(server, timeout, wait),
             address: Mutex::new(None),
             closing: Mutex::new(None),
-            failures,
-            late_calls,
+            failures: Failures::new(rt, alloc, server, lead),
+            late_calls: LateCalls::new(rt, alloc),
         }
     }
 
     /// Waits until the server has closed the connections of the last job, but not for long.
-    pub fn wait_for_the_last(self) {
-        let Dialer { rt, closing, .. } = self;
-        if let Some(last) = closing.into_inner() {
-            last.wait(rt);
+    pub fn wait_for_the_last(&self) {
+        let last = self.closing.lock(self.rt).take();
+        if let Some(last) = last {
+            last.wait(self.rt);
         }
     }
 
@@ -119,5 +120,17 @@ where
                 address
             }
         }
+    }
+}
+
+impl<'a, R: Wait + Eprint> Dialer<'a, R> {
+    /// Whether a call of each section took longer than it may, of a job that has ended. Its connections aren't known any more.
+    pub fn take_late(&self, job: u64) -> Sections<bool> {
+        self.late_calls.take(job)
+    }
+
+    /// Writes to standard error, for each range of jobs in a row that had no connection, which they are, and why; and forgets them.
+    pub fn tell_failures(&self) {
+        self.failures.tell_ranges();
     }
 }

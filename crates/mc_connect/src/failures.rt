@@ -1,6 +1,4 @@
 //! Connections of a campaign that were not made, and what standard error says of them.
-ghost use Rattle.std.specs.Prelude.{◌≡◌};
-
 use std::alloc::Global;
 use std::fmt::{Display, Error, Formatter, Write};
 use std::io::{Eprint, ErrorKind};
@@ -9,7 +7,7 @@ use std::{io, mem};
 
 /// The connections of the jobs of a report that were not made. The first is written to standard error at once.
 #[derive(Drop)]
-pub struct Failures<'a, R> {
+pub(crate) struct Failures<'a, R> {
     rt: &'a R,
     alloc: Global,
     server: &'a str,
@@ -27,9 +25,7 @@ struct Failure {
 
 impl<'a, R: Wait + Eprint> Failures<'a, R> {
     /// None so far, at this server. Each line written while the campaign runs begins with `lead`.
-    pub fn new(rt: &'a R, alloc: Global, server: &'a str, lead: &'static str) -> Self
-        ensures { (result.server ≡ server) × (result.lead ≡ lead) }
-    {
+    pub(crate) fn new(rt: &'a R, alloc: Global, server: &'a str, lead: &'static str) -> Self {
         Failures {
             rt,
             alloc,
@@ -64,7 +60,7 @@ impl<'a, R: Wait + Eprint> Failures<'a, R> {
     }
 
     /// Writes to standard error, for each range of jobs in a row that had no connection, which they are, and why; and forgets them.
-    pub fn tell_ranges(&self) {
+    pub(crate) fn tell_ranges(&self) {
         let Failures { rt, server, .. } = self;
         let mut list = self.take();
         if list.sort_by_key(|failure| failure.first).is_err() {

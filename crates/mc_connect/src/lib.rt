@@ -21,9 +21,8 @@ mod timed_stream;
 
 pub use descriptors::{HeldDescriptors, STANDARD_INPUT, STANDARD_OUTPUT};
 pub use dialer::Dialer;
-pub use failures::{Failures, Unreached};
+pub use failures::Unreached;
 pub use kept::Kept;
-pub use late_calls::LateCalls;
 pub use network::{Connection, Network, Unconnected};
 pub use servers::Servers;
 pub use socket::{Connections, JobSocket, Socket};
