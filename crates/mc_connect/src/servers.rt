@@ -22,7 +22,7 @@ pub struct Servers<'a> {
 impl<'a> Servers<'a> {
     /// One server for all sections.
     pub fn one(server: &'a str, timeout: Option<Duration>, wait: Option<Duration>) -> Self
-        ensures { result ≡ record { server = server; a = None; b = None; timeout = timeout; wait = wait } }
+        ensures { result ≡ record { server = server.entry; a = None; b = None; timeout = timeout; wait = wait } }
     {
         Servers {
             server,
