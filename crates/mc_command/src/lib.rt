@@ -2,11 +2,11 @@
 //!
 //! The program `mcrace` is a thin `main` above this library. Below it stand `mc_run`, which leads scripts through steps and runs them
 //! over three lanes, `mc_explain`, which judges histories, `mc_server`, and the readers of scripts, images and step lists.
-//! `mc_cli` reads a line: what it asks for, with all that its words say. Over a `Network` `run_target` answers a line of `run`, and tells
-//! a `RunObserver` of each run; `run_command` is that for one run at a server alone, over TCP. `serve_connections` answers one of `serve`,
-//! `run_campaign_at` one of `campaign`, and `run_selftest` one of `selftest`. `command` answers any line where there is no network: what
-//! it writes is right for the input that it read, whatever that is (`specs/Command.antt`, and for each subcommand the definitions that
-//! `specs/Answers.antt` names).
+//! `mc_cli` reads a line: what it asks for, with all that its words say. `mc_connect` makes connections: over its `Network` `run_target`
+//! answers a line of `run`, and tells a `RunObserver` of each run; `run_command` is that for one run at a server alone, over TCP.
+//! `serve_connections` answers one of `serve`, `run_campaign_at` one of `campaign`, and `run_selftest` one of `selftest`. `command` answers
+//! any line where there is no network: what it writes is right for the input that it read, whatever that is (`specs/Command.antt`, and for
+//! each subcommand the definitions that `specs/Answers.antt` names).
 #![tactic(auto)]
 
 mod answer;
