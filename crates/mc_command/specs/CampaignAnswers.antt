@@ -23,7 +23,7 @@ use Rattle.mc_campaign.specs.declared.standing.Standing.TheVariants as standing
 use Rattle.mc_command.specs.Statuses.{status_number}
 use Rattle.mc_command.specs.WhyAnswers.{IsWhy, printed_line}
 use Rattle.mc_cli.specs.declared.args.Plan.{Plan}
-use Rattle.mc_command.specs.declared.socket.JobSocket.{JobSocket}
+use Rattle.mc_connect.specs.declared.socket.JobSocket.{JobSocket}
 use Rattle.mc_command.specs.declared.status.Status.{Status}
 use Rattle.mc_command.specs.declared.status.Status.TheVariants as status
 

@@ -10,12 +10,11 @@ ghost use Rattle.mc_command.specs.Texts.{out_of_memory_text};
 
 use crate::answer::Answer;
 use crate::blocks::answer_in_blocks;
-use crate::dialer::Dialer;
-use crate::failures::Failures;
 use crate::input::InputFault;
-use crate::late_calls::LateCalls;
+use crate::job_connector::JobConnector;
 use crate::program::{write_fault, write_text};
 use crate::progress::lead;
+use crate::servers::duration_of;
 use crate::showing::{MOST_SHOWN, shown_text};
 use crate::shrinking::shrunk_script;
 use crate::status::Status;
@@ -26,6 +25,7 @@ use mc_campaign::{
     print_brief_report, print_report, report_status, run_jobs,
 };
 use mc_cli::{CampaignArgs, GREATEST_JOBS, GREATEST_WORKERS, Plan, Search, has_last};
+use mc_connect::Dialer;
 use mc_lane::Stream;
 use mc_run::FreeGate;
 use mc_script::{Script, print};
@@ -56,18 +56,17 @@ where
 {
     tell_start(rt, target.plan);
     let columns = if target.quiet { None } else { columns };
-    let failures = Failures::new(rt, alloc, target.server, lead(columns));
-    let late_calls = LateCalls::new(rt, alloc);
     let dialer = Dialer::new(
         rt,
+        alloc,
         target.server,
-        target.timeout,
-        target.wait,
-        &failures,
-        &late_calls,
+        duration_of(target.timeout),
+        duration_of(target.wait),
+        lead(columns),
     );
-    let mut teller = Teller::new(rt, alloc, &*target, columns, &late_calls, &failures);
-    let answer = target_answer(rt, alloc, target, &dialer, &mut teller, output);
+    let connector = JobConnector { dialer: &dialer };
+    let mut teller = Teller::new(rt, alloc, &*target, columns, &dialer);
+    let answer = target_answer(rt, alloc, target, &connector, &mut teller, output);
     dialer.wait_for_the_last();
     teller.end_report();
     match answer {

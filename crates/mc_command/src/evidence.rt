@@ -1,8 +1,7 @@
 //! What the program says of a run beside its answer: what came in the place of a reply, what didn't come in time, and what came after the
 //! last reply.
-use crate::network::Connection;
-use crate::socket::Connections;
 use mc_cli::Seconds;
+use mc_connect::{Connection, Connections};
 use mc_lane::{Lane, Stream};
 use mc_model::{History, Sent};
 use mc_protocol::{Actor, Fault, Request, render_request};

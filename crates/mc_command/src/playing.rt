@@ -10,17 +10,17 @@ ghost use Rattle.mc_command.specs.Statuses.{status_number};
 ghost use Rattle.mc_command.specs.Streams.{TakesAtMost};
 
 use crate::answer::{Answer, read_text};
-use crate::dial::TcpNetwork;
 use crate::input::InputFault;
-use crate::network::Network;
 use crate::program::{write_fault, write_text};
 use crate::repeated::answer_of_runs;
 use crate::run::{Played, Remarks, play_code, read_target_code, status_of, text_of};
 use crate::run_teller::{RunObserver, Unobserved};
+use crate::servers::servers_of;
 use crate::status::Status;
 use crate::streams::{Sink, Source};
 use mc_campaign::Meeting;
 use mc_cli::{RunArgs, Search};
+use mc_connect::{Network, TcpNetwork};
 use mc_verify::Checked;
 use std::alloc::{AllocError, Global};
 use std::net::{Net, TcpStream};
@@ -67,7 +67,7 @@ where
         stats: false,
         spread: 0,
     };
-    let mut network = TcpNetwork::new(rt);
+    let mut network = TcpNetwork::new(rt, servers_of(&target));
     let (status, _) = run_target(
         rt,
         alloc,

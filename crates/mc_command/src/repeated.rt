@@ -3,11 +3,11 @@ ghost use Rattle.std.specs.Prelude.{◌≡◌, string_bytes, IfOk};
 ghost use Rattle.mc_command.specs.RepeatAnswers as answers;
 
 use crate::answer::Answer;
-use crate::network::Network;
 use crate::repeating::{Runs, repeat_code};
 use crate::run::{Remarks, status_of, text_of};
 use crate::run_teller::RunObserver;
 use mc_cli::{Repeat, RunArgs};
+use mc_connect::Network;
 use mc_verify::Checked;
 use std::alloc::{AllocError, Global};
 use std::rt::Clock;

@@ -6,13 +6,13 @@ ghost use Rattle.mc_command.specs.RunAnswers.{IsRightFor};
 ghost use Rattle.mc_command.specs.SoFar.{IsSoFar};
 ghost use Rattle.mc_command.specs.declared.run.Played.{Played};
 
-use crate::keeping::{Kept, play_kept};
-use crate::network::Network;
+use crate::keeping::play_kept;
 use crate::renaming::{Renaming, leaves_request};
 use crate::run::{Played, Remarks, status_of};
 use crate::run_teller::RunObserver;
 use crate::totals::Totals;
 use mc_cli::{Repeat, RunArgs};
+use mc_connect::{Kept, Network};
 use mc_verify::Checked;
 use std::alloc::{AllocError, Global};
 use std::io;

@@ -3,16 +3,16 @@ ghost use Rattle.std.specs.Prelude.{◌≡◌, Bool, Option, IfErr, IfOk, List, 
 ghost use Rattle.mc_command.specs.RunAnswers as answers;
 
 use crate::evidence::evidence_of;
+use crate::lanes::new_lanes;
 use crate::loading::{load_script, verify_code};
 use crate::meeting::draw_meet;
-use crate::network::{Connection, Network, Unconnected};
 use crate::outcome::{endings_text, status_of_run, verdict_text};
-use crate::socket::Connections;
 use crate::status::Status;
 use crate::why::{Counted, why_text};
 use core::thread::Stack;
 use mc_campaign::{Namespace, PutFault, put_under};
 use mc_cli::{RunArgs, long_key_text};
+use mc_connect::{Connection, Connections, Network, Unconnected};
 use mc_core::World;
 use mc_explain::Verdict;
 use mc_hints::{LoadFault, Refused, hint, refusal_with_hint};
@@ -144,7 +144,7 @@ pub fn play_code<R: Threads + Wait + Clock + Sync, N: Network>(
 ) -> Result<(Played, Remarks), AllocError>
     ensures { IfOk result (λ played. answers.IsRightFor target.now.how.why checked.now.code played.0) }
 {
-    match network.connect(target) {
+    match network.connect() {
         Ok(streams) => {
             let connections = Connections::new(streams);
             play_connections(rt, alloc, target, checked, &connections)
@@ -173,7 +173,7 @@ pub fn play_connections<R: Threads + Wait + Clock + Sync, C: Connection>(
 ) -> Result<(Played, Remarks), AllocError>
     ensures { IfOk result (λ played. answers.IsRightFor target.now.how.why checked.now.code played.0) }
 {
-    let lanes = connections.lanes(alloc);
+    let lanes = new_lanes(alloc, connections);
     let meet = draw_meet(rt, target.meeting, target.spread);
     let how = target.how;
     let stack = Stack::new();

@@ -4,16 +4,15 @@ ghost use Rattle.mc_command.specs.Command.{WritesSelftest};
 ghost use Rattle.mc_command.specs.SelftestAnswers as answers;
 
 use crate::both_read::BothRead;
-use crate::dial::TcpNetwork;
-use crate::dialer::Dialer;
-use crate::failures::Failures;
-use crate::late_calls::LateCalls;
+use crate::job_connector::JobConnector;
 use crate::program::write_text;
 use crate::run::{Played, play_code, read_target_code};
+use crate::servers::servers_of;
 use crate::status::Status;
 use crate::streams::Sink;
 use mc_campaign::{Campaign, Meeting, Unwatched, report_status, run_jobs};
 use mc_cli::{RunArgs, Search, Seconds};
+use mc_connect::{Dialer, TcpNetwork};
 use mc_explain::Verdict;
 use mc_run::FreeGate;
 use mc_server::{Caller, Racy, Shared, listen};
@@ -175,15 +174,14 @@ where
     R: Net<Listener = TcpListener, Stream = TcpStream> + Threads + Wait + Clock + Sync + Eprint,
     ensures { result ≡ true → answers.IsHonestSeen }
 {
-    let failures = Failures::new(rt, alloc, server, "");
-    let late_calls = LateCalls::new(rt, alloc);
-    let dialer = Dialer::new(rt, server, Some(TIMEOUT), None, &failures, &late_calls);
+    let timeout = Some(TIMEOUT.duration());
+    let dialer = Dialer::new(rt, alloc, server, timeout, None, "");
     match run_jobs(
         rt,
         alloc,
         CAMPAIGN,
         WORKERS,
-        &dialer,
+        &JobConnector { dialer: &dialer },
         &FreeGate,
         &mut Unwatched,
     ) {
@@ -219,7 +217,8 @@ where
     let Ok(Ok(checked)) = read_target_code(alloc, &target, TWO_INCREMENTS) else {
         return false;
     };
-    match play_code(rt, alloc, &target, &mut TcpNetwork::new(rt), &checked) {
+    let mut network = TcpNetwork::new(rt, servers_of(&target));
+    match play_code(rt, alloc, &target, &mut network, &checked) {
         Ok((played, _)) => is_unexplained(&played),
         Err(_) => false,
     }

@@ -1,11 +1,10 @@
 //! What the program says of jobs while a campaign runs.
 use crate::evidence::failure_text;
-use crate::failures::Failures;
-use crate::late_calls::LateCalls;
 use crate::progress::{Progress, lead};
 use crate::statistics::Statistics;
 use mc_campaign::{JobOutcome, Standing, Watcher};
 use mc_cli::{CampaignArgs, Plan, Seconds, Until};
+use mc_connect::Dialer;
 use mc_lane::Stream;
 use mc_protocol::{Actor, Sections};
 use std::alloc::Global;
@@ -30,21 +29,19 @@ pub struct Teller<'a, R> {
     progress: Option<Progress<'a, R>>,
     statistics: Statistics,
     timeout: Option<Seconds<'a>>,
-    late_calls: &'a LateCalls<'a, R>,
-    failures: &'a Failures<'a, R>,
+    dialer: &'a Dialer<'a, R>,
 }
 
 impl<'a, R: Eprint + Clock + Wait> Teller<'a, R> {
     /// What says which jobs of a campaign are unexplained; how far the campaign is, in a line of `columns` columns, if there are any; and
-    /// with each report which of its jobs had no connection, as `failures` has them. Where a call of a job's connection took longer than
-    /// `target.timeout`, `late_calls` has it.
+    /// with each report which of its jobs had no connection, as `dialer` has them. Where a call of a job's connection took longer than
+    /// `target.timeout`, it has that too.
     pub fn new(
         rt: &'a R,
         alloc: Global,
         target: &CampaignArgs<'a>,
         columns: Option<usize>,
-        late_calls: &'a LateCalls<'a, R>,
-        failures: &'a Failures<'a, R>,
+        dialer: &'a Dialer<'a, R>,
     ) -> Self {
         let plan = target.plan;
         Teller {
@@ -63,8 +60,7 @@ impl<'a, R: Eprint + Clock + Wait> Teller<'a, R> {
             )),
             statistics: Statistics::new(),
             timeout: target.timeout,
-            late_calls,
-            failures,
+            dialer,
         }
     }
 
@@ -79,7 +75,7 @@ impl<'a, R: Eprint + Clock + Wait> Teller<'a, R> {
         if let Some(progress) = &self.progress {
             progress.clear();
         }
-        self.failures.tell_ranges();
+        self.dialer.tell_failures();
     }
 
     // Says that a job is unexplained.
@@ -128,7 +124,7 @@ impl<'a, S: Stream, R: Eprint + Clock + Wait> Watcher<S> for Teller<'a, R> {
             self.shown_jobs += 1;
             self.tell(job);
         }
-        let Sections { p, a, b } = self.late_calls.take(job);
+        let Sections { p, a, b } = self.dialer.take_late(job);
         self.tell_failure(job, outcome, Actor::P, p);
         self.tell_failure(job, outcome, Actor::A, a);
         self.tell_failure(job, outcome, Actor::B, b);

@@ -8,9 +8,12 @@ ghost use Rattle.mc_command.specs.Streams.{TakesAtMost};
 
 use mc_cli::{CampaignArgs, Request, RunArgs, ServeArgs, read_request};
 use mc_command::{
-    HeldDescriptors, Reader, Remarks, RunTeller, STANDARD_INPUT, STANDARD_OUTPUT, Sink, Source,
-    Status, TcpNetwork, Told, Unconnected, Writer, answer_offline, explain_fault, input_name,
-    run_campaign_at, run_selftest, run_target, serve_connections, unread_line,
+    Reader, Remarks, RunTeller, Sink, Source, Status, Told, Writer, answer_offline, explain_fault,
+    input_name, run_campaign_at, run_selftest, run_target, serve_connections, servers_of,
+    unread_line,
+};
+use mc_connect::{
+    HeldDescriptors, STANDARD_INPUT, STANDARD_OUTPUT, TcpNetwork, Unconnected, Unreached,
 };
 use std::alloc::Global;
 use std::io::{Eprint, ErrorKind, IsTerminal};
@@ -171,12 +174,15 @@ where
 {
     let columns = if target.quiet { None } else { columns };
     let mut teller = RunTeller::new(rt, alloc, columns, target.stats);
-    let mut network = TcpNetwork::new(rt);
+    let mut network = TcpNetwork::new(rt, servers_of(target));
     let (status, remarks) = run_target(rt, alloc, target, &mut network, &mut teller, input, output);
     match remarks {
         Remarks::None => {}
         Remarks::NoConnection(Unconnected { section, error }) => {
-            tell_reason(rt, target.server_of(section), &error);
+            let server = target.server_of(section);
+            let unreached = Unreached { server, error };
+            // There is nowhere else to say that this could not be said.
+            let _ = eprintln!(rt; "mcrace: {unreached}");
         }
         Remarks::WrongLine(lines) => {
             // There is nowhere else to say that this could not be said.
@@ -249,15 +255,6 @@ fn tell_remarks<R: Eprint>(rt: &R, remarks: &[String]) {
         // There is nowhere else to say that this could not be said.
         let _ = eprintln!(rt; "mcrace: {remark}");
     }
-}
-
-// Says on standard error why there is no connection to the server.
-fn tell_reason<R: Eprint>(rt: &R, server: &str, error: &io::Error) {
-    // There is nowhere else to say that this could not be said.
-    let _ = match error.kind() {
-        ErrorKind::InvalidInput => eprintln!(rt; "mcrace: {server}: write HOST:PORT"),
-        _ => eprintln!(rt; "mcrace: {server}: {error}"),
-    };
 }
 
 // The words of the command line, the program's name first.

@@ -1,7 +1,6 @@
 //! A network in memory: on each connection come answers that are known beforehand, each after its request.
 
-use mc_cli::RunArgs;
-use mc_command::{Connection, Network, Unconnected};
+use mc_connect::{Connection, Network, Unconnected};
 use mc_protocol::{Actor, Sections};
 use std::io;
 use std::io::{ErrorKind, Read};
@@ -109,7 +108,7 @@ impl CannedNetwork {
 impl Network for CannedNetwork {
     type Connection = Canned;
 
-    fn connect(&mut self, _target: &RunArgs<'_>) -> Result<Sections<Canned>, Unconnected> {
+    fn connect(&mut self) -> Result<Sections<Canned>, Unconnected> {
         if let Some(section) = self.unconnected {
             let error = io::Error::from(ErrorKind::ConnectionRefused);
             return Err(Unconnected { section, error });
@@ -123,7 +122,7 @@ impl Network for CannedNetwork {
         })
     }
 
-    fn reconnect(&mut self, _target: &RunArgs<'_>, section: Actor) -> Result<Canned, Unconnected> {
+    fn reconnect(&mut self, section: Actor) -> Result<Canned, Unconnected> {
         self.reconnected = self.reconnected.saturating_add(1);
         let [p, a, b] = self.answers;
         Ok(Canned::new(match section {

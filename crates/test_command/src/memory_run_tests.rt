@@ -3,7 +3,8 @@
 use crate::canned::{Answers, CannedNetwork};
 use mc_campaign::Meeting;
 use mc_cli::{Repeat, RunArgs, Search};
-use mc_command::{Reader, Remarks, RunTeller, Statistics, Status, Unconnected, Writer, run_target};
+use mc_command::{Reader, Remarks, RunTeller, Statistics, Status, Writer, run_target};
+use mc_connect::Unconnected;
 use mc_protocol::Actor;
 use std::alloc::Global;
 use std::io::Eprint;

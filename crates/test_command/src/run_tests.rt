@@ -3,7 +3,8 @@
 use crate::driven::SCRIPT;
 use mc_campaign::Meeting;
 use mc_cli::{Repeat, RunArgs, Search};
-use mc_command::{Reader, Status, TcpNetwork, Unobserved, Writer, run_command, run_target};
+use mc_command::{Reader, Status, Unobserved, Writer, run_command, run_target, servers_of};
+use mc_connect::TcpNetwork;
 use std::alloc::Global;
 use std::io;
 use std::net::{Net, TcpListener, TcpStream};
@@ -113,7 +114,7 @@ where
         rt,
         alloc,
         &target,
-        &mut TcpNetwork::new(rt),
+        &mut TcpNetwork::new(rt, servers_of(&target)),
         &mut Unobserved,
         &mut Reader::new(SCRIPT.as_bytes()),
         &mut Writer::new(&mut output),

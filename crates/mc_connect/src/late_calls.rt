@@ -7,7 +7,7 @@ use std::sync::{Arc, Mutex, Wait};
 /// The connections of jobs that have not ended, from any thread, each with whether a read or a write of it took longer than it may. They
 /// are known here because a lane drops its connection at such a fault.
 #[derive(Drop)]
-pub struct LateCalls<'a, R> {
+pub(crate) struct LateCalls<'a, R> {
     rt: &'a R,
     alloc: Global,
     list: Mutex<Vec<Connected>>,
@@ -23,7 +23,7 @@ struct Connected {
 
 impl<'a, R: Wait> LateCalls<'a, R> {
     /// No connection is known.
-    pub fn new(rt: &'a R, alloc: Global) -> Self {
+    pub(crate) fn new(rt: &'a R, alloc: Global) -> Self {
         LateCalls {
             rt,
             alloc,
@@ -32,7 +32,11 @@ impl<'a, R: Wait> LateCalls<'a, R> {
     }
 
     /// A new connection of the job's section is known in place of an earlier one. It is to note in the answer that a call took too long.
-    pub fn add(&self, job: u64, section: Actor) -> Result<Arc<AtomicBool, Global>, AllocError> {
+    pub(crate) fn add(
+        &self,
+        job: u64,
+        section: Actor,
+    ) -> Result<Arc<AtomicBool, Global>, AllocError> {
         let is_late = Arc::new(self.alloc, AtomicBool::new(false))?;
         let noted = Arc::try_clone(&is_late)?;
         let mut list = self.list.lock(self.rt);
@@ -46,7 +50,7 @@ impl<'a, R: Wait> LateCalls<'a, R> {
     }
 
     /// Whether a call of each section took too long, of a job that has ended. Its connections aren't known any more.
-    pub fn take(&self, job: u64) -> Sections<bool> {
+    pub(crate) fn take(&self, job: u64) -> Sections<bool> {
         let mut list = self.list.lock(self.rt);
         let late = Sections {
             p: is_late(list.as_slice(), job, Actor::P),

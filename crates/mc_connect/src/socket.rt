@@ -1,13 +1,9 @@
-//! Connections that tell whether a read or a write took longer than it may, and the lanes of a run over them.
-ghost use Rattle.std.specs.Prelude.{◌≡◌, false};
-ghost use Rattle.mc_lane.specs.Streams.{silent, no_counts};
-ghost use Rattle.mc_run.specs.Running.{AreNew, IsNew};
+//! Connections that tell whether a read or a write took longer than it may.
+ghost use Rattle.std.specs.Prelude.{◌≡◌};
+ghost use Rattle.mc_protocol.specs.Sections.{section_of};
 
 use crate::network::Connection;
-use mc_campaign::RECEIVED_LIMIT;
-use mc_lane::{Lane, Stream, Wire};
 use mc_protocol::{Actor, Sections};
-use mc_run::Lanes;
 use std::alloc::Global;
 use std::io;
 use std::io::{ErrorKind, Read, Write};
@@ -27,7 +23,9 @@ pub struct Connections<C> {
 
 impl<C: Connection> Connections<C> {
     /// Connections on which nothing took too long.
-    pub fn new(streams: Sections<C>) -> Self {
+    pub fn new(streams: Sections<C>) -> Self
+        ensures { result.streams ≡ streams }
+    {
         Connections {
             streams,
             late: Sections {
@@ -38,28 +36,15 @@ impl<C: Connection> Connections<C> {
         }
     }
 
-    /// A new lane of each section, over its connection.
-    pub fn lanes(&self, alloc: Global) -> Lanes<Wire<Socket<'_, C>>>
-        ensures new { AreNew result }
-        ensures limits { (result.p.limit ≡ 262144) × (result.a.limit ≡ 262144) × (result.b.limit ≡ 262144) }
-    {
-        Lanes {
-            p: self.lane(alloc, Actor::P),
-            a: self.lane(alloc, Actor::A),
-            b: self.lane(alloc, Actor::B),
-        }
-    }
-
-    fn lane(&self, alloc: Global, section: Actor) -> Lane<Wire<Socket<'_, C>>>
-        ensures new { IsNew result }
-        ensures limit { result.limit ≡ 262144 }
-    {
-        let socket = Socket::new(self.streams.get(section), self.late.get(section));
-        Lane::new(alloc, Wire::new(socket), RECEIVED_LIMIT)
+    /// What reads and writes over the section's connection, and notes that a call took too long.
+    pub fn socket(&self, section: Actor) -> Socket<'_, C> {
+        Socket::new(self.streams.get(section), self.late.get(section))
     }
 
     /// The connection of a section.
-    pub fn stream(&self, section: Actor) -> &C {
+    pub fn stream(&self, section: Actor) -> &C
+        ensures { result.now ≡ section_of self.now.streams section }
+    {
         self.streams.get(section)
     }
 
@@ -69,7 +54,9 @@ impl<C: Connection> Connections<C> {
     }
 
     /// The connections themselves.
-    pub fn into_streams(self) -> Sections<C> {
+    pub fn into_streams(self) -> Sections<C>
+        ensures { result ≡ self.streams }
+    {
         let Connections { streams, .. } = self;
         streams
     }
@@ -84,7 +71,7 @@ pub struct Socket<'a, C> {
 
 impl<'a, C> Socket<'a, C> {
     /// What reads and writes over the connection, and notes in `is_late` that a call took too long.
-    pub fn new(stream: &'a C, is_late: &'a AtomicBool) -> Self {
+    pub(crate) fn new(stream: &'a C, is_late: &'a AtomicBool) -> Self {
         Socket { stream, is_late }
     }
 }
@@ -98,12 +85,12 @@ pub struct JobSocket {
 
 impl JobSocket {
     /// What reads and writes over the connection, and notes in `is_late`, if it is there, that a call took too long.
-    pub fn new(stream: TcpStream, is_late: Option<Arc<AtomicBool, Global>>) -> Self {
+    pub(crate) fn new(stream: TcpStream, is_late: Option<Arc<AtomicBool, Global>>) -> Self {
         JobSocket { stream, is_late }
     }
 
     /// The connection.
-    pub fn into_stream(self) -> TcpStream {
+    pub(crate) fn into_stream(self) -> TcpStream {
         let JobSocket { stream, .. } = self;
         stream
     }

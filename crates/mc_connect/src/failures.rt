@@ -7,7 +7,7 @@ use std::{io, mem};
 
 /// The connections of the jobs of a report that were not made. The first is written to standard error at once.
 #[derive(Drop)]
-pub struct Failures<'a, R> {
+pub(crate) struct Failures<'a, R> {
     rt: &'a R,
     alloc: Global,
     server: &'a str,
@@ -25,7 +25,7 @@ struct Failure {
 
 impl<'a, R: Wait + Eprint> Failures<'a, R> {
     /// None so far, at this server. Each line written while the campaign runs begins with `lead`.
-    pub fn new(rt: &'a R, alloc: Global, server: &'a str, lead: &'static str) -> Self {
+    pub(crate) fn new(rt: &'a R, alloc: Global, server: &'a str, lead: &'static str) -> Self {
         Failures {
             rt,
             alloc,
@@ -36,7 +36,7 @@ impl<'a, R: Wait + Eprint> Failures<'a, R> {
     }
 
     /// A job had no connection. Where there is no memory to note it, the ranges that are written at the end leave it out.
-    pub fn add(&self, job: u64, error: io::Error) {
+    pub(crate) fn add(&self, job: u64, error: io::Error) {
         if self.note(job, error) {
             let unreached = Unreached {
                 server: self.server,
@@ -60,7 +60,7 @@ impl<'a, R: Wait + Eprint> Failures<'a, R> {
     }
 
     /// Writes to standard error, for each range of jobs in a row that had no connection, which they are, and why; and forgets them.
-    pub fn tell_ranges(&self) {
+    pub(crate) fn tell_ranges(&self) {
         let Failures { rt, server, .. } = self;
         let mut list = self.take();
         if list.sort_by_key(|failure| failure.first).is_err() {
@@ -112,11 +112,12 @@ fn tell_range<R: Eprint>(rt: &R, server: &str, range: &Failure) {
     };
 }
 
-// A server to which there is no connection, and why.
+/// A server to which there is no connection, and why.
 #[derive(Clone, Copy, Drop)]
-struct Unreached<'a> {
-    server: &'a str,
-    error: io::Error,
+pub struct Unreached<'a> {
+    /// What was to be HOST:PORT.
+    pub server: &'a str,
+    pub error: io::Error,
 }
 
 impl<'a> Display for Unreached<'a> {

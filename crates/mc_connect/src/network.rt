@@ -1,7 +1,6 @@
-//! What runs need from outside: connections to the servers that are tested.
+//! Connections of runs, and what makes them.
 ghost use Rattle.std.specs.Prelude.{◌≤◌, IfOk, length};
 
-use mc_cli::RunArgs;
 use mc_protocol::{Actor, Sections};
 use std::io;
 
@@ -43,24 +42,20 @@ pub trait Network {
     /// What each of them gets.
     type Connection: Connection;
 
-    /// A new connection of each section to the server that `target` names for it.
+    /// A new connection of each section to its server.
     ///
     /// # Errors
     ///
     /// The first section that gets none, and why.
-    fn connect(&mut self, target: &RunArgs<'_>) -> Result<Sections<Self::Connection>, Unconnected>;
+    fn connect(&mut self) -> Result<Sections<Self::Connection>, Unconnected>;
 
-    /// A new connection of one section, in place of an earlier one which the server has closed: to the server that `target` names for the
-    /// section, and where that is P's, at the address that took P.
+    /// A new connection of one section, in place of an earlier one which the server has closed: to the section's server, and where that
+    /// is P's, at the address that took P.
     ///
     /// # Errors
     ///
     /// That the section gets none, and why.
-    fn reconnect(
-        &mut self,
-        target: &RunArgs<'_>,
-        section: Actor,
-    ) -> Result<Self::Connection, Unconnected>;
+    fn reconnect(&mut self, section: Actor) -> Result<Self::Connection, Unconnected>;
 
     /// Takes back connections that are done with, where another run may follow.
     fn quit(&mut self, connections: Sections<Self::Connection>);

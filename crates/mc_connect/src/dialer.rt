@@ -1,0 +1,136 @@
+//! What connects the jobs of a campaign to its server.
+use crate::closing::Closing;
+use crate::dial::{connect, dial};
+use crate::failures::Failures;
+use crate::late_calls::LateCalls;
+use crate::servers::Servers;
+use crate::socket::JobSocket;
+use mc_protocol::{Actor, Sections};
+use std::alloc::Global;
+use std::io;
+use std::io::Eprint;
+use std::net::{Net, SocketAddr, TcpListener, TcpStream};
+use std::rt::Clock;
+use std::sync::{Mutex, Wait};
+use std::time::Duration;
+
+/// Connects the sections of all jobs to one server, from any thread. The server's name is looked up until one of its addresses takes
+/// a connection; from then on all connections go to that one. The server is asked to close those of a job that has ended, and does so
+/// while another one runs. It knows which jobs had no connection, and which calls took too long.
+#[derive(Drop)]
+pub struct Dialer<'a, R> {
+    rt: &'a R,
+    servers: Servers<'a>,
+    address: Mutex<Option<SocketAddr>>,
+    // The connections of the job that has ended last.
+    closing: Mutex<Option<Closing>>,
+    failures: Failures<'a, R>,
+    late_calls: LateCalls<'a, R>,
+}
+
+impl<'a, R> Dialer<'a, R>
+where
+    R: Net<Listener = TcpListener, Stream = TcpStream> + Clock + Wait + Eprint,
+{
+    /// What connects to `server`, which is HOST:PORT. `timeout` is the longest that one connect to one address, one read or one write may
+    /// take, and `wait` how long P of a job may try again to connect. The first connection that isn't made is written to standard error
+    /// at once, in a line that begins with `lead`.
+    pub fn new(
+        rt: &'a R,
+        alloc: Global,
+        server: &'a str,
+        timeout: Option<Duration>,
+        wait: Option<Duration>,
+        lead: &'static str,
+    ) -> Self {
+        Dialer {
+            rt,
+            servers: Servers::one(server, timeout, wait),
+            address: Mutex::new(None),
+            closing: Mutex::new(None),
+            failures: Failures::new(rt, alloc, server, lead),
+            late_calls: LateCalls::new(rt, alloc),
+        }
+    }
+
+    /// Waits until the server has closed the connections of the last job, but not for long.
+    pub fn wait_for_the_last(&self) {
+        let last = self.closing.lock(self.rt).take();
+        if let Some(last) = last {
+            last.wait(self.rt);
+        }
+    }
+
+    /// A new connection of a job's section, or nothing where there is none, which is noted.
+    pub fn connect(&self, job: u64, section: Actor) -> Option<JobSocket> {
+        match self.dial(section) {
+            Ok(stream) => Some(self.watched(job, section, stream)),
+            Err(error) => {
+                self.failures.add(job, error);
+                None
+            }
+        }
+    }
+
+    /// Takes back the connections of a job that has ended, and waits until the server has closed those of the job before.
+    pub fn release(&self, connections: Sections<Option<JobSocket>>) {
+        let Sections { p, a, b } = connections;
+        let closing = Closing::ask(Sections {
+            p: p.map(JobSocket::into_stream),
+            a: a.map(JobSocket::into_stream),
+            b: b.map(JobSocket::into_stream),
+        });
+        let earlier = self.closing.lock(self.rt).replace(closing);
+        if let Some(earlier) = earlier {
+            earlier.wait(self.rt);
+        }
+    }
+
+    fn dial(&self, section: Actor) -> io::Result<TcpStream> {
+        let (stream, address) = dial(self.rt, &self.servers, section, self.address())?;
+        let first = self.first_address(address);
+        if first == address {
+            Ok(stream)
+        } else {
+            connect(self.rt, first, self.servers.timeout)
+        }
+    }
+
+    // The connection of a job's section. Where its calls have no limit, or there is no memory, it isn't noted that one took too long.
+    fn watched(&self, job: u64, section: Actor, stream: TcpStream) -> JobSocket {
+        let is_late = match self.servers.timeout {
+            Some(_) => self.late_calls.add(job, section).ok(),
+            None => None,
+        };
+        JobSocket::new(stream, is_late)
+    }
+
+    // The address that took the first connection, if one has.
+    fn address(&self) -> Option<SocketAddr> {
+        *self.address.lock(self.rt)
+    }
+
+    // The address that took the first connection: this one, if no other has.
+    fn first_address(&self, address: SocketAddr) -> SocketAddr {
+        let mut first = self.address.lock(self.rt);
+        match *first {
+            Some(first) => first,
+            None => {
+                *first = Some(address);
+                address
+            }
+        }
+    }
+}
+
+impl<'a, R: Wait + Eprint> Dialer<'a, R> {
+    /// Whether a call of each section took longer than it may, of a job that has ended. Its connections aren't known any more.
+    pub fn take_late(&self, job: u64) -> Sections<bool> {
+        self.late_calls.take(job)
+    }
+
+    /// Writes to standard error, for each range of jobs in a row that had no connection, which they are, and why; and forgets them.
+    pub fn tell_failures(&self) {
+        self.failures.tell_ranges();
+    }
+}
