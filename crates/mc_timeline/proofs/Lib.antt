@@ -1,0 +1,12 @@
+pub mod Members
+pub mod Merges
+pub mod Times
+pub mod Acting
+pub mod Joining
+pub mod Restricting
+pub mod Retiming
+pub mod Timelines
+pub mod Walks
+pub mod ByNext
+pub mod Queues
+pub mod InOrder

@@ -1,0 +1,12 @@
+-- What the public contracts cite.
+pub use Rattle.mc_claims.specs.Explains
+pub use Rattle.mc_claims.specs.Replay
+pub use Rattle.mc_history.specs.Distinct
+pub use Rattle.mc_model.specs.Contents
+pub mod Members
+pub mod Operations
+pub mod Timelines
+pub mod Explanations
+pub mod Laws
+pub mod Walks
+pub mod Queues
