@@ -96,7 +96,8 @@ kept_replies keys c d (a ∷ effected) agree g = by (keys a.operation.request.ke
     by : (b : Bool) → keys a.operation.request.key ≡ b
         → ((c' d' : Contents) → AgreeAt keys c' d' → GivesEach effected (replay c' (map step_of effected))
         → GivesEach (effected_at keys effected) (replay d' (map step_of (effected_at keys effected))))
-        → GivesEach (cond b (a ∷ effected_at keys effected) (effected_at keys effected)) (replay d (map step_of (cond b (a ∷ effected_at keys effected) (effected_at keys effected))))
+        → GivesEach (cond b (a ∷ effected_at keys effected) (effected_at keys effected))
+        (replay d (map step_of (cond b (a ∷ effected_at keys effected) (effected_at keys effected))))
     by true e rest = (
       subst (IsReceived (received a.operation.answer)) (same_reply c d (step_of a) (agree a.operation.request.key e)) g.0,
       rest (after c (step_of a)) (after d (step_of a)) (agree_after keys c d (step_of a) e agree) g.1,
@@ -111,7 +112,8 @@ kept_versions keys c d (a ∷ effected) agree =
     ∙ sym (filter-append (λ v. keys v.0) (version_by a.operation.request.key (change_by c (step_of a))) (versions (after c (step_of a)) (map step_of effected)))
   where
     by : (b : Bool) → keys a.operation.request.key ≡ b
-        → ((c' d' : Contents) → AgreeAt keys c' d' → versions d' (map step_of (effected_at keys effected)) ≡ versions_at keys (versions c' (map step_of effected)))
+        → ((c' d' : Contents) → AgreeAt keys c' d'
+        → versions d' (map step_of (effected_at keys effected)) ≡ versions_at keys (versions c' (map step_of effected)))
         → versions d (map step_of (cond b (a ∷ effected_at keys effected) (effected_at keys effected)))
         ≡ versions_at keys (version_by a.operation.request.key (change_by c (step_of a)))
         ++ versions_at keys (versions (after c (step_of a)) (map step_of effected))

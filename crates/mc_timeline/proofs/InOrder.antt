@@ -25,7 +25,8 @@ restricted_in_order asks on waits key ((who, note.Begin request) ∷ notes) same
   where
     by : (b : Bool) → waits who ≡ false
         → ((on' waits' : Waiting) → WaitsOnKey (with_waiting asks who true) on' waits' → are_in_order waits' (restricted_after on' key notes) ≡ true)
-        → are_in_order waits (cond b ((who, note.Begin request) ∷ restricted_after (with_waiting on who b) key notes) (restricted_after (with_waiting on who b) key notes))
+        → are_in_order waits
+        (cond b ((who, note.Begin request) ∷ restricted_after (with_waiting on who b) key notes) (restricted_after (with_waiting on who b) key notes))
         ≡ true
     by true none rest =
         let more = rest (with_waiting on who true) (with_waiting waits who true) (λ c. at c (eqb c who)) in

@@ -14,7 +14,8 @@ use Rattle.mc_timeline.specs.Laws.{Locality}
 use Rattle.mc_timeline.proofs.Members.{among_kept, kept_among, kept_distinct, mapped_among, mapped_kept, among_parts}
 use Rattle.mc_timeline.proofs.Merges.{IsMerge, merged_among, among_left, among_right, merged_distinct, mapped_merge, more_left, more_right, appended}
 use Rattle.mc_timeline.proofs.Times.{InTime, kept_in_time, linear_in_time, in_time_linear, merge_in_time}
-use Rattle.mc_timeline.proofs.Acting.{Version, Keys, effected_at, versions_at, AgreeAt, AllAt, kept_replies, kept_versions, kept_start, starts_left, starts_right, merged_replies, merged_versions}
+use Rattle.mc_timeline.proofs.Acting.{Version, Keys, effected_at, versions_at, AgreeAt, AllAt, kept_replies, kept_versions, kept_start}
+use Rattle.mc_timeline.proofs.Acting.{starts_left, starts_right, merged_replies, merged_versions}
 
 -- ---- some keys alone
 
@@ -109,7 +110,8 @@ join_parts keys operations a b = record {
     keys = merged_distinct (map (λ s. s.0) a.start) (map (λ s. s.0) b.start) (map (λ s. s.0) (a.start ++ b.start))
         (mapped_merge (λ s. s.0) a.start b.start (a.start ++ b.start) (appended a.start b.start)) a.distinct b.distinct keys_apart;
     numbers = all_numbers;
-    replies = merged_replies keys (start_contents (a.start ++ b.start)) (start_contents a.start) (start_contents b.start) a.effected b.effected both.order both.merge
+    replies = merged_replies keys (start_contents (a.start ++ b.start)) (start_contents a.start) (start_contents b.start) a.effected b.effected
+        both.order both.merge
         a.effected_there b_there left_same right_same a.replies b.replies;
   };
 }

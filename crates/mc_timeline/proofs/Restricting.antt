@@ -24,7 +24,8 @@ notes_kept waits key (n ∷ notes) = by (is_on_key waits key n.1) (notes_kept (w
   where
     by : (b : Bool) → notes_of (kept_after (waiting_after waits key n.1) key notes) ≡ restricted_after (waiting_after waits key n.1) key (notes_of notes)
         → notes_of (cond b (n ∷ kept_after (waiting_after waits key n.1) key notes) (kept_after (waiting_after waits key n.1) key notes))
-        ≡ cond b (n.1 ∷ restricted_after (waiting_after waits key n.1) key (notes_of notes)) (restricted_after (waiting_after waits key n.1) key (notes_of notes))
+        ≡ cond b (n.1 ∷ restricted_after (waiting_after waits key n.1) key (notes_of notes))
+        (restricted_after (waiting_after waits key n.1) key (notes_of notes))
     by true rest = ap (λ l. n.1 ∷ l) rest
     by false rest = rest
 
@@ -85,7 +86,8 @@ pub same_operations : (asks waits : Waiting) (key : List ℕ) (notes : List Plac
 same_operations asks waits key [] ordered = refl
 same_operations asks waits key ((place, (who, note.Begin request)) ∷ notes) ordered =
     let parts = and_parts (not (asks who)) (are_in_order (with_waiting asks who true) (notes_of notes)) ordered in
-    by (bytes_eq request.key key) refl parts.1 (same_operations (with_waiting asks who true) (with_waiting waits who (bytes_eq request.key key)) key notes parts.1)
+    by (bytes_eq request.key key) refl parts.1
+    (same_operations (with_waiting asks who true) (with_waiting waits who (bytes_eq request.key key)) key notes parts.1)
   where
     here : eqb who who ≡ true
     here = eq-eqb who who refl
@@ -97,7 +99,8 @@ same_operations asks waits key ((place, (who, note.Begin request)) ∷ notes) or
         ≡ cond b (record { client = who; request = request; began = place; answer = answer_to who notes } ∷ on_key key (operations_in notes))
         (on_key key (operations_in notes))
     by true e o rest =
-        let answer = same_answer (with_waiting asks who true) (with_waiting waits who (bytes_eq request.key key)) key who notes (rw here refl) (rw (here, e) refl) o in
+        let answer = same_answer (with_waiting asks who true) (with_waiting waits who (bytes_eq request.key key)) key who notes (rw here refl)
+        (rw (here, e) refl) o in
         rw (answer, rest) refl
     by false e o rest = rest
 same_operations asks waits key ((place, (who, note.Reply reply)) ∷ notes) ordered =
