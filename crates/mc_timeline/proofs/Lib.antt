@@ -10,3 +10,9 @@ pub mod Walks
 pub mod ByNext
 pub mod Queues
 pub mod InOrder
+pub mod MoreNotes
+pub mod Following
+pub mod Begun
+pub mod Replied
+pub mod TimelineOrder
+pub mod RestrictedRules

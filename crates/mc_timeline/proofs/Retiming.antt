@@ -17,11 +17,11 @@ use Rattle.mc_timeline.proofs.Times.{KeepsTime, in_time_linear, linear_in_time}
 
 -- ---- other times
 
-abbrev retimed_answer : (ℕ → ℕ) → Option Answer → Option Answer
+abbrev pub retimed_answer : (ℕ → ℕ) → Option Answer → Option Answer
 retimed_answer clock None = None
 retimed_answer clock (Some a) = Some (record { time = clock a.time; reply = a.reply })
 
-abbrev retimed : (ℕ → ℕ) → Operation → Operation
+abbrev pub retimed : (ℕ → ℕ) → Operation → Operation
 retimed clock x = record x { began = clock x.began; answer = retimed_answer clock x.answer }
 
 abbrev pub HasTimes : (ℕ → Type 0) → Option Answer → Type 0
@@ -189,7 +189,7 @@ retimed_explained Used clock keeps operations uses e = record {
 -- ---- notes at other places
 
 -- these notes are those, and the clock gives the places of these for the places of those
-abbrev Shows : (ℕ → ℕ) → List Placed → List Placed → Type 0
+abbrev pub Shows : (ℕ → ℕ) → List Placed → List Placed → Type 0
 Shows clock [] [] = Unit {0}
 Shows clock [] (u ∷ us) = ⊥
 Shows clock (t ∷ ts) [] = ⊥
@@ -225,7 +225,7 @@ retimed_answers clock client ((p, (who, note.Reply reply)) ∷ ts) ((q, noted) �
     by true rest = ap (λ k. Some (record { time = k; reply = reply })) (sym s.0)
     by false rest = rest
 
-retimed_operations : (clock : ℕ → ℕ) (ts us : List Placed) → Shows clock ts us → operations_in us ≡ map (retimed clock) (operations_in ts)
+pub retimed_operations : (clock : ℕ → ℕ) (ts us : List Placed) → Shows clock ts us → operations_in us ≡ map (retimed clock) (operations_in ts)
 retimed_operations clock [] [] s = refl
 retimed_operations clock [] (u ∷ us) s = absurd s
 retimed_operations clock (t ∷ ts) [] s = absurd s
@@ -278,7 +278,7 @@ SameNotes [] (u ∷ us) = ⊥
 SameNotes (t ∷ ts) [] = ⊥
 SameNotes (t ∷ ts) (u ∷ us) = (t.1 ≡ u.1) × SameNotes ts us
 
-abbrev clock_of : List Placed → List Placed → ℕ → ℕ
+abbrev pub clock_of : List Placed → List Placed → ℕ → ℕ
 clock_of [] us time = 0
 clock_of (t ∷ ts) [] time = 0
 clock_of (t ∷ ts) (u ∷ us) time = cond (eqb time t.0) u.0 (clock_of ts us time)
@@ -295,7 +295,7 @@ shows_later clock here there (t ∷ ts) (u ∷ us) after s = (by (eqb t.0 here) 
     by true e = let same = eqb-true t.0 here e in absurd (omega arith)
     by false e = s.0
 
-clock_shows : (ts us : List Placed) → Rises ts → SameNotes ts us → Shows (clock_of ts us) ts us
+pub clock_shows : (ts us : List Placed) → Rises ts → SameNotes ts us → Shows (clock_of ts us) ts us
 clock_shows [] [] r s = tt
 clock_shows [] (u ∷ us) r s = s
 clock_shows (t ∷ ts) [] r s = s

@@ -1,11 +1,11 @@
 -- A timeline is explained exactly where its restriction to each key is.
-use Rattle.std.proofs.Common.{◌≡◌, ◌<◌, ℕ, suc, Bool, true, false, cond, List, [], ◌∷◌, refl, ap, subst, sym, ◌∙◌, arith}
+use Rattle.std.proofs.Common.{◌≡◌, ◌<◌, ℕ, suc, Bool, true, false, cond, List, [], ◌∷◌, map, refl, ap, subst, sym, ◌∙◌, arith}
 use Rattle.mc_timeline.specs.Operations.{on_key}
 use Rattle.mc_timeline.specs.Explanations.{IsExplained}
 use Rattle.mc_timeline.specs.Timelines.{is_in_order, ClientNote, Placed, Waiting, placed, is_on_key, waiting_after, operations_in, operations_of, restricted}
 use Rattle.mc_timeline.specs.Laws.{LocalityOfTimelines}
 use Rattle.mc_timeline.proofs.Restricting.{notes_of, kept_after, notes_kept, same_operations}
-use Rattle.mc_timeline.proofs.Retiming.{AllAfter, Rises, SameNotes, explained_elsewhere}
+use Rattle.mc_timeline.proofs.Retiming.{AllAfter, Rises, SameNotes, retimed, clock_of, clock_shows, retimed_operations, explained_elsewhere}
 use Rattle.mc_timeline.proofs.Joining.{is_local}
 
 -- ---- places
@@ -57,6 +57,21 @@ on_key_is key notes ordered =
 
 restricted_is : (key : List ℕ) (notes : List ClientNote) → notes_of (kept_after (λ client. false) key (placed 0 notes)) ≡ restricted key notes
 restricted_is key notes = notes_kept (λ client. false) key (placed 0 notes) ∙ ap (restricted key) (notes_placed 0 notes)
+
+-- the operations of the restriction are those on the key, at other times
+abbrev pub restricted_clock : List ℕ → List ClientNote → ℕ → ℕ
+restricted_clock key notes =
+    let kept = kept_after (λ client. false) key (placed 0 notes) in
+    clock_of kept (placed 0 (notes_of kept))
+
+pub restricted_operations : (key : List ℕ) (notes : List ClientNote) → is_in_order notes ≡ true
+    → operations_of (restricted key notes) ≡ map (retimed (restricted_clock key notes)) (on_key key (operations_of notes))
+restricted_operations key notes ordered =
+    let kept = kept_after (λ client. false) key (placed 0 notes) in
+    let rises = kept_rise (λ client. false) key (placed 0 notes) (placed_rise 0 notes) in
+    ap operations_of (sym (restricted_is key notes))
+    ∙ retimed_operations (restricted_clock key notes) kept (placed 0 (notes_of kept)) (clock_shows kept (placed 0 (notes_of kept)) rises (same_notes 0 kept))
+    ∙ ap (map (retimed (restricted_clock key notes))) (on_key_is key notes ordered)
 
 to_restricted : (key : List ℕ) (notes : List ClientNote) → is_in_order notes ≡ true
     → IsExplained (on_key key (operations_of notes)) → IsExplained (operations_of (restricted key notes))

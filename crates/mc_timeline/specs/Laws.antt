@@ -4,6 +4,7 @@ use Rattle.mc_timeline.specs.Members.{IsIn}
 use Rattle.mc_timeline.specs.Operations.{Operation, on_key}
 use Rattle.mc_timeline.specs.Timelines.{ClientNote, is_in_order, operations_of, restricted}
 use Rattle.mc_timeline.specs.Explanations.{IsExplained}
+use Rattle.mc_timeline.specs.Rules.{IsTimeline}
 
 -- operations have an explanation exactly if those on each of their keys have one
 abbrev pub Locality : Type 0
@@ -22,3 +23,11 @@ LocalityOfTimelines =
 abbrev pub RestrictionsKeepOrder : Type 0
 RestrictionsKeepOrder =
     (notes : List ClientNote) (key : List ℕ) → is_in_order notes ≡ true → is_in_order (restricted key notes) ≡ true
+
+-- a timeline is in order
+abbrev pub TimelinesAreInOrder : Type 0
+TimelinesAreInOrder = (notes : List ClientNote) → IsTimeline notes → is_in_order notes ≡ true
+
+-- the restriction of a timeline to a key is a timeline
+abbrev pub RestrictionsAreTimelines : Type 0
+RestrictionsAreTimelines = (notes : List ClientNote) (key : List ℕ) → IsTimeline notes → IsTimeline (restricted key notes)

@@ -3,10 +3,14 @@ pub use Rattle.mc_claims.specs.Explains
 pub use Rattle.mc_claims.specs.Replay
 pub use Rattle.mc_history.specs.Distinct
 pub use Rattle.mc_model.specs.Contents
+pub use Rattle.mc_model.specs.History
 pub mod Members
 pub mod Operations
 pub mod Timelines
 pub mod Explanations
+pub mod Rules
 pub mod Laws
 pub mod Walks
 pub mod Queues
+-- What private contracts cite.
+pub mod RuleState

@@ -1,5 +1,11 @@
 //! What follows from the definitions of timelines and explanations, whatever the code is.
-ghost use Rattle.mc_timeline.specs.Laws.{Locality, LocalityOfTimelines, RestrictionsKeepOrder};
+ghost use Rattle.mc_timeline.specs.Laws.{
+  Locality,
+  LocalityOfTimelines,
+  RestrictionsAreTimelines,
+  RestrictionsKeepOrder,
+  TimelinesAreInOrder,
+};
 ghost use Rattle.mc_timeline.specs.Queues.{OnlyTheNextMatter, TimelinesAreWalked};
 ghost use Rattle.mc_timeline.specs.Walks.{LinearizationsAreWalks};
 
@@ -11,6 +17,16 @@ pub fn locality()
 /// A timeline has an explanation exactly if its restriction to each of its keys has one (Herlihy and Wing, 1990).
 pub fn locality_of_timelines()
     ensures { LocalityOfTimelines }
+{}
+
+/// A timeline is in order: a client begins a request only if it waits for no reply, and gets one only if it waits.
+pub fn timelines_are_in_order()
+    ensures { TimelinesAreInOrder }
+{}
+
+/// The restriction of a timeline to a key is a timeline.
+pub fn restrictions_are_timelines()
+    ensures { RestrictionsAreTimelines }
 {}
 
 /// The restriction to a key of notes that are in order is in order.
