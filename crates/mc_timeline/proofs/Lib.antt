@@ -16,3 +16,4 @@ pub mod Begun
 pub mod Replied
 pub mod TimelineOrder
 pub mod RestrictedRules
+pub mod PrintedNotes

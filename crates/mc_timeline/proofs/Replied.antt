@@ -80,7 +80,8 @@ none_left client answer (x ∷ xs) = by (eqb x.client client) refl (is_some x.an
     others = rule.waiting_of client (map (answered client answer) xs)
 
     by : (b : Bool) → eqb x.client client ≡ b → (s : Bool) → is_some x.answer ≡ s → others ≡ []
-        → cond (waits_for client (cond (b && not s) (record x { answer = Some answer }) x)) (cond (b && not s) (record x { answer = Some answer }) x ∷ others) others
+        → cond (waits_for client (cond (b && not s) (record x { answer = Some answer }) x))
+        (cond (b && not s) (record x { answer = Some answer }) x ∷ others) others
         ≡ []
     by true e true f rest = rw (e, f) rest
     by true e false f rest = rw e rest
@@ -97,7 +98,8 @@ others_wait client answer other apart (x ∷ xs) = by (eqb x.client client) refl
     others = rule.waiting_of other (map (answered client answer) xs)
 
     by : (b : Bool) → eqb x.client client ≡ b → (s : Bool) → others ≡ rule.waiting_of other xs
-        → cond (waits_for other (cond (b && not s) (record x { answer = Some answer }) x)) (cond (b && not s) (record x { answer = Some answer }) x ∷ others) others
+        → cond (waits_for other (cond (b && not s) (record x { answer = Some answer }) x))
+        (cond (b && not s) (record x { answer = Some answer }) x ∷ others) others
         ≡ cond (waits_for other x) (x ∷ rule.waiting_of other xs) (rule.waiting_of other xs)
     by true e true rest = ap (λ l. cond (waits_for other x) (x ∷ l) l) rest
     by true e false rest = not_it (eqb x.client other) refl

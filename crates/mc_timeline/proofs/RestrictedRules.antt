@@ -81,7 +81,8 @@ waiting_retimed : (clock : ℕ → ℕ) (client : ℕ) (xs : List Operation)
     → rule.waiting_of client (map (retimed clock) xs) ≡ map (retimed clock) (rule.waiting_of client xs)
 waiting_retimed clock client [] = refl
 waiting_retimed clock client (x ∷ xs) =
-    ap (λ s. cond (eqb x.client client && not s) (retimed clock x ∷ rule.waiting_of client (map (retimed clock) xs)) (rule.waiting_of client (map (retimed clock) xs)))
+    ap (λ s. cond (eqb x.client client && not s) (retimed clock x ∷ rule.waiting_of client (map (retimed clock) xs))
+    (rule.waiting_of client (map (retimed clock) xs)))
     (some_retimed clock x)
     ∙ by (eqb x.client client && not (is_some x.answer)) (waiting_retimed clock client xs)
   where
@@ -353,7 +354,8 @@ keeps_rules key earlier [] t tells r k = subst (λ l. rule.IsTimeline (restricte
 keeps_rules key earlier (next ∷ notes) t tells r k =
     subst (λ l. rule.IsTimeline (restricted key l)) (append_assoc earlier (next ∷ []) notes)
     (keeps_rules key (earlier ++ next ∷ []) notes (keep_more [] earlier next t k.0) (more next k.0)
-    (subst rule.IsTimeline (sym (restricted_more (λ client. false) key earlier next)) (one (is_on_key (waits_on (λ client. false) key earlier) key next) refl)) k.1)
+    (subst rule.IsTimeline (sym (restricted_more (λ client. false) key earlier next))
+    (one (is_on_key (waits_on (λ client. false) key earlier) key next) refl)) k.1)
   where
     told : List Operation
     told = operations_of earlier

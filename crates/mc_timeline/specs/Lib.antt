@@ -2,6 +2,8 @@
 pub use Rattle.mc_claims.specs.Explains
 pub use Rattle.mc_claims.specs.Replay
 pub use Rattle.mc_history.specs.Distinct
+pub use Rattle.mc_history.specs.HistoryText
+pub use Rattle.mc_history.specs.PrintedHistory
 pub use Rattle.mc_model.specs.Contents
 pub use Rattle.mc_model.specs.History
 pub mod Members
@@ -9,8 +11,10 @@ pub mod Operations
 pub mod Timelines
 pub mod Explanations
 pub mod Rules
+pub mod TimelineText
 pub mod Laws
 pub mod Walks
 pub mod Queues
 -- What private contracts cite.
 pub mod RuleState
+pub mod PrintedNotes

@@ -10,6 +10,7 @@ mod builder;
 mod key_state;
 mod laws;
 mod limits;
+mod print;
 mod timeline;
 mod words;
 
@@ -20,4 +21,5 @@ pub use laws::{
     timelines_are_walked,
 };
 pub use limits::{CLIENTS_LIMIT, OPERATIONS_LIMIT, TIMELINE_KEYS_LIMIT};
+pub use print::print_timeline;
 pub use timeline::Timeline;

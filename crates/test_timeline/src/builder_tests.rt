@@ -1,42 +1,10 @@
 //! Timelines that are made note by note, and the first rule that a note breaks.
+use crate::notes::{Broken, Line, push_all};
 use mc_model::HistoryKind::{NotCleared, Order, TooMany, UnseenNumber, WrongReply};
-use mc_model::{HistoryKind, Note, WordsFault, read_reply_words, read_request_words};
-use mc_protocol::{Separator, words_in};
+use mc_model::WordsFault;
 use mc_timeline::{Timeline, TimelineBuilder};
 use std::alloc::Global;
 use std::test::Fail;
-
-/// A note: the client, whether its request begins, and the words of the request or of the reply.
-type Line = (u8, bool, &'static str);
-
-/// The place of the first note that breaks a rule, counted from 0, and the rule.
-type Broken = Option<(usize, HistoryKind)>;
-
-fn note(alloc: Global, begins: bool, text: &str) -> Result<Note, WordsFault> {
-    let words = words_in(alloc, Separator::Space, text.as_bytes())?;
-    Ok(if begins {
-        Note::Begin(read_request_words(alloc, words.as_slice())?)
-    } else {
-        Note::Reply(read_reply_words(alloc, words.as_slice())?)
-    })
-}
-
-/// Adds the notes up to the first that breaks a rule.
-fn push_all(
-    alloc: Global,
-    builder: &mut TimelineBuilder,
-    lines: &[Line],
-) -> Result<Broken, WordsFault> {
-    for (place, (client, begins, text)) in lines.iter().enumerate() {
-        let note = note(alloc, *begins, text)?;
-        match builder.push(alloc, *client, note) {
-            Ok(()) => {}
-            Err(HistoryKind::OutOfMemory) => return Err(WordsFault::out_of_memory()),
-            Err(kind) => return Ok(Some((place, kind))),
-        }
-    }
-    Ok(None)
-}
 
 /// Notes, and the first that breaks a rule.
 static ROWS: &[(&[Line], Broken)] = &[

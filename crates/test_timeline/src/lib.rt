@@ -4,3 +4,7 @@
 
 #[cfg(test)]
 mod builder_tests;
+#[cfg(test)]
+mod notes;
+#[cfg(test)]
+mod print_tests;
