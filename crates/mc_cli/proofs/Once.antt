@@ -5,7 +5,6 @@ use Rattle.clap.specs.Words.{Text}
 use Rattle.mc_protocol.specs.Decimals.{MAX_64}
 use Rattle.mc_cli.specs.Args.{AreJobs, GREATEST_JOBS, IsPlan, IsRepeat, IsSearch, IsService, IsUntil, MayBeName, count, jobs_from, number}
 use Rattle.mc_cli.specs.Kinds.{IsValue, MayBeValue, reads}
-use Rattle.mc_cli.specs.Line.{is_set}
 use Rattle.mc_cli.specs.declared.args.Plan.{Plan}
 use Rattle.mc_cli.specs.declared.args.Repeat.{Repeat}
 use Rattle.mc_cli.specs.declared.args.Search.{Search}
@@ -38,11 +37,6 @@ maybe_once k (Some word) None other is also = absurd is
 maybe_once k (Some word) (Some n) None is also = absurd also
 maybe_once k (Some word) (Some n) (Some m) is also = ap Some (read_once k word n m is also)
 
--- there is no word where nothing is read
-pub no_word : (k : Kind) (word : Option (List ℕ)) → MayBeValue k word None → word ≡ None
-no_word k None is = refl
-no_word k (Some word) is = absurd is
-
 -- two words bound nothing if there are none
 no_bounds : (k l : Kind) (word other : Option (List ℕ)) (n m : Option ℕ) → word ≡ None → other ≡ None → MayBeValue k word n
     → MayBeValue l other m → (is_some n || is_some m) ≡ true → ⊥
@@ -73,12 +67,6 @@ repeat_once value (Some one) (Some other) is also =
     ∙ (ap (λ n. record other { time = n; keep_going = one.keep_going }) (maybe_once kind.Time _ one.time other.time is.1 also.1)
     ∙ ap (λ b. record other { keep_going = b }) (is.3 ∙ sym also.3)))
 
--- a script that `--keep-going` stands alone for is run not even once
-pub alone : (value : Text → Option Text) (repeat : Option Repeat) → value (codes "times") ≡ None → value (codes "for") ≡ None
-    → is_set (value (codes "keep-going")) ≡ true → IsRepeat value repeat → ⊥
-alone value None times time set is = false≢true (sym is.2 ∙ set)
-alone value (Some repeat) times time set is = no_bounds (count 1000000) kind.Time _ _ repeat.times repeat.time times time is.0 is.1 is.2
-
 pub until_once : (value : Text → Option Text) (one other : Option Until) → IsUntil value one → IsUntil value other → one ≡ other
 until_once value None None is also = refl
 until_once value None (Some other) is also =
@@ -88,15 +76,6 @@ until_once value (Some one) None is also =
 until_once value (Some one) (Some other) is also =
     ap Some (ap (λ n. record one { time = n }) (maybe_once kind.Time _ one.time other.time is.0 also.0)
     ∙ ap (λ n. record other { unexplained = n }) (maybe_once (count 10000) _ one.unexplained other.unexplained is.1 also.1))
-
--- where a time stands beside a number of jobs, nothing is said
-pub beside : (value : Text → Option Text) (time : Option ℕ) (until : Option Until) → MayBeValue kind.Time (value (codes "for")) time
-    → is_some time ≡ true → is_some (value (codes "jobs")) ≡ true → IsUntil value until → ⊥
-beside value time None is_time some jobs is =
-    false≢true (ap is_some (sym (maybe_once kind.Time _ time None is_time (rw is.0 refl))) ∙ some)
-beside value time (Some until) is_time some jobs is =
-    let same_time = maybe_once kind.Time _ time until.time is_time is.0 in
-    false≢true (ap is_some (sym (is.3 (ap is_some (sym same_time) ∙ some))) ∙ jobs)
 
 pub jobs_once : (time word : Option (List ℕ)) (first same_first one other : ℕ) → first ≡ same_first
     → AreJobs time word first one → AreJobs time word same_first other → one ≡ other

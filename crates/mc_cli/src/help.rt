@@ -47,7 +47,7 @@ pub struct Help {
 
 /// The exit statuses of all subcommands in a line, and where to read on.
 pub const SHORT_STATUSES: &str =
-    "Exit status: 0 all is right, 1 the server has a fault, 2 the command line is wrong,
+    "Exit status: 0 all is right, 1 the server has a fault, 2 wrong command line,
 3 the input is refused, 4 otherwise.
 Read on: mcrace help COMMAND, or mcrace help formats";
 

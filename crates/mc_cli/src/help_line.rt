@@ -15,12 +15,17 @@ impl Row {
     pub fn help_text(&self, alloc: Global) -> Result<String, AllocError> {
         let help = self.help;
         match self.kind {
-            Kind::Number(least, greatest) => match self.default {
-                Some(default) => {
-                    format!(in alloc; "{help}, {least} to {greatest} [default: {default}]")
+            Kind::Number(least, greatest) => {
+                let range = if greatest == u64::MAX {
+                    format!(in alloc; "{least} to 2^64-1")?
+                } else {
+                    format!(in alloc; "{least} to {greatest}")?
+                };
+                match self.default {
+                    Some(default) => format!(in alloc; "{help}, {range} [default: {default}]"),
+                    None => format!(in alloc; "{help}, {range}"),
                 }
-                None => format!(in alloc; "{help}, {least} to {greatest}"),
-            },
+            }
             Kind::Seconds => format!(in alloc; "{help}, 0.001 to 86400"),
             Kind::Time => format!(in alloc; "{help}: 90s, 10m or 2h, at most 24h"),
             Kind::Meeting => format!(in alloc; "{help}: {} [default: drawn]", self.kind),

@@ -45,7 +45,7 @@ pub const MEET: Row = Row {
     kind: Kind::Meeting,
     default: None,
     place: Place::Rare,
-    help: "When the branches wait for each other",
+    help: "When the branches meet",
 };
 
 pub const SERVER_OF_A: Row = Row {
@@ -81,7 +81,7 @@ pub const TIMEOUT: Row = Row {
     kind: Kind::Seconds,
     default: None,
     place: Place::Daily,
-    help: "The most that a connect, a read or a write may take",
+    help: "Limit of a connect, a read or a write",
 };
 
 pub const WAIT: Row = Row {
@@ -108,7 +108,7 @@ pub const FOR: Row = Row {
     kind: Kind::Time,
     default: None,
     place: Place::Daily,
-    help: "Run it again for this long",
+    help: "Repeat it for this long",
 };
 
 pub const KEEP_GOING: Row = Row {
@@ -144,7 +144,7 @@ pub const SPREAD: Row = Row {
     kind: Kind::Number(0, 10_000),
     default: None,
     place: Place::Rare,
-    help: "Maximum delay of a branch [default: 0, or 64 for several runs]",
+    help: "Maximum delay of a branch [default: 0 or 64]",
 };
 
 pub const STATS: Row = Row {
@@ -279,7 +279,7 @@ pub const FOR_OF_CAMPAIGN: Row = Row {
     kind: Kind::Time,
     default: None,
     place: Place::Daily,
-    help: "Begin blocks of jobs for this long",
+    help: "Start jobs for this long",
 };
 
 pub const STOP_AFTER: Row = Row {

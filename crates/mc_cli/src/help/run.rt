@@ -4,7 +4,7 @@ use crate::help::Help;
 pub const RUN: Help = Help {
     name: "run",
     usage: "mcrace run HOST:PORT [OPTIONS] < FILE",
-    about: "Runs the script on standard input against a server, and looks for a race",
+    about: "Runs a script against a server, and looks for a race",
     long_about: "Runs the script on standard input against a server that speaks memcached's text
 protocol, over three connections, and answers whether one cache can have given
 every reply, whichever of A and B was faster. `mcrace help script` describes
