@@ -17,5 +17,13 @@ pub(crate) fn fault_of(refusal: &Refusal) -> Fault {
 }
 
 pub(crate) fn answer_to(alloc: Global, image: &[u8]) -> Result<Answer, ImageFault> {
-    Ok(verify(alloc, decode(alloc, image)?))
+    Ok(verified(alloc, decode(alloc, image)?))
+}
+
+/// What `verify` answers. If it finds no memory, the code that it hands back is verified once more.
+fn verified(alloc: Global, code: Code) -> Answer {
+    match verify(alloc, code) {
+        Err((refusal, code)) if refusal.kind == RefusalKind::OutOfMemory => verify(alloc, code),
+        answer => answer,
+    }
 }
