@@ -2,6 +2,7 @@
 ghost use Rattle.std.specs.Prelude.{IfOk};
 ghost use Rattle.mc_protocol.specs.declared.actor.Actor.{Actor as Section};
 ghost use Rattle.mc_protocol.specs.Sections.{section_of};
+ghost use Rattle.mc_code.specs.Code.{IsCode};
 ghost use Rattle.mc_flow.specs.CostTables.{AreCostTables};
 ghost use Rattle.mc_flow.specs.FlagTables.{AreFlagTables};
 ghost use Rattle.mc_flow.specs.RunKinds.{AreKindTables};
@@ -84,7 +85,8 @@ fn flag_tables(alloc: Global, code: &Code) -> Result<FlagTables, OutOfMemory>
 
 fn cost_tables(alloc: Global, code: &Code) -> Result<CostTables, OutOfMemory>
     requires { (actor : Section) → IsStructured code.now actor }
-    ensures { IfOk result (AreCostTables code.now) }
+    ensures exact { IfOk result (AreCostTables code.now) }
+    ensures kept { IsCode code.now }
 {
     match CostTables::new(alloc, code) {
         Err(AllocError) => CostTables::new(alloc, code),
