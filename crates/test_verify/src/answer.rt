@@ -23,7 +23,15 @@ pub(crate) fn answer_to(alloc: Global, image: &[u8]) -> Result<Answer, ImageFaul
 /// What `verify` answers. If it finds no memory, the code that it hands back is verified once more.
 fn verified(alloc: Global, code: Code) -> Answer {
     match verify(alloc, code) {
-        Err((refusal, code)) if refusal.kind == RefusalKind::OutOfMemory => verify(alloc, code),
-        answer => answer,
+        Ok(checked) => Ok(checked),
+        Err((refusal, code)) => refused_or_verified(alloc, refusal, code),
+    }
+}
+
+fn refused_or_verified(alloc: Global, refusal: Refusal, code: Code) -> Answer {
+    if refusal.kind == RefusalKind::OutOfMemory {
+        verify(alloc, code)
+    } else {
+        Err((refusal, code))
     }
 }
