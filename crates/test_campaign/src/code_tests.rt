@@ -1,28 +1,21 @@
 //! The code of generated scripts.
 
+use crate::memory::again;
 use crate::texts::text_of;
 use itoa::Buffer;
-use mc_campaign::{GenFault, generate};
+use mc_campaign::generate;
 use mc_code::{Code, assemble};
 use mc_protocol::{Actor, OutOfMemory, append_all};
 use mc_script::parse;
-use mc_verify::{Checked, RefusalKind, verify};
+use mc_verify::{RefusalKind, verify};
 use std::alloc::Global;
 use std::test::Fail;
 
 // One job: few enough allocations that each of them can be refused.
 #[test]
 fn code_of_one_job_may_run(rt: HostRuntime) -> Result<(), Fail> {
-    generate_again(rt.alloc(), 1, 0)?;
+    again(|| generate(rt.alloc(), 1, 0))?;
     Ok(())
-}
-
-// The code of a job. A call that finds no memory is made once more.
-fn generate_again(alloc: Global, seed: u64, job: u64) -> Result<Checked, GenFault> {
-    match generate(alloc, seed, job) {
-        Err(GenFault::OutOfMemory) => generate(alloc, seed, job),
-        found => found,
-    }
 }
 
 #[test]

@@ -3,9 +3,11 @@
 ghost use Rattle.std.specs.Prelude.{◌≤◌};
 
 use crate::connectors::Stores;
+use crate::memory::again;
 use crate::store_runs::collected_text;
 use crate::watching::Seen;
 use mc_campaign::{Campaign, Meeting};
+use mc_protocol::OutOfMemory;
 use mc_server::Shared;
 use std::alloc::Global;
 use std::sync::Wait;
@@ -57,13 +59,13 @@ struct Collected {
     told: Vec<u64>,
 }
 
-/// What comes of a collector of the campaign's first jobs after these messages. Where memory ran out in a job, that is an error.
+/// What comes of a collector of the campaign's first jobs after these messages. Where memory ran out, in a job too, that is an error.
 fn collect<R: Threads + Wait + Sync>(
     rt: &R,
     alloc: Global,
     jobs: u64,
     messages: &[(u64, u64)],
-) -> Result<Collected, Fail>
+) -> Result<Collected, OutOfMemory>
     requires { jobs ≤ 3 }
 {
     let store = Shared::new(alloc)?;
@@ -96,10 +98,10 @@ fn each_job_stands_in_the_report_once(rt: HostRuntime) -> Result<(), Fail> {
     Ok(())
 }
 
-// One job: few enough allocations that each of them can be refused.
+// One job: few enough allocations that each of them can be refused. To finish a collector consumes it, so all is made anew after that.
 #[test]
 fn runs_the_job_whose_message_is_lost(rt: HostRuntime) -> Result<(), Fail> {
-    let collected = collect(&rt, rt.alloc(), 1, &[])?;
+    let collected = again(|| collect(&rt, rt.alloc(), 1, &[]))?;
     assert_eq!(rt;
         collected.text.as_slice(),
         b"0 explained\njobs 1 explained 1 unexplained 0 other 0\n".as_slice()

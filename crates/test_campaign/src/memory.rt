@@ -1,11 +1,52 @@
-//! Campaigns in which memory ran out.
+//! Calls that find no memory, and campaigns in which it ran out.
 
-use mc_campaign::{JobFault, JobOutcome, Report};
+use mc_campaign::{CampaignError, GenFault, JobFault, JobOutcome, PutFault, Report};
 use mc_core::Ending;
 use mc_lane::Stream;
-use mc_protocol::{Actor, Fault};
+use mc_protocol::{Actor, Fault, OutOfMemory};
 use mc_run::{Run, RunError};
 use std::alloc::AllocError;
+
+/// Why a call failed.
+pub(crate) trait Failure {
+    /// Whether it found no memory.
+    fn lacks_memory(&self) -> bool;
+}
+
+impl Failure for OutOfMemory {
+    fn lacks_memory(&self) -> bool {
+        true
+    }
+}
+
+impl Failure for GenFault {
+    fn lacks_memory(&self) -> bool {
+        *self == GenFault::OutOfMemory
+    }
+}
+
+impl Failure for PutFault {
+    fn lacks_memory(&self) -> bool {
+        *self == PutFault::OutOfMemory
+    }
+}
+
+/// A thread that can't be made has found no memory: nothing else fails here.
+impl Failure for CampaignError {
+    fn lacks_memory(&self) -> bool {
+        true
+    }
+}
+
+/// What the call answers. A call that finds no memory is made once more.
+pub(crate) fn again<T, E: Failure + Drop, F: FnMut() -> Result<T, E>>(mut call: F) -> Result<T, E>
+    requires { F.IsAlwaysCallable call }
+{
+    match call() {
+        Err(failure) if failure.lacks_memory() => call(),
+        found => found,
+    }
+}
 
 /// An error where memory ran out in a job, or where there was none for a thread of it.
 pub(crate) fn has_memory<S: Stream>(report: &Report<S>) -> Result<(), AllocError> {

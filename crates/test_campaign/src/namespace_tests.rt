@@ -1,5 +1,6 @@
 //! Code under a name.
 
+use crate::memory::again;
 use mc_campaign::{Namespace, PutFault, put_under};
 use mc_code::{Code, assemble, encode};
 use mc_protocol::Actor;
@@ -184,18 +185,10 @@ fn code_of(alloc: Global, text: &str) -> Result<Code, Fail> {
     Ok(assemble(alloc, &script)?)
 }
 
-// The code under the name. A call that finds no memory is made once more.
-fn put_again(alloc: Global, code: &Code, name: &Namespace<'_>) -> Result<Code, PutFault> {
-    match put_under(alloc, code, name) {
-        Err(PutFault::OutOfMemory) => put_under(alloc, code, name),
-        under => under,
-    }
-}
-
 fn code_under(alloc: Global, text: &str, name: &str) -> Result<Code, Fail> {
     let name = named(name)?;
     let code = code_of(alloc, text)?;
-    Ok(put_again(alloc, &code, &name)?)
+    Ok(again(|| put_under(alloc, &code, &name))?)
 }
 
 fn image_of(alloc: Global, text: &str) -> Result<Vec<u8>, Fail> {

@@ -3,10 +3,10 @@
 ghost use Rattle.std.specs.Prelude.{◌≡◌, ◌≤◌, ◌+◌, ◌^◌};
 
 use crate::connectors::Stores;
-use crate::memory::has_memory;
+use crate::memory::{again, has_memory};
 use crate::store_runs::{text_and_status, text_and_status_of};
 use crate::store_stream::StoreStream;
-use mc_campaign::{Campaign, Meeting, Report, print_brief_report, run_campaign};
+use mc_campaign::{Campaign, CampaignError, Meeting, Report, print_brief_report, run_campaign};
 use mc_lane::Wire;
 use mc_protocol::Actor;
 use mc_run::FreeGate;
@@ -21,7 +21,7 @@ const LIMIT: u64 = 1_000_000;
 
 #[test]
 fn tells_what_each_job_came_to(rt: HostRuntime) -> Result<(), Fail> {
-    let (text, status) = told_of_faults(&rt, rt.alloc())?;
+    let (text, status) = again(|| told_of_faults(&rt, rt.alloc()))?;
     assert_eq!(rt;
         text.as_slice(),
         b"report\n0 explained\n1 no connection A\n2 explained P ErrorLine\n\
@@ -33,7 +33,10 @@ fn tells_what_each_job_came_to(rt: HostRuntime) -> Result<(), Fail> {
 }
 
 /// The text and the status of a report on three jobs, where A of the second gets no connection and P of the third is refused.
-fn told_of_faults<R: Threads + Wait + Sync>(rt: &R, alloc: Global) -> Result<(Vec<u8>, u8), Fail> {
+fn told_of_faults<R: Threads + Wait + Sync>(
+    rt: &R,
+    alloc: Global,
+) -> Result<(Vec<u8>, u8), CampaignError> {
     let store = Shared::new(alloc)?;
     let connector = faulty_stores(rt, alloc, &store);
     told_over(rt, alloc, &connector)
@@ -43,9 +46,9 @@ fn told_over<R: Threads + Wait + Sync>(
     rt: &R,
     alloc: Global,
     connector: &Stores<'_, R>,
-) -> Result<(Vec<u8>, u8), Fail> {
+) -> Result<(Vec<u8>, u8), CampaignError> {
     let report = run_campaign(rt, alloc, 1, 3, 2, LIMIT, connector, &FreeGate)?;
-    text_and_status_of(alloc, &report)
+    Ok(text_and_status_of(alloc, &report)?)
 }
 
 /// Connects all sections but A of job 1, and refuses what P of job 2 asks.
@@ -86,7 +89,7 @@ fn brief_report_leaves_out_what_is_right(rt: HostRuntime) -> Result<(), Fail> {
 // Two jobs: few enough allocations that each of them can be refused.
 #[test]
 fn brief_report_leaves_out_one_job(rt: HostRuntime) -> Result<(), Fail> {
-    let text = brief_text(&rt, rt.alloc(), 2)?;
+    let text = again(|| brief_text(&rt, rt.alloc(), 2))?;
     assert_eq!(rt;
         text.as_slice(),
         b"1 no connection A\njobs 2 explained 1 unexplained 0 other 1\n".as_slice()
@@ -95,7 +98,11 @@ fn brief_report_leaves_out_one_job(rt: HostRuntime) -> Result<(), Fail> {
 }
 
 /// The text of a brief report on so many jobs, where A of the second gets no connection.
-fn brief_text<R: Threads + Wait + Sync>(rt: &R, alloc: Global, jobs: u64) -> Result<Vec<u8>, Fail>
+fn brief_text<R: Threads + Wait + Sync>(
+    rt: &R,
+    alloc: Global,
+    jobs: u64,
+) -> Result<Vec<u8>, CampaignError>
     requires { jobs ≤ 10000 }
 {
     let store = Shared::new(alloc)?;
@@ -111,7 +118,7 @@ fn brief_text_over<R: Threads + Wait + Sync>(
     alloc: Global,
     connector: &Stores<'_, R>,
     jobs: u64,
-) -> Result<Vec<u8>, Fail>
+) -> Result<Vec<u8>, CampaignError>
     requires { jobs ≤ 10000 }
 {
     let report = run_campaign(rt, alloc, 1, jobs, 0, LIMIT, connector, &FreeGate)?;
@@ -124,7 +131,7 @@ fn brief_text_of<R: Wait>(
 ) -> Result<Vec<u8>, AllocError> {
     has_memory(report)?;
     let mut text = Vec::new(alloc);
-    print_brief_report(report, &mut text)?;
+    again(|| print_brief_report(report, &mut text))?;
     Ok(text)
 }
 
@@ -152,7 +159,7 @@ fn comes_to<R: Threads + Wait + Sync>(
     campaign: Campaign<'_>,
     workers: u32,
     expected: &[u8],
-) -> Result<bool, Fail>
+) -> Result<bool, CampaignError>
     requires jobs { campaign.jobs ≤ 10000 }
     requires last { campaign.first + campaign.jobs ≤ 2 ^ 64 }
     requires workers { workers ≤ 16 }
@@ -179,7 +186,7 @@ fn comes_to_by_any<R: Threads + Wait + Sync>(
     alloc: Global,
     campaign: Campaign<'_>,
     expected: &[u8],
-) -> Result<bool, Fail>
+) -> Result<bool, CampaignError>
     requires jobs { campaign.jobs ≤ 10000 }
     requires last { campaign.first + campaign.jobs ≤ 2 ^ 64 }
 {
@@ -228,7 +235,7 @@ fn jobs_are_run_by_any_number_of_workers(rt: HostRuntime) -> Result<(), Fail> {
 #[test]
 fn one_job_is_run_by_one_worker(rt: HostRuntime) -> Result<(), Fail> {
     let expected = b"report\n8 explained\njobs 1 explained 1 unexplained 0 other 0\n".as_slice();
-    assert!(rt; comes_to(&rt, rt.alloc(), campaign(8, 1), 1, expected)?);
+    assert!(rt; again(|| comes_to(&rt, rt.alloc(), campaign(8, 1), 1, expected))?);
     Ok(())
 }
 

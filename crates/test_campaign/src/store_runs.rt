@@ -3,20 +3,19 @@
 ghost use Rattle.std.specs.Prelude.{◌≤◌, ◌+◌, ◌^◌};
 
 use crate::connectors::Stores;
-use crate::memory::has_memory;
+use crate::memory::{again, has_memory};
 use crate::store_stream::StoreStream;
 use crate::texts::report_text;
 use crate::watching::Seen;
 use mc_campaign::{
-    Campaign, Collector, JobMessage, JobOutcome, Namespace, Report, Unwatched, print_report,
-    report_status, run_jobs,
+    Campaign, CampaignError, Collector, JobMessage, JobOutcome, Namespace, Report, Unwatched,
+    print_report, report_status, run_jobs,
 };
 use mc_lane::{Stream, Wire};
 use mc_protocol::OutOfMemory;
 use mc_run::FreeGate;
 use std::alloc::Global;
 use std::sync::Wait;
-use std::test::Fail;
 use std::thread::Threads;
 
 /// What stands before the text of a report.
@@ -67,7 +66,7 @@ pub(crate) fn text_and_status<R: Threads + Wait + Sync>(
     connector: &Stores<'_, R>,
     campaign: Campaign<'_>,
     workers: u32,
-) -> Result<(Vec<u8>, u8), Fail>
+) -> Result<(Vec<u8>, u8), CampaignError>
     requires jobs { campaign.jobs ≤ 10000 }
     requires last { campaign.first + campaign.jobs ≤ 2 ^ 64 }
     requires workers { workers ≤ 16 }
@@ -81,18 +80,16 @@ pub(crate) fn text_and_status<R: Threads + Wait + Sync>(
         &FreeGate,
         &mut Unwatched,
     )?;
-    text_and_status_of(alloc, &report)
+    Ok(text_and_status_of(alloc, &report)?)
 }
 
 /// The same of a report.
 pub(crate) fn text_and_status_of<S: Stream>(
     alloc: Global,
     report: &Report<S>,
-) -> Result<(Vec<u8>, u8), Fail> {
+) -> Result<(Vec<u8>, u8), OutOfMemory> {
     has_memory(report)?;
     let mut text = Vec::from_slice(alloc, FRONT)?;
-    match print_report(report, &mut text) {
-        Err(fault) if text.as_slice() == FRONT => Err(Fail::from(fault)),
-        _ => Ok((text, report_status(report))),
-    }
+    again(|| print_report(report, &mut text))?;
+    Ok((text, report_status(report)))
 }

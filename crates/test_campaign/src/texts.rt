@@ -1,18 +1,15 @@
 //! The texts of generated scripts and of reports.
 
-use crate::memory::has_memory;
+use crate::memory::{again, has_memory};
 use mc_campaign::{Report, generate_script, print_report};
 use mc_lane::Stream;
 use mc_protocol::OutOfMemory;
 use mc_script::print;
-use std::alloc::{AllocError, Global};
+use std::alloc::Global;
 
-/// The text of a job's script. A call that finds no memory is made once more.
+/// The text of a job's script.
 pub(crate) fn text_of(alloc: Global, seed: u64, job: u64) -> Result<Vec<u8>, OutOfMemory> {
-    let script = match generate_script(alloc, seed, job) {
-        Err(AllocError) => generate_script(alloc, seed, job)?,
-        Ok(script) => script,
-    };
+    let script = again(|| generate_script(alloc, seed, job))?;
     let mut text = Vec::new(alloc);
     print(alloc, &script, &mut text)?;
     Ok(text)

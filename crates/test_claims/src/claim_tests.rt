@@ -1,5 +1,6 @@
 //! Claims that are made by hand, among them one that no text states.
 
+use crate::memory::again;
 use mc_claims::confirms;
 use mc_history::{Explanation, Move, parse_history};
 use mc_model::{Choice, History};
@@ -80,5 +81,5 @@ fn first_other_of(alloc: Global, history: &History) -> Result<Option<usize>, Fai
 
 fn is_confirmed(alloc: Global, history: &History, held: Held) -> Result<bool, OutOfMemory> {
     let explanation = claim(alloc, held)?;
-    confirms(alloc, history, &explanation)
+    again(|| confirms(alloc, history, &explanation))
 }

@@ -5,3 +5,5 @@
 
 #[cfg(test)]
 mod claim_tests;
+#[cfg(test)]
+mod memory;

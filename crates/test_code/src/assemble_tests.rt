@@ -1,6 +1,7 @@
 //! `assemble`: the parts of a script's code, and why a script has none.
 
 use crate::images::{COUNTER_IMAGE, LAST_FLAG_IMAGE, image_after, is_image_of};
+use crate::memory::again;
 use crate::parts::{COUNTER, Parts, has_parts};
 use mc_code::{AsmFault, Code, assemble};
 use mc_protocol::{Actor, OutOfMemory};
@@ -127,7 +128,7 @@ fn code_of(alloc: Global, text: &[u8]) -> Result<Code, Fail> {
 }
 
 fn assembled(alloc: Global, script: &Script) -> Result<Code, Fail> {
-    Ok(assemble(alloc, script)?)
+    Ok(again(|| assemble(alloc, script))?)
 }
 
 // Whether the image of the text's script stands after the bytes that were there first.

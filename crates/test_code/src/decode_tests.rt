@@ -4,6 +4,7 @@ use crate::images::{
     COUNTER_IMAGE, COUNTER_IMAGE_2, EVERYTHING_IMAGE, LAST_FLAG_IMAGE, LONGEST_BODY, image_after,
     is_image_of, with_changes,
 };
+use crate::memory::again;
 use crate::parts::{COUNTER, EVERYTHING, LAST_FLAG, Parts, has_parts};
 use mc_code::{Call, Code, ImageFault, ImageKind, decode};
 use mc_protocol::{Request, Verb};
@@ -24,7 +25,7 @@ fn reads_two_images(rt: HostRuntime) -> Result<(), Fail> {
 }
 
 fn is_code_of(alloc: Global, image: &[u8], parts: &Parts) -> Result<bool, ImageFault> {
-    let code = decode(alloc, image)?;
+    let code = again(|| decode(alloc, image))?;
     Ok(has_parts(&code, parts))
 }
 
@@ -49,7 +50,7 @@ fn is_read_as(
     parts: &Parts,
     written: &[u8],
 ) -> Result<bool, ImageFault> {
-    let code = decode(alloc, image)?;
+    let code = again(|| decode(alloc, image))?;
     is_written_with(alloc, &code, parts, written)
 }
 
@@ -208,7 +209,7 @@ fn makes_requests(rt: HostRuntime) -> Result<(), Fail> {
 }
 
 fn is_made(alloc: Global, made: &Made) -> Result<bool, Fail> {
-    let code = decode(alloc, EVERYTHING_IMAGE)?;
+    let code = again(|| decode(alloc, EVERYTHING_IMAGE))?;
     makes(alloc, &code, made)
 }
 
@@ -216,7 +217,7 @@ fn makes(alloc: Global, code: &Code, made: &Made) -> Result<bool, Fail> {
     if usize::from(made.call.template) >= code.templates().len() {
         return Ok(false);
     }
-    let request = code.request(alloc, made.call)?;
+    let request = again(|| code.request(alloc, made.call))?;
     Ok(is_request(&request, made))
 }
 

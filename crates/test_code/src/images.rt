@@ -1,5 +1,6 @@
 //! Images that were written by hand, and images that are written by `encode`.
 
+use crate::memory::again;
 use crate::parts::are_equal;
 use mc_code::{Code, ImageFault, decode, encode};
 use mc_protocol::OutOfMemory;
@@ -111,17 +112,15 @@ pub(crate) static EVERYTHING_IMAGE: &[u8] = b"MCR1\x02\x01a\x03b-1\
 pub(crate) const LONGEST_BODY: &[u8] =
     b"0123456789abcdefghijklmnopqrstuvwxyzABCDEFGHIJKLMNOPQRSTUVWXYZ01";
 
-/// What stands there first, and the image that is appended to it. Without memory nothing is.
+/// What stands there first, and the image that is appended to it.
 pub(crate) fn image_after(
     alloc: Global,
     front: &[u8],
     code: &Code,
 ) -> Result<Vec<u8>, OutOfMemory> {
     let mut out = Vec::from_slice(alloc, front)?;
-    match encode(code, &mut out) {
-        Err(fault) if out.as_slice() == front => Err(fault),
-        _ => Ok(out),
-    }
+    again(|| encode(code, &mut out))?;
+    Ok(out)
 }
 
 /// The image with these values at these offsets.

@@ -12,6 +12,8 @@ mod fault_tests;
 #[cfg(test)]
 mod images;
 #[cfg(test)]
+mod memory;
+#[cfg(test)]
 mod parts;
 #[cfg(test)]
 mod step_tests;

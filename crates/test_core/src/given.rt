@@ -8,7 +8,7 @@ use mc_core::{Ending, Event, World, drive};
 use mc_protocol::{Actor, Fault, OutOfMemory, Reply};
 use mc_script::parse;
 use mc_verify::{Checked, verify};
-use std::alloc::Global;
+use std::alloc::{AllocError, Global};
 use std::test::Fail;
 
 /// An event of a table.
@@ -47,7 +47,8 @@ fn events(alloc: Global, steps: &[Step]) -> Result<Vec<(Actor, Event)>, OutOfMem
     Ok(events)
 }
 
-/// The world after the steps of a table, and how many of them it refused.
+/// The world after the steps of a table, and how many of them it refused. A call that finds no memory is made once more, with events
+/// that are made anew.
 pub(crate) fn driven(
     alloc: Global,
     code: &Checked,
@@ -55,7 +56,10 @@ pub(crate) fn driven(
 ) -> Result<(World, u64), OutOfMemory>
     ensures held { IfOk result (λ driven. IsHeldBy code.now.code driven.0) }
 {
-    drive(alloc, code, events(alloc, steps)?)
+    match drive(alloc, code, events(alloc, steps)?) {
+        Err(AllocError) => drive(alloc, code, events(alloc, steps)?),
+        driven => driven,
+    }
 }
 
 /// How P, A and B stand.

@@ -4,6 +4,7 @@ ghost use Rattle.mc_core.specs.Held.{IsHeldBy};
 
 use crate::given::Given::*;
 use crate::given::{Step, checked, driven, endings};
+use crate::memory::again;
 use crate::scripts::{COUNTER, LONE_BRANCH};
 use mc_core::{Ending, World};
 use mc_explain::{Verdict, judge, print_explanation};
@@ -145,7 +146,7 @@ fn is_met_in(alloc: Global, code: &Checked, row: &Row) -> Result<bool, OutOfMemo
 fn is_judged(alloc: Global, code: &Checked, world: &World, lines: &str) -> Result<bool, OutOfMemory>
     requires held { IsHeldBy code.now.code world.now }
 {
-    let history = world.history(alloc, code)?;
+    let history = again(|| world.history(alloc, code))?;
     let (verdict, _) = judge(alloc, &history, 1_000_000)?;
     is_printed(alloc, &verdict, lines)
 }

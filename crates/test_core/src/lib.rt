@@ -13,6 +13,8 @@ mod history_tests;
 #[cfg(test)]
 mod long_tests;
 #[cfg(test)]
+mod memory;
+#[cfg(test)]
 mod refusal_tests;
 #[cfg(test)]
 mod replay_tests;

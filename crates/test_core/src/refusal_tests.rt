@@ -1,5 +1,6 @@
 //! Which events are refused, and for what; and the call that a section may begin.
 
+ghost use Rattle.std.specs.Prelude.{IfOk};
 ghost use Rattle.mc_core.specs.Held.{IsHeldBy};
 
 use crate::given::Given::*;
@@ -10,7 +11,7 @@ use mc_core::{Event, StepRefusal, World};
 use mc_protocol::Actor::*;
 use mc_protocol::{Actor, Fault, OutOfMemory, Reply};
 use mc_verify::Checked;
-use std::alloc::Global;
+use std::alloc::{AllocError, Global};
 use std::test::Fail;
 
 /// The steps that lead to a world, an event, and what is against it: `None` where it is taken.
@@ -111,9 +112,19 @@ fn takes_and_refuses(rt: HostRuntime) -> Result<(), Fail> {
     Ok(())
 }
 
+/// A new world. A call that finds no memory is made once more.
+fn start(alloc: Global, code: &Checked) -> Result<World, OutOfMemory>
+    ensures held { IfOk result (λ world. IsHeldBy code.now.code world) }
+{
+    match World::start(alloc, code) {
+        Err(AllocError) => World::start(alloc, code),
+        world => world,
+    }
+}
+
 /// Whether a new world refuses an event, hands it back and notes nothing.
 fn is_handed_back(alloc: Global, code: &Checked) -> Result<bool, OutOfMemory> {
-    let mut world = World::start(alloc, code)?;
+    let mut world = start(alloc, code)?;
     Ok(hands_back(&mut world, code, 6) && world.notes().is_empty())
 }
 

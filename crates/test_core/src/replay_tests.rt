@@ -2,6 +2,7 @@
 
 use crate::given::Given::*;
 use crate::given::{Step, checked, driven};
+use crate::memory::again;
 use crate::scripts::{COUNTER, LONE_BRANCH};
 use mc_core::World;
 use mc_protocol::Actor::*;
@@ -93,12 +94,12 @@ fn replay_of(
     world: &World,
 ) -> Result<(bool, bool), OutOfMemory> {
     let in_its_own = replays_itself(alloc, code, world)?;
-    Ok((in_its_own, world.replay(alloc, other)?.is_some()))
+    Ok((in_its_own, again(|| world.replay(alloc, other))?.is_some()))
 }
 
 /// Whether the notes of the world lead to it once more.
 fn replays_itself(alloc: Global, code: &Checked, world: &World) -> Result<bool, OutOfMemory> {
-    match world.replay(alloc, code)? {
+    match again(|| world.replay(alloc, code))? {
         Some(replayed) => Ok(is_like(&replayed, world)),
         None => Ok(false),
     }

@@ -1,5 +1,6 @@
 //! What a search finds, and how many turns it takes.
 
+use crate::memory::again;
 use mc_explain::{Explanation, Verdict, judge, parse_history, print_explanation};
 use mc_model::History;
 use mc_protocol::OutOfMemory;
@@ -93,12 +94,12 @@ fn found(alloc: Global, requests: &str, limit: u64) -> Result<(Vec<u8>, u64), Fa
 }
 
 fn found_of_text(alloc: Global, text: &str, limit: u64) -> Result<(Vec<u8>, u64), Fail> {
-    let read = parse_history(alloc, text.as_bytes())?;
+    let read = again(|| parse_history(alloc, text.as_bytes()))?;
     Ok(found_of(alloc, &read.0, limit)?)
 }
 
 fn found_of(alloc: Global, history: &History, limit: u64) -> Result<(Vec<u8>, u64), OutOfMemory> {
-    let judged = judge(alloc, history, limit)?;
+    let judged = again(|| judge(alloc, history, limit))?;
     Ok((lines_of(alloc, &judged.0)?, judged.1))
 }
 

@@ -1,10 +1,16 @@
 //! The tables of one script's code, beside what was worked out by hand.
+ghost use Rattle.std.specs.Prelude.{IfOk};
 ghost use Rattle.mc_protocol.specs.declared.actor.Actor.{Actor as Section};
+ghost use Rattle.mc_protocol.specs.Sections.{section_of};
+ghost use Rattle.mc_code.specs.Code.{IsCode};
+ghost use Rattle.mc_flow.specs.CostTables.{AreCostTables};
+ghost use Rattle.mc_flow.specs.FlagTables.{AreFlagTables};
+ghost use Rattle.mc_flow.specs.RunKinds.{AreKindTables};
 ghost use Rattle.mc_flow.specs.Structure.{IsStructured};
 
 use mc_code::{Code, Kind, assemble};
-use mc_flow::{CostTables, all_flag_tables, all_kind_tables, kind_index};
-use mc_protocol::{Actor, OutOfMemory};
+use mc_flow::{CostTables, FlagTables, KindTables, all_flag_tables, all_kind_tables, kind_index};
+use mc_protocol::{Actor, OutOfMemory, Sections};
 use mc_script::parse;
 use mc_verify::{Checked, Refusal, RefusalKind, verify};
 use std::alloc::{AllocError, Global};
@@ -56,11 +62,43 @@ fn found_in(alloc: Global, code: &Code) -> Result<Found, OutOfMemory>
     Ok((kinds, [before, after], costs_of(alloc, code)?))
 }
 
+/// The tables of kinds. A call that finds no memory is made once more, as those of the other tables are.
+fn kind_tables(alloc: Global, code: &Code) -> Result<Sections<KindTables>, OutOfMemory>
+    requires { (actor : Section) → IsStructured code.now actor }
+    ensures { IfOk result (λ tables. (actor : Section) → AreKindTables code.now actor (section_of tables actor)) }
+{
+    match all_kind_tables(alloc, code) {
+        Err(AllocError) => all_kind_tables(alloc, code),
+        tables => tables,
+    }
+}
+
+fn flag_tables(alloc: Global, code: &Code) -> Result<FlagTables, OutOfMemory>
+    requires { (actor : Section) → IsStructured code.now actor }
+    ensures { IfOk result (AreFlagTables code.now) }
+{
+    match all_flag_tables(alloc, code) {
+        Err(AllocError) => all_flag_tables(alloc, code),
+        tables => tables,
+    }
+}
+
+fn cost_tables(alloc: Global, code: &Code) -> Result<CostTables, OutOfMemory>
+    requires { (actor : Section) → IsStructured code.now actor }
+    ensures exact { IfOk result (AreCostTables code.now) }
+    ensures kept { IsCode code.now }
+{
+    match CostTables::new(alloc, code) {
+        Err(AllocError) => CostTables::new(alloc, code),
+        tables => tables,
+    }
+}
+
 /// Whether the variable may have no number, and whether it may have the cas unique of the key, at the place of A.
 fn kinds_at(alloc: Global, code: &Code, place: usize) -> Result<Pair, OutOfMemory>
     requires { (actor : Section) → IsStructured code.now actor }
 {
-    let tables = all_kind_tables(alloc, code)?;
+    let tables = kind_tables(alloc, code)?;
     if code.vars() == 0 || place >= code.section(Actor::A).len() {
         return Ok(None);
     }
@@ -73,7 +111,7 @@ fn kinds_at(alloc: Global, code: &Code, place: usize) -> Result<Pair, OutOfMemor
 fn values_at(alloc: Global, code: &Code, actor: Actor, place: usize) -> Result<Pair, OutOfMemory>
     requires { (actor : Section) → IsStructured code.now actor }
 {
-    let tables = all_flag_tables(alloc, code)?;
+    let tables = flag_tables(alloc, code)?;
     if place >= code.section(actor).len() {
         return Ok(None);
     }
@@ -84,7 +122,7 @@ fn values_at(alloc: Global, code: &Code, actor: Actor, place: usize) -> Result<P
 fn costs_of(alloc: Global, code: &Code) -> Result<[(u32, u32); 3], OutOfMemory>
     requires { (actor : Section) → IsStructured code.now actor }
 {
-    let tables = CostTables::new(alloc, code)?;
+    let tables = cost_tables(alloc, code)?;
     let p = tables.greatest(code, Actor::P);
     let a = tables.greatest(code, Actor::A);
     let b = tables.greatest(code, Actor::B);

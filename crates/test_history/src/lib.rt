@@ -8,6 +8,8 @@
 #[cfg(test)]
 mod fault_tests;
 #[cfg(test)]
+mod memory;
+#[cfg(test)]
 mod steps_fault_tests;
 #[cfg(test)]
 mod steps_tests;

@@ -1,5 +1,6 @@
 //! Which texts are step lists.
 
+use crate::memory::again;
 use mc_history::{Event, StepsFault, parse_steps};
 use mc_model::print_reply_words;
 use mc_protocol::{Actor, Fault, OutOfMemory, Reply, append_all};
@@ -81,7 +82,7 @@ fn are_printed_as(alloc: Global, steps: &[(Actor, Event)], wanted: &str) -> Resu
 
 // Whether the text is the list of these steps, of which each is on a line.
 fn is_list_of(alloc: Global, text: &str, wanted: &str) -> Result<bool, Fail> {
-    let steps = parse_steps(alloc, text.as_bytes(), 1)?;
+    let steps = again(|| parse_steps(alloc, text.as_bytes(), 1))?;
     are_printed_as(alloc, steps.as_slice(), wanted)
 }
 

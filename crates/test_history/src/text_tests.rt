@@ -1,5 +1,6 @@
 //! The parts of what is read, and what is printed of it.
 
+use crate::memory::again;
 use mc_history::{
     Explanation, HistoryFault, Move, parse_history, print_explanation, print_history,
 };
@@ -37,7 +38,7 @@ fn is_text_printed_again(
     requests: &str,
     claim: &str,
 ) -> Result<bool, Fail> {
-    let read = parse_history(alloc, text.as_bytes())?;
+    let read = again(|| parse_history(alloc, text.as_bytes()))?;
     are_both_printed_as(alloc, &read, requests, claim)
 }
 
@@ -72,13 +73,11 @@ fn is_claim_printed_as(
     Ok(printed.as_slice() == wanted.as_bytes())
 }
 
-// What is there once the history is printed after a front. Without memory that is the front.
+// What is there once the history is printed after a front.
 fn history_after(alloc: Global, front: &[u8], history: &History) -> Result<Vec<u8>, OutOfMemory> {
     let mut text = Vec::from_slice(alloc, front)?;
-    match print_history(history, &mut text) {
-        Err(fault) if text.as_slice() == front => Err(fault),
-        _ => Ok(text),
-    }
+    again(|| print_history(history, &mut text))?;
+    Ok(text)
 }
 
 fn claim_after(
@@ -87,10 +86,8 @@ fn claim_after(
     explanation: &Explanation,
 ) -> Result<Vec<u8>, OutOfMemory> {
     let mut text = Vec::from_slice(alloc, front)?;
-    match print_explanation(explanation, &mut text) {
-        Err(fault) if text.as_slice() == front => Err(fault),
-        _ => Ok(text),
-    }
+    again(|| print_explanation(explanation, &mut text))?;
+    Ok(text)
 }
 
 #[test]
@@ -123,7 +120,7 @@ fn prints_what_was_noted(rt: HostRuntime) -> Result<(), Fail> {
 }
 
 fn noted_again(alloc: Global) -> Result<Vec<u8>, Fail> {
-    let read = parse_history(alloc, NOTED.as_bytes())?;
+    let read = again(|| parse_history(alloc, NOTED.as_bytes()))?;
     Ok(history_after(alloc, b"", &read.0)?)
 }
 

@@ -1,5 +1,6 @@
 //! What a lane answers and records over streams that are cut, fail or end, and when it closes.
 
+use crate::memory::again;
 use mc_lane::{Lane, MemoryStream};
 use mc_protocol::{Class, Fault, OutOfMemory, Verb};
 use mc_reader::Shape;
@@ -160,7 +161,11 @@ fn is_met(alloc: Global, row: &Row) -> Result<bool, OutOfMemory> {
     if row.failing_call == 0 {
         return Ok(false);
     }
-    let stream = MemoryStream::new(alloc, row.pieces, 64)?
+    let stream = match MemoryStream::new(alloc, row.pieces, 64) {
+        Err(AllocError) => MemoryStream::new(alloc, row.pieces, 64)?,
+        Ok(stream) => stream,
+    };
+    let stream = stream
         .with_longest_write(row.longest_write)
         .with_failure_at(row.failing_call);
     let mut lane = Lane::new(alloc, stream, row.max_bytes);
@@ -267,7 +272,7 @@ fn stays_as_it_is(
     room: (usize, usize, usize),
 ) -> Result<bool, OutOfMemory> {
     let (count, sent, taken) = room;
-    lane.reserve(count)?;
+    again(|| lane.reserve(count))?;
     let is_as_it_was = lane.sent().len() == sent && lane.taken() == taken;
     Ok(delete(lane)? == Ok(Class::Deleted) && is_as_it_was)
 }

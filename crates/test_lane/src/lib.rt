@@ -5,6 +5,8 @@
 #[cfg(test)]
 mod lane_tests;
 #[cfg(test)]
+mod memory;
+#[cfg(test)]
 mod reply_tests;
 #[cfg(test)]
 mod stream_tests;

@@ -1,6 +1,7 @@
 //! What a cache does with a request: one row for each verb, and for each choice that changes something. The other
 //! rows are cases of the program.
 use crate::lines::{bytes, reply_in, request_in};
+use crate::memory::again;
 use mc_model::{Cache, Choice, Item, Numeral, WordsFault, numeral_of};
 use mc_protocol::{OutOfMemory, Reply, Request};
 use std::alloc::Global;
@@ -131,7 +132,7 @@ fn acts_on(
     acts_so(alloc, body, request, choice, &reply, after)
 }
 
-/// The same of a reply that is read. Without memory the cache is as it was.
+/// The same of a reply that is read.
 fn acts_so(
     alloc: Global,
     body: &str,
@@ -141,10 +142,21 @@ fn acts_so(
     after: Option<(u32, &str, u64)>,
 ) -> Result<bool, WordsFault> {
     let mut cache = cache_of(alloc, body)?;
-    match replies(&mut cache, request, choice, reply) {
-        Ok(is_reply) => Ok(is_reply && has(&cache, after)),
-        Err(fault) if has(&cache, Some((5, body, 4))) => Err(WordsFault::from(fault)),
+    Ok(replies_again(&mut cache, body, request, choice, reply)? && has(&cache, after))
+}
+
+/// Whether the cache with this body answers so. A call that finds no memory leaves the cache as it was, and is made once more.
+fn replies_again(
+    cache: &mut Cache,
+    body: &str,
+    request: &Request,
+    choice: Choice,
+    expected: &Reply,
+) -> Result<bool, OutOfMemory> {
+    match replies(cache, request, choice, expected) {
+        Err(_) if has(cache, Some((5, body, 4))) => replies(cache, request, choice, expected),
         Err(_) => Ok(false),
+        answer => answer,
     }
 }
 
@@ -175,7 +187,7 @@ fn copies(alloc: Global) -> Result<bool, WordsFault> {
 
 /// Changes the cache, and answers a copy that was made before.
 fn changed(alloc: Global, cache: &mut Cache) -> Result<Cache, WordsFault> {
-    let copy = cache.copy()?;
+    let copy = again(|| cache.copy())?;
     store(alloc, cache)?;
     Ok(copy)
 }

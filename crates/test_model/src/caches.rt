@@ -86,15 +86,17 @@ fn put(alloc: Global, cache: &mut Cache, key: &str, number: u64) -> Result<(), O
     cache.put(key, item)
 }
 
-/// Whether the cache finds so once the item is put. Without memory it finds what it did.
+/// Whether the cache finds so once the item is put. A call that finds no memory leaves the cache as it was, and is made once more.
 fn puts(alloc: Global, row: &Row) -> Result<bool, OutOfMemory> {
     let (held, before, key, number, after) = row;
     let mut cache = cache_of(alloc, held)?;
-    match put(alloc, &mut cache, key, *number) {
-        Ok(()) => Ok(finds(&cache, after)),
-        Err(fault) if finds(&cache, before) => Err(fault),
-        Err(_) => Ok(false),
+    if put(alloc, &mut cache, key, *number).is_err() {
+        if !finds(&cache, before) {
+            return Ok(false);
+        }
+        put(alloc, &mut cache, key, *number)?;
     }
+    Ok(finds(&cache, after))
 }
 
 #[test]

@@ -1,5 +1,6 @@
 //! What is decided of a request, and what a decision does that is applied later.
 use crate::lines::{bytes, reply_in, request_in};
+use crate::memory::again;
 use mc_model::{
     Answer, Cache, Change, Choice, Decision, Found, Item, Numeral, Reading, WordsFault, decide,
     make_version, numeral_of, reply_with,
@@ -53,11 +54,18 @@ fn decide_twice(
     Ok(apply_both(cache, &first, &second)?)
 }
 
+/// Both are decided before either is done. A call that finds no memory leaves the cache as it was, so the first request is decided as
+/// before and done once more. The second isn't: what was decided of it is gone then.
 fn apply_both(cache: &mut Cache, first: &Request, second: &Request) -> Result<(), OutOfMemory> {
-    let earlier = cache.decide(first, PLAIN);
     let later = cache.decide(second, PLAIN);
-    let _ = cache.apply(first, earlier, false, 9)?;
+    again(|| apply_now(cache, first))?;
     let _ = cache.apply(second, later, false, 10)?;
+    Ok(())
+}
+
+fn apply_now(cache: &mut Cache, request: &Request) -> Result<(), OutOfMemory> {
+    let decision = cache.decide(request, PLAIN);
+    let _ = cache.apply(request, decision, false, 9)?;
     Ok(())
 }
 
@@ -140,12 +148,12 @@ fn appends_in_steps(alloc: Global) -> Result<bool, WordsFault> {
 
 fn is_appended(alloc: Global, append: &Request, found: Option<&Item>) -> Result<bool, OutOfMemory> {
     let decision = Decision::of(append, PLAIN, found);
-    let made = make_version(alloc, append, decision.change, false, 9, found)?;
+    let made = again(|| make_version(alloc, append, decision.change, false, 9, found))?;
     Ok(is_version(made, 5, b"12x", 9))
 }
 
 fn is_shown(alloc: Global, found: Option<&Item>) -> Result<bool, WordsFault> {
-    let shown = reply_with(alloc, Answer::ShowsNumber, found)?;
+    let shown = again(|| reply_with(alloc, Answer::ShowsNumber, found))?;
     Ok(shown == reply_in(alloc, "HIT 5 =12 4")?)
 }
 

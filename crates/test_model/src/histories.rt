@@ -1,5 +1,6 @@
 //! What makes a history, and the faults of requests that make none. The rules themselves are cases of the program.
 use crate::lines::{reply_in, request_in};
+use crate::memory::again;
 use mc_model::{History, HistoryBuilder, HistoryKind, Sent, WordsFault};
 use mc_protocol::{Actor, KEY_BYTES_LIMIT, KEYS_LIMIT, REQUESTS_LIMIT, Verb};
 use std::alloc::Global;
@@ -30,7 +31,18 @@ fn section(alloc: Global, lines: &[(&str, &str)]) -> Result<Vec<Sent>, WordsFaul
 /// A rule that is broken, and the section and place of the request that breaks it.
 type Broken = (HistoryKind, Actor, usize);
 
+/// The history of these sections, or what is broken. A call that finds no memory is made once more.
 fn history(
+    alloc: Global,
+    sections: [&[(&str, &str)]; 3],
+) -> Result<Result<History, Broken>, WordsFault> {
+    match history_of(alloc, sections)? {
+        Err((HistoryKind::OutOfMemory, _, _)) => history_of(alloc, sections),
+        found => Ok(found),
+    }
+}
+
+fn history_of(
     alloc: Global,
     sections: [&[(&str, &str)]; 3],
 ) -> Result<Result<History, Broken>, WordsFault> {
@@ -139,22 +151,22 @@ static BUILT: &[(Actor, &[Verb])] = &[
     (Actor::B, &[]),
 ];
 
+/// Pushes the row's request, and answers the rule that it would break.
 fn push_fault(
+    alloc: Global,
     builder: &mut HistoryBuilder,
-    actor: Actor,
-    sent: Sent,
-) -> Result<Option<HistoryKind>, HistoryKind> {
-    match builder.push(actor, sent) {
+    row: &Push,
+) -> Result<Option<HistoryKind>, WordsFault> {
+    let (actor, request, reply, _) = row;
+    match builder.push(*actor, sent(alloc, request, reply)?) {
         Ok(()) => Ok(None),
-        Err(HistoryKind::OutOfMemory) => Err(HistoryKind::OutOfMemory),
+        Err(HistoryKind::OutOfMemory) => Err(WordsFault::out_of_memory()),
         Err(kind) => Ok(Some(kind)),
     }
 }
 
-fn is_pushed(alloc: Global, builder: &mut HistoryBuilder, row: &Push) -> Result<bool, Fail> {
-    let (actor, request, reply, expected) = row;
-    let sent = sent(alloc, request, reply)?;
-    Ok(push_fault(builder, *actor, sent)? == *expected)
+fn is_pushed(alloc: Global, builder: &mut HistoryBuilder, row: &Push) -> Result<bool, WordsFault> {
+    Ok(again(|| push_fault(alloc, builder, row))? == row.3)
 }
 
 /// The first row of what is pushed that the builder doesn't meet.

@@ -16,6 +16,8 @@ mod histories;
 #[cfg(test)]
 mod lines;
 #[cfg(test)]
+mod memory;
+#[cfg(test)]
 mod noted;
 #[cfg(test)]
 mod words;

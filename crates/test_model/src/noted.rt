@@ -1,5 +1,6 @@
 //! Histories that keep what was noted: what makes one, the first fault of notes that make none, and what they count.
 use crate::lines::{reply_in, request_in};
+use crate::memory::again;
 use mc_model::{History, HistoryKind, Note, NotedBuilder, WordsFault};
 use mc_protocol::Actor;
 use std::alloc::Global;
@@ -19,7 +20,15 @@ fn note(alloc: Global, begins: bool, words: &str) -> Result<Note, WordsFault> {
 /// A rule that is broken, and the section and the place in the list of the note that breaks it.
 type Broken = (HistoryKind, Actor, usize);
 
+/// The history of these notes, or what is broken. A call that finds no memory is made once more.
 fn history(alloc: Global, lines: &[Line]) -> Result<Result<History, Broken>, WordsFault> {
+    match history_of(alloc, lines)? {
+        Err((HistoryKind::OutOfMemory, _, _)) => history_of(alloc, lines),
+        found => Ok(found),
+    }
+}
+
+fn history_of(alloc: Global, lines: &[Line]) -> Result<Result<History, Broken>, WordsFault> {
     let mut notes = Vec::new(alloc);
     for (actor, begins, words) in lines {
         notes.push((*actor, note(alloc, *begins, words)?))?;
@@ -273,17 +282,23 @@ fn faults_at(
     builder: &mut NotedBuilder,
 ) -> Result<[Option<HistoryKind>; 3], WordsFault> {
     Ok([
-        fault_at(alloc, builder, Actor::P, true, "delete a")?,
-        fault_at(alloc, builder, Actor::A, true, "get a")?,
-        fault_at(alloc, builder, Actor::P, false, "DELETED")?,
+        again(|| fault_at(alloc, builder, Actor::P, true, "delete a"))?,
+        again(|| fault_at(alloc, builder, Actor::A, true, "get a"))?,
+        again(|| fault_at(alloc, builder, Actor::P, false, "DELETED"))?,
     ])
 }
 
-/// Whether the second of three notes is refused, and the others are those of the history.
-fn is_refused_alone(alloc: Global) -> Result<bool, Fail> {
+/// Notes three in turn. Answers the rules that they would break, and the history of those that break none.
+fn note_three(alloc: Global) -> Result<([Option<HistoryKind>; 3], History), WordsFault> {
     let mut builder = NotedBuilder::new(alloc);
     let faults = faults_at(alloc, &mut builder)?;
-    let history = builder.finish()?;
+    Ok((faults, builder.finish()?))
+}
+
+/// Whether the second of three notes is refused, and the others are those of the history. To finish a builder consumes it, so all is
+/// noted once more if there is no memory for that.
+fn is_refused_alone(alloc: Global) -> Result<bool, WordsFault> {
+    let (faults, history) = again(|| note_three(alloc))?;
     Ok(
         faults == [None, Some(HistoryKind::Order), None]
             && has_notes(&history, &[(Actor::P, true, ""), (Actor::P, false, "")]),

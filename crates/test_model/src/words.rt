@@ -1,9 +1,10 @@
 //! The words of requests and replies, as they are read and as they are printed.
 use crate::lines::{reply_in, request_in};
+use crate::memory::again;
 use mc_model::{
     WordsFault, WordsKind, is_key, print_reply_words, print_request_words, read_body, read_number,
 };
-use mc_protocol::{Class, OutOfMemory, Reply, Request, Verb};
+use mc_protocol::{Class, Reply, Request, Verb};
 use std::alloc::Global;
 use std::test::Fail;
 
@@ -50,24 +51,15 @@ fn has_parts(request: &Request, verb: Verb, flags: u32, body: &[u8], number: u64
         && request.number == number
 }
 
-/// Whether the line was appended to the two bytes that were there. Without memory nothing was.
-fn is_appended(
-    answer: Result<(), OutOfMemory>,
-    out: &[u8],
-    line: &str,
-) -> Result<bool, WordsFault> {
-    let after = out.strip_prefix(b"> ");
-    match answer {
-        Ok(()) => Ok(after == Some(line.as_bytes())),
-        Err(fault) if after == Some(b"") => Err(WordsFault::from(fault)),
-        Err(_) => Ok(false),
-    }
+/// Whether the line was appended to the two bytes that were there.
+fn is_appended(out: &[u8], line: &str) -> bool {
+    out.strip_prefix(b"> ") == Some(line.as_bytes())
 }
 
 fn prints_request(alloc: Global, request: &Request, line: &str) -> Result<bool, WordsFault> {
     let mut out = Vec::from_slice(alloc, b"> ")?;
-    let answer = print_request_words(request, &mut out);
-    is_appended(answer, out.as_slice(), line)
+    again(|| print_request_words(request, &mut out))?;
+    Ok(is_appended(out.as_slice(), line))
 }
 
 #[test]
@@ -98,8 +90,8 @@ static REPLIES: &[(&str, Class)] = &[
 
 fn prints_reply(alloc: Global, reply: &Reply, line: &str) -> Result<bool, WordsFault> {
     let mut out = Vec::from_slice(alloc, b"> ")?;
-    let answer = print_reply_words(reply, &mut out);
-    is_appended(answer, out.as_slice(), line)
+    again(|| print_reply_words(reply, &mut out))?;
+    Ok(is_appended(out.as_slice(), line))
 }
 
 /// Whether the line is read as a reply of this class, and printed of it again.
@@ -171,7 +163,7 @@ static BODIES: &[(&str, &[u8], &str)] = &[
 ];
 
 fn reads_body(alloc: Global, word: &str, body: &[u8], line: &str) -> Result<bool, WordsFault> {
-    let read = read_body(alloc, word.as_bytes())?;
+    let read = again(|| read_body(alloc, word.as_bytes()))?;
     let is_read = read.as_slice() == body;
     let reply = Reply::Hit {
         flags: 0,

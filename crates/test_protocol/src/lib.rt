@@ -5,6 +5,8 @@
 #[cfg(test)]
 mod lines;
 #[cfg(test)]
+mod memory;
+#[cfg(test)]
 mod replies;
 #[cfg(test)]
 mod shared_words;

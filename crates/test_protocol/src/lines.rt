@@ -1,4 +1,5 @@
 //! How a text falls into lines and words.
+use crate::memory::again;
 use mc_protocol::{Lines, OutOfMemory, Separator, words_in};
 use std::alloc::Global;
 use std::test::Fail;
@@ -79,7 +80,8 @@ fn has_words(
     line: &[u8],
     expected: &[&[u8]],
 ) -> Result<bool, OutOfMemory> {
-    Ok(words_in(alloc, separator, line)?.as_slice() == expected)
+    let words = again(|| words_in(alloc, separator, line))?;
+    Ok(words.as_slice() == expected)
 }
 
 #[test]

@@ -1,4 +1,5 @@
 //! What every text shares: names, decimals, the words of sections, verbs and classes, and the faults of sections.
+use crate::memory::again;
 use mc_protocol::{
     Actor, Bytes, Class, DecimalFault, Fault, Lines, NameSet, Reply, Separator, Verb, WordLines,
     has_digits_alone, index_of, is_digit, is_key, is_name, is_new, is_word, may_answer,
@@ -46,7 +47,7 @@ fn finds_names_among_others(rt: HostRuntime) -> Result<(), Fail> {
 #[test]
 fn keeps_names_in_a_set(rt: HostRuntime) -> Result<(), Fail> {
     let mut names = NameSet::new(rt.alloc());
-    names.push(b"a")?;
+    again(|| names.push(b"a"))?;
     assert!(rt; names.has(b"a") && !names.has(b"b"));
     Ok(())
 }

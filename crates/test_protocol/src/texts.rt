@@ -1,4 +1,5 @@
 //! The texts of requests and replies as `protocol.txt` has them, with the time of expiry 0, and what appends them.
+use crate::memory::again;
 use crate::values::{bytes, request};
 use mc_protocol::{
     OutOfMemory, Reply, Request, Verb, append_all, render_reply, render_request, render_value,
@@ -7,20 +8,7 @@ use mc_protocol::{
 use std::alloc::Global;
 use std::test::Fail;
 
-// Whether just the text was appended to what was there before. Without memory nothing was.
-fn appended(
-    answer: Result<(), OutOfMemory>,
-    out: &[u8],
-    before: &[u8],
-    expected: &[u8],
-) -> Result<bool, OutOfMemory> {
-    match answer {
-        Ok(()) => Ok(out == expected),
-        Err(fault) if out == before => Err(fault),
-        Err(_) => Ok(false),
-    }
-}
-
+// Whether the pieces are appended to what was there before.
 fn appends(
     alloc: Global,
     before: &[u8],
@@ -28,8 +16,8 @@ fn appends(
     expected: &[u8],
 ) -> Result<bool, OutOfMemory> {
     let mut out = Vec::from_slice(alloc, before)?;
-    let answer = append_all(&mut out, pieces);
-    appended(answer, out.as_slice(), before, expected)
+    again(|| append_all(&mut out, pieces))?;
+    Ok(out.as_slice() == expected)
 }
 
 #[test]
@@ -56,8 +44,8 @@ static REQUESTS: &[(Verb, &str, u64, &str)] = &[
 
 fn renders_request(alloc: Global, request: &Request, text: &str) -> Result<bool, OutOfMemory> {
     let mut out = Vec::new(alloc);
-    let answer = render_request(request, &mut out);
-    appended(answer, out.as_slice(), b"", text.as_bytes())
+    again(|| render_request(request, &mut out))?;
+    Ok(out.as_slice() == text.as_bytes())
 }
 
 fn has_length(request: &Request, length: usize) -> bool {
@@ -109,8 +97,8 @@ const REPLIES: [(Reply, &str); 9] = [
 
 fn renders_reply(alloc: Global, reply: &Reply, text: &str) -> Result<bool, OutOfMemory> {
     let mut out = Vec::new(alloc);
-    let answer = render_reply(b"a", reply, &mut out);
-    appended(answer, out.as_slice(), b"", text.as_bytes())
+    again(|| render_reply(b"a", reply, &mut out))?;
+    Ok(out.as_slice() == text.as_bytes())
 }
 
 #[test]
@@ -148,8 +136,8 @@ fn renders_value(
     text: &[u8],
 ) -> Result<bool, OutOfMemory> {
     let mut out = Vec::new(alloc);
-    let answer = render_value(b"a", 0, body, cas, &mut out);
-    appended(answer, out.as_slice(), b"", text)
+    again(|| render_value(b"a", 0, body, cas, &mut out))?;
+    Ok(out.as_slice() == text)
 }
 
 #[test]

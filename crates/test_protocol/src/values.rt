@@ -1,4 +1,5 @@
 //! Values that the tests need, and their parts.
+use crate::memory::again;
 use mc_protocol::{Actor, Bytes, Class, Fields, OutOfMemory, Reply, Request, Sections, Verb};
 use std::alloc::Global;
 use std::test::Fail;
@@ -34,7 +35,7 @@ pub(crate) fn request(
 
 fn copies(alloc: Global, text: &[u8]) -> Result<bool, OutOfMemory> {
     let bytes = bytes(alloc, text)?;
-    let copy = bytes.copy(alloc)?;
+    let copy = again(|| bytes.copy(alloc))?;
     Ok(copy == bytes && copy.as_slice() == text && copy.into_vec().as_slice() == text)
 }
 

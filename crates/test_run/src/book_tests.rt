@@ -2,6 +2,7 @@
 
 use crate::counter::Given::{Begin, NotFound, Stored};
 use crate::counter::{Given, counter};
+use crate::memory::again;
 use mc_core::{Ending, Event, StepRefusal, World};
 use mc_protocol::{Actor, Reply};
 use mc_run::Book;
@@ -17,7 +18,7 @@ fn notes_events_in_order(rt: HostRuntime) -> Result<(), Fail> {
 /// What holds of a book of the counter while it is led, and of its world at the end.
 fn note_in_order(alloc: Global) -> Result<([bool; 6], [bool; 2]), Fail> {
     let counter = counter(alloc)?;
-    let book = Book::new(alloc, &counter)?;
+    let book = again(|| Book::new(alloc, &counter))?;
     Ok(note_and_close(book))
 }
 

@@ -11,11 +11,10 @@ use core::thread::Stack;
 use mc_core::Ending;
 use mc_lane::{Lane, MemoryStream, Stream};
 use mc_protocol::{Actor, Fault, OutOfMemory};
-use mc_run::{Gate, Lanes, Meet, Run, RunError, run_lanes, run_lanes_with};
+use mc_run::{FreeGate, Gate, Lanes, Meet, Run, RunError, run_lanes, run_lanes_with};
 use mc_verify::Checked;
 use std::alloc::{AllocError, Global};
 use std::sync::Wait;
-use std::test::Fail;
 use std::thread::Threads;
 
 /// What a server answers over one lane, in pieces, and the call of its stream that fails, where reads and writes are counted
@@ -59,7 +58,7 @@ pub(crate) fn run<S: Stream + Send, G: Gate, R: Threads + Wait + Sync>(
     checked: &Checked,
     lanes: Lanes<S>,
     gate: &G,
-) -> Result<Run<S>, Fail>
+) -> Result<Run<S>, RunError>
     requires { AreNew lanes }
     ensures { IfOk result (λ run. IsHeldBy checked.now.code run.world) }
 {
@@ -74,20 +73,54 @@ pub(crate) fn run_meeting<S: Stream + Send, G: Gate, R: Threads + Wait + Sync>(
     lanes: Lanes<S>,
     gate: &G,
     meet: Meet,
-) -> Result<Run<S>, Fail>
+) -> Result<Run<S>, RunError>
     requires { AreNew lanes }
     ensures { IfOk result (λ run. IsHeldBy checked.now.code run.world) }
 {
     with_memory(run_lanes_with(rt, alloc, checked, lanes, gate, Stack::new(), meet))
 }
 
-/// The run that was found. Want of memory in a section is an error here, as that of a thread is: none of these tests expects it.
-fn with_memory<S: Stream>(found: Result<Run<S>, RunError>) -> Result<Run<S>, Fail>
+/// Runs code over lanes that are served so. A run consumes its lanes: if it finds no memory, it is made once more over new ones.
+pub(crate) fn run_served<R: Threads + Wait + Sync>(
+    rt: &R,
+    alloc: Global,
+    checked: &Checked,
+    served: &[Served; 3],
+) -> Result<Run<MemoryStream>, RunError>
+    ensures { IfOk result (λ run. IsHeldBy checked.now.code run.world) }
+{
+    match run(rt, alloc, checked, lanes(alloc, served)?, &FreeGate) {
+        Err(RunError::OutOfMemory) => run(rt, alloc, checked, lanes(alloc, served)?, &FreeGate),
+        found => found,
+    }
+}
+
+/// The same, where the branches meet in this way.
+pub(crate) fn run_served_meeting<R: Threads + Wait + Sync>(
+    rt: &R,
+    alloc: Global,
+    checked: &Checked,
+    served: &[Served; 3],
+    meet: Meet,
+) -> Result<Run<MemoryStream>, RunError>
+    ensures { IfOk result (λ run. IsHeldBy checked.now.code run.world) }
+{
+    match run_meeting(rt, alloc, checked, lanes(alloc, served)?, &FreeGate, meet) {
+        Err(RunError::OutOfMemory) => {
+            run_meeting(rt, alloc, checked, lanes(alloc, served)?, &FreeGate, meet)
+        }
+        found => found,
+    }
+}
+
+/// The run that was found. That memory ran out in a section, or that there was no thread, is want of memory too: none of these tests
+/// expects it.
+fn with_memory<S: Stream>(found: Result<Run<S>, RunError>) -> Result<Run<S>, RunError>
     ensures { IfOk result (λ run. found ≡ Ok run) }
 {
     match found {
-        Err(RunError::NoThread) => Err(AllocError)?,
-        Err(error) => Err(error)?,
+        Err(RunError::NoThread) => Err(RunError::OutOfMemory),
+        Err(error) => Err(error),
         Ok(run) => {
             has_memory(&run)?;
             Ok(run)

@@ -23,6 +23,8 @@ mod meet_tests;
 #[cfg(test)]
 mod meets;
 #[cfg(test)]
+mod memory;
+#[cfg(test)]
 mod prefix_rows;
 #[cfg(test)]
 mod printing_tests;

@@ -1,13 +1,13 @@
 //! How the branches of a run meet: whichever of them has the thread, and before whichever requests they wait for each other.
 
 use crate::counter::{checked, counter};
-use crate::lanes::{BothBegin, NEVER, Served, endings, lanes, run_meeting};
+use crate::lanes::{BothBegin, NEVER, Served, endings, lanes, run_meeting, run_served_meeting};
 use crate::meets::MEETS;
 use Ending::{Done, Failed};
 use mc_core::{Ending, Event};
 use mc_lane::MemoryStream;
 use mc_protocol::{Actor, Fault};
-use mc_run::{Branch, FreeGate, Lanes, Late, Manner, Meet, Run};
+use mc_run::{Branch, Lanes, Late, Manner, Meet, Run};
 use mc_verify::Checked;
 use std::alloc::Global;
 use std::sync::Wait;
@@ -129,8 +129,7 @@ fn count_both<R: Threads + Wait + Sync>(
     counter: &Checked,
     meet: Meet,
 ) -> Result<bool, Fail> {
-    let given = lanes(alloc, &TO_BOTH)?;
-    let run = run_meeting(rt, alloc, counter, given, &FreeGate, meet)?;
+    let run = run_served_meeting(rt, alloc, counter, &TO_BOTH, meet)?;
     Ok(have_incremented(&run.lanes) && endings(&run) == [Done, Done, Done])
 }
 
@@ -190,8 +189,7 @@ fn first_answered<R: Threads + Wait + Sync>(
             nanoseconds: LATE_NANOSECONDS,
         }),
     };
-    let given = lanes(alloc, &TO_BOTH)?;
-    let run = run_meeting(rt, alloc, counter, given, &FreeGate, meet)?;
+    let run = run_served_meeting(rt, alloc, counter, &TO_BOTH, meet)?;
     Ok(first_answered_in(&run))
 }
 
@@ -261,7 +259,6 @@ fn end_so<R: Threads + Wait + Sync>(
     meet: Meet,
     ending: Ending,
 ) -> Result<bool, Fail> {
-    let given = lanes(alloc, served)?;
-    let run = run_meeting(rt, alloc, unequal, given, &FreeGate, meet)?;
+    let run = run_served_meeting(rt, alloc, unequal, served, meet)?;
     Ok(endings(&run) == [Done, Done, ending])
 }

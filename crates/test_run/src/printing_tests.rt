@@ -4,11 +4,12 @@ ghost use Rattle.std.specs.Prelude.{IfOk};
 ghost use Rattle.mc_core.specs.Held.{IsHeldBy};
 
 use crate::counter::counter;
-use crate::lanes::{NEVER, Served, lanes, run};
+use crate::lanes::{NEVER, Served, run_served};
+use crate::memory::again;
 use mc_explain::print_history;
 use mc_lane::MemoryStream;
 use mc_protocol::OutOfMemory;
-use mc_run::{FreeGate, Run};
+use mc_run::Run;
 use mc_verify::Checked;
 use std::alloc::Global;
 use std::sync::Wait;
@@ -57,12 +58,11 @@ fn is_printed_of_a_run_of<R: Threads + Wait + Sync>(
     alloc: Global,
     counter: &Checked,
 ) -> Result<bool, Fail> {
-    let given = lanes(alloc, &SERVED)?;
-    let run = run(rt, alloc, counter, given, &FreeGate)?;
+    let run = run_served(rt, alloc, counter, &SERVED)?;
     Ok(is_printed(&printed_of(alloc, counter, &run)?))
 }
 
-/// What is in the buffer once the history is printed. A print that finds no memory leaves the buffer as it is, and is made once more.
+/// What is in the buffer once the history is printed.
 fn printed_of(
     alloc: Global,
     counter: &Checked,
@@ -70,11 +70,9 @@ fn printed_of(
 ) -> Result<Vec<u8>, OutOfMemory>
     requires { IsHeldBy counter.now.code run.now.world }
 {
-    let history = run.world.history(alloc, counter)?;
+    let history = again(|| run.world.history(alloc, counter))?;
     let mut text = Vec::from_slice(alloc, FRONT)?;
-    if print_history(&history, &mut text).is_err() && text.as_slice() == FRONT {
-        print_history(&history, &mut text)?;
-    }
+    again(|| print_history(&history, &mut text))?;
     Ok(text)
 }
 

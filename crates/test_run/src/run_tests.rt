@@ -5,13 +5,14 @@ ghost use Rattle.mc_core.specs.Held.{IsHeldBy};
 
 use crate::closed_lanes::send_nothing_when_closed;
 use crate::counter::counter;
-use crate::lanes::{BothBegin, NEVER, Served, endings, lanes, run};
+use crate::lanes::{BothBegin, NEVER, Served, endings, lanes, run, run_served};
+use crate::memory::again;
 use crate::verdict::is_written;
 use Ending::{Done, Failed, NotBegun};
 use mc_core::Ending;
 use mc_lane::MemoryStream;
 use mc_protocol::{Fault, OutOfMemory};
-use mc_run::{FreeGate, Lanes, Run, agrees};
+use mc_run::{Lanes, Run, agrees};
 use mc_verify::Checked;
 use std::alloc::Global;
 use std::sync::Wait;
@@ -235,8 +236,7 @@ fn run_of<R: Threads + Wait + Sync>(
 ) -> Result<Run<MemoryStream>, Fail>
     ensures { IfOk result (λ run. IsHeldBy counter.now.code run.world) }
 {
-    let given = lanes(alloc, &[row.p, row.a, row.b])?;
-    run(rt, alloc, counter, given, &FreeGate)
+    Ok(run_served(rt, alloc, counter, &[row.p, row.a, row.b])?)
 }
 
 /// Whether the lanes of a run agree with its world, and whether the verdict on it is that of the row.
@@ -248,7 +248,7 @@ fn agrees_and_is_judged(
 ) -> Result<(bool, bool), Fail>
     requires { IsHeldBy counter.now.code run.now.world }
 {
-    let agrees = agrees(alloc, counter, &run.world, &run.lanes)?;
+    let agrees = again(|| agrees(alloc, counter, &run.world, &run.lanes))?;
     let is_judged = is_judged_as(alloc, counter, run, 1_000_000, row.verdict.as_bytes())?;
     Ok((agrees, is_judged))
 }
@@ -276,7 +276,7 @@ fn is_judged_as(
 ) -> Result<bool, Fail>
     requires { IsHeldBy counter.now.code run.now.world }
 {
-    let (_, found, _) = run.judge(alloc, counter, limit)?;
+    let (_, found, _) = again(|| run.judge(alloc, counter, limit))?;
     Ok(is_written(alloc, &found, verdict)?)
 }
 
@@ -359,9 +359,8 @@ fn run_and_exchange<R: Threads + Wait + Sync>(
     alloc: Global,
     counter: &Checked,
 ) -> Result<bool, Fail> {
-    let given = lanes(alloc, &TO_ALL)?;
-    let run = run(rt, alloc, counter, given, &FreeGate)?;
-    let in_order = agrees(alloc, counter, &run.world, &run.lanes)?;
+    let run = run_served(rt, alloc, counter, &TO_ALL)?;
+    let in_order = again(|| agrees(alloc, counter, &run.world, &run.lanes))?;
     Ok(in_order && !agree_exchanged(alloc, counter, run)?)
 }
 
@@ -374,7 +373,7 @@ fn agree_exchanged(
     let Run { world, lanes } = run;
     let Lanes { p, a, b } = lanes;
     let exchanged = Lanes { p, a: b, b: a };
-    agrees(alloc, counter, &world, &exchanged)
+    again(|| agrees(alloc, counter, &world, &exchanged))
 }
 
 /// Whether this was sent over the lanes of P, A and B.

@@ -2,6 +2,7 @@
 
 use crate::counter::Given::*;
 use crate::counter::{Given, counter, events};
+use crate::memory::again;
 use crate::verdict::is_written;
 use mc_protocol::Actor::*;
 use mc_protocol::{Actor, Fault};
@@ -117,7 +118,7 @@ fn is_met(alloc: Global, counter: &Checked, row: &Row) -> Result<bool, Fail> {
     Ok(found == skipped && is_judged)
 }
 
-/// How many of the events are refused, and whether this is the verdict.
+/// How many of the events are refused, and whether this is the verdict. A trial consumes its events, so they are made anew for another.
 fn try_steps(
     alloc: Global,
     counter: &Checked,
@@ -125,7 +126,6 @@ fn try_steps(
     limit: u64,
     verdict: &[u8],
 ) -> Result<(u64, bool), Fail> {
-    let events = events(alloc, steps)?;
-    let (_, skipped, found) = trial(alloc, counter, events, limit)?;
+    let (_, skipped, found) = again(|| trial(alloc, counter, events(alloc, steps)?, limit))?;
     Ok((skipped, is_written(alloc, &found, verdict)?))
 }

@@ -1,5 +1,6 @@
 //! A script that something may follow: how far it goes, and which fault another text has.
 
+use crate::memory::again;
 use crate::printed::text_of;
 use crate::told::{Told, told};
 use mc_protocol::Actor::{A, P};
@@ -72,7 +73,7 @@ fn told_of(alloc: Global, text: &str) -> Option<Told> {
 
 // Whether the script that ends the text's front has this length and is printed so.
 fn is_front(alloc: Global, text: &str, size: usize, wanted: &str) -> Result<bool, Fail> {
-    let front = parse_front(alloc, text.as_bytes())?;
+    let front = again(|| parse_front(alloc, text.as_bytes()))?;
     is_read_as(alloc, &front, size, wanted)
 }
 

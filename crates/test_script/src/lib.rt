@@ -5,6 +5,8 @@
 #[cfg(test)]
 mod front_tests;
 #[cfg(test)]
+mod memory;
+#[cfg(test)]
 mod misread_tests;
 #[cfg(test)]
 mod part_tests;

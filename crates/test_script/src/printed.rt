@@ -1,12 +1,13 @@
 //! Scripts as texts, and what is printed of them.
 
+use crate::memory::again;
 use mc_script::{Script, parse, print};
 use std::alloc::Global;
 use std::test::Fail;
 
 /// What is printed of the script that the text spells, after these bytes.
 pub(crate) fn printed(alloc: Global, text: &str, before: &[u8]) -> Result<Vec<u8>, Fail> {
-    let script = parse(alloc, text.as_bytes())?;
+    let script = again(|| parse(alloc, text.as_bytes()))?;
     text_of(alloc, &script, before)
 }
 
@@ -15,11 +16,9 @@ pub(crate) fn is_printed_as(alloc: Global, text: &str, wanted: &str) -> Result<b
     Ok(printed(alloc, text, b"")?.as_slice() == wanted.as_bytes())
 }
 
-/// The script's text, after these bytes. Without memory there are these bytes alone.
+/// The script's text, after these bytes.
 pub(crate) fn text_of(alloc: Global, script: &Script, before: &[u8]) -> Result<Vec<u8>, Fail> {
     let mut out = Vec::from_slice(alloc, before)?;
-    match print(alloc, script, &mut out) {
-        Err(fault) if out.as_slice() == before => Err(Fail::from(fault)),
-        _ => Ok(out),
-    }
+    again(|| print(alloc, script, &mut out))?;
+    Ok(out)
 }

@@ -1,5 +1,6 @@
 //! The lines of a script's steps.
 
+use crate::memory::again;
 use crate::printed::{printed, text_of};
 use crate::told::told;
 use mc_protocol::Actor;
@@ -37,7 +38,7 @@ static LINES: [(Actor, &[u32]); 3] = [
 ];
 
 fn are_lines(alloc: Global, actor: Actor, wanted: &[u32]) -> Result<bool, Fail> {
-    let (script, lines) = parse_lines(alloc, TEXT.as_bytes())?;
+    let (script, lines) = again(|| parse_lines(alloc, TEXT.as_bytes()))?;
     Ok(lines.of(actor) == wanted && script.steps(actor).len() == wanted.len())
 }
 
@@ -51,7 +52,7 @@ fn numbers_the_lines_of_steps(rt: HostRuntime) -> Result<(), Fail> {
 
 // What is printed of the script that the text spells, as the reader of lines reads it.
 fn printed_with_lines(alloc: Global) -> Result<Vec<u8>, Fail> {
-    let (script, _) = parse_lines(alloc, TEXT.as_bytes())?;
+    let (script, _) = again(|| parse_lines(alloc, TEXT.as_bytes()))?;
     text_of(alloc, &script, b"")
 }
 

@@ -1,9 +1,10 @@
 //! A script less one of its steps.
 
+use crate::memory::again;
 use crate::printed::{is_printed_as, text_of};
 use mc_protocol::{Actor, OutOfMemory};
 use mc_script::{Script, parse, without};
-use std::alloc::{AllocError, Global};
+use std::alloc::Global;
 use std::test::Fail;
 
 // Every mark, as it is printed.
@@ -81,7 +82,7 @@ fn less_line(alloc: Global, text: &str, number: usize) -> Result<String, OutOfMe
     Ok(rest)
 }
 
-// What is printed of the script less this step. Nothing is where it has no such step. A call that finds no memory is made once more.
+// What is printed of the script less this step. Nothing is where it has no such step.
 fn printed_less(
     alloc: Global,
     script: &Script,
@@ -91,10 +92,7 @@ fn printed_less(
     if script.steps(actor).len() <= step {
         return Ok(Vec::new(alloc));
     }
-    let less = match without(alloc, script, actor, step) {
-        Err(AllocError) => without(alloc, script, actor, step)?,
-        Ok(less) => less,
-    };
+    let less = again(|| without(alloc, script, actor, step))?;
     text_of(alloc, &less, b"")
 }
 
@@ -127,7 +125,7 @@ fn each_leaves_line(
 }
 
 fn leave_lines(alloc: Global, text: &str, steps: &[(Actor, usize, usize)]) -> Result<bool, Fail> {
-    let script = parse(alloc, text.as_bytes())?;
+    let script = again(|| parse(alloc, text.as_bytes()))?;
     each_leaves_line(alloc, &script, text, steps)
 }
 

@@ -11,6 +11,8 @@ mod lines;
 #[cfg(test)]
 mod listen_tests;
 #[cfg(test)]
+mod memory;
+#[cfg(test)]
 mod racy_tests;
 #[cfg(test)]
 mod serve_tests;

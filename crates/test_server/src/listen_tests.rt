@@ -1,4 +1,5 @@
 //! Connections that are served over TCP.
+use crate::memory::again;
 use mc_server::{Listened, Shared, listen};
 use std::alloc::AllocError;
 use std::io::{self, Read, Write};
@@ -118,8 +119,8 @@ fn accepts_nothing_where_no_connection_is_to_come(rt: HostRuntime) -> Result<(),
 }
 
 /// What comes of a listener that serves one connection, over which a client has sent all before it listens; and whether the client is
-/// answered so. Where memory ran out, for the connection's thread too, that is an error.
-fn listened_after<
+/// answered so. Where memory ran out, for the connection's thread too, another listener does it once more.
+fn listened_again<
     R: Net<Listener = TcpListener, Stream = TcpStream>
         + Threads
         + Wait
@@ -127,11 +128,48 @@ fn listened_after<
         + Sync
         + AllocGlobal,
 >(rt: &R, sent: &[u8], answer: &[u8]) -> Result<(Listened, bool), Fail> {
+    match listened_after(rt, sent, answer)? {
+        Some(found) => Ok(found),
+        None => Ok(listened_after(rt, sent, answer)?.ok_or(AllocError)?),
+    }
+}
+
+/// The same, once; nothing where memory ran out.
+fn listened_after<
+    R: Net<Listener = TcpListener, Stream = TcpStream>
+        + Threads
+        + Wait
+        + Clock
+        + Sync
+        + AllocGlobal,
+>(rt: &R, sent: &[u8], answer: &[u8]) -> Result<Option<(Listened, bool)>, Fail> {
     let listener = TcpListener::bind(rt, FREE_PORT)?;
     let mut stream = TcpStream::connect(rt, listener.local_addr()?)?;
     stream.write_all(sent)?;
-    let listened = listened_once(rt, &listener)?;
-    Ok((listened, is_all(&mut stream, answer)?))
+    listened_and_answered(rt, &listener, &mut stream, answer)
+}
+
+fn listened_and_answered<
+    R: Net<Listener = TcpListener, Stream = TcpStream>
+        + Threads
+        + Wait
+        + Clock
+        + Sync
+        + AllocGlobal,
+    S: Read,
+>(
+    rt: &R,
+    listener: &TcpListener,
+    stream: &mut S,
+    answer: &[u8],
+) -> Result<Option<(Listened, bool)>, Fail> {
+    let listened = listened_once(rt, listener)?;
+    // what the client sent isn't read where the connection got no thread
+    if listened.accepted == 0 {
+        return Ok(None);
+    }
+    let is_all = is_all(stream, answer)?;
+    Ok(is_all.map(|is_all| (listened, is_all)))
 }
 
 /// What comes of a listener that serves one connection.
@@ -143,23 +181,18 @@ fn listened_once<
         + Sync
         + AllocGlobal,
 >(rt: &R, listener: &TcpListener) -> Result<Listened, AllocError> {
-    let shared = Shared::new(rt.alloc())?;
-    let listened = listen(rt, rt.alloc(), listener, &shared, 1);
-    // what the client sent isn't read where the connection got no thread
-    if listened.accepted == 0 {
-        return Err(AllocError);
-    }
-    Ok(listened)
+    let shared = again(|| Shared::new(rt.alloc()))?;
+    Ok(listen(rt, rt.alloc(), listener, &shared, 1))
 }
 
-/// Whether this is what comes until the connection is closed. That the server has no memory is an error.
-fn is_all<S: Read>(stream: &mut S, answer: &[u8]) -> Result<bool, Fail> {
+/// Whether this is what comes until the connection is closed; nothing where the server has no memory.
+fn is_all<S: Read>(stream: &mut S, answer: &[u8]) -> io::Result<Option<bool>> {
     let (read, len) = read_to_end(stream)?;
     let read = read.get(..len).unwrap_or(&[]);
     if read.ends_with(b"SERVER_ERROR out of memory\r\n") {
-        return Err(AllocError)?;
+        return Ok(None);
     }
-    Ok(read == answer)
+    Ok(Some(read == answer))
 }
 
 #[test]
@@ -169,6 +202,6 @@ fn serves_a_client_that_sent_all_before(rt: HostRuntime) -> Result<(), Fail> {
         accepted: 1,
         refused: 0,
     };
-    assert_eq!(rt; listened_after(&rt, sent, answer)?, (served, true));
+    assert_eq!(rt; listened_again(&rt, sent, answer)?, (served, true));
     Ok(())
 }

@@ -1,5 +1,6 @@
 //! A server with a race: its `incr` reads, and writes later.
 use crate::lines::{answers, call, is_reply, reply_in, request_in};
+use crate::memory::again;
 use mc_model::WordsFault;
 use mc_protocol::{Reply, Request};
 use mc_server::{Between, Caller, FreeBetween, Racy, StoreFault};
@@ -66,7 +67,7 @@ static ROWS: &[(&str, &str)] = &[
 
 #[test]
 fn is_made_of_stores(rt: HostRuntime) -> Result<(), Fail> {
-    Racy::new(rt.alloc(), FreeBetween)?;
+    again(|| Racy::new(rt.alloc(), FreeBetween))?;
     Ok(())
 }
 

@@ -1,5 +1,6 @@
 //! What a client is served over one connection, each time by a server that holds nothing. The replies are those of `protocol.txt`; the
 //! lines of refusals are this project's own.
+use crate::memory::again;
 use crate::streams::conversation;
 use mc_server::{Served, Shared, Why};
 use std::alloc::AllocError;
@@ -170,7 +171,7 @@ fn is_served<R: Wait + AllocGlobal>(
     answers: &[u8],
     served: Served,
 ) -> Result<bool, AllocError> {
-    let shared = Shared::new(rt.alloc())?;
+    let shared = again(|| Shared::new(rt.alloc()))?;
     let (written, came) = conversation(rt, rt.alloc(), &shared, pieces, failing)?;
     if came.why == Why::Memory && is_front_without_memory(written.as_slice(), answers) {
         return Err(AllocError);
@@ -186,6 +187,19 @@ fn is_front_without_memory(written: &[u8], answers: &[u8]) -> bool {
     }
 }
 
+/// The same of a client that sends all at once. Where memory ran out, a new server serves it once more.
+fn is_served_again<R: Wait + AllocGlobal>(
+    rt: &R,
+    sent: &[u8],
+    answers: &[u8],
+    came: Served,
+) -> Result<bool, AllocError> {
+    match is_served(rt, &[sent], None, answers, came) {
+        Err(AllocError) => is_served(rt, &[sent], None, answers, came),
+        answer => answer,
+    }
+}
+
 fn first_other<R: Wait + AllocGlobal>(
     rt: &R,
     rows: &'static [Row],
@@ -195,7 +209,7 @@ fn first_other<R: Wait + AllocGlobal>(
             requests: *requests,
             why: *why,
         };
-        if !is_served(rt, &[*sent], None, answers, served)? {
+        if !is_served_again(rt, sent, answers, served)? {
             return Ok(Some(sent));
         }
     }

@@ -1,6 +1,6 @@
 //! What a store answers, and what it holds then. Requests and replies are written as in the lines of a history.
 use crate::lines::{is_reply, request_in};
-use mc_protocol::Reply;
+use mc_protocol::{Reply, Request};
 use mc_server::{Store, StoreFault};
 use std::alloc::Global;
 use std::test::Fail;
@@ -167,45 +167,49 @@ fn begins_with_1(alloc: Global) -> Result<bool, Fail> {
     are_answered(alloc, &mut store, FIRST)
 }
 
-/// What takes memory, on a store that holds `7` at the key k.
-static TAKES_MEMORY: &[&str] = &[
-    "get k",
-    "set k 0 =12345678",
-    "append k 0 =12345678",
-    "prepend k 0 =12345678",
-    "incr k 1",
-    "set other 0 =1",
+/// A request that takes memory, the reply to it, and what `gets k` answers after it.
+type Taking = (&'static str, &'static str, &'static str);
+
+/// Each is asked of a store that holds `7` at the key k, with the flags 5 and the number 1.
+static TAKES_MEMORY: &[Taking] = &[
+    ("get k", "HIT 5 =7", "HIT 5 =7 1"),
+    ("set k 0 =12345678", "STORED", "HIT 0 =12345678 2"),
+    ("append k 0 =12345678", "STORED", "HIT 5 =712345678 2"),
+    ("prepend k 0 =12345678", "STORED", "HIT 5 =123456787 2"),
+    ("incr k 1", "NUMBER 8", "HIT 5 =8 2"),
+    ("set other 0 =1", "STORED", "HIT 5 =7 1"),
 ];
 
-/// What is answered after a call that was refused: the item is there as it was, and its number is the last one that was given.
-const UNCHANGED: Rows = &[
-    ("gets k", "HIT 5 =7 1"),
-    ("get other", "MISS"),
-    ("set k 0 =1", "STORED"),
-    ("gets k", "HIT 0 =1 2"),
-];
+/// What such a store answers after a call that was refused: the item is there as it was.
+const UNCHANGED: Rows = &[("gets k", "HIT 5 =7 1"), ("get other", "MISS")];
 
-/// Whether the store does what is asked, or is as it was where it answers that memory ran out, which is given on.
-fn changes_or_keeps(alloc: Global, line: &str) -> Result<bool, Fail> {
+/// Whether the store does what the row says.
+fn changes_so(alloc: Global, row: &Taking) -> Result<bool, Fail> {
     let mut store = Store::new(alloc);
     let is_stored = answers(alloc, &mut store, "set k 5 =7", "STORED")?;
-    Ok(is_stored && changes_or_is_kept(alloc, &mut store, line)?)
+    Ok(is_stored && is_changed_so(alloc, &mut store, row)?)
 }
 
-fn changes_or_is_kept(alloc: Global, store: &mut Store, line: &str) -> Result<bool, Fail> {
+fn is_changed_so(alloc: Global, store: &mut Store, row: &Taking) -> Result<bool, Fail> {
+    let (line, reply, after) = *row;
     let request = request_in(alloc, line)?;
-    match store.call(&request) {
-        Ok(_) => Ok(true),
-        Err(fault) => is_kept(alloc, store, fault),
-    }
+    let is_answered = answers_again(alloc, store, &request, reply)?;
+    Ok(is_answered && answers(alloc, store, "gets k", after)?)
 }
 
-/// Gives the fault on where the store holds what it held before the call that failed; otherwise the answer is false.
-fn is_kept(alloc: Global, store: &mut Store, fault: StoreFault) -> Result<bool, Fail> {
-    if are_answered(alloc, store, UNCHANGED)? {
-        Err(Fail::from(fault))
-    } else {
-        Ok(false)
+/// Whether the store answers so. If it finds no memory, it holds what it held before, and is asked once more.
+fn answers_again(
+    alloc: Global,
+    store: &mut Store,
+    request: &Request,
+    reply: &str,
+) -> Result<bool, Fail> {
+    match store.call(request) {
+        Err(StoreFault::OutOfMemory) => {
+            let is_kept = are_answered(alloc, store, UNCHANGED)?;
+            Ok(is_kept && is_answer(alloc, &store.call(request), reply)?)
+        }
+        answer => is_answer(alloc, &answer, reply),
     }
 }
 
@@ -220,8 +224,8 @@ fn are_answered(alloc: Global, store: &mut Store, rows: Rows) -> Result<bool, Fa
 
 #[test]
 fn keeps_what_is_there_without_memory(rt: HostRuntime) -> Result<(), Fail> {
-    for line in TAKES_MEMORY {
-        assert!(rt; changes_or_keeps(rt.alloc(), line)?, "{line}");
+    for row in TAKES_MEMORY {
+        assert!(rt; changes_so(rt.alloc(), row)?, "{}", row.0);
     }
     Ok(())
 }

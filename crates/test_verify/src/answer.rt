@@ -17,5 +17,21 @@ pub(crate) fn fault_of(refusal: &Refusal) -> Fault {
 }
 
 pub(crate) fn answer_to(alloc: Global, image: &[u8]) -> Result<Answer, ImageFault> {
-    Ok(verify(alloc, decode(alloc, image)?))
+    Ok(verified(alloc, decode(alloc, image)?))
+}
+
+/// What `verify` answers. If it finds no memory, the code that it hands back is verified once more.
+fn verified(alloc: Global, code: Code) -> Answer {
+    match verify(alloc, code) {
+        Ok(checked) => Ok(checked),
+        Err((refusal, code)) => refused_or_verified(alloc, refusal, code),
+    }
+}
+
+fn refused_or_verified(alloc: Global, refusal: Refusal, code: Code) -> Answer {
+    if refusal.kind == RefusalKind::OutOfMemory {
+        verify(alloc, code)
+    } else {
+        Err((refusal, code))
+    }
 }

@@ -1,5 +1,6 @@
 //! Histories cut at a place.
 
+use crate::memory::again;
 use mc_explain::{parse_history, print_history};
 use mc_protocol::OutOfMemory;
 use mc_why::cut;
@@ -47,7 +48,8 @@ static ROWS: [Row; 9] = [
 fn text_of_cut(alloc: Global, text: &str, count: usize) -> Result<Vec<u8>, Fail> {
     let (history, _) = parse_history(alloc, text.as_bytes())?;
     let mut lines = Vec::new(alloc);
-    print_history(&cut(alloc, &history, count)?, &mut lines)?;
+    let front = again(|| cut(alloc, &history, count))?;
+    print_history(&front, &mut lines)?;
     Ok(lines)
 }
 

@@ -1,10 +1,11 @@
 //! What is printed of why nothing explains a history.
 
+use crate::memory::again;
 use mc_explain::{Verdict, judge, parse_history};
 use mc_model::History;
 use mc_protocol::OutOfMemory;
 use mc_why::{Finding, print_why, request_place, why_unexplained};
-use std::alloc::{AllocError, Global};
+use std::alloc::Global;
 use std::test::Fail;
 
 // The text of a history that nothing explains, the limit of each search, the number of the line, and what is printed.
@@ -90,25 +91,12 @@ fn found_of(alloc: Global, history: &History, limit: u64) -> Result<Option<Findi
     }
 }
 
-// Prints what was found. A call that finds no memory leaves the buffer as it is, and is made once more.
-fn print_again(
-    finding: &Finding,
-    history: &History,
-    line: u64,
-    printed: &mut Vec<u8>,
-) -> Result<(), OutOfMemory> {
-    match print_why(finding, history, line, printed) {
-        Err(AllocError) => print_why(finding, history, line, printed),
-        Ok(()) => Ok(()),
-    }
-}
-
 fn printed_of(alloc: Global, row: &Row) -> Result<Vec<u8>, Fail> {
     let (text, limit, line, _) = row;
     let (history, _) = parse_history(alloc, text.as_bytes())?;
     let mut printed = Vec::new(alloc);
     if let Some(finding) = found_of(alloc, &history, *limit)? {
-        print_again(&finding, &history, *line, &mut printed)?;
+        again(|| print_why(&finding, &history, *line, &mut printed))?;
     }
     Ok(printed)
 }

@@ -1,10 +1,11 @@
 //! From which place on nothing explains a history, what explains the part before it, and what a cache answers there.
 
+use crate::memory::again;
 use mc_explain::{Verdict, judge, parse_history, print_explanation};
 use mc_model::{History, print_reply_words};
 use mc_protocol::{Actor, OutOfMemory};
 use mc_why::{Answer, Cause, Finding, why_unexplained};
-use std::alloc::{AllocError, Global};
+use std::alloc::Global;
 use std::test::Fail;
 
 // The text of a history that nothing explains, the limit of each search, and what is to be found.
@@ -146,14 +147,11 @@ fn lines_of(alloc: Global, finding: &Finding) -> Result<Vec<u8>, Fail> {
     }
 }
 
-// What is found of the history, once it is known that nothing explains it. A call that finds no memory is made once more.
+// What is found of the history, once it is known that nothing explains it.
 fn found_of(alloc: Global, history: &History, limit: u64) -> Result<Option<Finding>, OutOfMemory> {
     let (verdict, _) = judge(alloc, history, u64::MAX)?;
     match verdict {
-        Verdict::Unexplained => match why_unexplained(alloc, history, limit) {
-            Err(AllocError) => Ok(Some(why_unexplained(alloc, history, limit)?)),
-            Ok(finding) => Ok(Some(finding)),
-        },
+        Verdict::Unexplained => Ok(Some(again(|| why_unexplained(alloc, history, limit))?)),
         Verdict::Explained(_) | Verdict::Undecided => Ok(None),
     }
 }
