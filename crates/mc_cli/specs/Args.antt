@@ -30,8 +30,6 @@ pub record IsSearch (value : Text → Option Text) (how : Search) : Type 0 where
   pub limit : IsValue (number 1000000000) (Some 1000000) (value (codes "limit")) how.limit
   pub why : how.why ≡ is_set (value (codes "why"))
 
--- ---- generate and serve
-
 pub record IsJob (value : Text → Option Text) (n m : ℕ) : Type 0 where
   pub seed : IsValue (number MAX_64) (Some 1) (value (codes "seed")) n
   pub job : IsValue (number MAX_64) (Some 0) (value (codes "job")) m
@@ -40,8 +38,6 @@ pub record IsService (value : Text → Option Text) (service : ServeArgs) : Type
   pub port : IsValue (number 65535) None (value (codes "port")) service.port
   pub connections : IsValue (number MAX_64) (Some 1000000) (value (codes "connections")) service.connections
   pub racy : service.racy ≡ is_set (value (codes "racy"))
-
--- ---- runs
 
 -- the word of a meeting
 abbrev pub meeting_word : Meeting → List ℕ
@@ -87,8 +83,6 @@ pub record IsRunArgs (value : Text → Option Text) (args : RunArgs) : Type 0 wh
   pub quiet : args.quiet ≡ is_set (value (codes "quiet"))
   pub stats : args.stats ≡ is_set (value (codes "stats"))
   pub spread : IsValue (number 10000) (Some (default_spread args.repeat)) (value (codes "spread")) args.spread
-
--- ---- campaigns
 
 -- the values of the options of `campaign` say until when it runs in blocks, if they name a time or a number of unexplained jobs; a time
 -- doesn't stand beside a number of jobs

@@ -7,8 +7,6 @@ use Rattle.mc_cli.specs.declared.rows.{Kind.Kind, Place.Place, Row.Row}
 use Rattle.mc_cli.specs.declared.rows.Kind.TheVariants as kind
 use Rattle.mc_cli.specs.declared.rows.Place.TheVariants as place
 
--- ---- options
-
 -- the option `--NAME` with a word as its value
 abbrev pub valued : Text → Rule
 valued name = record (new_rule name) { long = Some name; value_names = 1 }
@@ -28,8 +26,6 @@ rule_by _ _ name = valued name
 
 abbrev pub rule_of_row : Row → Rule
 rule_of_row row = rule_by row.place row.kind row.name.now
-
--- ---- subcommands
 
 -- the subcommand with these options
 abbrev pub app_with : Text → List Rule → App
@@ -61,11 +57,7 @@ campaign_rules =
 -- the program without its subcommands
 abbrev pub bare_app : App
 bare_app = record {
-  top = record (new_shape (codes "mcrace")) {
-    subcommand_required = true;
-    arg_required_else_help = true;
-    has_version = true;
-  };
+  top = record (new_shape (codes "mcrace")) { subcommand_required = true; arg_required_else_help = true; has_version = true };
   subs = [];
 }
 

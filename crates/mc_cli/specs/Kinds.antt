@@ -7,8 +7,6 @@ use Rattle.mc_protocol.specs.declared.decimal.DecimalFault.{DecimalFault}
 use Rattle.mc_cli.specs.declared.rows.Kind.{Kind}
 use Rattle.mc_cli.specs.declared.rows.Kind.TheVariants as kind
 
--- ---- seconds, with up to three places
-
 -- the most seconds of a time
 abbrev pub GREATEST_SECONDS : ℕ
 GREATEST_SECONDS = 86400
@@ -48,8 +46,6 @@ time_at word (Some point) = joined_time (decimal_in GREATEST_SECONDS (take point
 unfoldable pub milliseconds_in : List ℕ → Option ℕ
 milliseconds_in word = time_at word (position is_point word)
 
--- ---- seconds, minutes or hours
-
 -- this many seconds, minutes or hours, as the byte says, in seconds
 abbrev pub in_unit : ℕ → ℕ → Option ℕ
 in_unit number unit = if unit == 115 then Some number else (if unit == 109 then Some (number * 60)
@@ -62,8 +58,6 @@ time_by (Err fault) unit = None
 -- the seconds of the time that the word is: a decimal without a sign, and `s`, `m` or `h` after it; 1 second to 24 hours in all
 unfoldable pub time_in : List ℕ → Option ℕ
 time_in word = time_by (decimal_in GREATEST_SECONDS (take (length word - 1) word)) (slice_index_or word (length word - 1) 0)
-
--- ---- kinds
 
 -- the number that a word says: its own, or the milliseconds or the seconds of a time. The other kinds say none
 abbrev pub reads : Kind → List ℕ → ℕ → Type 0
