@@ -4,7 +4,7 @@ use crate::memory::again;
 use crate::printed::{is_printed_as, text_of};
 use mc_protocol::{Actor, OutOfMemory};
 use mc_script::{Script, parse, without};
-use std::alloc::Global;
+use std::alloc::{AllocError, Global};
 use std::test::Fail;
 
 // Every mark, as it is printed.
@@ -82,7 +82,7 @@ fn less_line(alloc: Global, text: &str, number: usize) -> Result<String, OutOfMe
     Ok(rest)
 }
 
-// What is printed of the script less this step. Nothing is where it has no such step.
+// What is printed of the script less this step. Nothing is where it has no such step. A call that finds no memory is made once more.
 fn printed_less(
     alloc: Global,
     script: &Script,
@@ -92,7 +92,10 @@ fn printed_less(
     if script.steps(actor).len() <= step {
         return Ok(Vec::new(alloc));
     }
-    let less = again(|| without(alloc, script, actor, step))?;
+    let less = match without(alloc, script, actor, step) {
+        Err(AllocError) => without(alloc, script, actor, step)?,
+        Ok(less) => less,
+    };
     text_of(alloc, &less, b"")
 }
 
