@@ -88,9 +88,10 @@ def take_proof(function, crate, folder):
 
 def leave_out_offers(function, folder):
     """Has a check offer no file for the open goals of the function. One whose whole proof is
-    written gets none anyway, nor do functions of a cycle."""
+    written gets none anyway, nor do functions of a cycle, or one that calls itself."""
     home = folder.joinpath("proofs", *function.path)
-    if not (home / "Proof.antt").is_file() and not function.cycle:
+    of_cycle = function.cycle or home.with_name(f"+{home.name}").is_dir()
+    if not (home / "Proof.antt").is_file() and not of_cycle:
         home.mkdir(parents=True, exist_ok=True)
         with open(home / "Answers.antt", "a", encoding="utf-8") as file:
             file.write(TEXT_OF_NO_OFFER)
