@@ -4,13 +4,15 @@ with what a second verifier says (`verifier.py`).
 
 usage: shown_cases.py PROGRAM
 
-The program only assembles the scripts. A run that a refusal shows must show the fault; a fault of
-structure, which no run shows, must be the first that there is. The cases in
-`cases/check/forced-runs.cases` must have no other run: but for replies of one sort, which lead to
-the same place and show the same, just one run shows the fault.
+The program only assembles the scripts. The fault must be the first that there is, and a run that a
+refusal shows must show it. The cases in `cases/check/forced-runs.cases` must have no other run: but
+for replies of one sort, which lead to the same place and show the same, just one run shows the
+fault.
 """
 
 import ast
+import functools
+import multiprocessing
 import pathlib
 import re
 import subprocess
@@ -22,7 +24,7 @@ sys.path.append(str(ROOT / "tools"))
 import cases
 from comparing import close, parser_of
 from model import SECTIONS, code_of
-from verifier import NAMES, OF_STRUCTURE, run_in, runs_apart, shows, structure_faults
+from verifier import NAMES, odd_answer, runs_apart
 
 FORCED = "cases/check/forced-runs.cases"
 # What the tests of mc_verify have: images of sound code, and rows of what is changed of the one
@@ -77,33 +79,24 @@ def image_in(program, given):
     return subprocess.run([program, "asm"], input=script, capture_output=True, check=True).stdout
 
 
-def odd_refusal(program, name, given, printed):
-    """What is wrong with this refusal; None if it is right."""
+def answer_for(program, name, given, printed):
+    """The first words of a refusal, and what is wrong with it or None."""
     # after the run stands what `--why` says of it
-    first, *rest = printed.removesuffix("\n").split("\n")
-    if "end" in rest:
-        rest = rest[: rest.index("end") + 1]
-    _, _, kind, word, section, place = first.split(" ")
-    fault = int(kind), SECTIONS.index(section), int(place)
-    code = code_of(image_in(program, given))
-    if word != NAMES[fault[0] - 1] or not printed.endswith("\n"):
-        return f"no refusal: {first}"
-    of_structure = min(structure_faults(code), default=None)
-    if fault[0] <= OF_STRUCTURE:
-        is_first = of_structure == fault and not rest
-        return None if is_first else f"{first} and {rest}, where {of_structure} is the first fault"
-    run = run_in(rest)
-    if of_structure or run is None or not shows(code, fault, run):
-        return f"{rest} doesn't show {first}, or {of_structure} is before it"
-    others = list(runs_apart(code, fault)) if name.startswith(FORCED) else [run]
-    return None if len(others) == 1 else f"{len(others)} runs show {first}: {others}"
+    run = re.match(r"(?s).*?^end\n", printed, re.M)
+    code, printed = code_of(image_in(program, given)), run[0] if run else printed
+    fault = odd_answer(code, printed, 3)
+    if not fault and name.startswith(FORCED):
+        first, *lines = printed.splitlines()
+        kind, _, section, place = first.split()[2:]
+        found = list(runs_apart(code, (int(kind), SECTIONS.index(section), int(place))))
+        fault = None if len(found) == 1 else f"{len(found)} runs show {lines}: {found}"
+    return " ".join(printed.split()[:4]), fault and f"{name}: {fault}"
 
 
 def answers(program):
-    for name, given, printed in expected_answers():
-        if printed.startswith("refused verify "):
-            fault = odd_refusal(program, name, given, printed)
-            yield " ".join(printed.split()[:4]), fault and f"{name}: {fault}"
+    refusals = [it for it in expected_answers() if it[2].startswith("refused verify ")]
+    with multiprocessing.Pool() as pool:
+        yield from pool.starmap(functools.partial(answer_for, program), refusals, chunksize=4)
 
 
 if __name__ == "__main__":
