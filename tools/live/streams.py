@@ -3,9 +3,9 @@
 In each round connections are opened, and each is sent a stream that was changed in a few places, or
 random bytes, in pieces that take turns with those of the others. Then the client closes the
 connection, resets it, lets it be and reads nothing, or ends its side and reads on. What it reads by
-then has to be replies that docs/FORMATS.md has, and the server has to end the connection. After
-each round a new connection is answered a `set` and a `get`, and over a connection that stays open
-each key of its own is as it was when its `set` was acknowledged.
+then has to be replies that docs/FORMATS.md has, and the server has to end the connection.
+Meanwhile a connection that stays open is served, and after each round a new one; of the first one
+each key is as it was when its `set` was acknowledged. No answer may take longer than 5 seconds.
 
 The streams follow from the seed and the number of the round alone; how they meet in the server
 doesn't.
@@ -32,18 +32,19 @@ WRONG = [b"no-such-command\r\n", b"\r\n", b"incr %b 1\r\n" % (251 * b"k"), b"set
 # What ends the replies to a stream.
 LAST = b"get end-of-the-stream\r\n"
 # How many connections a round has, and of what.
-CONNECTIONS, SOURCES, MOST_CUTS, MOST_RUBBISH = 6, 60, 8, 3_000
+CONNECTIONS, SOURCES, MOST_CUTS, MOST_RUBBISH = 6, 60, 8, 65_536
 # The most bytes that are told of what is wrong.
 MOST_TOLD = 100
 ENDINGS = ["close", "reset", "leave", "end", "end", "end"]
-# How many keys are kept in a round, and for how many rounds they are looked at after each; all are
-# looked at in the end.
-KEPT, LOOKED_AT = 3, 5
+# How often a key is kept at a turn, and how many are looked at after each round; all are looked at
+# in the end.
+KEPT, LOOKED_AT = 0.1, 15
 LARGE = b"x" * 65_536
 
-# Beside the streams that memcached is sent too: what is at a limit or beyond it, and ends of a
-# connection.
+# Beside the streams that memcached is sent too: what is at a limit or beyond it, more replies than
+# fit anywhere, and ends of a connection.
 SPECIAL = [
+    b"set large 0 0 65536\r\n%b\r\n" % LARGE + b"get large\r\n" * 500,
     b"set large 0 0 65536\r\n%b\r\nget large large\r\n" % LARGE,
     b"set large 0 0 65537\r\n%bx\r\nget large\r\n" % LARGE,
     b"get%b\r\n" % (b" a" * 1_000),
@@ -213,7 +214,7 @@ class Keeper:
 class Rounds:
     """Rounds at the server on a port, which may leave a client without an answer so long."""
 
-    def __init__(self, port, seed, patience=20):
+    def __init__(self, port, seed, patience=5):
         self.port, self.seed, self.patience = port, seed, patience
         sources = SPECIAL + [stream(number) for number in range(SOURCES)]
         self.mutator, self.count = mutations.Mutator(sources), 0
@@ -232,16 +233,16 @@ class Rounds:
         """One round."""
         texts = [self.text(drawn) for _ in range(CONNECTIONS)]
         senders = [Sender(self.connect(), text, drawn) for text in texts]
-        for _ in range(KEPT):
-            keeper.keep(drawn)
         while sending := [it for it in senders if it.pieces]:
             drawn.choice(sending).turn()
+            if drawn.random() < KEPT:
+                keeper.keep(drawn)
         for it in senders:
             it.end()
         with contextlib.closing(Keeper(self.connect(), drawn)) as other:
             other.keep(drawn)
             other.look(1)
-        keeper.look(KEPT * LOOKED_AT)
+        keeper.look(LOOKED_AT)
         for it in senders:
             it.stream.close()
 

@@ -1,18 +1,14 @@
-"""What a client that writes its own bytes does with `mcrace serve`: pipelines, requests that come
-in pieces, and while others do ill; and memccapable."""
+"""What a client that writes its own bytes does with `mcrace serve`: pipelines, and requests that
+come in pieces; and memccapable."""
 
-import contextlib
-import random
 import shutil
 import socket
 import subprocess
-import threading
 import time
 
 from . import servers
 from .program import LiveTest, rows
 
-SECONDS = 30
 # Seconds between the two pieces of a request, so that the server reads them one by one.
 APART = 0.001
 
@@ -124,97 +120,6 @@ class OwnBytes(servers.ServedTest):
         self.test_pipelines()
 
 
-# The bytes of rubbish, and what goes out at once of it.
-RUBBISH, PIECE = 10_000_000, 65_536
-# The longest that a request of the client may take.
-PATIENCE = 5
-
-
-def leave_in_requests(port, ended):
-    """Each time a little more of a request, and then it is gone."""
-    text, count = b"set left 0 0 1000\r\n" + b"y" * 500, 0
-    while not ended.is_set():
-        with servers.connect(port) as stream:
-            stream.sendall(text[: count % len(text)])
-        count += 1
-
-
-def send_slowly(port, ended):
-    with servers.connect(port) as stream:
-        while not ended.is_set():
-            for at in range(9):
-                stream.sendall(b"get slow\n"[at : at + 1])
-                time.sleep(0.005)
-
-
-def never_read(port, ended):
-    """It asks for more than fits anywhere, and reads nothing."""
-    with servers.connect(port) as stream:
-        stream.sendall(b"set large 0 0 65536\r\n%b\r\n" % (b"x" * 65_536))
-        stream.setblocking(False)
-        while not ended.is_set():
-            with contextlib.suppress(BlockingIOError):
-                stream.send(b"get large\r\n" * 1000)
-            time.sleep(0.001)
-
-
-def reset(port, ended):
-    while not ended.is_set():
-        with servers.connect(port) as stream:
-            stream.sendall(b"get large\r\nset reset 0 0 5\r\nab")
-            servers.reset_at_close(stream)
-
-
-def send_rubbish(port, ended):
-    """So many bytes in all, over a new connection if one is closed. Its replies are dropped."""
-    lots, left = random.Random(1), RUBBISH
-    while left > 0 and not ended.is_set():
-        with servers.connect(port) as stream, contextlib.suppress(OSError):
-            stream.setblocking(False)
-            piece = lots.randbytes(PIECE)
-            while left > 0 and not ended.is_set():
-                with contextlib.suppress(BlockingIOError):
-                    left -= stream.send(piece)
-                with contextlib.suppress(BlockingIOError):
-                    if not stream.recv(PIECE):
-                        break
-
-
-class UnderFire(servers.ServedTest):
-    """While others send half requests, send slowly, never read their replies, reset connections or
-    send rubbish, a client is served, and nothing is lost that it was acknowledged."""
-
-    def set(self, stream, reader, count):
-        """How many seconds it took to set a key."""
-        began = time.monotonic()
-        stream.sendall(b"set kept-%d 0 0 10\r\n%010d\r\n" % (count, count))
-        self.assertEqual(reader.readline(), b"STORED\r\n")
-        return time.monotonic() - began
-
-    def test_served(self):
-        ended, fires = threading.Event(), [leave_in_requests, send_slowly, never_read, never_read]
-        given = {"args": (self.port, ended), "daemon": True}
-        threads = [threading.Thread(target=it, **given) for it in (*fires, reset, send_rubbish)]
-        for thread in threads:
-            thread.start()
-        slowest, count, end = 0.0, 0, time.monotonic() + SECONDS
-        with servers.connect(self.port) as stream, stream.makefile("rb") as reader:
-            while (threads[-1].is_alive() or count < 500) and time.monotonic() < end:
-                slowest = max(slowest, self.set(stream, reader, count))
-                count += 1
-                time.sleep(0.001)
-            is_left = threads[-1].is_alive()
-            ended.set()
-            for thread in threads:
-                thread.join(SECONDS)
-            for i in range(count):
-                stream.sendall(b"get kept-%d\r\n" % i)
-                found = b"".join(reader.readline() for _ in range(3))
-                self.assertEqual(found, b"VALUE kept-%d 0 10\r\n%010d\r\nEND\r\n" % (i, i))
-        self.assertFalse(is_left, f"rubbish is left after {count} sets")
-        self.assertLessEqual(slowest, PATIENCE)
-
-
 # The tests of memccapable. Those of `flush_all`, `verbosity`, `stats` and `version` are left out:
 # the server doesn't have these.
 STORING = ["set", "add", "replace", "cas", "delete", "incr", "decr", "append", "prepend"]
@@ -258,5 +163,5 @@ class Memccapable(LiveTest):
             at = self.enter(Versions(port)).port if test in WAITS else port
             words = ["memccapable", "-h", "127.0.0.1", "-p", str(at), "-v", "-a"]
             words += ["-T", f"ascii {test}"]
-            ran = subprocess.run(words, capture_output=True, text=True, timeout=4 * SECONDS)
+            ran = subprocess.run(words, capture_output=True, text=True, timeout=120)
         self.assertEqual((ran.returncode, "[pass]" in ran.stdout), (0, True), ran)

@@ -69,8 +69,6 @@ class ChangedStreams(LiveTest):
         print(f"{rounds.count} rounds of changed streams")
 
 
-# The longest that a server may leave a client without an answer whose fault is that it does so.
-PATIENCE = 3
 # The longest until a fault is found, and how long none is.
 MOST_SECONDS, WITHOUT_FAULT = 60, 2
 # The fault shows from this connection on.
@@ -128,14 +126,14 @@ class Rambling(servers.Carrying):
         return piece.replace(b"ERROR\r\n", b"ERROR!\r\n")
 
 
-# A server with a fault, how long it may leave a client without an answer, and how the fault is
-# told. A connection that an ending server has taken ends or is reset.
+# A server with a fault, and how that is told. A connection that an ending server has taken ends or
+# is reset.
 FAULTY = [
-    ("a lost key", Losing, 20, "answers b'get kept-"),
-    ("an end", Ending, 20, "refused|reset by peer|Broken pipe|b'' answers"),
-    ("silence", Silent, PATIENCE, "timed out"),
-    ("a connection that is held", Holding, PATIENCE, "isn't ended"),
-    ("other words", Rambling, 20, "it wrote b'ERROR!"),
+    ("a lost key", Losing, "answers b'get kept-"),
+    ("an end", Ending, "refused|reset by peer|Broken pipe|b'' answers"),
+    ("silence", Silent, "timed out"),
+    ("a connection that is held", Holding, "isn't ended"),
+    ("other words", Rambling, "it wrote b'ERROR!"),
 ]
 
 
@@ -145,9 +143,9 @@ class FaultyServers(servers.ServedTest):
     seconds = 9
 
     @rows(FAULTY)
-    def test_faults(self, kind, patience, told):
+    def test_faults(self, kind, told):
         with kind(self.port) as server:
-            fault = Rounds(server.port, 1, patience).fault(MOST_SECONDS)
+            fault = Rounds(server.port, 1).fault(MOST_SECONDS)
         self.assertIsNotNone(fault, kind.__doc__)
         self.assertRegex(fault, told)
 
