@@ -182,6 +182,6 @@ def ending_all():
     try:
         yield
     except KeyboardInterrupt:
-        sys.exit(128 + received[0])
+        sys.exit(128 + (received or [signal.SIGINT])[0])
     finally:
         end_all()
