@@ -1,16 +1,22 @@
-"""Commands whose allocations are refused, and how they may end then."""
+"""Programs with the library of allocations.c before them, whose allocations may be refused, and how
+they may end then."""
 
+import contextlib
 import itertools
+import os
+import pathlib
 import re
 import subprocess
 import sys
 import tempfile
 from dataclasses import dataclass
 
-from running import ROOT, ran
-
 import cases
+import parts
 from live import servers
+
+HERE = pathlib.Path(__file__).resolve().parent
+ROOT, SECONDS = HERE.parents[1], 60
 
 # What has a time limit is tried as often as this: the machine may stand still for longer.
 TRIES = 3
@@ -44,8 +50,26 @@ SAYS_SO = re.compile(
 )
 
 
-class NoCount(Exception):
-    """Why the allocations of a command can't be counted."""
+def library(folder):
+    """The shared object, made in the folder by the toolchain's own compiler."""
+    made = pathlib.Path(folder, "allocations.so")
+    words = [parts.kit() / "toolchain/bin/clang", "-O1", "-Wall", "-Werror", "-shared", "-fPIC"]
+    words += ["-nostdlib", "-fuse-ld=lld", "-o", made, HERE / "allocations.c"]
+    subprocess.run(words, check=True)
+    return made
+
+
+def ran(words, made, given="/dev/null", **settings):
+    """The status, the output, and standard error of a program with the library before it and these
+    variables; None if it doesn't end."""
+    more = {name: str(value) for name, value in settings.items()}
+    environment = {**os.environ, "LD_PRELOAD": str(made), **more}
+    with open(given, "rb") as file, contextlib.suppress(subprocess.TimeoutExpired):
+        # Closing no descriptors lets Python start it without a copy of itself.
+        streams = {"stdin": file, "capture_output": True, "close_fds": False}
+        ended = subprocess.run(words, env=environment, timeout=SECONDS, check=False, **streams)
+        return ended.returncode, ended.stdout, ended.stderr
+    return None
 
 
 @dataclass
@@ -69,7 +93,7 @@ class Sweep:
         """How often a run with memory allocates."""
         ended, count = self.run()
         if ended is None or count < 0:
-            raise NoCount(f"{self.name} ends without counting its allocations")
+            raise RuntimeError(f"{self.name} ends without counting its allocations")
         return count
 
     def odd_runs(self, numbers, until_none=False):
@@ -133,34 +157,30 @@ def test_may_end(_, ended):
 MAY_END = {"campaign": campaign_may_end, "serve": serve_may_end, "selftest": selftest_may_end}
 
 
-def inputs():
-    """The name, the words and the input of each case and each example."""
-    for file in cases.all_files():
-        for case in cases.cases_in(file):
-            yield case.name, case.words, case.input
-    for command, kind in EXAMPLES:
-        for example in sorted(ROOT.glob(f"examples/*.{kind}")):
-            yield example.name, [command], example.read_bytes()
-    for words in LINES:
-        yield " ".join(["mcrace", *words]), words, b""
-
-
-def sweeps_of_program(program, made, folder):
-    for number, (name, words, given) in enumerate(inputs()):
+def sweeps_of_cases(program, made, folder):
+    """The program on each case, each example and some command lines without input."""
+    given = [(it.name, it.words, it.input) for of in cases.all_files() for it in cases.cases_in(of)]
+    given += [(it.name, [command], it.read_bytes()) for command, kind in EXAMPLES
+              for it in sorted(ROOT.glob(f"examples/*.{kind}"))]
+    given += [(" ".join(["mcrace", *words]), words, b"") for words in LINES]
+    found = []
+    for number, (name, words, text) in enumerate(given):
         file = folder / f"input{number}"
-        file.write_bytes(given)
-        may_end = MAY_END.get(words[0], program_may_end) if words else program_may_end
-        yield Sweep(name, [program, *words], may_end, made, file)
+        file.write_bytes(text)
+        may_end = MAY_END.get("".join(words[:1]), program_may_end)
+        found.append(Sweep(name, [program, *words], may_end, made, file))
+    return found
 
 
 def sweeps_at_servers(program, made, folder, ending):
     """Runs against servers, which serve until `ending` is closed."""
-    script = folder / "script"
+    script, found = folder / "script", []
     script.write_bytes(SCRIPT)
     for name, texts, options in AT_SERVERS:
         port = ending.enter_context(servers.Replying(servers.answers(*texts))).port
         words = [program, "run", f"127.0.0.1:{port}", *options]
-        yield Sweep(name, words, run_may_end, made, script)
+        found.append(Sweep(name, words, run_may_end, made, script))
+    return found
 
 
 def sweeps_of_tests(made, crates):

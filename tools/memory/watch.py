@@ -19,9 +19,8 @@ import re
 import tempfile
 from dataclasses import dataclass
 
-from running import ran
-
 from live import servers
+from refusal import ran
 
 SECTION = b"get a\nset a 0 =abc\nget a\nget a\n"
 HEAD = b"script 1\nkeys a\nbudget P 2 60\nbudget A 4 300\nbudget B 4 300\nP\nset a 0 =120\n"

@@ -1,16 +1,10 @@
-"""The public calls of the libraries; the list of those whose answer can say want of memory, and the
-list of all in docs/PROOFS.md.
-"""
+"""The public calls of the libraries, and the list of those whose answer can say want of memory."""
 
 import re
-
-import running  # finds the modules of other tools
 
 import functions
 
 FILE = "tools/memory/calls.txt"
-DOCUMENT, HEADING = "docs/PROOFS.md", "## Every call ends\n"
-ROW = re.compile(r"(?m)^\| `(mc_\w+)` \| ([^|]*) \|")
 # What the program does, the line that it reads, and what it says of a refused input: refused on
 # each case and example.
 PROGRAM = {"mc_cli", "mc_command", "mc_hints"}
@@ -82,15 +76,3 @@ def faults(root):
     lacks = [f"{FILE} lacks {it}, whose answer can say want of memory" for it in wanted - found]
     has = [f"{FILE} has {it}, which is no public function that can say it" for it in found - wanted]
     return sorted(lacks) + sorted(has)
-
-
-def faults_of_document(root):
-    """What is wrong with the document's list of all public calls, which says how each ends."""
-    text = (root / DOCUMENT).read_text(encoding="utf-8")
-    rows = ROW.findall(text.partition(HEADING)[2].partition("\n## ")[0])
-    found = [f"{of}::{name}" for of, names in rows for name in re.findall(r"`([\w:]+)`", names)]
-    offered = {f"{of.name}::{name}" for of in libraries(root) for name, _ in public_calls(of)}
-    faults = [f"{DOCUMENT} doesn't list {it}" for it in offered - set(found)]
-    faults += [f"{DOCUMENT} lists {it}, which no library offers" for it in set(found) - offered]
-    faults += [f"{DOCUMENT} lists {it} twice" for it in set(found) if found.count(it) > 1]
-    return sorted(faults)
