@@ -59,4 +59,4 @@ class Fuzz(unittest.TestCase):
         its = self.ended(AT_NOTES, "--lines")
         lines = its.stdout.splitlines()
         self.assertEqual((its.returncode, len(lines)), (1, 2), its)
-        self.assertRegex(lines[0], "^failed: missed-write.history .*signal 11")
+        self.assertRegex(lines[0], "^failed: judge --why, missed-write.history .*signal 11")
