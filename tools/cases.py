@@ -4,8 +4,6 @@ A file of cases is read whole before any of its cases runs, and a line that the 
 a fault of the file.
 """
 
-from __future__ import annotations
-
 import pathlib
 import re
 import shlex
@@ -38,6 +36,12 @@ class Lines:
     told: list = field(default_factory=list)
     status: int | None = None
     fails: set = field(default_factory=set)
+    # What a server does on the connections of P, A and B; such runs by name; the names of those
+    # that it does, and how many connections it is to take.
+    talk: dict = field(default_factory=dict)
+    named: dict = field(default_factory=dict)
+    runs: list = field(default_factory=list)
+    taken: int | None = None
 
 
 @dataclass
@@ -48,8 +52,8 @@ class Case:
     output: bytes
     # Texts that stand in the output, where it isn't compared whole.
     parts: list
-    # The first line of standard error, empty where it may be any; or None, where nothing is written
-    # there.
+    # The first line of standard error, empty where it may be any, or all lines if there is a server;
+    # or None, where nothing is written there.
     faults: str | None
     # Texts that stand in standard error.
     told: list
@@ -57,6 +61,9 @@ class Case:
     # Whether reading and writing are to fail too.
     input_fails: bool
     output_fails: bool
+    # What the server does in each of its runs, by section, and how many connections it is to take.
+    runs: list
+    taken: int | None
 
 
 def bytes_of(line, where):
@@ -82,13 +89,21 @@ def add_line(lines, line, where):
     elif line.startswith("$"):
         lines.words = shlex.split(line[1:])
     elif line == "!" or line.startswith("! "):
-        lines.faults = line[2:]
+        lines.faults = "\n".join([lines.faults, line[2:]] if lines.faults else [line[2:]])
     elif line.startswith("!~ "):
         lines.told.append(line[3:].encode())
     elif line.startswith("~ "):
         lines.parts.append(line[2:].replace("\\n", "\n").encode())
     elif line in ("<!", ">!"):
         lines.fails.add(line)
+    elif talk := re.fullmatch(r"@([PAB]) ?(.*)", line):
+        lines.talk[talk[1]] = talk[2]
+    elif name := re.fullmatch(r"@= (\w+)", line):
+        lines.named[name[1]] = dict(lines.talk)
+    elif re.fullmatch(r"@: [\w ]+", line):
+        lines.runs = line[3:].split()
+    elif re.fullmatch(r"@# \d+", line):
+        lines.taken = int(line[3:])
     elif re.fullmatch(r"= \d{1,3}", line):
         lines.status = int(line[2:])
     elif line.startswith("<"):
@@ -117,8 +132,14 @@ def case_of(name, own, frame, where):
         raise BadFile(f"{where}: a case with lines `~` has no line of output, `<!` or `>!`")
     if fails and len(given) > MOST_FAILING:
         raise BadFile(f"{where}: with `<!` or `>!` an input has at most {MOST_FAILING} bytes")
+    try:
+        runs = [frame.named[it] for it in own.runs]
+    except KeyError as unnamed:
+        raise BadFile(f"{where}: its frame has no run {unnamed}") from None
+    if not runs and frame.talk | own.talk:
+        runs = [frame.talk | own.talk]
     return Case(name, words, given, b"".join(output or []), parts, faults, told, status,
-                "<!" in fails, ">!" in fails)
+                "<!" in fails, ">!" in fails, runs, own.taken)
 
 
 def cases_in(path):

@@ -1,49 +1,9 @@
-"""What `mcrace run` does with `--timeout` at servers that hang, and with `--name`."""
+"""What `mcrace run` does with `--timeout` at slow servers, and with `--name`."""
 
 import socket
 
-from .program import COUNTER, NO_BRANCH, LiveTest, play, rows, three_times
-from .servers import A, B, P, Request, Scripted, Step, answers
-
-READ = [Step.READ]
-SIX = answers(b"6\r\n")
-P_FAILED = "P failed 2 ReadFailed\n" + NO_BRANCH
-A_FAILED = "P done\nA failed 2 ReadFailed\nB done\n"
-OF_P = 'P: no reply to "delete a" within 0.2 s'
-OF_A = 'A: no reply to "incr a 1" within 0.2 s'
-OF_B = 'B: no reply to "incr a 1" within 0.2 s'
-
-# Of a connection of the counter that hangs: its name, what the server does, the endings, and what
-# is told.
-HANGS = [
-    ("P before a reply", (READ, A, B), P_FAILED, [OF_P]),
-    ("P before a later reply", ([*answers(b"NOT_FOUND\r\n"), *READ], A, B), P_FAILED,
-     [r'P: no reply to "set a 0 0 1\r\n5" within 0.2 s']),
-    ("P in a line", ([*READ, b"NOT_F"], A, B), P_FAILED,
-     ['P: no more than "NOT_F" to "delete a" within 0.2 s']),
-    ("P before the LF", ([*READ, b"NOT_FOUND\r"], A, B), P_FAILED,
-     [r'P: no more than "NOT_FOUND\r" to "delete a" within 0.2 s']),
-    ("A, and B is answered", (P, READ, SIX), A_FAILED, [OF_A]),
-    ("B in a line, and A is answered", (P, SIX, [*READ, b"7"]),
-     "P done\nA done\nB failed 2 ReadFailed\n",
-     ['B: no more than "7" to "incr a 1" within 0.2 s']),
-    ("both", (P, READ, READ), "P done\nA failed 2 ReadFailed\nB failed 2 ReadFailed\n",
-     [OF_A, OF_B]),
-    ("A, and P was answered once too often",
-     (answers(b"NOT_FOUND\r\n", b"STORED\r\nSTORED\r\n"), READ, SIX), A_FAILED,
-     [r'P: after its last reply came 8 bytes more: "STORED\r\n"', OF_A]),
-]
-
-# P asks for a body once.
-READER = b"script 1\nkeys a\nbudget P 2 17\nbudget A 0 0\nbudget B 0 0\nP\nget a\nA\nB\nend\n"
-
-# Of a hit that doesn't come to its end: its name, what comes of it, and what is told of that.
-HANGS_IN_HITS = [
-    ("in a body", b"VALUE a 0 5\r\nab", r"VALUE a 0 5\r\nab"),
-    ("after a body", b"VALUE a 0 2\r\nab\r\n", r"VALUE a 0 2\r\nab\r\n"),
-    ("in a long body", b"VALUE a 0 999\r\n" + 300 * b"x", r"VALUE a 0 999\r\n" + 185 * "x"),
-]
-
+from .program import COUNTER, LiveTest, play, rows, three_times
+from .servers import A, B, Request, Scripted, Step
 
 def slowly(text):
     """The steps in which these bytes are sent, each after a pause."""
@@ -51,25 +11,7 @@ def slowly(text):
 
 
 class TimeLimits(LiveTest):
-    """A play that hangs is ended by its time limit, and its history is judged."""
-
-    @three_times
-    def assert_ended(self, talks, endings, told, script=COUNTER):
-        with Scripted(talks) as server, self.assert_takes(0.2, 5.2):
-            found = play(server.port, "--timeout", "0.2", script=script)
-        lines = "".join(f"mcrace: {it}\n" for it in told)
-        self.assertEqual((found.endings, found.status, found.faults), (endings, 4, lines), found)
-        self.assert_judged_again(found)
-
-    @rows(HANGS)
-    def test_hangs(self, *row):
-        self.assert_ended(*row)
-
-    @rows(HANGS_IN_HITS)
-    def test_hangs_in_hits(self, text, shown):
-        told = f'P: no more than "{shown}" to "get a" within 0.2 s'
-        talks = answers(b"NOT_FOUND\r\n", text), [], []
-        self.assert_ended(talks, P_FAILED, [told], READER)
+    """Of servers that hang are the cases of cases/run/hangs.cases."""
 
     @three_times
     def test_slow_bytes(self):

@@ -159,7 +159,8 @@ MAY_END = {"campaign": campaign_may_end, "serve": serve_may_end, "selftest": sel
 
 def sweeps_of_cases(program, made, folder):
     """The program on each case, each example and some command lines without input."""
-    given = [(it.name, it.words, it.input) for of in cases.all_files() for it in cases.cases_in(of)]
+    given = [(it.name, it.words, it.input) for of in cases.all_files() for it in cases.cases_in(of)
+             if not it.runs]
     given += [(it.name, [command], it.read_bytes()) for command, kind in EXAMPLES
               for it in sorted(ROOT.glob(f"examples/*.{kind}"))]
     given += [(" ".join(["mcrace", *words]), words, b"") for words in LINES]
