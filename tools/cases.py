@@ -4,6 +4,8 @@ A file of cases is read whole before any of its cases runs, and a line that the 
 a fault of the file.
 """
 
+from __future__ import annotations
+
 import pathlib
 import re
 import shlex

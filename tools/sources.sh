@@ -16,28 +16,6 @@ source_hash() (
     }
 )
 
-# Prints the same hash. It is remembered in the folder in which the program is built, and as long as
-# no file or folder of the crates has changed since, by the times that the system keeps and nobody
-# can set, nothing is read again. So a run of ./mcrace waits for one process. What changed in the
-# second before is taken for changed, since times are not exact.
-hash_at_hand() (
-    cd "$1" || exit 1
-    known=crates/mcrace/out/known-sources
-    if { read -r hash <"$known"; } 2>/dev/null &&
-        [ -z "$(find crates.txt crates '(' -name out -o -name mutants ')' -prune \
-            -o -cnewer "$known" -print -quit)" ]; then
-        echo "$hash"
-        exit
-    fi
-    before=$(date --iso-8601=ns --date='1 second ago')
-    hash=$(source_hash .)
-    echo "$hash"
-    {
-        mkdir -p "${known%/*}" && echo "$hash" >"$known.$$" &&
-            touch --date="$before" "$known.$$" && mv "$known.$$" "$known"
-    } 2>/dev/null
-)
-
 # Prints a crate and all crates of this repository below it. $1 is the top of the repository, $2 the
 # crate.
 crates_below() {
