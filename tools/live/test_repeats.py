@@ -1,5 +1,5 @@
-"""What `mcrace run` does with `--times`, `--for`, `--keep-going` and `--stats` at right servers, and
-at one with a race. What it does if runs differ is in cases/run/runs.cases."""
+"""What `mcrace run` does with `--times`, `--for`, `--keep-going` and `--stats` at servers that are
+right or racy. Those whose runs differ are in cases/run/runs.cases."""
 
 import re
 
