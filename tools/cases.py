@@ -130,8 +130,6 @@ def case_of(name, own, frame, where):
     told = [*frame.told, *own.told]
     if told and faults is None:
         raise BadFile(f"{where}: a case with lines `!~` has a line `!` too")
-    if parts and (output is not None or fails):
-        raise BadFile(f"{where}: a case with lines `~` has no line of output, `<!` or `>!`")
     if fails and len(given) > MOST_FAILING:
         raise BadFile(f"{where}: with `<!` or `>!` an input has at most {MOST_FAILING} bytes")
     try:
@@ -140,6 +138,8 @@ def case_of(name, own, frame, where):
         raise BadFile(f"{where}: its frame has no run {unnamed}") from None
     if not runs and frame.talk | own.talk:
         runs = [frame.talk | own.talk]
+    if parts and (output is not None and not runs or fails):
+        raise BadFile(f"{where}: a case with lines `~` has no line of output, `<!` or `>!`")
     return Case(name, words, given, b"".join(output or []), parts, faults, told, status,
                 "<!" in fails, ">!" in fails, runs, own.taken)
 

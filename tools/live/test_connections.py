@@ -16,15 +16,6 @@ NOBODY = "127.0.0.1:1"
 # Open files of a process that has its standard input, output and error, and P's connection.
 WITH_P = 4
 
-# A target that is no server's: its name, what it is, and what is told of it.
-NO_TARGETS = [
-    ("a name that isn't one", "no-such-host.invalid:11211", "lookup"),
-    ("no port", "127.0.0.1", "mcrace: 127.0.0.1: write HOST:PORT\n"),
-    ("a port alone", "11311", "mcrace: 11311: write HOST:PORT\n"),
-    ("a port above 65535", "host:65536", "mcrace: host:65536: write HOST:PORT\n"),
-    ("a port with a sign", "127.0.0.1:+11311", "mcrace: 127.0.0.1:+11311: write HOST:PORT\n"),
-]
-
 
 class ConnectionTest(LiveTest):
     def assert_no_connection(self, section, told, found):
@@ -35,10 +26,7 @@ class ConnectionTest(LiveTest):
 
 
 class NoConnections(ConnectionTest):
-    """Nobody listens, no descriptor is left, or there is no such server."""
-
-    def test_nobody_listens(self):
-        self.assert_no_connection("P", REFUSED, play(servers.free_port()))
+    """No descriptor is left, or nobody listens at a branch's own server."""
 
     @rows([("A", "A", WITH_P), ("B", "B", WITH_P + 1)])
     def test_no_descriptor(self, section, files):
@@ -48,10 +36,6 @@ class NoConnections(ConnectionTest):
         with Scripted((P, A, B)) as server:
             found = play(server.port, preexec_fn=limit)
         self.assert_no_connection(section, "Too many open files", found)
-
-    @rows(NO_TARGETS)
-    def test_no_such_server(self, target, told):
-        self.assert_no_connection("P", told, run(["run", target], COUNTER))
 
     @rows([("A", "A"), ("B", "B")])
     def test_nobody_listens_at_a_branch_s_own_server(self, section):
