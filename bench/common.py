@@ -7,6 +7,7 @@ than it should.
 
 import argparse
 import contextlib
+import fcntl
 import os
 import pathlib
 import shutil
@@ -19,6 +20,8 @@ import time
 ROOT = pathlib.Path(__file__).resolve().parents[1]
 BENCH = ROOT / "bench"
 NOT_MET = 3
+# It stands in Python's `fcntl` since 3.10.
+F_GETPIPE_SZ = 1032
 
 sys.path.append(str(ROOT / "oracle"))
 
@@ -102,39 +105,28 @@ def ran(words, text="", statuses=(0,), seconds=600):
     return found.stdout
 
 
-@contextlib.contextmanager
-def spawned(words, text, output):
-    """A process that reads the text from a file, and when it began."""
+def timed(words, text):
+    """What a command answers to a text, its status, and the seconds that it took."""
     with tempfile.TemporaryFile() as given:
         given.write(text)
         given.seek(0)
         began = time.perf_counter()
-        with subprocess.Popen(words, stdin=given, stdout=output) as process:
-            yield process, began
-
-
-def timed(words, text):
-    """What a command answers to a text, its status, and the seconds that it took."""
-    with spawned(words, text, subprocess.PIPE) as (process, began):
-        written = process.stdout.read()
-        status = process.wait()
-        return written, status, time.perf_counter() - began
+        ended = subprocess.run(words, stdin=given, stdout=subprocess.PIPE)
+        return ended.stdout, ended.returncode, time.perf_counter() - began
 
 
 def peak(words, text):
     """The most kilobytes that a command held, read when its answer is to go into a full pipe."""
     reader, writer = os.pipe()
-    os.set_blocking(writer, False)
-    with contextlib.suppress(BlockingIOError):
-        while os.write(writer, bytes(4096)):
-            pass
-    os.set_blocking(writer, True)
-    with spawned(words, text, writer) as (process, _):
-        os.close(writer)
-        while stat_of(process.pid)[0] not in "SZ":
-            time.sleep(0.001)
-        kilobytes = status_of(process.pid, "VmHWM")
-        with open(reader, "rb") as output:
+    os.write(writer, bytes(fcntl.fcntl(writer, F_GETPIPE_SZ)))
+    with tempfile.TemporaryFile() as given, open(reader, "rb") as output:
+        given.write(text)
+        given.seek(0)
+        with subprocess.Popen(words, stdin=given, stdout=writer) as process:
+            os.close(writer)
+            while stat_of(process.pid)[0] not in "SZ":
+                time.sleep(0.001)
+            kilobytes = status_of(process.pid, "VmHWM")
             output.read()
     return kilobytes
 

@@ -1,9 +1,10 @@
-"""The histories that `bench/judge` and `bench/instructions` measure, by their kinds."""
+"""The histories that `bench/judge` and `bench/instructions` measure, by their kinds, and how they are
+judged."""
 
 import collections
 import random
 
-import common  # which finds the model
+from common import stop, timed  # which finds the model
 from model import GREATEST, Cache, history_text, line_of
 
 CLEARED = "P delete a -> NOT_FOUND"
@@ -173,3 +174,42 @@ KINDS = [Kind(name, made, None if name == "changed" else "explained")
          for name, made in SERVED.items()]
 KINDS += [Kind(name, lines, "unexplained", 10_000 if name == "bodies" else None,
                2 if name == "alike-pairs" else 1) for name, lines in HOPELESS.items()]
+
+
+# ---- verdicts of `mcrace judge`
+
+
+STATUSES = {"explained": 0, "unexplained": 1, "undecided": 4}
+
+
+def words_of(limit):
+    return ["judge", "--limit", str(limit)]
+
+
+def verdict_of(program, text, limit):
+    """The verdict, and the seconds that it took."""
+    answer, status, seconds = timed([program, *words_of(limit)], text)
+    verdict = answer.split(b"\n", 1)[0].decode()
+    if status != STATUSES.get(verdict):
+        stop(f"{verdict!r} with status {status} for", text.decode())
+    return verdict, seconds
+
+
+def turns_of(program, kind, text, limit):
+    """The verdict, which must not be wrong, and its turns: the least limit that doesn't leave it
+    undecided, or the limit."""
+    verdict, _ = verdict_of(program, text, limit)
+    if verdict == "undecided":
+        return verdict, limit
+    if verdict != (kind.verdict or verdict):
+        stop(f"of kind {kind.name} the verdict is {verdict}, which is wrong, for", text.decode())
+    too_few, enough = -1, 0
+    while verdict_of(program, text, enough)[0] == "undecided":
+        too_few, enough = enough, min(max(4 * enough, 16), limit)
+    while enough - too_few > 1:
+        middle = (too_few + enough) // 2
+        if verdict_of(program, text, middle)[0] == "undecided":
+            too_few = middle
+        else:
+            enough = middle
+    return verdict, enough

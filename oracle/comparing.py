@@ -6,11 +6,12 @@ import subprocess
 
 
 def parser_of(doc, program=None, **options):
-    """A parser of a command line: the program, which may be left out if there is one here, and
-    these options, each with what it is if left out."""
+    """A parser of a command line: the program, which may be left out if there is one here, unless
+    that is empty; and these options, each with what it is if left out."""
     form = argparse.RawDescriptionHelpFormatter
     parser = argparse.ArgumentParser(description=doc, formatter_class=form)
-    parser.add_argument("program", nargs="?" if program else None, default=program)
+    if program != "":
+        parser.add_argument("program", nargs="?" if program else None, default=program)
     for name, value in options.items():
         kind = {"action": "store_true"} if value is False else {"type": type(value)}
         parser.add_argument(f"--{name}", default=value, **kind)

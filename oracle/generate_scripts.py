@@ -6,23 +6,11 @@ usage: generate_scripts.py [--seed N] [--job N]
 
 With --sum it prints a checksum of the texts of the jobs from 0 on, one after the other: FNV-1a of
 64 bits, which a test of `crates/test_campaign` compares with that of the program's texts. It was
-written from these rules alone, and checks its outputs against those of PCG's C code.
-
-The outputs are those of PCG XSH RR 64/32 from the seed, on the sequence with the job's number;
-draw(n) is the next one modulo n. The keys are `r<job>-0` and `r<job>-1`, the flag is `f`, the
-variable `v`, and each section may send 24 requests and 8192 bytes. P sets key 0 to draw(100), with
-`+f`; and if draw(2) is 1, it sets key 1 to draw(100). A has 1 + draw(3) pieces, and then B. For
-each piece, of which the first has the index 0, its row is draw(8), then its key is draw(2), and
-then its argument is drawn:
-
-    0, 1    `set`, `add` KEY 0 =draw(100)
-    2       `append` KEY 0 =draw(10)
-    3, 4    `incr`, `decr` KEY 1 + draw(9)
-    5, 6    `delete` KEY, `get` KEY `?f`
-    7       `gets` KEY `miss:l<index>` `>v`; `cas` KEY 0 =draw(100) `$v`; the label `l<index>:`
+written from the rules in docs/FORMATS.md (`generate`) alone, and checks its numbers against those
+of PCG's C code.
 """
 
-import argparse
+from comparing import parser_of
 
 MASK = 2**64 - 1
 # The first outputs of PCG's C code, from the seed 42 on the sequence 54.
@@ -80,17 +68,13 @@ def checksum(data):
 
 
 def main():
-    form = argparse.RawDescriptionHelpFormatter
-    parser = argparse.ArgumentParser(description=__doc__, formatter_class=form)
-    for name, number in (("seed", 1), ("job", 0), ("sum", None)):
-        parser.add_argument(f"--{name}", type=int, default=number, metavar="N")
-    given, drawn = parser.parse_args(), outputs(42, 54)
+    given, drawn = parser_of(__doc__, "", seed=1, job=0, sum=0).parse_args(), outputs(42, 54)
     assert [next(drawn) for _ in REFERENCE] == REFERENCE
-    if given.sum is None:
-        print(script(given.seed, given.job), end="")
-    else:
+    if given.sum:
         texts = "".join(script(given.seed, job) for job in range(given.sum))
         print(hex(checksum(texts.encode())))
+    else:
+        print(script(given.seed, given.job), end="")
 
 
 if __name__ == "__main__":

@@ -16,21 +16,6 @@ source_hash() (
     }
 )
 
-# Prints a crate and all crates of this repository below it. $1 is the top of the repository, $2 the
-# crate.
-crates_below() {
-    awk -F: -v wanted="$2" '
-        /^[a-z]/ { split($1, name, " "); below[name[1]] = $2 }
-        function visit(crate,   others, count, i) {
-            if (!(crate in below) || crate in seen) return
-            seen[crate] = 1
-            print crate
-            count = split(below[crate], others, " ")
-            for (i = 1; i <= count; i++) visit(others[i])
-        }
-        END { visit(wanted) }' "$1/crates.txt"
-}
-
 # Prints what the kept program was built from, or nothing. $1 is the top of the repository.
 kept_hash() {
     local word hash
