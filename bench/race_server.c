@@ -23,6 +23,7 @@
 //           old value
 #include "sockets.h"
 #include <inttypes.h>
+#include <search.h>
 #include <stdatomic.h>
 
 enum { MOST_RUNS = 100000, MOST_KEYS = 1 << 16, THREADS = 64 };
@@ -95,32 +96,26 @@ static void spin_until(double time) {
 
 // ---- the cache
 
-// The keys and items by place; what was put there before the last `forget` is of another epoch.
-static char names[MOST_KEYS][KEY];
-static struct item items[MOST_KEYS];
-static unsigned epochs[MOST_KEYS], epoch = 1;
-static int keys;
+// The items by key. What is forgotten isn't freed, since a run has a key or two.
+static struct hsearch_data items;
 static uint64_t last_version;
 
-static void forget(void) { epoch++, keys = 0; }
+static void forget(void) {
+  hdestroy_r(&items);
+  items = (struct hsearch_data){0};
+  if (!hcreate_r(MOST_KEYS, &items))
+    stop("hcreate_r");
+}
 
-// The key's item, or a new place for it, by the hash FNV-1a.
+// The key's item, or a new one.
 static struct item *item_of(const char *key) {
-  uint32_t hash = 2166136261;
-  for (const char *at = key; *at; at++)
-    hash = (hash ^ (unsigned char)*at) * 16777619;
-  size_t place = hash % MOST_KEYS;
-  while (epochs[place] == epoch && strcmp(names[place], key))
-    place = (place + 1) % MOST_KEYS;
-  if (epochs[place] != epoch) {
-    // as long as half of the places are free, a search is short
-    if (keys++ == MOST_KEYS / 2)
-      stop("a key too many");
-    epochs[place] = epoch;
-    strcpy(names[place], key);
-    items[place] = (struct item){0};
-  }
-  return &items[place];
+  ENTRY *found, wanted = {.key = (char *)key};
+  if (hsearch_r(wanted, FIND, &found, &items))
+    return found->data;
+  wanted = (ENTRY){strdup(key), calloc(1, sizeof(struct item))};
+  if (!hsearch_r(wanted, ENTER, &found, &items))
+    stop("a key too many");
+  return found->data;
 }
 
 // The reply of a command that writes nothing, with this item there; null if it writes.
@@ -341,6 +336,7 @@ int main(int count, char **words) {
   is_late = !strcmp(words[1], "late");
   if (race == COMMANDS && !is_late && strcmp(words[1], "none"))
     return 2;
+  forget();
   listen_somewhere();
   for (int section = P; section < SECTIONS; section++) {
     if (pipe(tickets[section]))
