@@ -3,12 +3,11 @@
 import re
 
 ESCAPES = {"\\": r"\e", "-": r"\-", "'": r"\(aq", "^": r"\(ha", "~": r"\(ti"}
-# Prose, or what is indented; a table of two columns, and a row of one.
 PART = re.compile(r"(?:^\S.*\n)+|(?:^ .+\n)+", re.M)
 PAIR = r"  \S+( \S+)* {2,}\S+( \S+)*\n"
 TABLE = re.compile(rf"{PAIR}({PAIR}|(  | {{4,}})\S+( \S+)*\n)*")
 ROW = re.compile(r"^  (\S+(?: \S+)*)(.*(?:\n {4}.*)*)", re.M)
-EXAMPLE = re.compile(r"^\| (\S.*) \| `((?:.*\| )?mcrace (\w+).*)` \|$", re.M)
+EXAMPLE = re.compile(r"^\| (\S.*) \| `(mcrace (\w+).*)` \|$", re.M)
 
 
 def roff(text):
@@ -29,7 +28,7 @@ def listed(rows):
 
 
 def body(text):
-    """Prose in paragraphs, tables as lists, and what else is indented as it stands."""
+    """Prose as paragraphs, tables of two columns as lists, what else is indented as it stands."""
     out = []
     for part in PART.findall(f"{text.strip()}\n"):
         if TABLE.fullmatch(part):
@@ -49,8 +48,9 @@ def manual(commands, topics, examples, head):
     for name, it in pages.items():
         options = [(f"{', '.join(one.names)} {one.value}".rstrip(), one.text)
                    for one in it.arguments + it.options]
-        lines = "".join(f".PP\nTo see {roff(what)}:\n{as_it_stands(line)}" for what, line, command
-                        in EXAMPLE.findall(examples) if it.name in ("", command))
+        found = EXAMPLE.findall(examples.replace(r"\|", "|"))
+        lines = "".join(f".PP\nTo see {roff(what)}:\n{as_it_stands(line)}"
+                        for what, line, command in found if it.name in ("", command))
         usage = roff(re.sub("^mcrace( [a-z]+)?", r"`\g<0>`", it.usage))
         others = [rf"\fB{roff(one)}\fR({section[one]})" for one in sorted(pages) if one != name]
         parts = {
