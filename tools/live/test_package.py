@@ -11,9 +11,10 @@ import tempfile
 import unittest
 
 from .program import PROGRAM, ROOT, LiveTest, rows, run
-from .test_examples import COMMANDS
 
-TOPICS = ["formats", "history", "script", "steps", "image"]
+HELP = run(["--help"]).text
+COMMANDS = re.findall(r"^  (?!help)([a-z]+)  ", HELP, re.M)
+TOPICS = re.findall(r"^  mcrace help (?!all)([a-z]+)  ", HELP, re.M)
 OPTION = re.compile(r"^ +(?:(-\w), )?(--[a-z-]+)", re.M)
 EXAMPLE = re.compile(r"\| `(mcrace .*)` \|$", re.M)
 MARKS = {r"\-": "-", r"\(aq": "'", r"\(ha": "^", r"\(ti": "~", r"\(ga": "`", r"\&": "", r"\e": "\\"}
@@ -62,6 +63,11 @@ class Packages(LiveTest):
         words = [ROOT / "tools/package", PROGRAM, folder]
         return told(*words, cwd=at, preexec_fn=lambda: os.umask(umask)).splitlines()
 
+    def offered(self, *words):
+        """What bash offers for the last of these words."""
+        file = self.usr / "share/bash-completion/completions/mcrace"
+        return {*told("bash", "-c", OFFERED, "bash", file, *words).split()}
+
     def page(self, name, section):
         path = self.usr / f"share/man/man{section}/{name}.{section}.gz"
         return gzip.decompress(path.read_bytes()).decode()
@@ -103,7 +109,8 @@ class Packages(LiveTest):
     @rows((it, it.split()) for it in ["", *COMMANDS])
     def test_options_in_manual_pages(self, words):
         options = words_of(self.page("-".join(["mcrace", *words]), 1), "OPTIONS")
-        self.assertLessEqual(options_in(run([*words, "--help"]).text), {it.rstrip(",") for it in options})
+        wanted = options_in(run([*words, "--help"]).text)
+        self.assertLessEqual(wanted, {it.rstrip(",") for it in options})
 
     @rows([*((it, it, 1) for it in COMMANDS), *((it, it, 5) for it in TOPICS)])
     def test_texts_of_manual_pages(self, name, section):
@@ -112,20 +119,27 @@ class Packages(LiveTest):
         self.assertEqual(words_of(self.page(f"mcrace-{name}", section), "DESCRIPTION"),
                          text.replace("`", "").split())
 
+    def test_words_in_completions(self):
+        self.assertEqual(self.offered("mcrace", "r"), {"run"})
+        self.assertEqual(self.offered("mcrace", "help", "s"),
+                         {it for it in COMMANDS + TOPICS if it.startswith("s")})
+        self.assertEqual(self.offered("mcrace", "run", "HOST:PORT", "--meet", ""),
+                         {"drawn", "each", "first", "never"})
+        self.assertEqual(self.offered("mcrace", "run", "HOST:PORT", "--limit", ""), set())
+
     @rows((it, it.split()) for it in ["", *COMMANDS])
     def test_options_in_completions(self, words):
         """Each shell is offered all options, and no other; bash is asked."""
         wanted = options_in(run([*words, "--help"]).text)
-        bash, zsh, fish = (self.usr / f"share/{it}" for it in (
-            "bash-completion/completions/mcrace", "zsh/vendor-completions/_mcrace",
-            "fish/vendor_completions.d/mcrace.fish"))
-        offered = told("bash", "-c", OFFERED, "bash", bash, "mcrace", *words, "-").split()
-        self.assertEqual({*offered}, wanted)
+        self.assertEqual(self.offered("mcrace", *words, "-"), wanted)
+        zsh = self.usr / "share/zsh/vendor-completions/_mcrace"
+        fish = self.usr / "share/fish/vendor_completions.d/mcrace.fish"
         case = re.search(rf"^\('{''.join(words)}'\) .*", zsh.read_text(encoding="utf-8"), re.M)[0]
         self.assertEqual({*re.findall(r"'(-[-\w]+)\[", case)}, wanted)
         at = f"'__fish_seen_subcommand_from {words[0]}'" if words else "__fish_use_subcommand"
         found = re.findall(f" -n {at} (?:-s (\\S) )?-l (\\S+)", fish.read_text(encoding="utf-8"))
-        self.assertEqual({f"-{it}" for it, _ in found if it} | {f"--{it}" for _, it in found}, wanted)
+        short, long = ({it for it in names if it} for names in zip(*found))
+        self.assertEqual({f"-{it}" for it in short} | {f"--{it}" for it in long}, wanted)
         for shell, file in (("zsh", zsh), ("fish", fish)):
             if shutil.which(shell):
                 told(shell, "-n", file)
