@@ -74,7 +74,8 @@ class Packages(LiveTest):
 
     def test_same_bytes(self):
         for first, second in zip(*self.made):
-            self.assertEqual(pathlib.Path(first).read_bytes(), pathlib.Path(second).read_bytes())
+            is_same = pathlib.Path(first).read_bytes() == pathlib.Path(second).read_bytes()
+            self.assertTrue(is_same, f"{first} and {second} differ")
 
     def test_files(self):
         """Both have the same files, but for licences and where zsh looks for completions."""
