@@ -37,7 +37,7 @@ def fish(pages):
         at = f"'__fish_seen_subcommand_from {it.name}'" if it.name else "__fish_use_subcommand"
         lines += [f"{at} -a {name} -d {quoted(text)}" for name, text in it.choices]
         for one in it.options:
-            names = " ".join(f"-{'sl'[it[1] == '-']} {it.strip('-')}" for it in one.names)
+            names = " ".join(f"-l {it[2:]}" if it[1] == "-" else f"-s {it[1]}" for it in one.names)
             value = f" -x -a {quoted(' '.join(one.words))}" if one.value else ""
             lines.append(f"{at} {names}{value} -d {quoted(one.text)}")
     return "\n".join(f"complete -c mcrace -n {it}" for it in lines)
