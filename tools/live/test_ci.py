@@ -1,4 +1,4 @@
-"""What a job of a CI runs, and the parts of a campaign: the scripts of `examples/ci`."""
+"""The scripts of `examples/ci`: what a CI job runs, and a part of a campaign."""
 
 import os
 import pathlib
