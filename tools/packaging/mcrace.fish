@@ -1,0 +1,3 @@
+# Completions of mcrace for fish.
+complete -c mcrace -f
+%(fish)s
