@@ -1,5 +1,5 @@
-// Notes what calls of a memcached client begin and answer, as a history for `mcrace judge`: the same
-// as record.py. P runs first, then A and B at once, each in a thread. The keys must be new: the
+// Notes what calls of a memcached client begin and answer, as a history for `mcrace judge`, as
+// record.py does. P runs first, then A and B at once, each in a thread. The keys must be new: the
 // history says that a delete found none. Link with -pthread.
 //
 //   struct history history;
