@@ -77,7 +77,7 @@ class Dropping(servers.Carrying):
 
 
 class WithPymemcache(Recorded):
-    """Its plain client isn't for threads that share it, as its documents say."""
+    """Its pool is for threads, and its plain client isn't."""
 
     needs = "pymemcache"
     right, wrong = ("pymemcache", "pymemcache-pool"), ("pymemcache-shared",)
