@@ -2,12 +2,13 @@
 ghost use Rattle.std.specs.Prelude.{IfOk};
 ghost use Rattle.mc_hints.specs.Refusals.{IsHint};
 
-use crate::caret::find_spot;
-use crate::history_sentences::history_sentence;
+use crate::caret::with_caret;
 use crate::refused::{LoadFault, Refused};
-use crate::script_sentences::{mark_length, script_sentence, size_sentence};
-use crate::unsound_hint::unsound_lines;
-use mc_history::Misread;
+use crate::script_sentence::size_sentence;
+use crate::sentence::Sentence;
+use crate::spot::Spot;
+use crate::unsound::unsound_hint;
+use crate::{history_sentence, script_sentence};
 use mc_protocol::Separator;
 use mc_script::ScriptFault;
 use std::alloc::{AllocError, Global};
@@ -23,21 +24,21 @@ pub fn hint(
     ensures { IfOk result (λ hint. IsHint why hint.items) }
 {
     if why {
-        asked_hint(alloc, input, refused)
+        Ok(asked_hint(alloc, input, refused)?.into_bytes())
     } else {
         Ok(Vec::new(alloc))
     }
 }
 
-fn asked_hint(alloc: Global, input: &[u8], refused: Refused<'_>) -> Result<Vec<u8>, AllocError> {
+fn asked_hint(alloc: Global, input: &[u8], refused: Refused<'_>) -> Result<String, AllocError> {
     match refused {
         Refused::NoHistory(fault) => recorded_hint(alloc, input, fault.line, fault.misread),
         Refused::NoCode(LoadFault::NoScript(fault)) => script_hint(alloc, input, fault),
         Refused::NoCode(LoadFault::TooLarge(fault)) => {
-            Vec::from_slice(alloc, size_sentence(fault).as_bytes())
+            String::from_str(alloc, size_sentence(fault))
         }
-        Refused::NoCode(LoadFault::NoImage(_)) => Ok(Vec::new(alloc)),
-        Refused::Unsound(refusal) => unsound_lines(alloc, input, refusal),
+        Refused::NoCode(LoadFault::NoImage(_)) => Ok(String::new(alloc)),
+        Refused::Unsound(refusal) => unsound_hint(alloc, input, refusal),
         Refused::NoSteps(fault) => recorded_hint(alloc, input, fault.line, fault.misread),
     }
 }
@@ -47,23 +48,26 @@ fn recorded_hint(
     alloc: Global,
     text: &[u8],
     line: u32,
-    misread: Option<Misread>,
-) -> Result<Vec<u8>, AllocError> {
-    let Some(Misread { word, expected }) = misread else {
-        return Ok(Vec::new(alloc));
+    misread: Option<mc_history::Misread>,
+) -> Result<String, AllocError> {
+    let Some(mc_history::Misread { word, expected }) = misread else {
+        return Ok(String::new(alloc));
     };
-    let spot = find_spot(text, Separator::Space, line, word);
-    let sentence = history_sentence(alloc, expected, spot.word())?;
-    spot.text(alloc, sentence.as_slice())
+    let spot = Spot::of_word(alloc, text, Separator::Space, line, word)?;
+    let start = history_sentence::fault_start(expected, spot.word());
+    let spot = spot.after(start);
+    let text = history_sentence::text_at(expected, &spot);
+    with_caret(alloc, &Sentence { text, spot: &spot }, "")
 }
 
 // The line of a script, with the sentence.
-fn script_hint(alloc: Global, text: &[u8], fault: ScriptFault) -> Result<Vec<u8>, AllocError> {
-    let Some(misread) = fault.misread else {
-        return Ok(Vec::new(alloc));
+fn script_hint(alloc: Global, text: &[u8], fault: ScriptFault) -> Result<String, AllocError> {
+    let Some(mc_script::Misread { word, expected }) = fault.misread else {
+        return Ok(String::new(alloc));
     };
-    let word = find_spot(text, Separator::SpaceOrTab, fault.line, misread.word);
-    let spot = word.after(mark_length(misread.expected, word.word()));
-    let sentence = script_sentence(alloc, misread.expected, spot.word())?;
-    spot.text(alloc, sentence.as_slice())
+    let spot = Spot::of_word(alloc, text, Separator::SpaceOrTab, fault.line, word)?;
+    let start = script_sentence::fault_start(expected, spot.word());
+    let spot = spot.after(start);
+    let text = script_sentence::text_at(expected, &spot);
+    with_caret(alloc, &Sentence { text, spot: &spot }, "")
 }

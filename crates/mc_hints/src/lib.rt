@@ -7,14 +7,14 @@
 
 mod caret;
 mod hints;
-mod history_sentences;
+mod history_sentence;
 mod refusal;
 mod refused;
-mod script_sentences;
-mod sentences;
+mod script_sentence;
+mod sentence;
 mod shown_run;
-mod unsound_hint;
-mod unsound_sentences;
+mod spot;
+mod unsound;
 
 pub use hints::hint;
 pub use refusal::refusal_with_hint;

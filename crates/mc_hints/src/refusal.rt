@@ -43,24 +43,18 @@ fn refusal_text(alloc: Global, refused: Refused<'_>) -> Result<Vec<u8>, AllocErr
         Refused::NoHistory(fault) => {
             refusal_line(alloc, "history", fault.kind, Location::Line(fault.line))
         }
-        Refused::NoCode(fault) => load_refusal(alloc, fault),
+        Refused::NoCode(LoadFault::NoScript(fault)) => {
+            refusal_line(alloc, "script", fault.kind, Location::Line(fault.line))
+        }
+        Refused::NoCode(LoadFault::TooLarge(fault)) => {
+            refusal_line(alloc, "asm", fault, location_of(fault))
+        }
+        Refused::NoCode(LoadFault::NoImage(fault)) => {
+            refusal_line(alloc, "image", fault.kind, Location::Byte(fault.offset))
+        }
         Refused::Unsound(refusal) => unsound_text(alloc, refusal),
         Refused::NoSteps(fault) => {
             refusal_line(alloc, "steps", fault.kind, Location::Line(fault.line))
-        }
-    }
-}
-
-fn load_refusal(alloc: Global, fault: LoadFault) -> Result<Vec<u8>, AllocError>
-    ensures { IfOk result (λ text. text.items ≡ refusals.load_refusal fault) }
-{
-    match fault {
-        LoadFault::NoScript(fault) => {
-            refusal_line(alloc, "script", fault.kind, Location::Line(fault.line))
-        }
-        LoadFault::TooLarge(fault) => refusal_line(alloc, "asm", fault, location_of(fault)),
-        LoadFault::NoImage(fault) => {
-            refusal_line(alloc, "image", fault.kind, Location::Byte(fault.offset))
         }
     }
 }

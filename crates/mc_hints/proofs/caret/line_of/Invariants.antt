@@ -1,6 +1,0 @@
-use Rattle.std.proofs.Common.{length}
-use Rattle.mc_protocol.specs.Lines.{counted}
-use Rattle.mc_hints.proofs.caret.line_of.Given as goal
-
-abbrev pub decreases-lines : goal.decreases-lines
-decreases-lines l = length (counted l.lines)
