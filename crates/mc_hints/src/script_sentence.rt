@@ -79,7 +79,7 @@ fn sentence_of_name(expected: Expected, spot: &Spot<'_>) -> &'static str {
         Expected::Name(_) if begins_faultily(spot.rest()) =>
             "`{byte}` can't stand in a name, which is 1 to 20 of a-z, 0-9 and `-`",
         Expected::NewName(Sort::Label) => "the section has this label already",
-        Expected::NewName(_) => "`{word}` is declared already",
+        Expected::NewName(_) => "`{name}` is declared already",
         Expected::FewerNames(Sort::Key) => "a script has at most 8 keys",
         Expected::FewerNames(Sort::Flag) => "a script has at most 32 flags (64 with `script 2`)",
         Expected::FewerNames(_) => "a script has at most 16 variables",
@@ -116,10 +116,11 @@ fn sentence_of_request(expected: Expected, spot: &Spot<'_>) -> &'static str {
         Expected::NoExpiry if verb == Some(Verb::Touch) =>
             "a `touch` has only a key: its expiry time is always 0",
         Expected::NoExpiry => NO_LENGTH,
-        Expected::Unique if word.is_empty() => "expected `$` and a variable: `{form}`",
         Expected::Unique if has_digits_alone(word) =>
             "a cas unique is `$` and a variable, which has it by `gets KEY >VAR`",
-        Expected::Unique => "a body has no spaces, and `$VAR` follows it: `{form}`",
+        Expected::Unique if spot.next().starts_with(b"$") =>
+            "a body has no spaces, and `$VAR` follows it: `{form}`",
+        Expected::Unique => "expected `$` and a variable: `{form}`",
         Expected::Amount => "expected AMOUNT, a decimal below 2^64 or `$VAR`: `{form}`",
         Expected::Mark if is_word(previous, b"=") || previous.ends_with(b":") => PARTED_BEFORE,
         Expected::Mark if spot.next().starts_with(b":") => PARTED_AFTER,

@@ -16,8 +16,8 @@ pub const KEY_BYTE: &str = "`{byte}` can't stand in a key, which is 1 to 40 of a
 pub const KEY: &str = "a key is 1 to 40 of a-z, 0-9 and `-`";
 
 /// A sentence about the word at a place. In its text `{word}`, `{previous}` and `{next}` stand for that word and those beside it, `{name}`
-/// for what the word has from the place on, `{byte}` for the first byte of that and `{marked}` for what it has after its mark; `{first}` and `{second}` for the words that its line
-/// begins with, and `{form}` for how the request of the line is written.
+/// for what the word has from the place on, `{byte}` for the first byte of that, and `{marked}` for what the word has after its mark;
+/// `{first}` and `{second}` for the words that its line begins with, and `{form}` for how the request of the line is written.
 #[derive(Drop)]
 pub struct Sentence<'s, 'a> {
     pub text: &'static str,
@@ -53,8 +53,11 @@ impl Sentence<'_, '_> {
             "marked" => spot.word().get(1..).unwrap_or(&[]),
             _ => spot.word_at(0),
         };
-        // Two words that stand side by side fit in a line.
-        let room = if name == "name" { WIDTH / 2 } else { WIDTH / 3 };
+        // Two words that were to be one fit in a line.
+        let room = match name {
+            "word" | "previous" | "next" => WIDTH / 3,
+            _ => WIDTH / 2,
+        };
         write!(f, "{}", Shown::start(bytes, room))?;
         match spot.verb().map(|verb| verb.fields()) {
             Some(fields) if name == "form" => f.write_str(words_after_verb(fields)),

@@ -184,7 +184,8 @@ impl<'a> Unsound<'a> {
                 "a cas of {second} needs what a gets of {second} showed; `{marked}` may have another number",
             (RefusalKind::WrongKind, _) =>
                 "an amount is a number that an incr or decr showed; `{marked}` may have a cas unique",
-            (RefusalKind::NothingToBind, _) => "the last reply before it may have shown no number",
+            (RefusalKind::NothingToBind, _) =>
+                "the last reply before it may have shown no number: jump past this line then",
             (RefusalKind::FlagMayBeClear, [b'?', ..]) =>
                 "the flag `{marked}` may be clear here: set it above in this section, or in P, or leave its mark out",
             (RefusalKind::FlagMayBeClear, _) =>
