@@ -1,5 +1,5 @@
-"""The histories that `bench/judge` and `bench/instructions` measure, by their kinds, and how they are
-judged."""
+"""The histories that `bench/judge` and `bench/instructions` measure, by their kinds, and how
+`mcrace judge` judges them."""
 
 import collections
 import random

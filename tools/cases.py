@@ -54,8 +54,8 @@ class Case:
     output: bytes
     # Texts that stand in the output, where it isn't compared whole.
     parts: list
-    # The first line of standard error, all lines if there is a server, empty where it may be any; or
-    # None, where nothing is written there.
+    # The first line of standard error, or all lines if there is a server; empty if it may be any,
+    # and None where nothing is written there.
     faults: str | None
     # Texts that stand in standard error.
     told: list

@@ -4,7 +4,6 @@ away; and `mcrace selftest`."""
 import concurrent.futures
 import pathlib
 import re
-import socket
 
 from . import servers
 from .campaigns import MOST_IN_BLOCK, MOST_IN_REPORT, CampaignTest, campaign, steps_of
@@ -107,15 +106,6 @@ class CampaignNames(servers.ServedTest, CampaignTest):
         with concurrent.futures.ThreadPoolExecutor() as threads:
             names = "--name ci7", "--name ci8"
             list(threads.map(lambda name: self.assert_right(self.port, 300, name), names))
-
-    def test_key_becomes_too_long(self):
-        """Under this name the last job's keys do, before anything is connected."""
-        with socket.create_server(("127.0.0.1", 0)) as server:
-            port = server.getsockname()[1]
-            found = campaign(port, "--jobs 11 --name a-name-of-35-bytes-leaves-room-for-")
-            self.assert_not_connected(server)
-        self.assertEqual((found.status, found.reports, found.rest), (2, [], []))
-        self.assertIn("the key 'r10-0' has 41 bytes with it", found.faults)
 
 
 class WrongServers(CampaignTest):

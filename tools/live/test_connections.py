@@ -48,7 +48,9 @@ class NoConnections(ConnectionTest):
         """A script with a fault is refused before anything is connected."""
         with socket.create_server(("127.0.0.1", 0)) as server:
             found = play(server.getsockname()[1], script=b"script 2\n")
-            self.assert_not_connected(server)
+            server.settimeout(0.2)
+            with self.assertRaises(socket.timeout):
+                server.accept()
         self.assertEqual(found.status, 3, found)
 
 
