@@ -1,9 +1,11 @@
 """A small memcached client for two verbs, with three faults that may be asked for.
 
-- A reply for the wrong caller: `Client(address)`, shared by threads. `Locked` is right.
-- An incr that isn't answered in time is sent again: `Client(address, is_hasty=True)`.
-- A connection for two threads at once: `Pool(address)`, which looks whether a connection is alive
-  before it takes it out. With `is_right=True` it takes it out first.
+- A reply for the wrong caller: a `Client` that threads share. `Locked` is right.
+- An incr that isn't answered in time is sent again: a `Client` with `is_hasty`.
+- A connection for two threads at once: a `Pool`, which looks whether a connection is alive before
+  it takes it out. With `is_right` it takes it out first.
+
+Each is given the seconds that it waits for a reply.
 """
 
 import select
@@ -18,8 +20,8 @@ PATIENCE = 0.00002
 class Client:
     """A connection for one thread."""
 
-    def __init__(self, address, is_hasty=False):
-        self.socket = socket.create_connection(address, 1)
+    def __init__(self, address, seconds, is_hasty=False):
+        self.socket = socket.create_connection(address, seconds)
         self.socket.setsockopt(socket.IPPROTO_TCP, socket.TCP_NODELAY, 1)
         self.lines, self.is_hasty = self.socket.makefile("rb"), is_hasty
 
@@ -45,8 +47,8 @@ class Client:
 class Locked(Client):
     """A connection that threads may share."""
 
-    def __init__(self, address):
-        super().__init__(address)
+    def __init__(self, *given):
+        super().__init__(*given)
         self.lock = threading.Lock()
 
     def request(self, *given):
@@ -57,16 +59,16 @@ class Locked(Client):
 class Pool:
     """Connections, of which each call takes one, or a new one if none is idle."""
 
-    def __init__(self, address, is_right=False):
-        self.address, self.is_right, self.idle = address, is_right, []
+    def __init__(self, address, seconds, is_right=False):
+        self.given, self.is_right, self.idle = (address, seconds), is_right, []
 
     def take(self):
         if not self.idle:
-            return Client(self.address)
+            return Client(*self.given)
         client = self.idle.pop() if self.is_right else self.idle[-1]
         # It has ended if there is input. While this looks, another thread may run.
         if client.has_input():
-            client = Client(self.address)
+            client = Client(*self.given)
         if client in self.idle:
             self.idle.remove(client)
         return client

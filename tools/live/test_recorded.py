@@ -14,7 +14,7 @@ from .program import PROGRAM, ROOT, SECONDS, judged, rows, three_times
 
 CLIENTS = ROOT / "examples/clients"
 HEADER = pathlib.Path("/usr/include/libmemcached/memcached.h")
-ROUNDS = 30
+ROUNDS, MOST_ROUNDS = 10, 6000
 # A fault is found in so many seconds.
 MOST_SECONDS = 10
 
@@ -36,7 +36,7 @@ class Recorded(servers.ServedTest):
         words = [sys.executable, CLIENTS / "two-threads", name, f"127.0.0.1:{port}", str(rounds)]
         environment = {**os.environ, "MCRACE": str(PROGRAM)}
         ran = subprocess.run(words, capture_output=True, text=True, check=False,
-                             timeout=SECONDS, env=environment)
+                             timeout=10 * SECONDS, env=environment)
         return ran.returncode, ran.stdout, ran.stderr
 
     def test_right(self):
@@ -58,7 +58,7 @@ class Recorded(servers.ServedTest):
     @three_times
     def assert_found(self, name):
         with self.assert_takes(0, MOST_SECONDS):
-            status, output, told = self.tried(name, self.port, 200 * ROUNDS)
+            status, output, told = self.tried(name, self.port, MOST_ROUNDS)
         self.assertEqual((status, output[:12]), (1, "unexplained\n"), told)
         history = output[output.index("history 2\n") :]
         self.assertEqual(judged(history.encode()), "unexplained\n")
