@@ -3,8 +3,8 @@ ghost use Rattle.std.specs.Prelude.{◌≡◌, ◌↔◌, ◌+◌, ◌*◌, ◌�
 ghost use Rattle.std.specs.Duration.{as_nanos};
 ghost use Rattle.mc_cli.specs.Line.{section_server};
 
-use mc_campaign::{Meeting, Namespace};
 use mc_protocol::Actor;
+use mc_settings::{Meeting, Namespace};
 use std::time::Duration;
 
 /// The most jobs that a line may name.

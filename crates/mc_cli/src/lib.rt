@@ -2,7 +2,7 @@
 //!
 //! `read_request` reads a line, once. Each part of the [`Request`] that it answers is what the row of an option reads of the first word
 //! that the line gives for it, or the row's default; else it answers the text of the first fault (`specs/Asking.antt`). Below it stand
-//! `clap`, which splits a line into words of options, and `mc_campaign`, for names and meetings. No crate above names `clap`.
+//! `clap`, which splits a line into words of options, and `mc_settings`, for names and meetings. No crate above names `clap`.
 #![tactic(auto)]
 
 mod args;

@@ -15,7 +15,7 @@ use crate::subcommand::{program, usage_fault};
 use crate::{options as rows, value};
 use clap::error::ErrorKind;
 use clap::{ArgMatches, Error};
-use mc_campaign::Namespace;
+use mc_settings::Namespace;
 use std::alloc::{AllocError, Global};
 
 /// What a line asks for, with all that its words say of it.

@@ -9,12 +9,12 @@ use Rattle.mc_explain.specs.Verdicts.{IsTrueOf}
 use Rattle.mc_explain.specs.declared.verdict.Verdict.{Verdict}
 use Rattle.mc_script.specs.PrintedScript.{script_text}
 use Rattle.mc_script.specs.Script.{Script}
-use Rattle.mc_campaign.specs.Generated.{generated}
-use Rattle.mc_campaign.specs.JobCodes.{NameFits}
+use Rattle.mc_generate.specs.Generated.{generated}
+use Rattle.mc_settings.specs.JobKeys.{NameFits}
 use Rattle.mc_campaign.specs.Outcomes.{HasShortKeys, IsOutcome}
 use Rattle.mc_campaign.specs.ReportStatus.{status_of}
 use Rattle.mc_campaign.specs.ReportText.{brief_report_text, is_same_standing, report_text, standing_of}
-use Rattle.mc_campaign.specs.Shrunk.{IsShrunk}
+use Rattle.mc_generate.specs.Shrunk.{IsShrunk}
 use Rattle.mc_campaign.specs.declared.outcome.JobOutcome.{JobOutcome}
 use Rattle.mc_campaign.specs.declared.outcome.JobOutcome.TheVariants as outcome
 use Rattle.mc_campaign.specs.declared.outcome.JobResult.{JobResult}

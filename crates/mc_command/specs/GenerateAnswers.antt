@@ -1,7 +1,7 @@
 -- What `generate` prints.
 use Rattle.std.specs.Prelude.{◌≡◌, ℕ, List}
 use Rattle.mc_script.specs.PrintedScript.{script_text}
-use Rattle.mc_campaign.specs.Generated.{generated}
+use Rattle.mc_generate.specs.Generated.{generated}
 use Rattle.mc_command.specs.declared.status.Status.{Status}
 use Rattle.mc_command.specs.declared.status.Status.TheVariants as status
 

@@ -12,8 +12,8 @@ use Rattle.mc_explain.specs.declared.verdict.Verdict.{Verdict}
 use Rattle.mc_run.specs.Agreement.{LaneRecords}
 use Rattle.mc_run.specs.Judged.{IsJudged}
 use Rattle.mc_hints.specs.Refusals.{IsHint, load_refusal, unsound_text}
-use Rattle.mc_campaign.specs.Namespaces.{IsPutFault, code_under}
-use Rattle.mc_campaign.specs.declared.naming.PutFault.TheVariants as put_fault
+use Rattle.mc_generate.specs.CodesUnder.{IsPutFault, code_under}
+use Rattle.mc_generate.specs.declared.naming.PutFault.TheVariants as put_fault
 use Rattle.mc_command.specs.Endings.{endings_text, run_status}
 use Rattle.mc_command.specs.Loading.{LoadsScript}
 use Rattle.mc_command.specs.Verdicts.{verdict_text}

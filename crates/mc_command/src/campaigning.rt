@@ -21,14 +21,15 @@ use crate::status::Status;
 use crate::streams::Sink;
 use crate::watching::{Teller, tell_start};
 use mc_campaign::{
-    Campaign, CampaignError, Connector, JobResult, Meeting, Namespace, Report, Standing, Watcher,
-    print_brief_report, print_report, report_status, run_jobs,
+    Campaign, CampaignError, Connector, JobResult, Report, Standing, Watcher, print_brief_report,
+    print_report, report_status, run_jobs,
 };
 use mc_cli::{CampaignArgs, GREATEST_JOBS, GREATEST_WORKERS, Plan, Search, has_last};
 use mc_connect::Dialer;
 use mc_lane::Stream;
 use mc_run::FreeGate;
 use mc_script::{Script, print};
+use mc_settings::{Meeting, Namespace};
 use std::alloc::{AllocError, Global};
 use std::io::Eprint;
 use std::net::{Net, TcpListener, TcpStream};

@@ -2,7 +2,7 @@
 ghost use Rattle.std.specs.Prelude.{◌≡◌, IfOk};
 ghost use Rattle.mc_command.specs.GenerateAnswers as answers;
 
-use mc_campaign::generate_script;
+use mc_generate::generate_script;
 use mc_script::print;
 use std::alloc::{AllocError, Global};
 

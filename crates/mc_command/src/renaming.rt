@@ -9,9 +9,9 @@ ghost use Rattle.mc_command.specs.RepeatAnswers as answers;
 ghost use Rattle.mc_command.specs.Renaming.{code_of};
 
 use crate::run::{Played, put_code_under};
-use mc_campaign::Namespace;
 use mc_model::{History, Sent};
 use mc_protocol::Actor;
+use mc_settings::Namespace;
 use mc_verify::Checked;
 use std::alloc::{AllocError, Global};
 use std::rt::Clock;

@@ -4,18 +4,18 @@
 //! generic in. So the tester answers what is known, and keeps the code of the first round of which nothing is known. That is run here,
 //! and the script is shrunk anew with one answer more.
 ghost use Rattle.std.specs.Prelude.{IfOk};
-ghost use Rattle.mc_campaign.specs.Generated.{generated};
-ghost use Rattle.mc_campaign.specs.Shrunk.{IsShrunk};
+ghost use Rattle.mc_generate.specs.Generated.{generated};
+ghost use Rattle.mc_generate.specs.Shrunk.{IsShrunk};
 
 use crate::loading::verify_code;
-use mc_campaign::{
-    Campaign, Connector, Namespace, Standing, Tester, generate_script, play_job, put_under, shrink,
-};
+use mc_campaign::{Campaign, Connector, Standing, play_job};
 use mc_code::{decode, encode};
+use mc_generate::{Tester, generate_script, put_under, shrink};
 use mc_lane::Stream;
 use mc_protocol::OutOfMemory;
 use mc_run::FreeGate;
 use mc_script::Script;
+use mc_settings::Namespace;
 use mc_verify::Checked;
 use std::alloc::{AllocError, Global};
 use std::sync::Wait;

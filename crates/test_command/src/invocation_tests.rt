@@ -1,9 +1,9 @@
 //! What lines ask for, all that a line of `run` says, and what is answered where there is no network.
 
 use crate::driven::SCRIPT;
-use mc_campaign::Meeting;
 use mc_cli::{Repeat, Request, RunArgs, Search, Seconds, ServeArgs, read_request};
 use mc_command::{Reader, Status, Writer, answer_offline, explain_fault, input_name};
+use mc_settings::Meeting;
 use std::alloc::{AllocError, Global};
 use std::test::Fail;
 

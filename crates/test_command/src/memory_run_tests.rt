@@ -1,11 +1,11 @@
 //! `run` over a network in memory: what is written of a run, its status, and which connections are kept.
 
 use crate::canned::{Answers, CannedNetwork};
-use mc_campaign::Meeting;
 use mc_cli::{Repeat, RunArgs, Search};
 use mc_command::{Reader, Remarks, RunTeller, Statistics, Status, Writer, run_target};
 use mc_connect::Unconnected;
 use mc_protocol::Actor;
+use mc_settings::Meeting;
 use std::alloc::Global;
 use std::io::Eprint;
 use std::rt::Clock;

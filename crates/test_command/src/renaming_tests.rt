@@ -1,10 +1,10 @@
 //! `run` repeatedly, where a run leaves a request without a reply: the keys of the runs after it.
 
 use crate::canned::{Answers, CannedNetwork};
-use mc_campaign::Meeting;
 use mc_cli::{Repeat, RunArgs, Search};
 use mc_command::{Played, Reader, Remarks, RunObserver, Status, Writer, run_target};
 use mc_protocol::Actor;
+use mc_settings::Meeting;
 use std::alloc::{AllocError, Global};
 use std::rt::Clock;
 use std::sync::Wait;

@@ -1,10 +1,10 @@
 //! `run` where there is no server, or none is named.
 
 use crate::driven::SCRIPT;
-use mc_campaign::Meeting;
 use mc_cli::{Repeat, RunArgs, Search};
 use mc_command::{Reader, Status, Unobserved, Writer, run_command, run_target, servers_of};
 use mc_connect::TcpNetwork;
+use mc_settings::Meeting;
 use std::alloc::Global;
 use std::io;
 use std::net::{Net, TcpListener, TcpStream};
