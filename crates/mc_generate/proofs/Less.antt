@@ -1,5 +1,5 @@
 -- All steps are some of the steps, and less a step of less of a script is less of the script.
-use Rattle.std.proofs.Common.{◌≡◌, ℕ, ◌<◌, ◌≤◌, zero, suc, Bool, true, false, List, [], ◌∷◌, map, length, take}
+use Rattle.std.proofs.Common.{◌≡◌, ℕ, ◌+◌, ◌<◌, ◌≤◌, zero, suc, Bool, true, false, List, [], ◌∷◌, map, length, take}
 use Rattle.std.proofs.Common.{refl, sym, ap, subst, ◌∙◌, arith, inl, inr, ⊎_elim}
 use Rattle.std.specs.List.{remove}
 use Rattle.std.proofs.lemmas.Bool.{lt-ltb, le-ltb, cases_lt}
@@ -7,11 +7,14 @@ use Rattle.std.proofs.lemmas.List.Edits.{length-remove}
 use Rattle.mc_protocol.specs.declared.actor.Actor.{Actor}
 use Rattle.mc_protocol.specs.declared.actor.Actor.TheVariants as actor
 use Rattle.mc_protocol.specs.Lines.{Word}
+use Rattle.mc_protocol.specs.Sections as of
+use Rattle.mc_protocol.specs.declared.sections.Sections.{Sections}
 use Rattle.mc_script.specs.declared.section.Label.{Label}
 use Rattle.mc_script.specs.declared.step.Step.{Step}
 use Rattle.mc_script.specs.Script.{Names, Section, Script, section_of}
 use Rattle.mc_script.specs.WellFormed.{AreLabels, IsSection, IsScript}
 use Rattle.mc_script.specs.WithoutStep.{place_without, label_without, section_without, without_step}
+use Rattle.mc_generate.specs.Shrinking.{HasSteps, with_count}
 use Rattle.mc_generate.specs.Shrunk.{steps_left, label_left, IsLessSection, IsLess, IsAccepted, IsShrunk}
 
 abbrev named : Word → ℕ → Label
@@ -150,11 +153,44 @@ pub shrunk-more : (first s less : Script) (section : Actor) (k : ℕ) → less �
     → IsShrunk first less
 shrunk-more first s less section k e accepted h = (subst (IsLess first) (sym e) (less-a-step first s section k h.0), inr accepted)
 
-pub steps-fewer : (s less : Script) (section : Actor) (k : ℕ) → less ≡ without_step s section k → k < length (section_of s section).steps
-    → k ≤ length (section_of less section).steps
-steps-fewer s less section k e below = subst (λ (t : Script). k ≤ length (section_of t section).steps) (sym e) (fewer section below)
-  where
-    fewer : (section : Actor) → k < length (section_of s section).steps → k ≤ length (section_of (without_step s section k) section).steps
-    fewer actor.P below = let n = length-remove s.sections.p.steps k below in omega (arith, n, below)
-    fewer actor.A below = let n = length-remove s.sections.a.steps k below in omega (arith, n, below)
-    fewer actor.B below = let n = length-remove s.sections.b.steps k below in omega (arith, n, below)
+-- ---- how far a script is shrunk
+
+-- the step that is dropped next is one of its section
+pub is-step : (left : Sections ℕ) (s : Script) (section : Actor) (k : ℕ) → HasSteps left s → of.section_of left section ≡ k + 1
+    → k < length (section_of s section).steps
+is-step left s actor.P k h e = let few = h.p in omega (arith, few, e)
+is-step left s actor.A k h e = let few = h.a in omega (arith, few, e)
+is-step left s actor.B k h e = let few = h.b in omega (arith, few, e)
+
+-- the script has the steps before it
+pub steps-before : (left : Sections ℕ) (s : Script) (section : Actor) (k : ℕ) → HasSteps left s → of.section_of left section ≡ k + 1
+    → HasSteps (with_count section k left) s
+steps-before left s actor.P k h e = let few = h.p in record { p = omega (arith, few, e); a = h.a; b = h.b }
+steps-before left s actor.A k h e = let few = h.a in record { p = h.p; a = omega (arith, few, e); b = h.b }
+steps-before left s actor.B k h e = let few = h.b in record { p = h.p; a = h.a; b = omega (arith, few, e) }
+
+-- and so has the script without it
+fewer : (left : Sections ℕ) (s : Script) (section : Actor) (k : ℕ) → HasSteps left s → of.section_of left section ≡ k + 1
+    → HasSteps (with_count section k left) (without_step s section k)
+fewer left s actor.P k h e =
+    let few = h.p in
+    let n = length-remove s.sections.p.steps k (omega (arith, few, e)) in record { p = omega (arith, few, e, n); a = h.a; b = h.b }
+fewer left s actor.A k h e =
+    let few = h.a in
+    let n = length-remove s.sections.a.steps k (omega (arith, few, e)) in record { p = h.p; a = omega (arith, few, e, n); b = h.b }
+fewer left s actor.B k h e =
+    let few = h.b in
+    let n = length-remove s.sections.b.steps k (omega (arith, few, e)) in record { p = h.p; a = h.a; b = omega (arith, few, e, n) }
+
+pub steps-fewer : (left now : Sections ℕ) (s less : Script) (section : Actor) (k : ℕ) → HasSteps left s → of.section_of left section ≡ k + 1
+    → now ≡ with_count section k left → less ≡ without_step s section k → HasSteps now less
+steps-fewer left now s less section k h e is e-less = rw (is, e-less) (fewer left s section k h e)
+
+-- fewer steps are left
+abbrev pub sum_left : Sections ℕ → ℕ
+sum_left left = left.p + left.a + left.b
+
+pub sum-less : (left : Sections ℕ) (section : Actor) (k : ℕ) → of.section_of left section ≡ k + 1 → sum_left (with_count section k left) < sum_left left
+sum-less left actor.P k e = omega (arith, e)
+sum-less left actor.A k e = omega (arith, e)
+sum-less left actor.B k e = omega (arith, e)

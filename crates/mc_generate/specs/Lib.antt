@@ -9,3 +9,4 @@ pub mod Shrunk
 -- What private contracts cite.
 pub mod GeneratedLines
 pub mod ImageFronts
+pub mod Shrinking

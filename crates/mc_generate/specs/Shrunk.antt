@@ -1,5 +1,5 @@
 -- What shrinking leaves of a script.
-use Rattle.std.specs.Prelude.{◌≡◌, ◌⊎◌, Bool, true, false, List, [], ◌∷◌, map, length, take}
+use Rattle.std.specs.Prelude.{◌≡◌, ◌⊎◌, Bool, true, false, Some, List, [], ◌∷◌, map, length, take}
 use Rattle.mc_protocol.specs.declared.actor.Actor.{Actor}
 use Rattle.mc_script.specs.declared.section.Label.{Label}
 use Rattle.mc_script.specs.declared.step.Step.{Step}
@@ -7,6 +7,7 @@ use Rattle.mc_script.specs.Script.{Section, Script, section_of}
 use Rattle.mc_code.specs.Code.{IsCode}
 use Rattle.mc_code.specs.Layout.{code_of}
 use Rattle.mc_verify.specs.Faults.{IsSound}
+use Rattle.mc_generate.specs.declared.shrinking.Shrinker.{Shrinker}
 
 -- ---- less of a script
 
@@ -45,3 +46,7 @@ pub record IsAccepted (s : Script) : Type 0 where
 -- some of the script's steps are left, and it is accepted unless all are
 abbrev pub IsShrunk : Script → Script → Type 0
 IsShrunk s t = IsLess s t × ((t ≡ s) ⊎ IsAccepted t)
+
+-- the script that is being shrunk is such a script of the first, and so is the one that is tried
+abbrev pub IsShrinking : Script → Shrinker → Type 0
+IsShrinking first s = IsShrunk first s.script × ((tried : Script) → s.tried ≡ Some tried → IsShrunk first tried)

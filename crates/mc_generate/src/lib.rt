@@ -25,5 +25,5 @@ pub use generator::{generate, generate_script};
 pub use job_code::generate_under;
 pub use namespace_laws::names_change_keys_alone;
 pub use naming::{PutFault, put_under};
-pub use shrinking::shrink;
+pub use shrinking::{Shrinker, shrink};
 pub use tester::Tester;
