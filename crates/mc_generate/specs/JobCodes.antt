@@ -3,7 +3,8 @@ use Rattle.std.specs.Prelude.{◌⊎◌, ℕ, ◌+◌, ◌≤◌, ◌<◌, Optio
 use Rattle.mc_protocol.specs.Lines.{Word}
 use Rattle.mc_code.specs.Code.{Code}
 use Rattle.mc_code.specs.Layout.{code_of}
-use Rattle.mc_generate.specs.Generated.{generated, names_of}
+use Rattle.mc_settings.specs.JobKeys.{keys_of}
+use Rattle.mc_generate.specs.Generated.{generated}
 use Rattle.mc_settings.specs.Namespaces.{AreShort}
 use Rattle.mc_generate.specs.CodesUnder.{code_under}
 use Rattle.mc_generate.specs.Refusals.{HasFault, IsRefused}

@@ -7,7 +7,7 @@ use Rattle.mc_script.specs.Script.{Section, Script, section_of}
 use Rattle.mc_code.specs.Code.{IsCode}
 use Rattle.mc_code.specs.Layout.{code_of}
 use Rattle.mc_verify.specs.Faults.{IsSound}
-use Rattle.mc_generate.specs.declared.shrinking.Shrinker.{Shrinker}
+use Rattle.mc_generate.specs.declared.shrinker.Shrinker.{Shrinker}
 
 -- ---- less of a script
 

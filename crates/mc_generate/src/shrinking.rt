@@ -6,8 +6,8 @@ ghost use Rattle.mc_script.specs.Script as scripts;
 ghost use Rattle.mc_generate.specs.Shrunk as spec;
 ghost use Rattle.mc_generate.specs.Shrinking as shrinking;
 
-use crate::Tester;
 use crate::acceptance::accepted_code;
+use crate::{Shrinker, Tester};
 use mc_protocol::{Actor, OutOfMemory, Sections};
 use mc_script::{Script, without};
 use mc_verify::Checked;
@@ -35,22 +35,6 @@ pub fn shrink<T: Tester>(
         shrinker.answer(tester.unexplained(&checked)?);
     }
     Ok(shrinker.into_script())
-}
-
-/// A script that is being shrunk, for who runs the smaller ones: [`next`](Shrinker::next) gives the code of one, and
-/// [`answer`](Shrinker::answer) says whether its run has no explanation. [`shrink`] is the loop over both.
-#[derive(Debug, Drop)]
-pub struct Shrinker {
-    // The smallest script so far.
-    script: Script,
-    // The script less a step, whose code was given.
-    tried: Option<Script>,
-    // How many steps of each section, from the first on, weren't dropped or kept yet.
-    left: Sections<usize>,
-    // How many codes are given yet.
-    rounds: u32,
-    ghost enough: { shrinking.HasSteps left script },
-    ghost others: { (less : scripts.Script) → tried ≡ Some less → shrinking.HasSteps left less },
 }
 
 impl Shrinker {
