@@ -26,7 +26,7 @@ fault_of gen.Refused = fault.Refused
 -- under the name a key of the job has more bytes than a key may have
 abbrev pub HasLongKey : Option Word → ℕ → Type 0
 HasLongKey None job = ⊥
-HasLongKey (Some name) job = AreShort name keys_of job → ⊥
+HasLongKey (Some name) job = AreShort name (keys_of job) → ⊥
 
 -- so there may be no code of the job: its script or its code under the name is refused, or a key becomes too long
 abbrev pub IsJobFault : Option Word → ℕ → ℕ → JobFault → Type 0

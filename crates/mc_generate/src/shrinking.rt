@@ -1,5 +1,5 @@
 //! Shrinking: from a script with an unexplained run to a smaller one.
-ghost use Rattle.std.specs.Prelude.{◌≡◌, ◌≤◌, ◌<◌, ◌+◌, ◌⊎◌, None, Some, false, length, true, IfOk, IfSome, OnOk};
+ghost use Rattle.std.specs.Prelude.{◌≡◌, ◌≤◌, ◌<◌, ◌+◌, ◌⊎◌, None, Some, false, length, true, IfNone, IfOk, IfSome};
 ghost use Rattle.mc_protocol.specs.Sections as of;
 ghost use Rattle.mc_code.specs.Layout.{code_of};
 ghost use Rattle.mc_script.specs.Script as scripts;
@@ -64,9 +64,9 @@ impl Shrinker {
     /// Memory ran out.
     pub fn next(&mut self, alloc: Global) -> Result<Option<Checked>, OutOfMemory>
         ensures shrinking { (first : scripts.Script) → spec.IsShrinking first self.old → spec.IsShrinking first self.new }
-        ensures code { IfOk result (IfSome (λ checked.
+        ensures code { IfOk result (λ found. IfSome found (λ checked.
             (less : scripts.Script) × (self.new.tried ≡ Some less) × (checked.code ≡ code_of less))) }
-        ensures rounds { IfOk result (IfSome (λ _. self.new.rounds < self.old.rounds)) }
+        ensures rounds { IfOk result (λ found. IfSome found (λ _. self.new.rounds < self.old.rounds)) }
     {
         self.tried = None;
         if self.rounds == 0 {
@@ -110,6 +110,7 @@ impl Shrinker {
 fn take_last(left: &mut Sections<usize>) -> Option<(Actor, usize)>
     ensures taken { IfSome result (λ taken. (of.section_of left.old taken.0 ≡ taken.1 + 1)
         × (left.new ≡ shrinking.with_count taken.0 taken.1 left.old)) }
+    ensures none { IfNone result (left.new ≡ left.old) }
 {
     if left.b > 0 {
         left.b -= 1;

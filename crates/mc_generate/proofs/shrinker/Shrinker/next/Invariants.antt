@@ -1,7 +1,7 @@
 use Rattle.std.proofs.Common.{◌≡◌, ◌<◌}
 use Rattle.std.specs.Prelude.{None}
 use Rattle.mc_generate.proofs.Less.{sum_left}
-use Rattle.mc_generate.proofs.shrinking.Shrinker.next.Given as goal
+use Rattle.mc_generate.proofs.shrinker.Shrinker.next.Given as goal
 
 abbrev pub invariant-steps : goal.invariant-steps
 invariant-steps l = record {
