@@ -102,7 +102,8 @@ impl Shrinker {
         ensures script { result ≡ self.script }
         ensures shrunk { (first : scripts.Script) → spec.IsShrinking first self → spec.IsShrunk first result }
     {
-        self.script
+        let Shrinker { script, .. } = self;
+        script
     }
 }
 
