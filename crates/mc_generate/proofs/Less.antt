@@ -155,13 +155,6 @@ shrunk-more first s less section k e accepted h = (subst (IsLess first) (sym e) 
 
 -- ---- how far a script is shrunk
 
--- the step that is dropped next is one of its section
-pub is-step : (left : Sections ℕ) (s : Script) (section : Actor) (k : ℕ) → HasSteps left s → of.section_of left section ≡ k + 1
-    → k < length (section_of s section).steps
-is-step left s actor.P k h e = let few = h.p in omega (arith, few, e)
-is-step left s actor.A k h e = let few = h.a in omega (arith, few, e)
-is-step left s actor.B k h e = let few = h.b in omega (arith, few, e)
-
 -- the script has the steps before it
 pub steps-before : (left : Sections ℕ) (s : Script) (section : Actor) (k : ℕ) → HasSteps left s → of.section_of left section ≡ k + 1
     → HasSteps (with_count section k left) s
@@ -186,11 +179,6 @@ pub steps-fewer : (left now : Sections ℕ) (s less : Script) (section : Actor) 
     → now ≡ with_count section k left → less ≡ without_step s section k → HasSteps now less
 steps-fewer left now s less section k h e is e-less = rw (is, e-less) (fewer left s section k h e)
 
--- fewer steps are left
+-- how many steps are left
 abbrev pub sum_left : Sections ℕ → ℕ
 sum_left left = left.p + left.a + left.b
-
-pub sum-less : (left : Sections ℕ) (section : Actor) (k : ℕ) → of.section_of left section ≡ k + 1 → sum_left (with_count section k left) < sum_left left
-sum-less left actor.P k e = omega (arith, e)
-sum-less left actor.A k e = omega (arith, e)
-sum-less left actor.B k e = omega (arith, e)

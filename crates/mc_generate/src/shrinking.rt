@@ -61,7 +61,7 @@ impl Shrinker {
     ///
     /// # Errors
     ///
-    /// Memory ran out.
+    /// Memory ran out. The step that was to be dropped stays in the script then.
     pub fn next(&mut self, alloc: Global) -> Result<Option<Checked>, OutOfMemory>
         ensures shrinking { (first : scripts.Script) → spec.IsShrinking first self.old → spec.IsShrinking first self.new }
         ensures code { IfOk result (λ found. IfSome found (λ checked.

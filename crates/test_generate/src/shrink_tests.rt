@@ -1,7 +1,7 @@
 //! Scripts as they are shrunk.
 
 use crate::testers::{Answers, Needs};
-use mc_generate::{Tester, shrink};
+use mc_generate::{Shrinker, Tester, shrink};
 use mc_script::{parse, print};
 use std::alloc::{AllocError, Global};
 use std::test::Fail;
@@ -299,5 +299,47 @@ fn asks_of_the_smaller_code(rt: HostRuntime) -> Result<(), Fail> {
         Some(text) => assert!(rt; text.as_slice() == LONG_SHRUNK.as_bytes()),
         None => return Err(AllocError)?,
     }
+    Ok(())
+}
+
+// What is left of the counter where the smaller scripts of these rounds are unexplained, or not.
+fn left_after(alloc: Global, rounds: u32, answers: &[bool]) -> Result<Option<Vec<u8>>, Fail> {
+    let script = parse(alloc, COUNTER.as_bytes())?;
+    let mut shrinker = Shrinker::new(script, rounds);
+    for answer in answers {
+        if shrinker.next(alloc)?.is_none() {
+            return Ok(None);
+        }
+        shrinker.answer(*answer);
+    }
+    let mut out = Vec::new(alloc);
+    print(alloc, &shrinker.into_script(), &mut out)?;
+    Ok(Some(out))
+}
+
+// Who runs the smaller scripts has the same ones.
+#[test]
+fn shrinker_gives_one_script_after_the_other(rt: HostRuntime) -> Result<(), Fail> {
+    let alloc = rt.alloc();
+    for (rounds, answers, left) in [
+        (ROUNDS, [true, true, true].as_slice(), Some(EMPTY)),
+        (ROUNDS, &[true, false, false], Some(COUNTER_LESS_B)),
+        (ROUNDS, &[false, true], Some(COUNTER_LESS_A)),
+        (ROUNDS, &[true, true, true, true], None),
+        (1, &[true], Some(COUNTER_LESS_B)),
+        (1, &[true, true], None),
+        (0, &[], Some(COUNTER)),
+    ] {
+        let found = left_after(alloc, rounds, answers)?;
+        assert!(rt; found.as_deref() == left.map(|left| left.as_bytes()));
+    }
+    Ok(())
+}
+
+// One round: few enough allocations that each of them can be refused.
+#[test]
+fn shrinker_gives_the_last_step_first(rt: HostRuntime) -> Result<(), Fail> {
+    let found = left_after(rt.alloc(), 1, &[true])?;
+    assert!(rt; found.as_deref() == Some(COUNTER_LESS_B.as_bytes()));
     Ok(())
 }
