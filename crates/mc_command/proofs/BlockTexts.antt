@@ -9,14 +9,14 @@ use Rattle.mc_command.proofs.BlockJobs.{no_reports}
 use Rattle.mc_command.specs.Blocks.{BreaksOff, Campaigns, CampaignsUntil, InBlocks}
 use Rattle.mc_command.specs.CampaignAnswers.{not_run_text, text_of_report}
 use Rattle.mc_command.specs.Command.{WritesReport}
-use Rattle.mc_command.specs.Streams.{Grows}
+use Rattle.mc_answers.specs.Streams.{Grows}
 use Rattle.mc_command.specs.Tallies.{HasReported, HasWritten}
-use Rattle.mc_command.specs.Texts.{out_of_memory_text}
-use Rattle.mc_command.specs.declared.input.InputFault.{InputFault}
-use Rattle.mc_command.specs.declared.input.InputFault.TheVariants as fault
+use Rattle.mc_answers.specs.Writing.{out_of_memory_text}
+use Rattle.mc_answers.specs.declared.input.InputFault.{InputFault}
+use Rattle.mc_answers.specs.declared.input.InputFault.TheVariants as fault
 use Rattle.mc_cli.specs.declared.args.Plan.{Plan}
-use Rattle.mc_command.specs.declared.status.Status.{Status}
-use Rattle.mc_command.specs.declared.status.Status.TheVariants as status
+use Rattle.mc_answers.specs.declared.status.Status.{Status}
+use Rattle.mc_answers.specs.declared.status.Status.TheVariants as status
 use Rattle.mc_cli.specs.declared.args.Until.{Until}
 
 -- known bytes that grow twice

@@ -7,7 +7,7 @@ ghost use Rattle.std.specs.Prelude.{IfOk};
 ghost use Rattle.mc_generate.specs.Generated.{generated};
 ghost use Rattle.mc_generate.specs.Shrunk.{IsShrunk};
 
-use crate::loading::verify_code;
+use mc_answers::verify_code;
 use mc_campaign::{Campaign, Connector, Standing, play_job};
 use mc_code::{decode, encode};
 use mc_generate::{Tester, generate_script, put_under, shrink};

@@ -1,4 +1,4 @@
-use Rattle.mc_command.proofs.Right.{only_memory, out_of_memory_by}
+use Rattle.mc_answers.proofs.Right.{only_memory, out_of_memory_by}
 use Rattle.mc_command.specs.RepeatAnswers.{Runs}
 use Rattle.mc_command.proofs.playing.run_target.Goals as goal
 
