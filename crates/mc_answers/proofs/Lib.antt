@@ -1,3 +1,4 @@
+pub mod Driven
 pub mod Fronts
 pub mod LineFaults
 pub mod Maxima

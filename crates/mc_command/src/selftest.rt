@@ -90,17 +90,17 @@ where
     ensures { (ended : Status) × (result ≡ status_number ended)
         × WritesRightly O.written O.has_failed answers.Selftests output.old output.new ended }
 {
-    write_outcome(both_pass(rt, alloc).unwrap_or(false), output).number()
+    write_outcome(rt, alloc, output).number()
 }
 
-fn write_outcome<O: Sink>(passed: bool, output: &mut O) -> Status
-    requires { passed ≡ true → answers.IsHonestSeen × answers.IsRaceSeen }
+fn write_outcome<R, O: Sink>(rt: &R, alloc: Global, output: &mut O) -> Status
+where
+    R: Net<Listener = TcpListener, Stream = TcpStream> + Threads + Wait + Clock + Sync + Eprint,
     ensures { WritesRightly O.written O.has_failed answers.Selftests output.old output.new result }
 {
-    if passed {
-        write_text(PASSED, Status::Success, output)
-    } else {
-        write_text(FAILED, Status::Unexplained, output)
+    match both_pass(rt, alloc) {
+        Ok(true) => write_text(PASSED, Status::Success, output),
+        Ok(false) | Err(_) => write_text(FAILED, Status::Unexplained, output),
     }
 }
 

@@ -1,5 +1,5 @@
-//! Tests of `mc_answers` by its public calls: what lines ask for, what questions are answered, that `drive` keeps its limit, that nothing is
-//! done for lines that need a network, and the status after a run. What the program shows to its user stands in `cases/`.
+//! Tests of `mc_answers` by its public calls: what lines ask for, what questions are answered, that `drive` keeps its limit, that nothing
+//! is done for lines that need a network, and the status after a run. What the program shows to its user stands in `cases/`.
 #![tactic(auto)]
 
 #[cfg(test)]
