@@ -1,0 +1,1 @@
+use Rattle.mc_runs.proofs.selftest.racy_passes.Goals as goal

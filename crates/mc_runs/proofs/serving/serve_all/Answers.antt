@@ -1,0 +1,1 @@
+use Rattle.mc_runs.proofs.serving.serve_all.Goals as goal
