@@ -1,14 +1,9 @@
 //! What `drive` answers to a text: a script, and after it a step list.
-ghost use Rattle.std.specs.Prelude.{◌≡◌, ◌+◌, ◌≤◌, min, IfOk};
-ghost use Rattle.mc_protocol.specs.Lines.{LAST_NUMBER, line_count, lines_of_text};
+ghost use Rattle.std.specs.Prelude.{◌≡◌, IfOk};
+ghost use Rattle.mc_protocol.specs.Lines.{line_count, lines_of_text};
 ghost use Rattle.mc_protocol.specs.declared.lines.Separator.TheVariants.{Space};
-ghost use Rattle.mc_core.specs.Held.{IsHeldBy};
-ghost use Rattle.mc_core.specs.Histories.{history_of};
-ghost use Rattle.mc_explain.specs.Verdicts.{IsStated};
-ghost use Rattle.mc_run.specs.Headline.{IsTrial};
 ghost use Rattle.mc_answers.specs.DriveAnswers as answers;
 ghost use Rattle.mc_answers.specs.Refusing.{Gives, IfRefused};
-ghost use Rattle.mc_answers.specs.StepLines.{AreMadeBy};
 
 use crate::answer::Answer;
 use crate::loading::{load_front, sound_code};

@@ -1,5 +1,5 @@
 //! What `judge` answers to a text.
-ghost use Rattle.std.specs.Prelude.{◌≡◌, ◌≢◌, IfOk};
+ghost use Rattle.std.specs.Prelude.{◌≢◌, IfOk};
 ghost use Rattle.mc_hints.specs.Refusals.{history_refusal};
 ghost use Rattle.mc_model.specs.declared.rules.HistoryKind.TheVariants as kind;
 ghost use Rattle.mc_answers.specs.JudgeAnswers as answers;
@@ -23,8 +23,10 @@ pub fn judge(alloc: Global, how: Search, text: &[u8]) -> Result<Answer, Unanswer
     ensures { Gives (answers.Judges how text.now) result }
 {
     match parse_history(alloc, text) {
-        Ok((history, Some(claim))) => Ok(confirm(alloc, &history, &claim)?),
-        Ok((history, None)) => Ok(find_verdict(alloc, how, text, &history)?),
+        Ok((history, claim)) => match claim {
+            Some(claim) => Ok(confirm(alloc, &history, &claim)?),
+            None => Ok(find_verdict(alloc, how, text, &history)?),
+        },
         Err(fault) => Err(refuse_history(alloc, how.why, text, fault)),
     }
 }

@@ -1,5 +1,5 @@
 //! A list of steps, from the world in which nothing happened to their last.
-ghost use Rattle.std.specs.Prelude.{◌≡◌, ◌+◌, ◌-◌, ◌^◌, ◌<◌, ◌≤◌, ◌∷◌, [], ◌++◌, ℕ, List, length, IfOk};
+ghost use Rattle.std.specs.Prelude.{◌≡◌, ◌+◌, ◌-◌, ◌^◌, ◌<◌, ◌≤◌, ◌∷◌, [], ◌++◌, List, length, IfOk};
 ghost use Rattle.mc_code.specs.Code.{Code};
 ghost use Rattle.mc_core.specs.Held.{IsHeldBy};
 ghost use Rattle.mc_core.specs.Histories.{record_of, recorded_after};

@@ -86,7 +86,7 @@ pub struct RunArgs<'a> {
 impl<'a> RunArgs<'a> {
     /// One run of a script against this server alone, with nothing else asked for.
     pub fn at(server: &'a str, how: Search) -> RunArgs<'a>
-        ensures server { (result.server ≡ server) × (result.a ≡ None) × (result.b ≡ None) }
+        ensures server { (result.server ≡ server.entry) × (result.a ≡ None) × (result.b ≡ None) }
         ensures how { result.how ≡ how }
         ensures once { (result.repeat ≡ None) × (result.name ≡ None) }
     {

@@ -51,11 +51,6 @@ none_in_blocks S until plan name rest ended breaks = record {
   ends = inr breaks;
 }
 
-pub nothing_ran : (S : Type 0) (bounds : Option Until) (plan : Plan) (name : Option Word)
-    → CampaignsUntil S bounds plan name not_run_text status.NoAnswer
-nothing_ran S None plan name = inr (refl, refl)
-nothing_ran S (Some until) plan name = none_in_blocks S until plan name _ _ (inl refl, refl)
-
 -- where memory ran out, after what was written before it
 campaign_lacks : (plan : Plan) (name : Option Word) (before : List ℕ) (ended : Status) → ended ≡ status.NoAnswer
     → (before ≡ []) ⊎ Campaigns plan name (before ++ out_of_memory_text) status.NoAnswer
