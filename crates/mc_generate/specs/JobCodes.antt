@@ -3,7 +3,8 @@ use Rattle.std.specs.Prelude.{◌⊎◌, ℕ, ◌+◌, ◌≤◌, ◌<◌, Optio
 use Rattle.mc_protocol.specs.Lines.{Word}
 use Rattle.mc_code.specs.Code.{Code}
 use Rattle.mc_code.specs.Layout.{code_of}
-use Rattle.mc_generate.specs.Generated.{generated, names_of}
+use Rattle.mc_settings.specs.JobKeys.{keys_of}
+use Rattle.mc_generate.specs.Generated.{generated}
 use Rattle.mc_settings.specs.Namespaces.{AreShort}
 use Rattle.mc_generate.specs.CodesUnder.{code_under}
 use Rattle.mc_generate.specs.Refusals.{HasFault, IsRefused}
@@ -25,7 +26,7 @@ fault_of gen.Refused = fault.Refused
 -- under the name a key of the job has more bytes than a key may have
 abbrev pub HasLongKey : Option Word → ℕ → Type 0
 HasLongKey None job = ⊥
-HasLongKey (Some name) job = AreShort name keys_of job → ⊥
+HasLongKey (Some name) job = AreShort name (keys_of job) → ⊥
 
 -- so there may be no code of the job: its script or its code under the name is refused, or a key becomes too long
 abbrev pub IsJobFault : Option Word → ℕ → ℕ → JobFault → Type 0
