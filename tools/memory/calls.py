@@ -13,7 +13,7 @@ DOCUMENT, HEADING = "docs/PROOFS.md", "## Every call ends\n"
 ROW = re.compile(r"(?m)^\| `(mc_\w+)` \| ([^|]*) \|")
 # What the program does, the line that it reads, and what it says of a refused input: refused on
 # each case and example.
-PROGRAM = {"mc_answers", "mc_cli", "mc_runs", "mc_hints"}
+PROGRAM = {"mc_answers", "mc_cli", "mc_command", "mc_hints"}
 # The words of answers that say it: of std, of what ended a connection, and a count in which threads
 # are that weren't made.
 WORDS = {"OutOfMemory", "AllocError", "Memory", "Listened"}

@@ -5,22 +5,22 @@ ghost use Rattle.std.specs.Prelude.{◌≡◌, false, true};
 ghost use Rattle.mc_answers.specs.Answers.{AnswersRightly, Does};
 ghost use Rattle.mc_answers.specs.Statuses.{status_number};
 ghost use Rattle.mc_answers.specs.Writing.{WritesRightly};
-ghost use Rattle.mc_runs.specs.Command.{WritesReport};
-ghost use Rattle.mc_runs.specs.RepeatAnswers.{Runs};
-ghost use Rattle.mc_runs.specs.SelftestAnswers.{Selftests};
-ghost use Rattle.mc_runs.specs.ServeAnswers.{Serves};
+ghost use Rattle.mc_command.specs.Command.{WritesReport};
+ghost use Rattle.mc_command.specs.RepeatAnswers.{Runs};
+ghost use Rattle.mc_command.specs.SelftestAnswers.{Selftests};
+ghost use Rattle.mc_command.specs.ServeAnswers.{Serves};
 
 use mc_answers::{
     Reader, Sink, Source, Status, Writer, answer_question, explain_fault, unread_line,
     write_generated,
 };
 use mc_cli::{CampaignArgs, Question, Request, RunArgs, ServeArgs, read_request};
-use mc_connect::{
-    HeldDescriptors, STANDARD_INPUT, STANDARD_OUTPUT, TcpNetwork, Unconnected, Unreached,
-};
-use mc_runs::{
+use mc_command::{
     Remarks, RunTeller, Told, run_campaign_at, run_selftest, run_target, serve_connections,
     servers_of,
+};
+use mc_connect::{
+    HeldDescriptors, STANDARD_INPUT, STANDARD_OUTPUT, TcpNetwork, Unconnected, Unreached,
 };
 use std::alloc::Global;
 use std::io::{Eprint, ErrorKind, IsTerminal};

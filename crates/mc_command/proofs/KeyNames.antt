@@ -1,0 +1,32 @@
+-- Under which keys the next run is played.
+use Rattle.std.proofs.Common.{◌≡◌, ◌⊎◌, ◌∙◌, Bool, true, false, Option, Some, None, IfSome, ap, inl, inr, subst, sym}
+use Rattle.std.proofs.lemmas.Bool.{false≢true}
+use Rattle.mc_code.specs.Code.{Code}
+use Rattle.mc_verify.specs.Checked.{Checked}
+use Rattle.mc_command.specs.Renaming.{code_of}
+use Rattle.mc_command.specs.RepeatAnswers.{IsRightUnder, IsUnderSome}
+use Rattle.mc_command.specs.RunAnswers.{IsRightFor}
+use Rattle.mc_command.specs.declared.run.Played.{Played}
+
+pub none_under : (written : Code) (under : Option Checked) → under ≡ None → IfSome under (λ (u : Checked). IsUnderSome written u.code)
+none_under written under is = subst (λ (o : Option Checked). IfSome o (λ (u : Checked). IsUnderSome written u.code)) (sym is) tt
+
+pub right_under : (why : Bool) (written : Code) (under : Option Checked) (code : Code) (run : Played) → code ≡ code_of under written
+    → IfSome under (λ (u : Checked). IsUnderSome written u.code) → IsRightFor why code run → IsRightUnder why written run
+right_under why written None code run is some right = inl (subst (λ c. IsRightFor why c run) is right)
+right_under why written (Some u) code run is some right = inr (u.code, some, subst (λ c. IsRightFor why c run) is right)
+
+pub own_right : (why : Bool) (written : Code) (under : Option Checked) (code : Code) (run : Played) → under ≡ None
+    → code ≡ code_of under written → IsRightFor why code run → IsRightFor why written run
+own_right why written under code run none is right =
+    subst (λ c. IsRightFor why c run) (is ∙ ap (λ (o : Option Checked). code_of o written) none) right
+
+pub none_settled : (new old : Option Checked) (unsettled succeeded : Bool)
+    → (new ≡ old) ⊎ ((unsettled ≡ true) × (succeeded ≡ false)) → old ≡ None → unsettled ≡ false → new ≡ None
+none_settled new old unsettled succeeded (inl same) none settled = same ∙ none
+none_settled new old unsettled succeeded (inr both) none settled = absurd (false≢true (sym settled ∙ both.0))
+
+pub none_succeeded : (new old : Option Checked) (unsettled succeeded : Bool)
+    → (new ≡ old) ⊎ ((unsettled ≡ true) × (succeeded ≡ false)) → old ≡ None → succeeded ≡ true → new ≡ None
+none_succeeded new old unsettled succeeded (inl same) none is = same ∙ none
+none_succeeded new old unsettled succeeded (inr both) none is = absurd (false≢true (sym both.1 ∙ is))

@@ -1,0 +1,47 @@
+//! Runs of one script whose connections serve the next run too.
+ghost use Rattle.std.specs.Prelude.{◌≡◌, IfOk};
+ghost use Rattle.mc_command.specs.RunAnswers as answers;
+
+use crate::run::{Played, Remarks, no_connection, play_connections, status_of};
+use mc_cli::RunArgs;
+use mc_connect::{Kept, Network, Unconnected};
+use mc_verify::Checked;
+use std::alloc::{AllocError, Global};
+use std::rt::Clock;
+use std::sync::Wait;
+use std::thread::Threads;
+
+/// Runs the code over the connections that are kept, or else over new ones, and judges what came of it. One that the server has closed
+/// meanwhile, or on which bytes have come, is replaced before anything is sent. They are kept where the run is done and explained, and
+/// nothing more has come; with `target.reconnect` none are.
+pub fn play_kept<R: Threads + Wait + Clock + Sync, N: Network>(
+    rt: &R,
+    alloc: Global,
+    target: &RunArgs<'_>,
+    checked: &Checked,
+    network: &mut N,
+    kept: &mut Kept<N::Connection>,
+) -> Result<(Played, Remarks), AllocError>
+    ensures { IfOk result (λ played. answers.IsRightFor target.now.how.why checked.now.code played.0) }
+{
+    let connections = match kept.take_or_connect(network) {
+        Ok(connections) => connections,
+        Err(Unconnected { section, error }) => return Ok(no_connection(section, error)),
+    };
+    let (played, remarks) = play_connections(rt, alloc, target, checked, &connections)?;
+    if !target.reconnect && is_clean(&played, &remarks) {
+        kept.keep(connections);
+    } else {
+        // Another run may follow, and this side is not to run out of ports.
+        network.quit(connections.into_streams());
+    }
+    Ok((played, remarks))
+}
+
+// The run is done and explained, and there is nothing to say of what it received.
+fn is_clean(played: &Played, remarks: &Remarks) -> bool {
+    match remarks {
+        Remarks::Evidence(all) => all.is_empty() && status_of(played).is_success(),
+        Remarks::None | Remarks::NoConnection(_) | Remarks::WrongLine(_) => false,
+    }
+}

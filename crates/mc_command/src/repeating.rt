@@ -1,0 +1,217 @@
+//! Runs of one script, one after another.
+ghost use Rattle.std.specs.Prelude.{◌≡◌, ◌<◌, ◌-◌, ◌^◌, ◌⊎◌, Bool, false, true, not, List, ◌∷◌, [], ◌++◌, length, IfOk, IfSome, None};
+ghost use Rattle.mc_code.specs.Code.{Code};
+ghost use Rattle.mc_command.specs.RepeatAnswers as answers;
+ghost use Rattle.mc_command.specs.RunAnswers.{IsRightFor};
+ghost use Rattle.mc_command.specs.SoFar.{IsSoFar};
+ghost use Rattle.mc_command.specs.declared.run.Played.{Played};
+
+use crate::keeping::play_kept;
+use crate::renaming::{Renaming, leaves_request};
+use crate::run::{Played, Remarks, status_of};
+use crate::run_teller::RunObserver;
+use crate::totals::Totals;
+use mc_cli::{Repeat, RunArgs};
+use mc_connect::{Kept, Network};
+use mc_verify::Checked;
+use std::alloc::{AllocError, Global};
+use std::io;
+use std::rt::Clock;
+use std::sync::Wait;
+use std::thread::Threads;
+use std::time::{Duration, Instant};
+
+/// The runs so far: what they came to, and the one that is handed out.
+#[derive(Debug, Drop)]
+pub struct Runs {
+    /// The first whose status isn't 0, or else the last.
+    pub played: Played,
+    /// What standard error says of it.
+    pub remarks: Remarks,
+    /// Its number, counted from 1.
+    pub number: u64,
+    pub totals: Totals,
+    /// The server may still act on a request of the last one.
+    unsettled: bool,
+}
+
+impl Runs {
+    /// One run.
+    fn new(played: Played, remarks: Remarks) -> Runs
+        ensures so_far { (why : Bool) (code : Code) → IsRightFor why code played → IsSoFar why code (played ∷ []) result }
+        ensures last { result.number ≡ 1 }
+    {
+        let totals = Totals::new().with(&played);
+        let unsettled = leaves_request(&played);
+        Runs {
+            played,
+            remarks,
+            number: 1,
+            totals,
+            unsettled,
+        }
+    }
+
+    /// One run more.
+    fn with(self, played: Played, remarks: Remarks) -> Runs
+        ensures so_far { (why : Bool) (code : Code) (all : List Played) → IsSoFar why code all self → length all < 2 ^ 64 - 1
+            → answers.IsRightUnder why code played → (answers.AreSettled all → IsRightFor why code played)
+            → (answers.succeeds self.played ≡ true → IsRightFor why code played) → IsSoFar why code (all ++ played ∷ []) result }
+        ensures last { answers.succeeds self.played ≡ true → result.number ≡ result.totals.runs }
+        ensures first { answers.succeeds result.played ≡ true → answers.succeeds self.played ≡ true }
+    {
+        let totals = self.totals.with(&played);
+        let unsettled = leaves_request(&played);
+        if self.has_failed() {
+            return Runs {
+                totals,
+                unsettled,
+                ..self
+            };
+        }
+        Runs {
+            played,
+            remarks,
+            number: totals.runs,
+            totals,
+            unsettled,
+        }
+    }
+
+    /// Tells of the one of two runs that isn't handed out: the next one, with these remarks, where one has failed, and else the one that
+    /// was last.
+    fn pass_over<O: RunObserver>(&self, next: &Remarks, observer: &mut O) {
+        let (number, remarks) = if self.has_failed() {
+            (self.totals.runs.saturating_add(1), next)
+        } else {
+            (self.number, &self.remarks)
+        };
+        observer.pass_over(number, remarks);
+    }
+
+    /// There was a run whose status isn't 0.
+    fn has_failed(&self) -> bool
+        ensures { result ≡ not (answers.succeeds self.now.played) }
+    {
+        !status_of(&self.played).is_success()
+    }
+
+    /// The next run needs other keys.
+    fn needs_name(&self) -> bool
+        ensures { result ≡ true → (self.now.unsettled ≡ true) × (answers.succeeds self.now.played ≡ false) }
+    {
+        self.unsettled && self.has_failed()
+    }
+
+    /// There was one, and none follows it.
+    fn is_over(&self, keep_going: bool) -> bool
+        ensures over { result ≡ true → (keep_going ≡ false) × (answers.succeeds self.now.played ≡ false) }
+        ensures on { result ≡ false → keep_going ≡ false → answers.succeeds self.now.played ≡ true }
+    {
+        self.has_failed() && !keep_going
+    }
+}
+
+/// Runs the code until there are as many runs as are wanted, or the time is over, or a run's status isn't 0 and `repeat` doesn't go on
+/// after such a one. A run that has begun is not cut off. Connections serve more than one run, unless the target says otherwise. After a
+/// run that leaves a request on which the server may still act, the code is put under a name that no run had, or no run follows.
+pub fn repeat_code<R: Threads + Wait + Clock + Sync, N: Network, T: RunObserver>(
+    rt: &R,
+    alloc: Global,
+    target: &RunArgs<'_>,
+    repeat: Repeat,
+    checked: &Checked,
+    network: &mut N,
+    observer: &mut T,
+) -> Result<Runs, AllocError>
+    ensures { IfOk result (λ runs.
+        answers.Comes repeat target.now.how.why checked.now.code runs.number runs.played runs.totals) }
+{
+    let mut kept = Kept::new();
+    observer.begin(repeat.times);
+    let runs = repeat_over(
+        rt, alloc, target, repeat, checked, network, observer, &mut kept,
+    );
+    observer.end();
+    let runs = runs?;
+    kept.quit(network);
+    Ok(runs)
+}
+
+// The same over the connections that are kept.
+fn repeat_over<R: Threads + Wait + Clock + Sync, N: Network, T: RunObserver>(
+    rt: &R,
+    alloc: Global,
+    target: &RunArgs<'_>,
+    repeat: Repeat,
+    checked: &Checked,
+    network: &mut N,
+    observer: &mut T,
+    kept: &mut Kept<N::Connection>,
+) -> Result<Runs, AllocError>
+    ensures { IfOk result (λ runs.
+        answers.Comes repeat target.now.how.why checked.now.code runs.number runs.played runs.totals) }
+{
+    let begun = Instant::now(rt);
+    let most = repeat.times.unwrap_or(u64::MAX);
+    let (played, remarks) = play_kept(rt, alloc, target, checked, network, kept)?;
+    observer.add(&played);
+    let mut runs = Runs::new(played, remarks);
+    let mut renaming = Renaming::new(rt);
+    'runs: for done in 1..most {
+        if runs.is_over(repeat.keep_going) {
+            return Ok(runs);
+        }
+        if is_late(rt, &begun, repeat.time) {
+            return Ok(runs);
+        }
+        let ready = make_ready(alloc, &runs, checked, &mut renaming)?;
+        if !ready {
+            observer.stop(runs.totals.runs);
+            return Ok(runs);
+        }
+        let code = renaming.code(checked);
+        let (played, remarks) = play_kept(rt, alloc, target, code, network, kept)?;
+        observer.add(&played);
+        runs.pass_over(&remarks, observer);
+        runs = runs.with(played, remarks);
+    }
+    Ok(runs)
+}
+
+// Puts the code under a new name where the last run asks for that, and answers whether another run may follow.
+fn make_ready(
+    alloc: Global,
+    runs: &Runs,
+    checked: &Checked,
+    renaming: &mut Renaming,
+) -> Result<bool, AllocError>
+    requires under { IfSome renaming.old.under (λ under. answers.IsUnderSome checked.now.code under.code) }
+    ensures under { IfOk result (λ ready. ready ≡ true
+        → IfSome renaming.new.under (λ under. answers.IsUnderSome checked.now.code under.code)) }
+    ensures same { IfOk result (λ ready. ready ≡ true → (renaming.new.under ≡ renaming.old.under)
+        ⊎ ((runs.now.unsettled ≡ true) × (answers.succeeds runs.now.played ≡ false))) }
+    ensures ends { IfOk result (λ ready. ready ≡ false → runs.now.unsettled ≡ true) }
+{
+    if runs.needs_name() {
+        renaming.rename(alloc, checked)
+    } else {
+        Ok(true)
+    }
+}
+
+/// The time has passed, if there is one, or the clock can't say that it hasn't.
+pub fn is_late<R: Clock>(rt: &R, begun: &io::Result<Instant>, time: Option<u64>) -> bool
+    ensures { time ≡ None → result ≡ false }
+{
+    let Some(time) = time else {
+        return false;
+    };
+    match begun {
+        Ok(begun) => match begun.elapsed(rt) {
+            Ok(passed) => passed >= Duration::from_secs(time),
+            Err(_) => true,
+        },
+        Err(_) => true,
+    }
+}

@@ -1,1 +1,0 @@
-use Rattle.mc_runs.proofs.selftest.racy_passes.Goals as goal

@@ -1,0 +1,252 @@
+//! `run` over a network in memory: what is written of a run, its status, and which connections are kept.
+
+use crate::canned::{Answers, CannedNetwork};
+use mc_answers::{Reader, Status, Writer};
+use mc_cli::{Repeat, RunArgs, Search};
+use mc_command::{Remarks, RunTeller, Statistics, run_target};
+use mc_connect::Unconnected;
+use mc_protocol::Actor;
+use std::alloc::Global;
+use std::io::Eprint;
+use std::rt::Clock;
+use std::sync::Wait;
+use std::test::Fail;
+use std::thread::Threads;
+
+// P stores 5 and A adds 1. B does nothing, so the history is the same whichever branch goes first.
+const SCRIPT: &str = "script 1
+keys a
+budget P 2 26
+budget A 1 10
+budget B 0 0
+P
+set a 0 =5
+A
+incr a 1
+B
+end
+";
+
+// What P is answered.
+const TO_P: Answers = &[b"NOT_FOUND\r\n", b"STORED\r\n"];
+
+// What is answered to A, what is written of the run, its status, and what is remarked on A.
+static ROWS: [(Answers, &str, Status, &str); 5] = [
+    (
+        &[b"6\r\n"],
+        "P done\nA done\nB done\nexplained\nP 0\nP 1\nA 2\nend\nhistory 2\n\
+         P begin delete a\nP reply NOT_FOUND\nP begin set a 0 =5\nP reply STORED\n\
+         A begin incr a 1\nA reply NUMBER 6\nend\n",
+        Status::Success,
+        "",
+    ),
+    (
+        &[b"6\r\nmore"],
+        "P done\nA done\nB done\nexplained\nP 0\nP 1\nA 2\nend\nhistory 2\n\
+         P begin delete a\nP reply NOT_FOUND\nP begin set a 0 =5\nP reply STORED\n\
+         A begin incr a 1\nA reply NUMBER 6\nend\n",
+        Status::Success,
+        "A: after its last reply came 4 bytes more: \"more\"",
+    ),
+    (
+        &[b"7\r\n"],
+        "P done\nA done\nB done\nunexplained\nhistory 2\n\
+         P begin delete a\nP reply NOT_FOUND\nP begin set a 0 =5\nP reply STORED\n\
+         A begin incr a 1\nA reply NUMBER 7\nend\n",
+        Status::Unexplained,
+        "",
+    ),
+    (
+        &[b"6\n"],
+        "P done\nA failed 4 BadReply\nB done\nexplained\nP 0\nP 1\nend\nhistory 2\n\
+         P begin delete a\nP reply NOT_FOUND\nP begin set a 0 =5\nP reply STORED\n\
+         A begin incr a 1\nend\n",
+        Status::Unexplained,
+        "A: to \"incr a 1\" came \"6\\n\": the line ends without CR",
+    ),
+    (
+        &[],
+        "P done\nA failed 3 Ended\nB done\nexplained\nP 0\nP 1\nend\nhistory 2\n\
+         P begin delete a\nP reply NOT_FOUND\nP begin set a 0 =5\nP reply STORED\n\
+         A begin incr a 1\nend\n",
+        Status::NoAnswer,
+        "",
+    ),
+];
+
+#[test]
+fn a_run_is_written_as_it_came_out(rt: HostRuntime) {
+    for (to_a, text, status, remark) in ROWS {
+        let mut network = CannedNetwork::new([TO_P, to_a, &[]]);
+        let ran = run(&rt, rt.alloc(), &mut network, None, false);
+        assert_eq!(rt; ran.output.as_slice(), text.as_bytes());
+        assert_eq!(rt; ran.status, status);
+        assert_eq!(rt; remark_of(&ran.remarks), remark);
+        // The connections of a single run are closed and not given back.
+        assert_eq!(rt; (network.connected, network.quit), (1, 0));
+    }
+}
+
+#[test]
+fn a_section_without_a_connection_is_named(rt: HostRuntime) -> Result<(), Fail> {
+    for section in [Actor::P, Actor::A, Actor::B] {
+        let mut network = CannedNetwork::without(section);
+        let ran = run(&rt, rt.alloc(), &mut network, None, false);
+        let text = format!(in rt.alloc(); "no connection {}\n", section.word())?;
+        assert_eq!(rt; ran.output.as_slice(), text.as_bytes());
+        assert_eq!(rt; ran.status, Status::NoAnswer);
+        assert_eq!(rt; unconnected(&ran.remarks), Some(section));
+    }
+    Ok(())
+}
+
+#[test]
+fn a_run_is_counted(rt: HostRuntime) -> Result<(), Fail> {
+    let mut network = CannedNetwork::new([TO_P, &[b"6\r\n"], &[]]);
+    let ran = run(&rt, rt.alloc(), &mut network, None, false);
+    let Some(statistics) = ran.statistics else {
+        return Err(Fail::new("the runs are not counted"));
+    };
+    assert_eq!(rt;
+        statistics.to_string(rt.alloc())?.as_str(),
+        "mcrace: 1 run, 0 overlapped, A's first reply first in 0 of 0\n\
+         mcrace: set: 1 stored\n\
+         mcrace: incr: 1 number\n\
+         mcrace: delete: 1 notfound\n"
+    );
+    Ok(())
+}
+
+// What P is answered in three runs on one connection.
+const TO_P_IN_THREE: Answers = &[
+    b"NOT_FOUND\r\n",
+    b"STORED\r\n",
+    b"DELETED\r\n",
+    b"STORED\r\n",
+    b"DELETED\r\n",
+    b"STORED\r\n",
+];
+
+// What is answered to A on each connection, whether the target says that each run is to have new ones, the beginning of what is written
+// of three runs, and how often the sections were connected, one of them was connected anew, and connections were given back. B's connection
+// is always ended before the next run.
+static REPEATS: [(Answers, bool, &str, (u32, u32, u32)); 5] = [
+    (
+        &[b"6\r\n", b"6\r\n", b"6\r\n"],
+        false,
+        "run 3 of 3\nruns 3 explained 3 unexplained 0 other 0 overlapped 0\nP done\n",
+        (1, 2, 1),
+    ),
+    // A's is ended too.
+    (
+        &[b"6\r\n"],
+        false,
+        "run 3 of 3\nruns 3 explained 3 unexplained 0 other 0 overlapped 0\nP done\n",
+        (1, 4, 1),
+    ),
+    (
+        &[b"6\r\n", b"6\r\n", b"6\r\n"],
+        true,
+        "run 3 of 3\nruns 3 explained 3 unexplained 0 other 0 overlapped 0\nP done\n",
+        (3, 0, 3),
+    ),
+    // More came than was asked for, so no connection is kept.
+    (
+        &[b"6\r\n!"],
+        false,
+        "run 3 of 3\nruns 3 explained 3 unexplained 0 other 0 overlapped 0\nP done\n",
+        (3, 0, 3),
+    ),
+    // The second run is unexplained, so the third one has new connections.
+    (
+        &[b"6\r\n", b"7\r\n"],
+        false,
+        "run 2 of 3\nruns 3 explained 2 unexplained 1 other 0 overlapped 0\nP done\n",
+        (2, 1, 2),
+    ),
+];
+
+#[test]
+fn connections_serve_the_next_run(rt: HostRuntime) {
+    let repeat = Repeat {
+        times: Some(3),
+        time: None,
+        keep_going: true,
+    };
+    for (to_a, reconnect, text, counts) in REPEATS {
+        let mut network = CannedNetwork::new([TO_P_IN_THREE, to_a, &[]]);
+        let ran = run(&rt, rt.alloc(), &mut network, Some(repeat), reconnect);
+        assert!(rt; ran.output.as_slice().starts_with(text.as_bytes()));
+        let counted = (network.connected, network.reconnected, network.quit);
+        assert_eq!(rt; counted, counts);
+    }
+}
+
+// What came of a line of `run`.
+#[derive(Drop)]
+struct Ran {
+    status: Status,
+    remarks: Remarks,
+    output: Vec<u8>,
+    statistics: Option<Statistics>,
+}
+
+// Runs the script over the network.
+fn run<R>(
+    rt: &R,
+    alloc: Global,
+    network: &mut CannedNetwork,
+    repeat: Option<Repeat>,
+    reconnect: bool,
+) -> Ran
+where
+    R: Threads + Wait + Clock + Sync + Eprint,
+{
+    let how = Search {
+        limit: 1_000,
+        why: false,
+    };
+    let target = RunArgs {
+        repeat,
+        reconnect,
+        stats: true,
+        ..RunArgs::at("127.0.0.1:0", how)
+    };
+    let mut output = Vec::new(alloc);
+    let mut teller = RunTeller::new(rt, alloc, None, target.stats);
+    let (status, remarks) = run_target(
+        rt,
+        alloc,
+        &target,
+        network,
+        &mut teller,
+        &mut Reader::new(SCRIPT.as_bytes()),
+        &mut Writer::new(&mut output),
+    );
+    Ran {
+        status,
+        remarks,
+        output,
+        statistics: teller.statistics,
+    }
+}
+
+// The remark, if there is one alone; or nothing.
+fn remark_of(remarks: &Remarks) -> &str {
+    match remarks {
+        Remarks::Evidence(all) => match all.as_slice() {
+            [] => "",
+            [remark] => remark.as_str(),
+            _ => "several remarks",
+        },
+        _ => "other remarks",
+    }
+}
+
+// The section that has no connection.
+fn unconnected(remarks: &Remarks) -> Option<Actor> {
+    match remarks {
+        Remarks::NoConnection(Unconnected { section, .. }) => Some(*section),
+        _ => None,
+    }
+}
