@@ -23,7 +23,14 @@ pub struct Answer {
 pub fn answer_to(alloc: Global, question: Question, text: &[u8]) -> Result<Answer, AllocError>
     ensures { IfOk result (λ answer. Does question text.now answer.output.items answer.status) }
 {
-    answered(give(alloc, question, text))
+    match give(alloc, question, text) {
+        Ok(answer) => Ok(answer),
+        Err(Unanswered::Refused(output)) => Ok(Answer {
+            output,
+            status: Status::Refused,
+        }),
+        Err(Unanswered::OutOfMemory) => Err(AllocError),
+    }
 }
 
 fn give(alloc: Global, question: Question, text: &[u8]) -> Result<Answer, Unanswered>
@@ -34,20 +41,5 @@ fn give(alloc: Global, question: Question, text: &[u8]) -> Result<Answer, Unansw
         Question::Check(why) => check(alloc, why, text),
         Question::Asm(why) => assemble(alloc, why, text),
         Question::Drive(how) => drive(alloc, how, text),
-    }
-}
-
-/// The answer, or the refusal as one.
-pub fn answered(given: Result<Answer, Unanswered>) -> Result<Answer, AllocError>
-    ensures { (right : List ℕ → Status → Type 0) → Gives right given
-        → IfOk result (λ answer. right answer.output.items answer.status) }
-{
-    match given {
-        Ok(answer) => Ok(answer),
-        Err(Unanswered::Refused(output)) => Ok(Answer {
-            output,
-            status: Status::Refused,
-        }),
-        Err(Unanswered::OutOfMemory) => Err(AllocError),
     }
 }

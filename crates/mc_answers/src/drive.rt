@@ -35,7 +35,6 @@ pub fn drive(alloc: Global, how: Search, text: &[u8]) -> Result<Answer, Unanswer
 }
 
 // Leads the code of the text's first `size` bytes through the steps after them.
-#[tactic(auto, using(crate::proofs::Fronts::begins_inside))]
 fn drive_steps(
     alloc: Global,
     how: Search,

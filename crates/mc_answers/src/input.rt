@@ -1,5 +1,5 @@
 //! Reading the input whole.
-ghost use Rattle.std.specs.Prelude.{◌≡◌, ◌+◌, ◌-◌, ◌^◌, ◌<◌, ◌≤◌, ℕ, length, IfOk, IfErr};
+ghost use Rattle.std.specs.Prelude.{◌≡◌, ◌+◌, ◌-◌, ◌^◌, ◌<◌, ◌≤◌, ℕ, List, length, IfOk, IfErr};
 ghost use Rattle.mc_answers.specs.Answers as answers;
 ghost use Rattle.mc_answers.specs.Input as input_rule;
 ghost use Rattle.mc_answers.specs.Streams.{Loses, IsAtEnd, TakesAtMost};

@@ -1,14 +1,18 @@
-use Rattle.std.proofs.Common.{ap, inl, inr, refl, sym, ◌∙◌, false}
-use Rattle.std.proofs.lemmas.Bool.{false≢true}
+use Rattle.std.proofs.Common.{ap, inl, inr, refl, ◌∙◌}
 use Rattle.mc_answers.proofs.LineFaults.{asking_lacks_memory, fault_is}
-use Rattle.mc_answers.proofs.Questions.{no_question, question_is_local, same_question}
+use Rattle.mc_answers.proofs.Questions.{same_question}
 use Rattle.mc_answers.proofs.Right.{out_of_memory_by}
 use Rattle.mc_cli.specs.Asked as asked
 use Rattle.mc_cli.specs.Asking.{asked_in}
 use Rattle.mc_answers.specs.Answers.{Does}
-use Rattle.mc_answers.specs.Command.{needs_network, reads_input}
 use Rattle.mc_answers.specs.Statuses.{status_number}
 use Rattle.mc_answers.proofs.program.command.Goals as goal
+
+pub returns-in-Ok-Question-clause-answered : goal.returns-in-Ok-Question-clause-answered
+returns-in-Ok-Question-clause-answered g c question asks input_old input_new output_old output_new =
+    let asked_is = rw c.in-Ok-Question.field-0-is at (c.in-Ok-Question.ensures.only (asked_in question) asks) in
+    let one = same_question c.in-Ok-Question.question question asked_is in
+    (_, c.number.ensures, rw one at (c.answer_question.ensures.answered input_old input_new output_old output_new))
 
 pub returns-in-Err-clause-answered : goal.returns-in-Err-clause-answered
 returns-in-Err-clause-answered g c question asks input_old input_new output_old output_new =
