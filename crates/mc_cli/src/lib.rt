@@ -12,6 +12,7 @@ mod file_hint;
 mod help;
 mod help_line;
 mod options;
+mod question;
 mod read;
 mod read_campaign;
 mod request;
@@ -23,4 +24,5 @@ pub use args::{
     CampaignArgs, GREATEST_JOBS, GREATEST_WORKERS, Plan, Repeat, RunArgs, Search, Seconds,
     ServeArgs, Until, has_last,
 };
+pub use question::Question;
 pub use request::{LineFault, Request, long_key_text, read_request};

@@ -3,7 +3,7 @@ ghost use Rattle.std.specs.Prelude.{IfOk};
 ghost use Rattle.mc_generate.specs.Generated.{generated};
 ghost use Rattle.mc_generate.specs.Shrunk.{IsShrunk};
 
-use crate::loading::verify_code;
+use mc_answers::verify_code;
 use mc_campaign::{Campaign, Connector, Standing, play_job};
 use mc_code::Code;
 use mc_generate::{PutFault, Shrinker, generate_script, put_under};
