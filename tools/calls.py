@@ -7,7 +7,7 @@ import functions
 FILE = "tools/memory/calls.txt"
 # What the program does, the line that it reads, and what it says of a refused input: refused on
 # each case and example.
-PROGRAM = {"mc_cli", "mc_command", "mc_hints"}
+PROGRAM = {"mc_answers", "mc_cli", "mc_command", "mc_hints"}
 # The words of answers that say it: of std, of what ended a connection, and a count in which threads
 # are that weren't made.
 WORDS = {"OutOfMemory", "AllocError", "Memory", "Listened"}
@@ -17,7 +17,7 @@ ANSWER = re.compile(r"->\s*(.*?)(?:\b(?:where|ensures|requires)\b|\{|;|\Z)", re.
 
 
 def libraries(root):
-    """The folders of the libraries below the program's own two."""
+    """The folders of the libraries below the program's own."""
     found = sorted(it.parents[1] for it in root.glob("crates/*/src/lib.rt"))
     return [it for it in found if it.name not in PROGRAM and not it.name.startswith("test_")]
 

@@ -5,10 +5,11 @@ use Rattle.std.specs.List.{All, range_with_len}
 use Rattle.std.proofs.lemmas.List.{get_or-map, length-map}
 use Rattle.std.proofs.lemmas.List.FromFn.{get_or-range_with_len, length-range_with_len}
 use Rattle.mc_protocol.specs.Lines.{Word}
-use Rattle.mc_campaign.specs.JobCodes.{HasLongKey, NameFits}
+use Rattle.mc_settings.specs.JobKeys.{NameFits}
+use Rattle.mc_generate.specs.JobCodes.{HasLongKey}
 use Rattle.mc_campaign.specs.Outcomes.{HasShortKeys, IsOutcome}
 use Rattle.mc_campaign.specs.Reports.{Reported}
-use Rattle.mc_campaign.specs.declared.fault.JobFault.TheVariants as fault
+use Rattle.mc_generate.specs.declared.fault.JobFault.TheVariants as fault
 use Rattle.mc_campaign.specs.declared.outcome.JobOutcome.{JobOutcome}
 use Rattle.mc_campaign.specs.declared.outcome.JobOutcome.TheVariants as outcome
 use Rattle.mc_campaign.specs.declared.outcome.JobResult.{JobResult}

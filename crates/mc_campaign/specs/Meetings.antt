@@ -10,9 +10,9 @@ use Rattle.mc_run.specs.declared.manner.Late.{Late}
 use Rattle.mc_run.specs.declared.manner.Manner.{Manner}
 use Rattle.mc_run.specs.declared.manner.Manner.TheVariants as manner
 use Rattle.mc_run.specs.declared.manner.Meet.{Meet}
-use Rattle.mc_campaign.specs.Outputs.{Outputs, outputs_of, rest, draw}
-use Rattle.mc_campaign.specs.declared.meeting.Meeting.{Meeting}
-use Rattle.mc_campaign.specs.declared.meeting.Meeting.TheVariants as meeting
+use Rattle.mc_generate.specs.Outputs.{Outputs, outputs_of, rest, draw}
+use Rattle.mc_settings.specs.declared.meeting.Meeting.{Meeting}
+use Rattle.mc_settings.specs.declared.meeting.Meeting.TheVariants as meeting
 use Rattle.mc_campaign.specs.declared.meeting.TheConstants.{SEQUENCES}
 
 -- ---- before which requests, and which branch runs on the new thread

@@ -5,8 +5,8 @@ use Rattle.mc_code.specs.Code.{Code}
 use Rattle.mc_explain.specs.Verdicts.{IsWithin}
 use Rattle.mc_run.specs.Agreement.{LaneRecords}
 use Rattle.mc_run.specs.Judged.{IsJudged}
-use Rattle.mc_campaign.specs.JobCodes.{code_for, IsJobFault}
-use Rattle.mc_campaign.specs.declared.fault.JobFault.TheVariants as fault
+use Rattle.mc_generate.specs.JobCodes.{code_for, IsJobFault}
+use Rattle.mc_generate.specs.declared.fault.JobFault.TheVariants as fault
 use Rattle.mc_campaign.specs.declared.outcome.JobOutcome.{JobOutcome}
 use Rattle.mc_campaign.specs.declared.outcome.JobOutcome.TheVariants as outcome
 

@@ -1,6 +1,6 @@
 //! Which jobs a campaign has, and why there is no report of it.
 
-use crate::{Meeting, Namespace};
+use mc_settings::{Meeting, Namespace};
 use std::alloc::AllocError;
 use thiserror::Error;
 
@@ -21,7 +21,7 @@ pub struct Campaign<'a> {
     pub spread: u16,
     /// What the keys of each are put under, if they are. [`keys_fit`] says whether none becomes too long.
     ///
-    /// [`keys_fit`]: crate::keys_fit
+    /// [`keys_fit`]: mc_settings::keys_fit
     pub name: Option<&'a Namespace<'a>>,
 }
 

@@ -6,11 +6,11 @@ ghost use Rattle.std.specs.Option.{option_copied};
 ghost use Rattle.mc_campaign.specs.Outcomes.{IsJudgedWithin, IsOutcome};
 
 use crate::job::run_job;
-use crate::namespace::is_same_name;
 use crate::{Campaign, Connector, JobMessage, JobOutcome, JobResult, Report, Watcher};
 use mc_lane::Stream;
 use mc_protocol::OutOfMemory;
 use mc_run::Gate;
+use mc_settings::is_same_name;
 use std::alloc::Global;
 use std::marker::Model;
 use std::sync::Wait;

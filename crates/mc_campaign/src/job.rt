@@ -5,9 +5,9 @@ ghost use Rattle.std.specs.Option.{option_copied};
 ghost use Rattle.mc_run.specs.Running.{AreNew, IsNew};
 ghost use Rattle.mc_campaign.specs.Outcomes.{IsJudgedWithin, IsOutcome, IsOutcomeOf, closed_lanes};
 
-use crate::job_code::generate_under;
 use crate::{Campaign, Connector, JobOutcome};
 use core::thread::Stack;
+use mc_generate::generate_under;
 use mc_lane::{Lane, Stream};
 use mc_protocol::{Actor, Sections};
 use mc_run::{Gate, Judged, Lanes, Run, play};

@@ -3,9 +3,9 @@
 ghost use Rattle.std.specs.Prelude.{◌≡◌, ◌≤◌, ◌<◌, ◌*◌, ◌^◌, IfSome};
 ghost use Rattle.mc_campaign.specs.Meetings as spec;
 ghost use Rattle.mc_campaign.specs.Meetings.{IsWithin};
-ghost use Rattle.mc_campaign.specs.Outputs.{outputs_of};
+ghost use Rattle.mc_generate.specs.Outputs.{outputs_of};
 
-use crate::draws::draw;
+use mc_generate::draw;
 use mc_run::{Branch, Late};
 use rand_pcg::Pcg32;
 

@@ -3,26 +3,14 @@
 ghost use Rattle.std.specs.Prelude.{◌≡◌, IfSome};
 ghost use Rattle.mc_campaign.specs.Meetings as spec;
 ghost use Rattle.mc_campaign.specs.Meetings.{IsWithin};
-ghost use Rattle.mc_campaign.specs.Outputs.{outputs_of};
+ghost use Rattle.mc_generate.specs.Outputs.{outputs_of};
 
 use crate::Campaign;
-use crate::draws::draw;
 use crate::lateness::draw_late;
+use mc_generate::draw;
 use mc_run::{Branch, Late, Manner, Meet};
+use mc_settings::Meeting;
 use rand_pcg::Pcg32;
-
-/// How the branches of a run wait for each other before a request.
-#[derive(Clone, Copy, Debug, PartialEq, Eq)]
-pub enum Meeting {
-    /// By lot: before each request in three of four runs, and else before none.
-    Drawn,
-    /// Before each request.
-    Each,
-    /// Before the first request alone.
-    First,
-    /// Before none.
-    Never,
-}
 
 /// Which of its sequences the generator of a job's lot goes along, by exclusive or with the seed. A small number wouldn't do: where the
 /// seed is the job's number, the generator of the script goes along the sequence of that number too.

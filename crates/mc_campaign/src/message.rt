@@ -5,9 +5,10 @@ ghost use Rattle.std.specs.Option.{option_copied};
 ghost use Rattle.mc_campaign.specs.Outcomes.{IsJudgedWithin, IsOutcome};
 
 use crate::job::run_job;
-use crate::{Campaign, Connector, JobOutcome, Namespace};
+use crate::{Campaign, Connector, JobOutcome};
 use mc_lane::Stream;
 use mc_run::Gate;
+use mc_settings::Namespace;
 use std::alloc::Global;
 use std::marker::Model;
 use std::sync::Wait;

@@ -1,7 +1,7 @@
 //! What jobs came to.
 
-use crate::JobFault;
 use mc_explain::Verdict;
+use mc_generate::JobFault;
 use mc_lane::Stream;
 use mc_model::History;
 use mc_protocol::Actor;

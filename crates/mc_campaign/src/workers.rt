@@ -3,15 +3,16 @@
 ghost use Rattle.std.specs.Prelude.{◌≡◌, ◌≤◌, ◌+◌, ◌^◌, map, All, IfOk, None};
 ghost use Rattle.std.specs.List.{range_with_len};
 ghost use Rattle.std.specs.Option.{option_copied};
-ghost use Rattle.mc_campaign.specs.JobCodes.{NameFits};
+ghost use Rattle.mc_settings.specs.JobKeys.{NameFits};
 ghost use Rattle.mc_campaign.specs.Outcomes.{HasShortKeys, IsJudgedWithin, IsOutcome};
 
 use crate::{
-    Campaign, CampaignError, Collector, Connector, JobMessage, Meeting, Report, Unwatched, Watcher,
+    Campaign, CampaignError, Collector, Connector, JobMessage, Report, Unwatched, Watcher,
 };
 use crossbeam_channel::{Receiver, Sender, unbounded};
 use mc_lane::Stream;
 use mc_run::Gate;
+use mc_settings::Meeting;
 use std::alloc::Global;
 use std::sync::Wait;
 use std::thread::{self, Scope, Threads};

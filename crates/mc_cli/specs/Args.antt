@@ -3,10 +3,10 @@ use Rattle.std.specs.Prelude.{◌≡◌, ◌+◌, ◌-◌, ◌≤◌, ◌^◌, �
 use Rattle.std.specs.Prelude.{if◌then◌else◌}
 use Rattle.clap.specs.Words.{Text}
 use Rattle.mc_protocol.specs.Decimals.{MAX_64}
-use Rattle.mc_campaign.specs.JobCodes.{NameFits}
-use Rattle.mc_campaign.specs.Namespaces.{is_namespace}
-use Rattle.mc_campaign.specs.declared.meeting.Meeting.{Meeting}
-use Rattle.mc_campaign.specs.declared.meeting.Meeting.TheVariants as meeting
+use Rattle.mc_settings.specs.JobKeys.{NameFits}
+use Rattle.mc_settings.specs.Namespaces.{is_namespace}
+use Rattle.mc_settings.specs.declared.meeting.Meeting.{Meeting}
+use Rattle.mc_settings.specs.declared.meeting.Meeting.TheVariants as meeting
 use Rattle.mc_cli.specs.Kinds.{IsValue, MayBeValue}
 use Rattle.mc_cli.specs.Line.{is_set}
 use Rattle.mc_cli.specs.declared.args.{CampaignArgs.CampaignArgs, Plan.Plan, Repeat.Repeat, RunArgs.RunArgs, Search.Search}

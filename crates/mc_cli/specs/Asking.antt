@@ -8,16 +8,22 @@ use Rattle.mc_cli.specs.Asked.{Asked}
 use Rattle.mc_cli.specs.Asked as asked
 use Rattle.mc_cli.specs.Line.{is_set, line_command, line_faults, line_value}
 use Rattle.mc_cli.specs.declared.args.{CampaignArgs.CampaignArgs, RunArgs.RunArgs}
+use Rattle.mc_cli.specs.declared.question.Question.{Question}
+use Rattle.mc_cli.specs.declared.question.Question.TheVariants as question
 use Rattle.mc_cli.specs.declared.request.{LineFault.LineFault, Request.Request}
 use Rattle.mc_cli.specs.declared.request.LineFault.TheVariants as line_fault
 use Rattle.mc_cli.specs.declared.request.Request.TheVariants as request
 
+-- what a question asks for
+abbrev pub asked_in : Question → Asked
+asked_in (question.Judge how) = asked.Judge how
+asked_in (question.Check why) = asked.Check why
+asked_in (question.Asm why) = asked.Asm why
+asked_in (question.Drive how) = asked.Drive how
+
 -- what is asked for, without the server and how it is met
 abbrev pub asked_by : Request → Asked
-asked_by (request.Judge how) = asked.Judge how
-asked_by (request.Check why) = asked.Check why
-asked_by (request.Asm why) = asked.Asm why
-asked_by (request.Drive how) = asked.Drive how
+asked_by (request.Question question) = asked_in question
 asked_by (request.Run args) = asked.Run args.how
 asked_by (request.Generate seed job) = asked.Generate seed job
 asked_by (request.Serve service) = asked.Serve service

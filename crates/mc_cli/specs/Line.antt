@@ -25,10 +25,6 @@ line_command words = given_name (subcommand_of program_app words)
 unfoldable pub line_value : List (List ℕ) → Text → Option Text
 line_value words name = given_value (subcommand_of program_app words) name
 
--- the value of `--name`
-abbrev pub line_name : List (List ℕ) → Option Text
-line_name words = line_value words (codes "name")
-
 -- whether a switch is there, by the word that clap has as its value
 abbrev pub is_set : Option (List ℕ) → Bool
 is_set None = false

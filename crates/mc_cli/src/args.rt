@@ -1,10 +1,10 @@
 //! What a line asks for, part by part.
-ghost use Rattle.std.specs.Prelude.{◌≡◌, ◌↔◌, ◌+◌, ◌*◌, ◌≤◌, ◌^◌, true};
+ghost use Rattle.std.specs.Prelude.{◌≡◌, ◌↔◌, ◌+◌, ◌*◌, ◌≤◌, ◌^◌, None, true};
 ghost use Rattle.std.specs.Duration.{as_nanos};
 ghost use Rattle.mc_cli.specs.Line.{section_server};
 
-use mc_campaign::{Meeting, Namespace};
 use mc_protocol::Actor;
+use mc_settings::{Meeting, Namespace};
 use std::time::Duration;
 
 /// The most jobs that a line may name.
@@ -84,6 +84,29 @@ pub struct RunArgs<'a> {
 }
 
 impl<'a> RunArgs<'a> {
+    /// One run of a script against this server alone, with nothing else asked for.
+    pub fn at(server: &'a str, how: Search) -> RunArgs<'a>
+        ensures server { (result.server ≡ server.entry) × (result.a ≡ None) × (result.b ≡ None) }
+        ensures how { result.how ≡ how }
+        ensures once { (result.repeat ≡ None) × (result.name ≡ None) }
+    {
+        RunArgs {
+            server,
+            a: None,
+            b: None,
+            how,
+            meeting: Meeting::Drawn,
+            name: None,
+            timeout: None,
+            wait: None,
+            repeat: None,
+            reconnect: false,
+            quiet: false,
+            stats: false,
+            spread: 0,
+        }
+    }
+
     /// The server of a section, as HOST:PORT.
     pub fn server_of(&self, section: Actor) -> &'a str
         ensures { result ≡ section_server section self.now.server self.now.a self.now.b }

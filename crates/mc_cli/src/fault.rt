@@ -1,8 +1,8 @@
 //! What is wrong with the values of a line's options, and what is said of it.
 
 use crate::rows::{Kind, Place, Row};
-use mc_campaign::{NAMESPACE_BYTES_LIMIT, Namespace};
 use mc_protocol::KEY_BYTES_LIMIT;
+use mc_settings::{NAMESPACE_BYTES_LIMIT, Namespace};
 use std::alloc::{AllocError, Global};
 use std::fmt::{Display, Error, Formatter, Write};
 

@@ -2,7 +2,7 @@
 //!
 //! `read_request` reads a line, once. Each part of the [`Request`] that it answers is what the row of an option reads of the first word
 //! that the line gives for it, or the row's default; else it answers the text of the first fault (`specs/Asking.antt`). Below it stand
-//! `clap`, which splits a line into words of options, and `mc_campaign`, for names and meetings. No crate above names `clap`.
+//! `clap`, which splits a line into words of options, and `mc_settings`, for names and meetings. No crate above names `clap`.
 #![tactic(auto)]
 
 mod args;
@@ -12,6 +12,7 @@ mod file_hint;
 mod help;
 mod help_line;
 mod options;
+mod question;
 mod read;
 mod read_campaign;
 mod request;
@@ -23,4 +24,5 @@ pub use args::{
     CampaignArgs, GREATEST_JOBS, GREATEST_WORKERS, Plan, Repeat, RunArgs, Search, Seconds,
     ServeArgs, Until, has_last,
 };
+pub use question::Question;
 pub use request::{LineFault, Request, long_key_text, read_request};

@@ -2,7 +2,7 @@
 ghost use Rattle.std.specs.Prelude.{◌≡◌, ◌+◌, ◌≤◌, ◌^◌, ◌↔◌, ℕ, Option, codes, true, IfErr, IfOk};
 ghost use Rattle.std.specs.Option.{option_copied};
 ghost use Rattle.clap.specs.Words.{first_value, found_of};
-ghost use Rattle.mc_campaign.specs.JobCodes.{NameFits};
+ghost use Rattle.mc_settings.specs.JobKeys.{NameFits};
 ghost use Rattle.mc_cli.specs.Args as spec;
 ghost use Rattle.mc_cli.specs.Args.{AreJobs, IsCampaignArgs, IsPlan, IsUntil};
 
@@ -11,7 +11,7 @@ use crate::fault::OptionFault;
 use crate::read::{DEFAULT_SPREAD, read_spread};
 use crate::{options as rows, value};
 use clap::ArgMatches;
-use mc_campaign::{Namespace, keys_fit};
+use mc_settings::{Namespace, keys_fit};
 
 /// The campaign that `campaign` asks for.
 pub fn read_campaign<'a>(options: &ArgMatches<'a>) -> Result<CampaignArgs<'a>, OptionFault<'a>>

@@ -5,30 +5,25 @@ ghost use Rattle.mc_cli.specs.Asked.{Asked};
 ghost use Rattle.mc_cli.specs.Asking.{AsksFor, Describes, IsAskedBy, IsFaultOf, Says, asked_by};
 ghost use Rattle.mc_cli.specs.Line.{line_value};
 
-use crate::args::{CampaignArgs, RunArgs, Search, ServeArgs};
+use crate::args::{CampaignArgs, RunArgs, ServeArgs};
 use crate::fault::{OptionFault, long_key_message};
 use crate::file_hint::error_text;
 use crate::help_line::help_text;
+use crate::question::Question;
 use crate::read::{read_job, read_run, read_search, read_service};
 use crate::read_campaign::read_campaign;
 use crate::subcommand::{program, usage_fault};
 use crate::{options as rows, value};
 use clap::error::ErrorKind;
 use clap::{ArgMatches, Error};
-use mc_campaign::Namespace;
+use mc_settings::Namespace;
 use std::alloc::{AllocError, Global};
 
 /// What a line asks for, with all that its words say of it.
 #[derive(Debug, Drop)]
 pub enum Request<'a> {
-    /// A judgement of a history, by this search.
-    Judge(Search),
-    /// Whether the code of a script or of an image is sound; and whether the answer shows the line for which a script is refused.
-    Check(bool),
-    /// The image of a script; and whether the answer shows the line for which a script is refused.
-    Asm(bool),
-    /// What the steps after a script come to, judged by this search.
-    Drive(Search),
+    /// An answer to a question about the input.
+    Question(Question),
     /// Runs of a script against a server.
     Run(RunArgs<'a>),
     /// The script of this seed and this job.
@@ -95,10 +90,10 @@ fn read_options<'a>(name: &str, options: &ArgMatches<'a>) -> Result<Request<'a>,
     ensures none { IfErr result (λ _. (wanted : Asked) → IsAskedBy (Some name.now) (first_value (found_of options.now)) wanted → ⊥) }
 {
     match name {
-        "judge" => Ok(Request::Judge(read_search(options)?)),
-        "check" => Ok(Request::Check(value::is_set(options, &rows::REFUSED))),
-        "asm" => Ok(Request::Asm(value::is_set(options, &rows::REFUSED))),
-        "drive" => Ok(Request::Drive(read_search(options)?)),
+        "judge" => Ok(Request::Question(Question::Judge(read_search(options)?))),
+        "check" => Ok(Request::Question(Question::Check(value::is_set(options, &rows::REFUSED)))),
+        "asm" => Ok(Request::Question(Question::Asm(value::is_set(options, &rows::REFUSED)))),
+        "drive" => Ok(Request::Question(Question::Drive(read_search(options)?))),
         "run" => Ok(Request::Run(read_run(options)?)),
         "generate" => {
             let (seed, job) = read_job(options)?;

@@ -1,7 +1,7 @@
 //! The values of a subcommand's options, each read by its row: the first word that the line gives is what counts.
 ghost use Rattle.std.specs.Prelude.{◌≡◌, ℕ, List, Option, Some, IfErr, IfOk, option_map};
 ghost use Rattle.clap.specs.Words.{first_value, found_of};
-ghost use Rattle.mc_campaign.specs.declared.meeting.Meeting.{Meeting};
+ghost use Rattle.mc_settings.specs.declared.meeting.Meeting.{Meeting};
 ghost use Rattle.mc_cli.specs.Args.{IsMeeting, MayBeName};
 ghost use Rattle.mc_cli.specs.Kinds.{IsValue, MayBeValue};
 ghost use Rattle.mc_cli.specs.Line as line;
@@ -11,7 +11,7 @@ use crate::decimal::number_in;
 use crate::fault::OptionFault;
 use crate::rows::Row;
 use clap::ArgMatches;
-use mc_campaign::{Meeting, Namespace};
+use mc_settings::{Meeting, Namespace};
 
 /// Whether the switch is there.
 pub fn is_set(options: &ArgMatches, row: &Row) -> bool

@@ -8,7 +8,7 @@ use Rattle.std.proofs.lemmas.List.Concat.{flat_map-append}
 use Rattle.std.proofs.lemmas.List.Elements.{All-append, All-cons, All-nil}
 use Rattle.std.proofs.lemmas.List.FromFn.{length-range_with_len}
 use Rattle.mc_protocol.specs.Lines.{Word}
-use Rattle.mc_campaign.specs.JobCodes.{NameFits}
+use Rattle.mc_settings.specs.JobKeys.{NameFits}
 use Rattle.mc_campaign.specs.Outcomes.{HasShortKeys, IsOutcome}
 use Rattle.mc_campaign.specs.declared.outcome.JobResult.{JobResult}
 use Rattle.mc_command.specs.Blocks.{AreReports, BeginsRightly, MOST_IN_BLOCK, jobs_of, unexplained_of}

@@ -9,11 +9,11 @@ use Rattle.mc_command.proofs.TallyMore.{ends_by}
 use Rattle.mc_command.specs.Blocks.{AreReports, BeginsRightly, EndsWith, InBlocks, MOST_IN_BLOCK, jobs_of}
 use Rattle.mc_command.specs.CampaignAnswers.{AreResults, IsEnd, ShowsJobs, text_of_report}
 use Rattle.mc_cli.specs.Args.{GREATEST_JOBS}
-use Rattle.mc_command.specs.Streams.{Grows}
+use Rattle.mc_answers.specs.Streams.{Grows}
 use Rattle.mc_command.specs.Tallies.{Gathers, HasGathered, HasReported, IsOver, IsTally, Stands}
 use Rattle.mc_cli.specs.declared.args.Plan.{Plan}
 use Rattle.mc_command.specs.declared.gathered.Gathered.{Gathered}
-use Rattle.mc_command.specs.declared.status.Status.{Status}
+use Rattle.mc_answers.specs.declared.status.Status.{Status}
 use Rattle.mc_cli.specs.declared.args.Until.{Until}
 
 -- by the jobs of the report that isn't written yet

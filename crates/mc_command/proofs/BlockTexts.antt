@@ -9,14 +9,14 @@ use Rattle.mc_command.proofs.BlockJobs.{no_reports}
 use Rattle.mc_command.specs.Blocks.{BreaksOff, Campaigns, CampaignsUntil, InBlocks}
 use Rattle.mc_command.specs.CampaignAnswers.{not_run_text, text_of_report}
 use Rattle.mc_command.specs.Command.{WritesReport}
-use Rattle.mc_command.specs.Streams.{Grows}
+use Rattle.mc_answers.specs.Streams.{Grows}
 use Rattle.mc_command.specs.Tallies.{HasReported, HasWritten}
-use Rattle.mc_command.specs.Texts.{out_of_memory_text}
-use Rattle.mc_command.specs.declared.input.InputFault.{InputFault}
-use Rattle.mc_command.specs.declared.input.InputFault.TheVariants as fault
+use Rattle.mc_answers.specs.Writing.{out_of_memory_text}
+use Rattle.mc_answers.specs.declared.input.InputFault.{InputFault}
+use Rattle.mc_answers.specs.declared.input.InputFault.TheVariants as fault
 use Rattle.mc_cli.specs.declared.args.Plan.{Plan}
-use Rattle.mc_command.specs.declared.status.Status.{Status}
-use Rattle.mc_command.specs.declared.status.Status.TheVariants as status
+use Rattle.mc_answers.specs.declared.status.Status.{Status}
+use Rattle.mc_answers.specs.declared.status.Status.TheVariants as status
 use Rattle.mc_cli.specs.declared.args.Until.{Until}
 
 -- known bytes that grow twice
@@ -50,11 +50,6 @@ none_in_blocks S until plan name rest ended breaks = record {
   text = refl;
   ends = inr breaks;
 }
-
-pub nothing_ran : (S : Type 0) (bounds : Option Until) (plan : Plan) (name : Option Word)
-    → CampaignsUntil S bounds plan name not_run_text status.NoAnswer
-nothing_ran S None plan name = inr (refl, refl)
-nothing_ran S (Some until) plan name = none_in_blocks S until plan name _ _ (inl refl, refl)
 
 -- where memory ran out, after what was written before it
 campaign_lacks : (plan : Plan) (name : Option Word) (before : List ℕ) (ended : Status) → ended ≡ status.NoAnswer

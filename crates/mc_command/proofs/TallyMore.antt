@@ -12,11 +12,11 @@ use Rattle.mc_campaign.specs.declared.outcome.JobResult.{JobResult}
 use Rattle.mc_command.proofs.Shown.{none_shown, shown_later, shown_no_more, shown_one}
 use Rattle.mc_command.specs.Blocks.{EndsRightly, unexplained_of}
 use Rattle.mc_command.specs.CampaignAnswers.{AreShown, MOST_SHOWN, ShowsAtMost, ShowsJobs, first_unexplained, is_unexplained, shown_jobs}
-use Rattle.mc_command.specs.Statuses.{joined, status_number}
+use Rattle.mc_answers.specs.Statuses.{joined, status_number}
 use Rattle.mc_command.specs.Tallies.{Gathers, IsOver, IsTally}
 use Rattle.mc_command.specs.declared.gathered.Gathered.{Gathered}
-use Rattle.mc_command.specs.declared.status.Status.{Status}
-use Rattle.mc_command.specs.declared.status.Status.TheVariants as status
+use Rattle.mc_answers.specs.declared.status.Status.{Status}
+use Rattle.mc_answers.specs.declared.status.Status.TheVariants as status
 use Rattle.mc_command.specs.declared.tally.Tally.{Tally}
 use Rattle.mc_cli.specs.declared.args.Until.{Until}
 

@@ -8,11 +8,11 @@ use Rattle.mc_campaign.specs.declared.standing.Standing.TheVariants as standing
 use Rattle.mc_command.specs.CampaignAnswers.{AreResults, CampaignsOver, Connection, IsEnd, ShowsJobs, first_unexplained}
 use Rattle.mc_command.specs.CampaignAnswers.{not_run_text, text_of_report}
 use Rattle.mc_cli.specs.Args.{GREATEST_JOBS}
-use Rattle.mc_command.specs.Statuses.{status_number}
-use Rattle.mc_command.specs.Texts.{out_of_memory_text}
+use Rattle.mc_answers.specs.Statuses.{status_number}
+use Rattle.mc_answers.specs.Writing.{out_of_memory_text}
 use Rattle.mc_cli.specs.declared.args.Plan.{Plan}
-use Rattle.mc_command.specs.declared.status.Status.{Status}
-use Rattle.mc_command.specs.declared.status.Status.TheVariants as status
+use Rattle.mc_answers.specs.declared.status.Status.{Status}
+use Rattle.mc_answers.specs.declared.status.Status.TheVariants as status
 use Rattle.mc_cli.specs.declared.args.Until.{Until}
 
 -- a block has at most this many jobs

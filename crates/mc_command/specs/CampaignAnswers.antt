@@ -9,23 +9,23 @@ use Rattle.mc_explain.specs.Verdicts.{IsTrueOf}
 use Rattle.mc_explain.specs.declared.verdict.Verdict.{Verdict}
 use Rattle.mc_script.specs.PrintedScript.{script_text}
 use Rattle.mc_script.specs.Script.{Script}
-use Rattle.mc_campaign.specs.Generated.{generated}
-use Rattle.mc_campaign.specs.JobCodes.{NameFits}
+use Rattle.mc_generate.specs.Generated.{generated}
+use Rattle.mc_settings.specs.JobKeys.{NameFits}
 use Rattle.mc_campaign.specs.Outcomes.{HasShortKeys, IsOutcome}
 use Rattle.mc_campaign.specs.ReportStatus.{status_of}
 use Rattle.mc_campaign.specs.ReportText.{brief_report_text, is_same_standing, report_text, standing_of}
-use Rattle.mc_campaign.specs.Shrunk.{IsShrunk}
+use Rattle.mc_generate.specs.Shrunk.{IsShrunk}
 use Rattle.mc_campaign.specs.declared.outcome.JobOutcome.{JobOutcome}
 use Rattle.mc_campaign.specs.declared.outcome.JobOutcome.TheVariants as outcome
 use Rattle.mc_campaign.specs.declared.outcome.JobResult.{JobResult}
 use Rattle.mc_history.specs.PrintedHistory.{history_text}
 use Rattle.mc_campaign.specs.declared.standing.Standing.TheVariants as standing
-use Rattle.mc_command.specs.Statuses.{status_number}
-use Rattle.mc_command.specs.WhyAnswers.{IsWhy, printed_line}
+use Rattle.mc_answers.specs.Statuses.{status_number}
+use Rattle.mc_answers.specs.WhyAnswers.{IsWhy, printed_line}
 use Rattle.mc_cli.specs.declared.args.Plan.{Plan}
 use Rattle.mc_connect.specs.declared.socket.JobSocket.{JobSocket}
-use Rattle.mc_command.specs.declared.status.Status.{Status}
-use Rattle.mc_command.specs.declared.status.Status.TheVariants as status
+use Rattle.mc_answers.specs.declared.status.Status.{Status}
+use Rattle.mc_answers.specs.declared.status.Status.TheVariants as status
 
 -- these are as many jobs of this seed, from the first on, in order, and what each may come to, with its keys under the name, if there is
 -- one; where it leaves all keys short, none is kept from running by a key that is too long

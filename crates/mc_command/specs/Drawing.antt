@@ -4,8 +4,8 @@ use Rattle.rand_pcg.specs.Lcg.{increment_of, started}
 use Rattle.rand_pcg.specs.Pcg.{multiplier_64}
 use Rattle.mc_run.specs.declared.manner.Meet.{Meet}
 use Rattle.mc_campaign.specs.Meetings.{meet_in}
-use Rattle.mc_campaign.specs.Outputs.{outputs_of}
-use Rattle.mc_campaign.specs.declared.meeting.Meeting.{Meeting}
+use Rattle.mc_generate.specs.Outputs.{outputs_of}
+use Rattle.mc_settings.specs.declared.meeting.Meeting.{Meeting}
 
 -- by PCG's sequence 54 from this seed
 abbrev pub meet_by : Meeting → ℕ → ℕ → Meet

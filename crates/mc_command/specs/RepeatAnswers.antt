@@ -5,13 +5,13 @@ use Rattle.mc_protocol.specs.Lines.{Word}
 use Rattle.mc_model.specs.History.{are_answered}
 use Rattle.mc_model.specs.Notes.{History}
 use Rattle.mc_code.specs.Code.{Code}
-use Rattle.mc_command.specs.RunAnswers.{IsRight, IsRightFor, IsUnder, Plays, PlaysFor, SpellsUnder, is_refusal, status_of, text_of}
-use Rattle.mc_command.specs.Statuses.{is_success}
+use Rattle.mc_command.specs.RunAnswers.{IsRightFor, IsUnder, PlaysFor, Refuses, SpellsUnder, status_of, text_of}
+use Rattle.mc_answers.specs.Statuses.{is_success}
 use Rattle.mc_command.specs.Totals.{totals_line, totals_of}
 use Rattle.mc_cli.specs.declared.args.Repeat.{Repeat}
 use Rattle.mc_command.specs.declared.run.Played.{Played}
 use Rattle.mc_command.specs.declared.run.Played.TheVariants as played
-use Rattle.mc_command.specs.declared.status.Status.{Status}
+use Rattle.mc_answers.specs.declared.status.Status.{Status}
 use Rattle.mc_command.specs.declared.totals.Totals.{Totals}
 
 -- the run's status is 0
@@ -36,9 +36,6 @@ abbrev pub leaves_request : Played → Bool
 leaves_request (played.Ended held h found told) = not (is_answered h)
 leaves_request (played.NoConnection section) = false
 leaves_request played.NotRun = true
-leaves_request (played.NoCode fault hint) = false
-leaves_request (played.Unsound refusal hint) = false
-leaves_request (played.KeyTooLong index) = false
 
 -- none of the runs leaves a request on which the server may still act
 abbrev pub AreSettled : List Played → Type 0
@@ -82,18 +79,12 @@ abbrev pub RepeatsFor : Repeat → Bool → Code → List ℕ → Status → Typ
 RepeatsFor repeat why code output ended = (number : ℕ) × (given : Played) × (totals : Totals) × Comes repeat why code number given totals
     × (output ≡ repeated_text repeat.times number totals given) × (ended ≡ status_of given)
 
--- a script that is refused is refused as ever, and one that is accepted is run repeatedly
-abbrev pub Repeats : Repeat → Bool → Option Word → List ℕ → List ℕ → Status → Type 0
-Repeats repeat why name text output ended =
-    ((given : Played) × IsRight why name text given × (is_refusal given ≡ true) × (output ≡ text_of given) × (ended ≡ status_of given))
-    ⊎ ((code : Code) × SpellsUnder name text code × RepeatsFor repeat why code output ended)
-
 -- for sound code, what is written of one run, or of repeated ones where the line asks for them
 abbrev pub AnswersFor : Option Repeat → Bool → Code → List ℕ → Status → Type 0
 AnswersFor None why code output ended = PlaysFor why code output ended
 AnswersFor (Some repeat) why code output ended = RepeatsFor repeat why code output ended
 
--- the same for a text
+-- the same of the code that the text spells, or of it under the name; or what is written where no code is played
 abbrev pub Runs : Option Repeat → Bool → Option Word → List ℕ → List ℕ → Status → Type 0
-Runs None why name text output ended = Plays why name text output ended
-Runs (Some repeat) why name text output ended = Repeats repeat why name text output ended
+Runs repeat why name text output ended =
+    ((code : Code) × SpellsUnder name text code × AnswersFor repeat why code output ended) ⊎ Refuses why name text output ended

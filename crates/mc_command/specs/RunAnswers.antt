@@ -4,29 +4,26 @@ use Rattle.mc_protocol.specs.Lines.{Word}
 use Rattle.mc_protocol.specs.Words.{actor_word}
 use Rattle.mc_model.specs.Notes.{History}
 use Rattle.mc_code.specs.Code.{Code}
-use Rattle.mc_verify.specs.Checked.{IsRightRefusal}
 use Rattle.mc_verify.specs.Faults.{IsSound}
 use Rattle.mc_core.specs.Held.{Held}
 use Rattle.mc_history.specs.PrintedHistory.{history_text}
 use Rattle.mc_explain.specs.declared.verdict.Verdict.{Verdict}
 use Rattle.mc_run.specs.Agreement.{LaneRecords}
 use Rattle.mc_run.specs.Judged.{IsJudged}
-use Rattle.mc_hints.specs.Refusals.{IsHint, load_refusal, unsound_text}
-use Rattle.mc_campaign.specs.Namespaces.{IsPutFault, code_under}
-use Rattle.mc_campaign.specs.declared.naming.PutFault.TheVariants as put_fault
-use Rattle.mc_command.specs.Endings.{endings_text, run_status}
-use Rattle.mc_command.specs.Loading.{LoadsScript}
-use Rattle.mc_command.specs.Verdicts.{verdict_text}
-use Rattle.mc_command.specs.WhyAnswers.{IsWhy, printed_line}
+use Rattle.mc_generate.specs.CodesUnder.{IsPutFault, code_under}
+use Rattle.mc_generate.specs.declared.naming.PutFault.TheVariants as put_fault
+use Rattle.mc_answers.specs.Endings.{endings_text, run_status}
+use Rattle.mc_answers.specs.Loading.{IsScriptRefusal, SaysUnsound, Spells}
+use Rattle.mc_answers.specs.Verdicts.{verdict_text}
+use Rattle.mc_answers.specs.WhyAnswers.{IsWhy, printed_line}
+use Rattle.mc_answers.specs.declared.refusal.Unanswered.{Unanswered}
+use Rattle.mc_answers.specs.declared.refusal.Unanswered.TheVariants as unanswered
 use Rattle.mc_command.specs.declared.run.Played.{Played}
 use Rattle.mc_command.specs.declared.run.Played.TheVariants as played
-use Rattle.mc_command.specs.declared.status.Status.{Status}
-use Rattle.mc_command.specs.declared.status.Status.TheVariants as status
-
--- the text spells a script, whose code is sound
-pub record Spells (text : List ℕ) (code : Code) : Type 0 where
-  pub code_of_script : LoadsScript text (Ok code)
-  pub sound : IsSound code
+use Rattle.mc_command.specs.declared.target_code.Unplayed.{Unplayed}
+use Rattle.mc_command.specs.declared.target_code.Unplayed.TheVariants as unplayed
+use Rattle.mc_answers.specs.declared.status.Status.{Status}
+use Rattle.mc_answers.specs.declared.status.Status.TheVariants as status
 
 -- the code that is played of this one: itself, or it under a name
 abbrev pub played_code : Option Word → Code → Code
@@ -54,39 +51,27 @@ abbrev pub IsRightFor : Bool → Code → Played → Type 0
 IsRightFor why code (played.Ended held h found reasons) = IsRun code held h found × IsWhy why printed_line h found reasons.items
 IsRightFor why code (played.NoConnection section) = Unit {0}
 IsRightFor why code played.NotRun = Unit {0}
-IsRightFor why code (played.NoCode fault hint) = ⊥
-IsRightFor why code (played.Unsound refusal hint) = ⊥
-IsRightFor why code (played.KeyTooLong index) = ⊥
 
--- the code is that of the script which the text spells; or it is that under the name, and the one without it is sound
-abbrev pub IsVerified : Option Word → List ℕ → Code → Type 0
-IsVerified name text code =
-    LoadsScript text (Ok code) ⊎ ((written : Code) × Spells text written × (code ≡ played_code name written))
+-- ---- why no code is played
 
--- the text spells a script whose code is sound, and this is the first of its keys that becomes too long under the name
-abbrev pub HasLongKey : Option Word → List ℕ → ℕ → Type 0
-HasLongKey None text index = ⊥
-HasLongKey (Some name) text index = (written : Code) × Spells text written × IsPutFault name written.keys (put_fault.KeyTooLong index)
+-- the code of the text's script is sound, and under the name a key becomes too long
+abbrev pub HasLongKey : Option Word → List ℕ → Type 0
+HasLongKey None text = ⊥
+HasLongKey (Some name) text =
+    (written : Code) × (index : ℕ) × Spells text written × IsPutFault name written.keys (put_fault.KeyTooLong index)
 
--- the answer is right for the text, where the keys are put under the name, if there is one
-abbrev pub IsRight : Bool → Option Word → List ℕ → Played → Type 0
-IsRight why name text (played.Ended held h found reasons) =
-    (code : Code) × SpellsUnder name text code × IsRightFor why code (played.Ended held h found reasons)
-IsRight why name text (played.NoConnection section) = (code : Code) × SpellsUnder name text code
-IsRight why name text played.NotRun = (code : Code) × SpellsUnder name text code
-IsRight why name text (played.NoCode fault hint) = LoadsScript text (Err fault) × IsHint why hint.items
-IsRight why name text (played.Unsound refusal hint) =
-    (code : Code) × IsVerified name text code × IsRightRefusal code refusal × IsHint why hint.items
-IsRight why name text (played.KeyTooLong index) = HasLongKey name text index
+-- the code of the text's script is sound, and that under the name isn't, as the refusal says
+abbrev pub IsNameRefusal : Bool → Option Word → List ℕ → List ℕ → Type 0
+IsNameRefusal why None text refusal = ⊥
+IsNameRefusal why (Some name) text refusal = (written : Code) × Spells text written × SaysUnsound (code_under name written) why refusal
 
--- no code is played: the text is refused, or a key becomes too long under the name
-abbrev pub is_refusal : Played → Bool
-is_refusal (played.Ended held h found told) = false
-is_refusal (played.NoConnection section) = false
-is_refusal played.NotRun = false
-is_refusal (played.NoCode fault hint) = true
-is_refusal (played.Unsound refusal hint) = true
-is_refusal (played.KeyTooLong index) = true
+-- the text is refused, or its code under the name is; or under the name a key becomes too long, and nothing is written
+abbrev pub Refuses : Bool → Option Word → List ℕ → List ℕ → Status → Type 0
+Refuses why name text output ended =
+    ((IsScriptRefusal why text output ⊎ IsNameRefusal why name text output) × (ended ≡ status.Refused))
+    ⊎ (HasLongKey name text × (output ≡ []) × (ended ≡ status.WrongLine))
+
+-- ---- what is written
 
 -- what is written of a run: how its sections ended, the verdict, why nothing explains the history, where that is asked, and the history
 abbrev pub ended_text : Held → History → Verdict → List ℕ → List ℕ
@@ -97,23 +82,31 @@ abbrev pub text_of : Played → List ℕ
 text_of (played.Ended held h found reasons) = ended_text held h found reasons.items
 text_of (played.NoConnection section) = codes "no connection " ++ (actor_word section ++ codes "\n")
 text_of played.NotRun = codes "not run\n"
-text_of (played.NoCode fault hint) = load_refusal fault ++ hint.items
-text_of (played.Unsound refusal hint) = unsound_text refusal ++ hint.items
-text_of (played.KeyTooLong index) = []
 
 -- the exit status of an answer
 abbrev pub status_of : Played → Status
 status_of (played.Ended held h found reasons) = run_status held.endings found
 status_of (played.NoConnection section) = status.NoAnswer
 status_of played.NotRun = status.NoAnswer
-status_of (played.NoCode fault hint) = status.Refused
-status_of (played.Unsound refusal hint) = status.Refused
-status_of (played.KeyTooLong index) = status.WrongLine
-
--- an answer that is right for the text is what is written, with its status
-abbrev pub Plays : Bool → Option Word → List ℕ → List ℕ → Status → Type 0
-Plays why name text output ended = (given : Played) × IsRight why name text given × (output ≡ text_of given) × (ended ≡ status_of given)
 
 -- for sound code, a run that is right is what is written, with its status
 abbrev pub PlaysFor : Bool → Code → List ℕ → Status → Type 0
 PlaysFor why code output ended = (given : Played) × IsRightFor why code given × (output ≡ text_of given) × (ended ≡ status_of given)
+
+-- ---- parts that private clauses cite
+
+abbrev pub unplayed_by : Unanswered → Unplayed
+unplayed_by (unanswered.Refused text) = unplayed.Refused text
+unplayed_by unanswered.OutOfMemory = unplayed.OutOfMemory
+
+-- why code isn't played under a name
+abbrev pub IsUnput : Word → Code → Unplayed → Type 0
+IsUnput name written (unplayed.Refused text) = (why : Bool) → SaysUnsound (code_under name written) why text.items
+IsUnput name written (unplayed.KeyTooLong told) = (index : ℕ) × IsPutFault name written.keys (put_fault.KeyTooLong index)
+IsUnput name written unplayed.OutOfMemory = Unit {0}
+
+-- why no code of a text is played
+abbrev pub IsUnplayed : Bool → Option Word → List ℕ → Unplayed → Type 0
+IsUnplayed why name text (unplayed.Refused output) = IsScriptRefusal why text output.items ⊎ IsNameRefusal why name text output.items
+IsUnplayed why name text (unplayed.KeyTooLong told) = HasLongKey name text
+IsUnplayed why name text unplayed.OutOfMemory = Unit {0}

@@ -1,16 +1,17 @@
 -- What `selftest` writes.
 use Rattle.std.specs.Prelude.{◌≡◌, ◌⊎◌, None, List, ℕ, codes, false}
+use Rattle.mc_code.specs.Code.{Code}
 use Rattle.mc_explain.specs.declared.verdict.Verdict.TheVariants as verdict
 use Rattle.mc_campaign.specs.ReportStatus.{status_of}
 use Rattle.mc_campaign.specs.declared.outcome.JobResult.{JobResult}
 use Rattle.mc_command.specs.CampaignAnswers.{AreResults, Connection}
-use Rattle.mc_command.specs.RunAnswers.{IsRight}
+use Rattle.mc_command.specs.RunAnswers.{IsRightFor, SpellsUnder}
 use Rattle.mc_command.specs.declared.run.Played.{Played}
 use Rattle.mc_command.specs.declared.run.Played.TheVariants as played
 use Rattle.mc_command.specs.declared.selftest.Part.{Part}
 use Rattle.mc_command.specs.declared.selftest.Part.TheVariants as part
-use Rattle.mc_command.specs.declared.status.Status.{Status}
-use Rattle.mc_command.specs.declared.status.Status.TheVariants as status
+use Rattle.mc_answers.specs.declared.status.Status.{Status}
+use Rattle.mc_answers.specs.declared.status.Status.TheVariants as status
 
 -- the script that runs against the server with a race
 abbrev pub two_increments : List ℕ
@@ -26,13 +27,11 @@ abbrev pub IsUnexplained : Played → Type 0
 IsUnexplained (played.Ended held h found why) = found ≡ verdict.Unexplained
 IsUnexplained (played.NoConnection section) = ⊥
 IsUnexplained played.NotRun = ⊥
-IsUnexplained (played.NoCode fault hint) = ⊥
-IsUnexplained (played.Unsound refusal hint) = ⊥
-IsUnexplained (played.KeyTooLong index) = ⊥
 
 -- a run of the two increments is unexplained
 abbrev pub IsRaceSeen : Type 0
-IsRaceSeen = (given : Played) × IsRight false None two_increments given × IsUnexplained given
+IsRaceSeen =
+    (code : Code) × (given : Played) × SpellsUnder None two_increments code × IsRightFor false code given × IsUnexplained given
 
 -- what a part is to show
 abbrev pub IsSeen : Part → Type 0

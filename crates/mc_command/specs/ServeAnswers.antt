@@ -3,8 +3,8 @@ use Rattle.std.specs.Prelude.{◌≡◌, ◌⊎◌, ℕ, ◌<◌, ◌==◌, List
 use Rattle.mc_server.specs.Listening.{Listens}
 use Rattle.mc_server.specs.declared.counts.Listened.{Listened}
 use Rattle.mc_cli.specs.declared.args.ServeArgs.{ServeArgs}
-use Rattle.mc_command.specs.declared.status.Status.{Status}
-use Rattle.mc_command.specs.declared.status.Status.TheVariants as status
+use Rattle.mc_answers.specs.declared.status.Status.{Status}
+use Rattle.mc_answers.specs.declared.status.Status.TheVariants as status
 
 -- the port that is listened at: the one that was asked for, or any where that is 0
 abbrev pub IsPortOf : ℕ → ℕ → Type 0

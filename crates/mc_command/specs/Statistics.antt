@@ -74,6 +74,3 @@ abbrev pub recorded_of : Played → List Recorded
 recorded_of (played.Ended held h found told) = record { notes = held.world.notes; history = h } ∷ []
 recorded_of (played.NoConnection section) = []
 recorded_of played.NotRun = []
-recorded_of (played.NoCode fault hint) = []
-recorded_of (played.Unsound refusal hint) = []
-recorded_of (played.KeyTooLong index) = []

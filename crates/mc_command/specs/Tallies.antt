@@ -5,8 +5,8 @@ use Rattle.mc_campaign.specs.ReportStatus.{status_of}
 use Rattle.mc_campaign.specs.declared.outcome.JobResult.{JobResult}
 use Rattle.mc_command.specs.Blocks.{AreReports, BeginsRightly, jobs_of, unexplained_of}
 use Rattle.mc_command.specs.CampaignAnswers.{ShowsJobs, first_unexplained, text_of_report}
-use Rattle.mc_command.specs.Statuses.{status_number}
-use Rattle.mc_command.specs.Streams.{Grows}
+use Rattle.mc_answers.specs.Statuses.{status_number}
+use Rattle.mc_answers.specs.Streams.{Grows}
 use Rattle.mc_cli.specs.declared.args.Plan.{Plan}
 use Rattle.mc_command.specs.declared.gathered.Gathered.{Gathered}
 use Rattle.mc_command.specs.declared.tally.Tally.{Tally}

@@ -13,9 +13,6 @@ abbrev pub standing_of : Played → Standing
 standing_of (played.Ended held h found told) = standing_by found
 standing_of (played.NoConnection section) = standing.Other
 standing_of played.NotRun = standing.Other
-standing_of (played.NoCode fault hint) = standing.Other
-standing_of (played.Unsound refusal hint) = standing.Other
-standing_of (played.KeyTooLong index) = standing.Other
 
 abbrev pub counts_as : Standing → Played → Bool
 counts_as wanted run = is_same_standing wanted (standing_of run)
@@ -25,9 +22,6 @@ abbrev pub is_overlapped : Played → Bool
 is_overlapped (played.Ended held h found told) = overlaps held.world.notes
 is_overlapped (played.NoConnection section) = false
 is_overlapped played.NotRun = false
-is_overlapped (played.NoCode fault hint) = false
-is_overlapped (played.Unsound refusal hint) = false
-is_overlapped (played.KeyTooLong index) = false
 
 -- how many runs there are, and of how many each is so
 abbrev pub totals_of : List Played → Totals

@@ -4,31 +4,28 @@ ghost use Rattle.std.specs.Option.{option_copied};
 ghost use Rattle.mc_command.specs.Blocks.{CampaignsUntil};
 ghost use Rattle.mc_command.specs.CampaignAnswers as answers;
 ghost use Rattle.mc_command.specs.Command.{WritesReport};
-ghost use Rattle.mc_command.specs.Statuses.{status_number};
-ghost use Rattle.mc_command.specs.Streams.{Grows};
-ghost use Rattle.mc_command.specs.Texts.{out_of_memory_text};
+ghost use Rattle.mc_answers.specs.Statuses.{status_number};
+ghost use Rattle.mc_answers.specs.Streams.{Grows};
+ghost use Rattle.mc_answers.specs.Writing.{out_of_memory_text};
 
-use crate::answer::Answer;
 use crate::blocks::answer_in_blocks;
-use crate::input::InputFault;
 use crate::job_connector::JobConnector;
-use crate::program::{write_fault, write_text};
 use crate::progress::lead;
 use crate::servers::duration_of;
 use crate::showing::{MOST_SHOWN, shown_text};
 use crate::shrinking::shrunk_script;
-use crate::status::Status;
-use crate::streams::Sink;
 use crate::watching::{Teller, tell_start};
+use mc_answers::{Answer, InputFault, Sink, Status, write_fault, write_text};
 use mc_campaign::{
-    Campaign, CampaignError, Connector, JobResult, Meeting, Namespace, Report, Standing, Watcher,
-    print_brief_report, print_report, report_status, run_jobs,
+    Campaign, CampaignError, Connector, JobResult, Report, Standing, Watcher, print_brief_report,
+    print_report, report_status, run_jobs,
 };
 use mc_cli::{CampaignArgs, GREATEST_JOBS, GREATEST_WORKERS, Plan, Search, has_last};
 use mc_connect::Dialer;
 use mc_lane::Stream;
 use mc_run::FreeGate;
 use mc_script::{Script, print};
+use mc_settings::{Meeting, Namespace};
 use std::alloc::{AllocError, Global};
 use std::io::Eprint;
 use std::net::{Net, TcpListener, TcpStream};
@@ -314,13 +311,4 @@ pub fn status_of(number: u8) -> Status
         1 => Status::Unexplained,
         _ => Status::NoAnswer,
     }
-}
-
-/// Says that there is no report, where there is no network.
-pub fn write_not_run<O: Sink>(output: &mut O) -> Status
-    ensures answered { O.has_failed output.old ≡ false → O.has_failed output.new ≡ false
-        → (plan : Plan) (name : Option (List ℕ)) → WritesReport plan name (O.written output.old) (O.written output.new) result }
-    ensures broken { O.has_failed output.old ≡ false → O.has_failed output.new ≡ true → result ≡ Status.NoAnswer }
-{
-    write_text(NOT_RUN, Status::NoAnswer, output)
 }

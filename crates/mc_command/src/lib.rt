@@ -1,36 +1,23 @@
-//! What the program does with a line of words and an input, over any streams and any network.
+//! Runs against servers: of a script, once or repeatedly, of a campaign's jobs, and of a selftest; and a server of the program's own.
 //!
-//! The program `mcrace` is a thin `main` above this library. Below it stand `mc_run`, which leads scripts through steps and runs them
-//! over three lanes, `mc_explain`, which judges histories, `mc_hints`, which says why an input is refused, `mc_server`, and the readers
-//! of scripts, images and step lists. `mc_cli` reads a line: what it asks for, with all that its words say. `mc_connect` makes
-//! connections: over its `Network` `run_target` answers a line of `run`, and tells a `RunObserver` of each run; `run_command` is that for
-//! one run at a server alone, over TCP. `serve_connections` answers one of `serve`, `run_campaign_at` one of `campaign`, and
-//! `run_selftest` one of `selftest`. `command` answers any line where there is no network: what it writes is right for the input that it
-//! read, whatever that is (`specs/Command.antt`, and for each subcommand the definitions that `specs/Answers.antt` names).
+//! Below it stand `mc_answers`, with streams, statuses and the code of inputs, `mc_run`, which runs code over three lanes, `mc_campaign`
+//! and `mc_server`. `mc_connect` makes connections: over its `Network` `run_target` answers a line of `run`, and tells a `RunObserver` of
+//! each run; `run_command` is that for one run at a server alone, over TCP. `serve_connections` answers a line of `serve`,
+//! `run_campaign_at` one of `campaign`, and `run_selftest` one of `selftest`. What each writes is right, whatever a server answers
+//! (`specs/RepeatAnswers.antt`, `specs/Blocks.antt`, `specs/ServeAnswers.antt`, `specs/SelftestAnswers.antt`).
 #![tactic(auto)]
 
-mod answer;
-mod asm;
 mod blocks;
 mod both_read;
 mod campaigning;
-mod check;
-mod drive;
-mod driven_why;
 mod evidence;
 mod gathered;
-mod generate;
-mod input;
 mod job_connector;
-mod judge;
 mod keeping;
 mod lanes;
-mod loading;
 mod meeting;
-mod outcome;
 mod overlap;
 mod playing;
-mod program;
 mod progress;
 mod renaming;
 mod repeated;
@@ -44,25 +31,16 @@ mod serving;
 mod showing;
 mod shrinking;
 mod statistics;
-mod status;
-mod streams;
 mod tally;
-mod terminal;
+mod target_code;
 mod totals;
 mod watching;
-mod why;
 
-pub use answer::Answer;
 pub use campaigning::{campaign_answer, run_campaign_at};
-pub use outcome::run_status;
 pub use playing::{run_command, run_target};
-pub use program::{answer_offline, command, explain_fault, unread_line};
 pub use run::{Played, Remarks};
 pub use run_teller::{RunObserver, RunTeller, Unobserved};
 pub use selftest::run_selftest;
 pub use servers::servers_of;
 pub use serving::{Told, serve_connections};
 pub use statistics::Statistics;
-pub use status::Status;
-pub use streams::{Broken, Reader, Sink, Source, Writer};
-pub use terminal::input_name;

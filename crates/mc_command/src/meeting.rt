@@ -2,8 +2,8 @@
 ghost use Rattle.std.specs.Prelude.{◌≡◌, ◌<◌, ◌^◌, ℕ};
 ghost use Rattle.mc_command.specs.Drawing.{meet_by};
 
-use mc_campaign::Meeting;
 use mc_run::Meet;
+use mc_settings::Meeting;
 use rand_pcg::Pcg32;
 use std::rt::Clock;
 

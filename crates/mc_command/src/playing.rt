@@ -1,24 +1,18 @@
 //! The command `run`, over any streams for input and output.
-ghost use Rattle.std.specs.Prelude.{◌≡◌, ℕ, List, true, false, IfOk};
-ghost use Rattle.mc_cli.specs.Asked as asked;
-ghost use Rattle.mc_command.specs.Answers.{IsTargetAnswer};
-ghost use Rattle.mc_command.specs.Command.{Answers, AnswersTarget, IsWhole};
-ghost use Rattle.mc_command.specs.Input as input_rule;
-ghost use Rattle.mc_command.specs.RepeatAnswers.{AnswersFor};
+ghost use Rattle.std.specs.Prelude.{◌≡◌, ℕ, List, None, IfOk};
+ghost use Rattle.mc_answers.specs.Answers.{AnswersRightly, IsAnswerBy, IsWhole};
+ghost use Rattle.mc_answers.specs.Input as input_rule;
+ghost use Rattle.mc_answers.specs.Statuses.{status_number};
+ghost use Rattle.mc_answers.specs.Streams.{TakesAtMost};
+ghost use Rattle.mc_command.specs.RepeatAnswers.{AnswersFor, Runs};
 ghost use Rattle.mc_command.specs.RunAnswers as run_answers;
-ghost use Rattle.mc_command.specs.Statuses.{status_number};
-ghost use Rattle.mc_command.specs.Streams.{TakesAtMost};
 
-use crate::answer::{Answer, read_text};
-use crate::input::InputFault;
-use crate::program::{write_fault, write_text};
 use crate::repeated::answer_of_runs;
-use crate::run::{Played, Remarks, play_code, read_target_code, status_of, text_of};
+use crate::run::{Played, Remarks, play_code, status_of, text_of};
 use crate::run_teller::{RunObserver, Unobserved};
 use crate::servers::servers_of;
-use crate::status::Status;
-use crate::streams::{Sink, Source};
-use mc_campaign::Meeting;
+use crate::target_code::{read_target_code, unplayed_answer};
+use mc_answers::{Answer, InputFault, Sink, Source, Status, read_text, write_fault, write_text};
 use mc_cli::{RunArgs, Search};
 use mc_connect::{Network, TcpNetwork};
 use mc_verify::Checked;
@@ -43,30 +37,11 @@ pub fn run_command<R, I: Source, O: Sink>(
 ) -> u8
 where
     R: Net<Stream = TcpStream> + Threads + Wait + Clock + Sync,
-    ensures answered { I.has_failed input.old ≡ false → I.has_failed input.new ≡ false
-        → O.has_failed output.old ≡ false → O.has_failed output.new ≡ false
-        → (ended : Status) × (result ≡ status_number ended)
-        × Answers (asked.Run how) (I.left input.old) (O.written output.old) (O.written output.new) ended }
-    ensures broken_input { I.has_failed input.old ≡ false → I.has_failed input.new ≡ true
-        → (result ≡ 4) × (output.new ≡ output.old) }
-    ensures broken_output { O.has_failed output.old ≡ false → O.has_failed output.new ≡ true → result ≡ 4 }
-    ensures taken { TakesAtMost 1048577 (I.left input.old) (I.left input.new) }
+    ensures { (ended : Status) × (result ≡ status_number ended)
+        × AnswersRightly I.left I.has_failed O.written O.has_failed (Runs None how.why None)
+        input.old input.new output.old output.new ended }
 {
-    let target = RunArgs {
-        server: target,
-        a: None,
-        b: None,
-        how,
-        meeting: Meeting::Drawn,
-        name: None,
-        timeout: None,
-        wait: None,
-        repeat: None,
-        reconnect: false,
-        quiet: false,
-        stats: false,
-        spread: 0,
-    };
+    let target = RunArgs::at(target, how);
     let mut network = TcpNetwork::new(rt, servers_of(&target));
     let (status, _) = run_target(
         rt,
@@ -94,14 +69,8 @@ pub fn run_target<R, N: Network, T: RunObserver, I: Source, O: Sink>(
 ) -> (Status, Remarks)
 where
     R: Threads + Wait + Clock + Sync,
-    ensures answered { I.has_failed input.old ≡ false → I.has_failed input.new ≡ false
-        → O.has_failed output.old ≡ false → O.has_failed output.new ≡ false
-        → AnswersTarget target.now.repeat target.now.how.why target.now.name
-        (I.left input.old) (O.written output.old) (O.written output.new) result.0 }
-    ensures broken_input { I.has_failed input.old ≡ false → I.has_failed input.new ≡ true
-        → (result.0 ≡ Status.NoAnswer) × (output.new ≡ output.old) }
-    ensures broken_output { O.has_failed output.old ≡ false → O.has_failed output.new ≡ true → result.0 ≡ Status.NoAnswer }
-    ensures taken { TakesAtMost 1048577 (I.left input.old) (I.left input.new) }
+    ensures { AnswersRightly I.left I.has_failed O.written O.has_failed
+        (Runs target.now.repeat target.now.how.why target.now.name) input.old input.new output.old output.new result.0 }
 {
     match read_and_run(rt, alloc, target, network, observer, input) {
         Ok((answer, remarks)) => {
@@ -124,7 +93,7 @@ fn read_and_run<R, N: Network, T: RunObserver, I: Source>(
 where
     R: Threads + Wait + Clock + Sync,
     ensures right { IfOk result (λ found. (text : List ℕ) × IsWhole (I.left input.old) text
-        × IsTargetAnswer target.now.repeat target.now.how.why target.now.name text found.0.output.items found.0.status) }
+        × IsAnswerBy (Runs target.now.repeat target.now.how.why target.now.name) text found.0.output.items found.0.status) }
     ensures fails { input_rule.Fails (I.has_failed input.old) (I.has_failed input.new) result }
     ensures taken { TakesAtMost 1048577 (I.left input.old) (I.left input.new) }
 {
@@ -132,9 +101,9 @@ where
         Ok(text) => text,
         Err(too_long) => return Ok((too_long, Remarks::None)),
     };
-    match read_target_code(alloc, target, text.as_slice())? {
+    match read_target_code(alloc, target, text.as_slice()) {
         Ok(checked) => Ok(run_code(rt, alloc, target, network, observer, &checked)?),
-        Err((refused, remarks)) => Ok((answer_of(alloc, &refused)?, remarks)),
+        Err(unplayed) => Ok(unplayed_answer(alloc, unplayed)?),
     }
 }
 
@@ -160,7 +129,7 @@ fn run_code<R: Threads + Wait + Clock + Sync, N: Network, T: RunObserver>(
     }
 }
 
-// What is written of a run, or in place of one.
+// What is written of a run.
 fn answer_of(alloc: Global, played: &Played) -> Result<Answer, AllocError>
     ensures { IfOk result (λ answer. (answer.output.items ≡ run_answers.text_of played.now)
         × (answer.status ≡ run_answers.status_of played.now)) }

@@ -8,10 +8,11 @@ ghost use Rattle.mc_verify.specs.Checked.{Checked};
 ghost use Rattle.mc_command.specs.RepeatAnswers as answers;
 ghost use Rattle.mc_command.specs.Renaming.{code_of};
 
-use crate::run::{Played, put_code_under};
-use mc_campaign::Namespace;
+use crate::run::Played;
+use crate::target_code::{Unplayed, put_code_under};
 use mc_model::{History, Sent};
 use mc_protocol::Actor;
+use mc_settings::Namespace;
 use mc_verify::Checked;
 use std::alloc::{AllocError, Global};
 use std::rt::Clock;
@@ -64,12 +65,13 @@ impl Renaming {
         let Some(name) = Namespace::new(&characters) else {
             return Ok(false);
         };
-        match put_code_under(alloc, written, &name)? {
+        match put_code_under(alloc, written, &name) {
             Ok(under) => {
                 self.under = Some(under);
                 Ok(true)
             }
-            Err(_) => Ok(false),
+            Err(Unplayed::OutOfMemory) => Err(AllocError),
+            Err(Unplayed::Refused(_) | Unplayed::KeyTooLong(_)) => Ok(false),
         }
     }
 }
@@ -93,7 +95,6 @@ pub fn leaves_request(played: &Played) -> bool
         Played::Ended(_, history, _, _) => !is_answered(history),
         Played::NotRun => true,
         Played::NoConnection(_) => false,
-        Played::NoCode(_, _) | Played::Unsound(_, _) | Played::KeyTooLong(_) => false,
     }
 }
 

@@ -2,10 +2,10 @@
 ghost use Rattle.std.specs.Prelude.{◌≡◌, string_bytes, IfOk};
 ghost use Rattle.mc_command.specs.RepeatAnswers as answers;
 
-use crate::answer::Answer;
 use crate::repeating::{Runs, repeat_code};
 use crate::run::{Remarks, status_of, text_of};
 use crate::run_teller::RunObserver;
+use mc_answers::Answer;
 use mc_cli::{Repeat, RunArgs};
 use mc_connect::Network;
 use mc_verify::Checked;

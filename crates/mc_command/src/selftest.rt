@@ -1,21 +1,22 @@
 //! The command `selftest`: a campaign against a server that is right, and a run against one with a race, both in this process.
-ghost use Rattle.std.specs.Prelude.{◌≡◌, false, true, IfOk};
-ghost use Rattle.mc_command.specs.Command.{WritesSelftest};
+ghost use Rattle.std.specs.Prelude.{◌≡◌, true, IfOk};
+ghost use Rattle.mc_answers.specs.Statuses.{status_number};
+ghost use Rattle.mc_answers.specs.Writing.{WritesRightly};
 ghost use Rattle.mc_command.specs.SelftestAnswers as answers;
 
 use crate::both_read::BothRead;
 use crate::job_connector::JobConnector;
-use crate::program::write_text;
-use crate::run::{Played, play_code, read_target_code};
+use crate::run::{Played, play_code};
 use crate::servers::servers_of;
-use crate::status::Status;
-use crate::streams::Sink;
-use mc_campaign::{Campaign, Meeting, Unwatched, report_status, run_jobs};
+use crate::target_code::read_target_code;
+use mc_answers::{Sink, Status, write_text};
+use mc_campaign::{Campaign, Unwatched, report_status, run_jobs};
 use mc_cli::{RunArgs, Search, Seconds};
 use mc_connect::{Dialer, TcpNetwork};
 use mc_explain::Verdict;
 use mc_run::FreeGate;
 use mc_server::{Caller, Racy, Shared, listen};
+use mc_settings::Meeting;
 use std::alloc::Global;
 use std::io::Eprint;
 use std::net::{Ipv4Addr, Net, SocketAddr, TcpListener, TcpStream};
@@ -28,8 +29,8 @@ use std::{io, thread};
 // What is written where both parts came out as they must.
 const PASSED: &[u8] = b"honest jobs 20 explained 20 unexplained 0 other 0\nracy unexplained\nok\n";
 
-/// What is written where one didn't.
-pub const FAILED: &[u8] = b"failed\n";
+// What is written where one didn't.
+const FAILED: &[u8] = b"failed\n";
 
 // The campaign against the server that is right, and its workers.
 const CAMPAIGN: Campaign<'static> = Campaign {
@@ -83,26 +84,24 @@ impl Part {
 }
 
 /// Runs both parts, and answers the exit status.
-pub fn run_selftest<R, O: Sink>(rt: &R, alloc: Global, output: &mut O) -> Status
+pub fn run_selftest<R, O: Sink>(rt: &R, alloc: Global, output: &mut O) -> u8
 where
     R: Net<Listener = TcpListener, Stream = TcpStream> + Threads + Wait + Clock + Sync + Eprint,
-    ensures answered { O.has_failed output.old ≡ false → O.has_failed output.new ≡ false
-        → WritesSelftest (O.written output.old) (O.written output.new) result }
-    ensures broken { O.has_failed output.old ≡ false → O.has_failed output.new ≡ true → result ≡ Status.NoAnswer }
+    ensures { (ended : Status) × (result ≡ status_number ended)
+        × WritesRightly O.written O.has_failed answers.Selftests output.old output.new ended }
+{
+    write_outcome(rt, alloc, output).number()
+}
+
+fn write_outcome<R, O: Sink>(rt: &R, alloc: Global, output: &mut O) -> Status
+where
+    R: Net<Listener = TcpListener, Stream = TcpStream> + Threads + Wait + Clock + Sync + Eprint,
+    ensures { WritesRightly O.written O.has_failed answers.Selftests output.old output.new result }
 {
     match both_pass(rt, alloc) {
         Ok(true) => write_text(PASSED, Status::Success, output),
-        Ok(false) | Err(_) => write_failed(output),
+        Ok(false) | Err(_) => write_text(FAILED, Status::Unexplained, output),
     }
-}
-
-/// Says that the selftest failed.
-pub fn write_failed<O: Sink>(output: &mut O) -> Status
-    ensures answered { O.has_failed output.old ≡ false → O.has_failed output.new ≡ false
-        → WritesSelftest (O.written output.old) (O.written output.new) result }
-    ensures broken { O.has_failed output.old ≡ false → O.has_failed output.new ≡ true → result ≡ Status.NoAnswer }
-{
-    write_text(FAILED, Status::Unexplained, output)
 }
 
 fn both_pass<R>(rt: &R, alloc: Global) -> io::Result<bool>
@@ -196,25 +195,16 @@ where
     R: Net<Stream = TcpStream> + Threads + Wait + Clock + Sync,
     ensures { result ≡ true → answers.IsRaceSeen }
 {
-    let target = RunArgs {
-        server,
-        a: None,
-        b: None,
-        how: Search {
-            limit: CAMPAIGN.limit,
-            why: false,
-        },
-        meeting: Meeting::Each,
-        name: None,
-        timeout: Some(TIMEOUT),
-        wait: None,
-        repeat: None,
-        reconnect: false,
-        stats: false,
-        quiet: true,
-        spread: 0,
+    let how = Search {
+        limit: CAMPAIGN.limit,
+        why: false,
     };
-    let Ok(Ok(checked)) = read_target_code(alloc, &target, TWO_INCREMENTS) else {
+    let target = RunArgs {
+        meeting: Meeting::Each,
+        timeout: Some(TIMEOUT),
+        ..RunArgs::at(server, how)
+    };
+    let Ok(checked) = read_target_code(alloc, &target, TWO_INCREMENTS) else {
         return false;
     };
     let mut network = TcpNetwork::new(rt, servers_of(&target));

@@ -1,12 +1,9 @@
 //! The command `serve`, over any stream for output.
-ghost use Rattle.std.specs.Prelude.{◌≡◌, ◌<◌, false, true, IfOk};
-ghost use Rattle.mc_command.specs.Command.{Hosts};
+ghost use Rattle.std.specs.Prelude.{◌≡◌, ◌<◌, IfOk};
+ghost use Rattle.mc_answers.specs.Writing.{WritesRightly};
 ghost use Rattle.mc_command.specs.ServeAnswers as answers;
 
-use crate::input::InputFault;
-use crate::program::{write_fault, write_text};
-use crate::status::Status;
-use crate::streams::Sink;
+use mc_answers::{InputFault, Sink, Status, write_fault, write_text};
 use mc_cli::ServeArgs;
 use mc_server::{Caller, FreeBetween, Listened, Racy, Shared, listen};
 use std::alloc::{AllocError, Global};
@@ -16,8 +13,8 @@ use std::rt::Clock;
 use std::sync::Wait;
 use std::thread::Threads;
 
-/// What is written where the port can't be opened.
-pub const NO_LISTENER: &[u8] = b"no listener\n";
+// What is written where the port can't be opened.
+const NO_LISTENER: &[u8] = b"no listener\n";
 
 /// What standard error is to say beside the answer of `serve`.
 #[derive(Debug, Drop)]
@@ -40,13 +37,14 @@ pub fn serve_connections<R, O: Sink>(
 ) -> (Status, Told)
 where
     R: Net<Listener = TcpListener, Stream = TcpStream> + Threads + Wait + Clock + Sync,
-    ensures answered { O.has_failed output.old ≡ false → O.has_failed output.new ≡ false
-        → Hosts service (O.written output.old) (O.written output.new) result.0 }
-    ensures broken { O.has_failed output.old ≡ false → O.has_failed output.new ≡ true → result.0 ≡ Status.NoAnswer }
+    ensures { WritesRightly O.written O.has_failed (answers.Serves service) output.old output.new result.0 }
 {
     let (listener, port) = match listen_at(rt, service.port) {
         Ok(found) => found,
-        Err(error) => return (write_no_listener(output), Told::NoListener(error)),
+        Err(error) => {
+            let status = write_text(NO_LISTENER, Status::NoAnswer, output);
+            return (status, Told::NoListener(error));
+        }
     };
     if service.racy {
         match Racy::new(alloc, FreeBetween) {
@@ -89,9 +87,7 @@ fn serve_all<R, C: Caller, O: Sink>(
 where
     R: Threads + Wait + Clock + Sync,
     requires { answers.IsPortOf service.port port }
-    ensures answered { O.has_failed output.old ≡ false → O.has_failed output.new ≡ false
-        → Hosts service (O.written output.old) (O.written output.new) result.0 }
-    ensures broken { O.has_failed output.old ≡ false → O.has_failed output.new ≡ true → result.0 ≡ Status.NoAnswer }
+    ensures { WritesRightly O.written O.has_failed (answers.Serves service) output.old output.new result.0 }
 {
     let Ok(text) = listening_text(alloc, port) else {
         return (write_fault(InputFault::OutOfMemory, output), Told::Nothing);
@@ -118,13 +114,4 @@ fn status_of(connections: u64, listened: Listened) -> Status
     } else {
         Status::NoAnswer
     }
-}
-
-/// Says that there is no listener.
-pub fn write_no_listener<O: Sink>(output: &mut O) -> Status
-    ensures answered { O.has_failed output.old ≡ false → O.has_failed output.new ≡ false
-        → (service : ServeArgs) → Hosts service (O.written output.old) (O.written output.new) result }
-    ensures broken { O.has_failed output.old ≡ false → O.has_failed output.new ≡ true → result ≡ Status.NoAnswer }
-{
-    write_text(NO_LISTENER, Status::NoAnswer, output)
 }

@@ -4,7 +4,7 @@ ghost use Rattle.mc_explain.specs.Verdicts.{IsTrueOf};
 ghost use Rattle.mc_command.specs.CampaignAnswers as answers;
 
 use crate::campaigning::is_unexplained;
-use crate::why::{Counted, why_text};
+use mc_answers::{Counted, why_text};
 use mc_campaign::{JobOutcome, JobResult};
 use mc_cli::Search;
 use mc_explain::Verdict;

@@ -1,21 +1,17 @@
 //! The script of a job, shrunk by new runs.
-//!
-//! The shrinker asks its tester, which can't run anything: no method of a trait can be shown to start threads with what its `impl` is
-//! generic in. So the tester answers what is known, and keeps the code of the first round of which nothing is known. That is run here,
-//! and the script is shrunk anew with one answer more.
 ghost use Rattle.std.specs.Prelude.{IfOk};
-ghost use Rattle.mc_campaign.specs.Generated.{generated};
-ghost use Rattle.mc_campaign.specs.Shrunk.{IsShrunk};
+ghost use Rattle.mc_generate.specs.Generated.{generated};
+ghost use Rattle.mc_generate.specs.Shrunk.{IsShrunk};
 
-use crate::loading::verify_code;
-use mc_campaign::{
-    Campaign, Connector, Namespace, Standing, Tester, generate_script, play_job, put_under, shrink,
-};
-use mc_code::{decode, encode};
+use mc_answers::verify_code;
+use mc_campaign::{Campaign, Connector, Standing, play_job};
+use mc_code::Code;
+use mc_generate::{PutFault, Shrinker, generate_script, put_under};
 use mc_lane::Stream;
 use mc_protocol::OutOfMemory;
 use mc_run::FreeGate;
 use mc_script::Script;
+use mc_settings::Namespace;
 use mc_verify::Checked;
 use std::alloc::{AllocError, Global};
 use std::sync::Wait;
@@ -37,29 +33,26 @@ pub fn shrunk_script<S: Stream + Send, C: Connector<S>, R: Threads + Wait + Sync
 ) -> Result<Script, AllocError>
     ensures { IfOk result (IsShrunk (generated campaign.entry.seed job)) }
 {
-    let mut rounds = Rounds::new(alloc);
+    let script = generate_script(alloc, campaign.seed, job)?;
+    let mut shrinker = Shrinker::new(script, ROUNDS);
     let mut played = 0;
-    'rounds: for _ in 0..ROUNDS {
-        let script = rounds.shrink(alloc, campaign.seed, job)?;
-        let Some(image) = rounds.asked.take() else {
-            return Ok(script);
-        };
-        let answer = becomes_unexplained(
+    'rounds: while let Some(checked) = shrinker.next(alloc)? {
+        let unexplained = becomes_unexplained(
             rt,
             alloc,
             campaign,
             tries,
             connector,
             job,
-            &image,
+            checked.code(),
             &mut played,
         )?;
-        rounds.known.push(answer)?;
+        shrinker.answer(unexplained);
     }
-    rounds.shrink(alloc, campaign.seed, job)
+    Ok(shrinker.into_script())
 }
 
-// Whether one of this many runs of the code of an image in place of that of the job has no explanation. So many were played before.
+// Whether one of this many runs of the code in place of that of the job has no explanation. So many were played before.
 fn becomes_unexplained<S: Stream + Send, C: Connector<S>, R: Threads + Wait + Sync>(
     rt: &R,
     alloc: Global,
@@ -67,11 +60,11 @@ fn becomes_unexplained<S: Stream + Send, C: Connector<S>, R: Threads + Wait + Sy
     tries: u64,
     connector: &C,
     job: u64,
-    image: &[u8],
+    code: &Code,
     played: &mut u64,
 ) -> Result<bool, OutOfMemory> {
     'tries: for _ in 0..tries {
-        let Some(checked) = code_of_try(alloc, image, campaign.name, *played)? else {
+        let Some(checked) = code_of_try(alloc, code, campaign.name, *played)? else {
             return Ok(false);
         };
         *played = played.saturating_add(1);
@@ -84,74 +77,27 @@ fn becomes_unexplained<S: Stream + Send, C: Connector<S>, R: Threads + Wait + Sy
     Ok(false)
 }
 
-// The code of an image, put under the name where there is one, and then under one of the try's own. If it may be played.
+// The code under the name where there is one, and then under one of the try's own. If it may be played.
 fn code_of_try(
     alloc: Global,
-    image: &[u8],
+    code: &Code,
     name: Option<&Namespace<'_>>,
     number: u64,
 ) -> Result<Option<Checked>, OutOfMemory> {
-    let Ok(mut code) = decode(alloc, image) else {
-        return Ok(None);
-    };
-    if let Some(name) = name {
-        code = match put_under(alloc, &code, name) {
-            Ok(under) => under,
-            Err(_) => return Ok(None),
-        };
-    }
     let own = format!(in alloc; "t{number}")?;
     let Some(own) = Namespace::new(own.as_bytes()) else {
         return Ok(None);
     };
-    match put_under(alloc, &code, &own) {
+    let under = match name {
+        Some(name) => match put_under(alloc, code, name) {
+            Ok(named) => put_under(alloc, &named, &own),
+            Err(fault) => Err(fault),
+        },
+        None => put_under(alloc, code, &own),
+    };
+    match under {
         Ok(under) => Ok(verify_code(alloc, under)?.ok()),
-        Err(_) => Ok(None),
-    }
-}
-
-// What is known of the rounds of a shrinking.
-#[derive(Debug, Drop)]
-struct Rounds {
-    // Whether the script of each of the first rounds was unexplained.
-    known: Vec<bool>,
-    // How many rounds there have been.
-    count: usize,
-    // The image of the code of the first round after these.
-    asked: Option<Vec<u8>>,
-}
-
-impl Rounds {
-    // Nothing is known.
-    fn new(alloc: Global) -> Self {
-        Rounds {
-            known: Vec::new(alloc),
-            count: 0,
-            asked: None,
-        }
-    }
-
-    // The script of the job, shrunk by what is known, where no other round is unexplained.
-    fn shrink(&mut self, alloc: Global, seed: u64, job: u64) -> Result<Script, AllocError>
-        ensures { IfOk result (IsShrunk (generated seed job)) }
-    {
-        self.count = 0;
-        let script = generate_script(alloc, seed, job)?;
-        shrink(alloc, script, self, ROUNDS)
-    }
-}
-
-impl Tester for Rounds {
-    fn unexplained(&mut self, checked: &Checked) -> Result<bool, OutOfMemory> {
-        if let Some(known) = self.known.get(self.count) {
-            self.count += 1;
-            return Ok(*known);
-        }
-        if self.asked.is_none() {
-            let mut image = Vec::new(*self.known.allocator());
-            encode(checked.code(), &mut image)?;
-            self.asked = Some(image);
-        }
-        Ok(false)
+        Err(PutFault::OutOfMemory) => Err(AllocError),
+        Err(PutFault::KeyTooLong(_)) => Ok(None),
     }
 }

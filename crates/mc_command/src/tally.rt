@@ -5,7 +5,7 @@ ghost use Rattle.mc_command.specs.Tallies.{IsTally};
 ghost use Rattle.mc_campaign.specs.declared.outcome.JobResult.{JobResult};
 
 use crate::campaigning::{first_unexplained, is_unexplained, status_of};
-use crate::status::Status;
+use mc_answers::Status;
 use mc_campaign::{JobResult, Report, report_status};
 use mc_lane::Stream;
 

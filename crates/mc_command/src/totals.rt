@@ -88,7 +88,6 @@ pub fn standing_of(played: &Played) -> Standing
     match played {
         Played::Ended(_, _, verdict, _) => standing_by(verdict),
         Played::NoConnection(_) | Played::NotRun => Standing::Other,
-        Played::NoCode(_, _) | Played::Unsound(_, _) | Played::KeyTooLong(_) => Standing::Other,
     }
 }
 
@@ -109,6 +108,5 @@ fn is_overlapped(played: &Played) -> bool
     match played {
         Played::Ended(world, ..) => overlaps(world.notes()),
         Played::NoConnection(_) | Played::NotRun => false,
-        Played::NoCode(_, _) | Played::Unsound(_, _) | Played::KeyTooLong(_) => false,
     }
 }

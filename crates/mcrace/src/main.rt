@@ -2,15 +2,22 @@
 #![tactic(auto)]
 
 ghost use Rattle.std.specs.Prelude.{◌≡◌, false, true};
-ghost use Rattle.mc_command.specs.Command.{AnswersTarget, Hosts, WritesReport, WritesSelftest};
-ghost use Rattle.mc_command.specs.Statuses.{status_number};
-ghost use Rattle.mc_command.specs.Streams.{TakesAtMost};
+ghost use Rattle.mc_answers.specs.Answers.{AnswersRightly, Does};
+ghost use Rattle.mc_answers.specs.Statuses.{status_number};
+ghost use Rattle.mc_answers.specs.Writing.{WritesRightly};
+ghost use Rattle.mc_command.specs.Command.{WritesReport};
+ghost use Rattle.mc_command.specs.RepeatAnswers.{Runs};
+ghost use Rattle.mc_command.specs.SelftestAnswers.{Selftests};
+ghost use Rattle.mc_command.specs.ServeAnswers.{Serves};
 
-use mc_cli::{CampaignArgs, Request, RunArgs, ServeArgs, read_request};
+use mc_answers::{
+    Reader, Sink, Source, Status, Writer, answer_question, explain_fault, unread_line,
+    write_generated,
+};
+use mc_cli::{CampaignArgs, Question, Request, RunArgs, ServeArgs, read_request};
 use mc_command::{
-    Reader, Remarks, RunTeller, Sink, Source, Status, Told, Writer, answer_offline, explain_fault,
-    input_name, run_campaign_at, run_selftest, run_target, serve_connections, servers_of,
-    unread_line,
+    Remarks, RunTeller, Told, run_campaign_at, run_selftest, run_target, serve_connections,
+    servers_of,
 };
 use mc_connect::{
     HeldDescriptors, STANDARD_INPUT, STANDARD_OUTPUT, TcpNetwork, Unconnected, Unreached,
@@ -53,16 +60,11 @@ fn main(rt: HostRuntime) -> ExitCode {
     let mut output = Writer::new(rt.stdout());
     let mut faults = Writer::new(stderr);
     let status = match line_of(&rt) {
-        Ok(line) => obey(
-            &rt,
-            rt.alloc(),
-            line.as_slice(),
-            terminal,
-            &mut input,
-            &mut output,
-            &mut faults,
-        ),
-        Err(error) => unread_line(&error, &mut output, &mut faults),
+        Ok(line) => match read_request(rt.alloc(), line.as_slice()) {
+            Ok(request) => perform(&rt, request, terminal, &mut input, &mut output),
+            Err(fault) => explain_fault(&fault, &mut output, &mut faults).number(),
+        },
+        Err(error) => unread_line(&error, &mut output, &mut faults).number(),
     };
     tell_failure(
         &rt,
@@ -77,48 +79,48 @@ fn main(rt: HostRuntime) -> ExitCode {
     ExitCode::from(status)
 }
 
-// Does what the line asks for, and answers the exit status.
-fn obey<R, I: Source, O: Sink, F: Sink>(
+// Does what is asked for, and answers the exit status.
+fn perform<R, I: Source, O: Sink>(
     rt: &R,
-    alloc: Global,
-    line: &[String],
+    request: Request<'_>,
     terminal: Terminal,
     input: &mut I,
     output: &mut O,
-    faults: &mut F,
 ) -> u8
 where
-    R: Net<Listener = TcpListener, Stream = TcpStream> + Threads + Wait + Clock + Sync + Eprint,
+    R: Net<Listener = TcpListener, Stream = TcpStream>
+        + Threads
+        + Wait
+        + Clock
+        + Sync
+        + Eprint
+        + AllocGlobal,
 {
-    match read_request(alloc, line) {
-        Ok(request) => {
-            if terminal.is_input {
-                tell_terminal(rt, &request);
-            }
-            perform(rt, alloc, &request, terminal.columns, input, output)
+    let alloc = rt.alloc();
+    let columns = terminal.columns;
+    match request {
+        Request::Question(question) => {
+            tell_reading(rt, terminal, question.input_name());
+            ask(alloc, question, input, output)
         }
-        Err(fault) => explain_fault(&fault, output, faults).number(),
+        Request::Generate(seed, job) => write_generated(alloc, seed, job, output).number(),
+        Request::Run(target) => {
+            tell_reading(rt, terminal, "a script");
+            play(rt, alloc, &target, columns, input, output)
+        }
+        Request::Serve(service) => host(rt, alloc, service, output),
+        Request::Campaign(target) => report(rt, alloc, &target, columns, output),
+        Request::Selftest => test(rt, alloc, output),
     }
 }
 
-fn perform<R, I: Source, O: Sink>(
-    rt: &R,
-    alloc: Global,
-    request: &Request<'_>,
-    columns: Option<usize>,
-    input: &mut I,
-    output: &mut O,
-) -> u8
-where
-    R: Net<Listener = TcpListener, Stream = TcpStream> + Threads + Wait + Clock + Sync + Eprint,
+// Answers the question about the input.
+fn ask<I: Source, O: Sink>(alloc: Global, question: Question, input: &mut I, output: &mut O) -> u8
+    ensures { (ended : Status) × (result ≡ status_number ended)
+        × AnswersRightly I.left I.has_failed O.written O.has_failed (Does question)
+        input.old input.new output.old output.new ended }
 {
-    match request {
-        Request::Run(target) => play(rt, alloc, target, columns, input, output),
-        Request::Serve(service) => host(rt, alloc, *service, output),
-        Request::Campaign(target) => report(rt, alloc, target, columns, output),
-        Request::Selftest => test(rt, alloc, output),
-        _ => answer_offline(alloc, request, input, output).number(),
-    }
+    answer_question(alloc, question, input, output).number()
 }
 
 // How many columns the terminal has, by the environment, or 80; or nothing where it can't clear a line.
@@ -134,8 +136,8 @@ fn columns_of<R: Env + AllocGlobal>(rt: &R) -> Option<usize> {
 }
 
 // Says on standard error what is read, where a person is to type it.
-fn tell_terminal<R: Eprint>(rt: &R, request: &Request<'_>) {
-    if let Some(name) = input_name(request) {
+fn tell_reading<R: Eprint>(rt: &R, terminal: Terminal, name: &str) {
+    if terminal.is_input {
         // There is nowhere else to say that this could not be said.
         let _ = eprintln!(rt; "mcrace: reading {name} from the terminal; Ctrl-D ends it");
     }
@@ -162,15 +164,9 @@ fn play<R, I: Source, O: Sink>(
 ) -> u8
 where
     R: Net<Stream = TcpStream> + Threads + Wait + Clock + Sync + Eprint,
-    ensures answered { I.has_failed input.old ≡ false → I.has_failed input.new ≡ false
-        → O.has_failed output.old ≡ false → O.has_failed output.new ≡ false
-        → (ended : Status) × (result ≡ status_number ended)
-        × AnswersTarget target.now.repeat target.now.how.why target.now.name
-        (I.left input.old) (O.written output.old) (O.written output.new) ended }
-    ensures broken_input { I.has_failed input.old ≡ false → I.has_failed input.new ≡ true
-        → (result ≡ 4) × (output.new ≡ output.old) }
-    ensures broken_output { O.has_failed output.old ≡ false → O.has_failed output.new ≡ true → result ≡ 4 }
-    ensures taken { TakesAtMost 1048577 (I.left input.old) (I.left input.new) }
+    ensures { (ended : Status) × (result ≡ status_number ended)
+        × AnswersRightly I.left I.has_failed O.written O.has_failed
+        (Runs target.now.repeat target.now.how.why target.now.name) input.old input.new output.old output.new ended }
 {
     let columns = if target.quiet { None } else { columns };
     let mut teller = RunTeller::new(rt, alloc, columns, target.stats);
@@ -201,10 +197,8 @@ where
 fn host<R, O: Sink>(rt: &R, alloc: Global, service: ServeArgs, output: &mut O) -> u8
 where
     R: Net<Listener = TcpListener, Stream = TcpStream> + Threads + Wait + Clock + Sync + Eprint,
-    ensures answered { O.has_failed output.old ≡ false → O.has_failed output.new ≡ false
-        → (ended : Status) × (result ≡ status_number ended)
-        × Hosts service (O.written output.old) (O.written output.new) ended }
-    ensures broken { O.has_failed output.old ≡ false → O.has_failed output.new ≡ true → result ≡ 4 }
+    ensures { (ended : Status) × (result ≡ status_number ended)
+        × WritesRightly O.written O.has_failed (Serves service) output.old output.new ended }
 {
     let (ended, told) = serve_connections(rt, alloc, service, output);
     // There is nowhere else to say that this could not be said.
@@ -241,12 +235,10 @@ where
 fn test<R, O: Sink>(rt: &R, alloc: Global, output: &mut O) -> u8
 where
     R: Net<Listener = TcpListener, Stream = TcpStream> + Threads + Wait + Clock + Sync + Eprint,
-    ensures answered { O.has_failed output.old ≡ false → O.has_failed output.new ≡ false
-        → (ended : Status) × (result ≡ status_number ended)
-        × WritesSelftest (O.written output.old) (O.written output.new) ended }
-    ensures broken { O.has_failed output.old ≡ false → O.has_failed output.new ≡ true → result ≡ 4 }
+    ensures { (ended : Status) × (result ≡ status_number ended)
+        × WritesRightly O.written O.has_failed Selftests output.old output.new ended }
 {
-    run_selftest(rt, alloc, output).number()
+    run_selftest(rt, alloc, output)
 }
 
 // Says on standard error what was remarked on the sections of a run.

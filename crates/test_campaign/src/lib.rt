@@ -1,9 +1,6 @@
-//! Tests of `mc_campaign`: which scripts the generator makes, and that their code may run; which steps shrinking drops, and how often it
-//! asks its tester; what campaigns report, and what a collector makes of its messages.
+//! Tests of `mc_campaign`: what campaigns report, how the branches of their jobs meet, and what a collector makes of its messages.
 #![tactic(auto)]
 
-#[cfg(test)]
-mod code_tests;
 #[cfg(test)]
 mod collector_tests;
 #[cfg(test)]
@@ -17,13 +14,7 @@ mod memory;
 #[cfg(test)]
 mod named_tests;
 #[cfg(test)]
-mod namespace_tests;
-#[cfg(test)]
 mod report_tests;
-#[cfg(test)]
-mod script_tests;
-#[cfg(test)]
-mod shrink_tests;
 #[cfg(test)]
 mod signal;
 #[cfg(test)]
@@ -32,8 +23,6 @@ mod status_tests;
 mod store_runs;
 #[cfg(test)]
 mod store_stream;
-#[cfg(test)]
-mod testers;
 #[cfg(test)]
 mod texts;
 #[cfg(test)]

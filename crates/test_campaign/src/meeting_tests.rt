@@ -1,7 +1,8 @@
 //! How the branches of jobs meet.
 
-use mc_campaign::{Campaign, Meeting, draw_meet};
+use mc_campaign::{Campaign, draw_meet};
 use mc_run::{Branch, Late, Manner, Meet};
+use mc_settings::Meeting;
 use rand_pcg::Pcg32;
 use std::test::Fail;
 

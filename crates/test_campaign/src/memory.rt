@@ -1,7 +1,8 @@
 //! Calls that find no memory, and campaigns in which it ran out.
 
-use mc_campaign::{CampaignError, GenFault, JobFault, JobOutcome, PutFault, Report};
+use mc_campaign::{CampaignError, JobOutcome, Report};
 use mc_core::Ending;
+use mc_generate::JobFault;
 use mc_lane::Stream;
 use mc_protocol::{Actor, Fault, OutOfMemory};
 use mc_run::{Run, RunError};
@@ -16,18 +17,6 @@ pub(crate) trait Failure {
 impl Failure for OutOfMemory {
     fn lacks_memory(&self) -> bool {
         true
-    }
-}
-
-impl Failure for GenFault {
-    fn lacks_memory(&self) -> bool {
-        *self == GenFault::OutOfMemory
-    }
-}
-
-impl Failure for PutFault {
-    fn lacks_memory(&self) -> bool {
-        *self == PutFault::OutOfMemory
     }
 }
 

@@ -1,15 +1,17 @@
 //! Campaigns whose keys are put under a name.
 
-ghost use Rattle.std.specs.Prelude.{◌≡◌, ◌≤◌, ◌+◌, ◌^◌};
+ghost use Rattle.std.specs.Prelude.{◌≡◌};
 
 use crate::connectors::Stores;
 use crate::store_runs::{collected_text, outcome_of, text_and_status};
 use crate::store_stream::StoreStream;
 use crate::watching::Seen;
-use mc_campaign::{Campaign, JobFault, JobOutcome, Meeting, Namespace, keys_fit};
+use mc_campaign::{Campaign, JobOutcome};
+use mc_generate::JobFault;
 use mc_lane::Wire;
 use mc_protocol::{OutOfMemory, Sections};
 use mc_server::Shared;
+use mc_settings::{Meeting, Namespace};
 use std::alloc::Global;
 use std::sync::Wait;
 use std::test::Fail;
@@ -54,40 +56,6 @@ fn campaign<'a>(name: Option<&'a Namespace<'a>>, first: u64, jobs: u64) -> Campa
         spread: 0,
         name,
     }
-}
-
-/// Whether no key of the jobs becomes too long under the word, where it is a name.
-fn fits(word: &str, first: u64, jobs: u64) -> Option<bool>
-    requires { first + jobs ≤ 2 ^ 64 }
-{
-    let name = Namespace::new(word.as_bytes())?;
-    Some(keys_fit(&name, first, jobs))
-}
-
-#[test]
-fn keys_of_the_last_job_are_the_longest(rt: HostRuntime) {
-    let fit = [
-        // `r9-0` has 4 bytes, and a dash stands before it.
-        fits(LONG, 0, 10),
-        // `r99-0` has 5.
-        fits("a-name-of-34-bytes-leaves-room-for", 10, 90),
-        // `r18446744073709551615-0` has 23, and `r9999999999999999999-0` has 22.
-        fits("sixteen-bytes-ok", u64::MAX, 1),
-        fits("seventeen-bytes-n", 9_999_999_999_999_999_999, 1),
-        // Where there are no jobs, no key is too long.
-        fits("a-name-of-36-bytes-leaves-room-for-n", 0, 0),
-        fits(LONG, 10, 0),
-    ];
-    assert_eq!(rt; fit, [Some(true); 6]);
-    let too_long = [
-        fits(LONG, 0, 11),
-        fits(LONG, 10, 1),
-        fits("a-name-of-36-bytes-leaves-room-for-n", 0, 1),
-        fits("a-name-of-34-bytes-leaves-room-for", 10, 91),
-        fits("seventeen-bytes-n", u64::MAX, 1),
-        fits("seventeen-bytes-n", 9_999_999_999_999_999_999, 2),
-    ];
-    assert_eq!(rt; too_long, [Some(false); 6]);
 }
 
 /// Whether the sections of a job sent these requests.

@@ -2,10 +2,11 @@
 
 use crate::status_tests::Given::*;
 use Word::*;
-use mc_campaign::{JobFault, JobOutcome, JobResult, Report, report_status};
+use mc_campaign::{JobOutcome, JobResult, Report, report_status};
 use mc_code::{Code, assemble};
 use mc_core::{Event, World, drive};
 use mc_explain::{Explanation, Verdict};
+use mc_generate::JobFault;
 use mc_lane::{Lane, MemoryStream};
 use mc_protocol::{Actor, Fault, OutOfMemory, Reply};
 use mc_run::{Lanes, Run, RunError};

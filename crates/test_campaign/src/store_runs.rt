@@ -8,12 +8,13 @@ use crate::store_stream::StoreStream;
 use crate::texts::report_text;
 use crate::watching::Seen;
 use mc_campaign::{
-    Campaign, CampaignError, Collector, JobMessage, JobOutcome, Namespace, Report, Unwatched,
-    print_report, report_status, run_jobs,
+    Campaign, CampaignError, Collector, JobMessage, JobOutcome, Report, Unwatched, print_report,
+    report_status, run_jobs,
 };
 use mc_lane::{Stream, Wire};
 use mc_protocol::OutOfMemory;
 use mc_run::FreeGate;
+use mc_settings::Namespace;
 use std::alloc::Global;
 use std::sync::Wait;
 use std::thread::Threads;

@@ -1,8 +1,9 @@
 //! `campaign` where there is no server, and what a line of it asks for.
 
-use mc_campaign::Meeting;
+use mc_answers::{Status, Writer};
 use mc_cli::{CampaignArgs, Plan, Request, Seconds, Until, read_request};
-use mc_command::{Status, Writer, run_campaign_at};
+use mc_command::run_campaign_at;
+use mc_settings::Meeting;
 use std::alloc::{AllocError, Global};
 use std::io::Eprint;
 use std::net::{Net, TcpListener, TcpStream};

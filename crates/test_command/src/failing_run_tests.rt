@@ -3,10 +3,10 @@
 ghost use Rattle.std.specs.Prelude.{IfOk};
 ghost use Rattle.mc_run.specs.Running.{AreNew, IsNew};
 
-use crate::driven::SCRIPT;
+use crate::script::SCRIPT;
 use core::thread::Stack;
+use mc_answers::run_status;
 use mc_code::assemble;
-use mc_command::run_status;
 use mc_lane::{Lane, MemoryStream};
 use mc_protocol::OutOfMemory;
 use mc_run::{Branch, FreeGate, Judged, Lanes, Manner, Meet, play};

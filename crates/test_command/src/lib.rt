@@ -1,6 +1,6 @@
-//! Tests of `mc_command` by its public calls: what lines ask for, that `drive` keeps its limit, that `run` and `campaign` need a server
-//! and `serve` its port, what comes of runs over a network in memory and against a listener, which keys repeated runs have, that the
-//! selftest passes, the status after a run, and the statistics of runs. What the program shows to its user stands in `cases/`.
+//! Tests of `mc_command` by its public calls: that `run` and `campaign` need a server and `serve` its port, what comes of runs over a
+//! network in memory and against a listener, which keys repeated runs have, that the selftest passes, and the statistics of runs. What
+//! the program shows to its user stands in `cases/`.
 #![tactic(auto)]
 
 #[cfg(test)]
@@ -8,13 +8,7 @@ mod campaign_tests;
 #[cfg(test)]
 mod canned;
 #[cfg(test)]
-mod driven;
-#[cfg(test)]
 mod failing_run_tests;
-#[cfg(test)]
-mod invocation_tests;
-#[cfg(test)]
-mod limit_tests;
 #[cfg(test)]
 mod listener_tests;
 #[cfg(test)]
@@ -24,10 +18,10 @@ mod renaming_tests;
 #[cfg(test)]
 mod run_tests;
 #[cfg(test)]
+mod script;
+#[cfg(test)]
 mod selftest_tests;
 #[cfg(test)]
 mod serve_tests;
 #[cfg(test)]
 mod statistics_tests;
-#[cfg(test)]
-mod status_tests;

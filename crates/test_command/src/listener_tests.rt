@@ -1,8 +1,9 @@
 //! `run` against a server in the same process, which answers three connections.
 
-use crate::driven::SCRIPT;
+use crate::script::SCRIPT;
+use mc_answers::{Reader, Writer};
 use mc_cli::Search;
-use mc_command::{Reader, Writer, run_command};
+use mc_command::run_command;
 use std::alloc::Global;
 use std::io::{Read, Write};
 use std::net::{Net, TcpListener, TcpStream};

@@ -1,9 +1,9 @@
 //! `run` over a network in memory: what is written of a run, its status, and which connections are kept.
 
 use crate::canned::{Answers, CannedNetwork};
-use mc_campaign::Meeting;
+use mc_answers::{Reader, Status, Writer};
 use mc_cli::{Repeat, RunArgs, Search};
-use mc_command::{Reader, Remarks, RunTeller, Statistics, Status, Writer, run_target};
+use mc_command::{Remarks, RunTeller, Statistics, run_target};
 use mc_connect::Unconnected;
 use mc_protocol::Actor;
 use std::alloc::Global;
@@ -202,23 +202,15 @@ fn run<R>(
 where
     R: Threads + Wait + Clock + Sync + Eprint,
 {
+    let how = Search {
+        limit: 1_000,
+        why: false,
+    };
     let target = RunArgs {
-        server: "127.0.0.1:0",
-        a: None,
-        b: None,
-        how: Search {
-            limit: 1_000,
-            why: false,
-        },
-        meeting: Meeting::Drawn,
-        name: None,
-        timeout: None,
-        wait: None,
-        spread: 0,
         repeat,
         reconnect,
-        quiet: true,
         stats: true,
+        ..RunArgs::at("127.0.0.1:0", how)
     };
     let mut output = Vec::new(alloc);
     let mut teller = RunTeller::new(rt, alloc, None, target.stats);

@@ -1,9 +1,9 @@
 //! `run` repeatedly, where a run leaves a request without a reply: the keys of the runs after it.
 
 use crate::canned::{Answers, CannedNetwork};
-use mc_campaign::Meeting;
+use mc_answers::{Reader, Status, Writer};
 use mc_cli::{Repeat, RunArgs, Search};
-use mc_command::{Played, Reader, Remarks, RunObserver, Status, Writer, run_target};
+use mc_command::{Played, Remarks, RunObserver, run_target};
 use mc_protocol::Actor;
 use std::alloc::{AllocError, Global};
 use std::rt::Clock;
@@ -156,27 +156,17 @@ fn run_three<R>(
 where
     R: Threads + Wait + Clock + Sync,
 {
+    let how = Search {
+        limit: 1_000,
+        why: false,
+    };
     let target = RunArgs {
-        server: "127.0.0.1:0",
-        a: None,
-        b: None,
-        how: Search {
-            limit: 1_000,
-            why: false,
-        },
-        meeting: Meeting::Drawn,
-        name: None,
-        timeout: None,
-        wait: None,
-        spread: 0,
         repeat: Some(Repeat {
             times: Some(3),
             time: None,
             keep_going: true,
         }),
-        reconnect: false,
-        quiet: true,
-        stats: false,
+        ..RunArgs::at("127.0.0.1:0", how)
     };
     let mut output = Vec::new(alloc);
     let (status, _) = run_target(

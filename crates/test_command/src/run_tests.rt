@@ -1,9 +1,9 @@
 //! `run` where there is no server, or none is named.
 
-use crate::driven::SCRIPT;
-use mc_campaign::Meeting;
+use crate::script::SCRIPT;
+use mc_answers::{Reader, Status, Writer};
 use mc_cli::{Repeat, RunArgs, Search};
-use mc_command::{Reader, Status, Unobserved, Writer, run_command, run_target, servers_of};
+use mc_command::{Unobserved, run_command, run_target, servers_of};
 use mc_connect::TcpNetwork;
 use std::alloc::Global;
 use std::io;
@@ -91,23 +91,14 @@ fn repeated<R>(rt: &R, alloc: Global, repeat: Repeat) -> Vec<u8>
 where
     R: Net<Stream = TcpStream> + Threads + Wait + Clock + Sync,
 {
+    let how = Search {
+        limit: 1_000,
+        why: false,
+    };
     let target = RunArgs {
-        server: "127.0.0.1:0",
-        a: None,
-        b: None,
-        how: Search {
-            limit: 1_000,
-            why: false,
-        },
-        meeting: Meeting::Drawn,
-        name: None,
-        timeout: None,
-        wait: None,
-        spread: 0,
         repeat: Some(repeat),
-        reconnect: false,
-        quiet: true,
         stats: true,
+        ..RunArgs::at("127.0.0.1:0", how)
     };
     let mut output = Vec::new(alloc);
     let (status, _) = run_target(

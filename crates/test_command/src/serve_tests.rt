@@ -1,7 +1,8 @@
 //! `serve` where no connection is to come, and where its port is taken; and what a line of it asks for.
 
+use mc_answers::{Status, Writer};
 use mc_cli::{Request, ServeArgs, read_request};
-use mc_command::{Status, Told, Writer, serve_connections};
+use mc_command::{Told, serve_connections};
 use std::alloc::{AllocError, Global};
 use std::io;
 use std::net::{Net, TcpListener, TcpStream};

@@ -1,8 +1,8 @@
 use Rattle.std.proofs.Common.{inl, inr, refl, []}
 use Rattle.mc_command.proofs.BlockSteps.{ended, reported_by}
 use Rattle.mc_command.proofs.BlockTexts.{broken_off, grows_by_none, none_in_blocks}
-use Rattle.mc_command.specs.Texts.{out_of_memory_text}
-use Rattle.mc_command.specs.declared.status.Status.TheVariants as status
+use Rattle.mc_answers.specs.Writing.{out_of_memory_text}
+use Rattle.mc_answers.specs.declared.status.Status.TheVariants as status
 use Rattle.mc_command.proofs.blocks.answer_in_blocks.Goals as goal
 
 pub returns-in_err-not_run-clause-memory : goal.returns-in_err-not_run-clause-memory

@@ -1,0 +1,111 @@
+-- The answer to what was read is right for the whole input.
+use Rattle.std.proofs.Common.{Bool, true, false, arith, refl, ap, sym, inl, inr, ◌≡◌, ◌∙◌, ℕ, ◌<◌}
+use Rattle.std.proofs.lemmas.Bool.{false≢true}
+use Rattle.std.proofs.Common.{List, [], ◌++◌, length, Option, Some, None, length-append}
+use Rattle.mc_answers.specs.Answers.{AnswersBy, AnswersRightly, IsAnswerBy, IsWhole}
+use Rattle.mc_answers.specs.Input.{FailsBy}
+use Rattle.mc_answers.specs.declared.input.InputFault.{InputFault}
+use Rattle.mc_answers.specs.declared.input.InputFault.TheVariants as fault
+use Rattle.mc_answers.specs.Streams.{Grows, Loses, TakesAtMost}
+use Rattle.mc_answers.specs.Writing.{WritesRightly, out_of_memory_text}
+use Rattle.mc_answers.specs.declared.status.Status.{Status}
+use Rattle.mc_answers.specs.declared.status.Status.TheVariants as status
+
+-- what is done for a text
+abbrev pub DoneBy : Type 1
+DoneBy = List ℕ → List ℕ → Status → Type 0
+
+-- an input that begins with a text longer than this is longer too
+pub longer_whole : (left : Option (List ℕ)) (new : Option (List ℕ)) (text : List ℕ) (n : ℕ) → Loses left new text → n < length text
+    → (whole : List ℕ) × IsWhole left whole × (n < length whole)
+longer_whole None new text n lost long = (text, tt, long)
+longer_whole (Some old) None text n lost long = absurd lost
+longer_whole (Some old) (Some new) text n lost long =
+    let lengths : length old ≡ length (text ++ new) = ap length lost in
+    (old, refl, omega (arith, lengths, length-append text new))
+
+-- there is a text that is the whole input, whatever is known of it
+some_whole : (left : Option (List ℕ)) → (whole : List ℕ) × IsWhole left whole
+some_whole None = ([], tt)
+some_whole (Some old) = (old, refl)
+
+-- an answer that is right for the whole input was written
+pub answers_by : (right_for : DoneBy) (left : Option (List ℕ)) (old : Option (List ℕ)) (new : Option (List ℕ)) (ended : Status) (output : List ℕ)
+    → ((whole : List ℕ) × IsWhole left whole × right_for whole output ended) → Grows old new output → AnswersBy right_for left old new ended
+answers_by right_for left old new ended output found grows = record {
+  text = found.0;
+  whole = found.1;
+  output = output;
+  right = found.2;
+  written = grows;
+}
+
+-- want of memory is an answer to any input
+pub out_of_memory_by : (does : DoneBy) (left : Option (List ℕ)) (old : Option (List ℕ)) (new : Option (List ℕ)) (ended : Status)
+    → Grows old new out_of_memory_text → ended ≡ status.NoAnswer → AnswersBy (IsAnswerBy does) left old new ended
+out_of_memory_by does left old new ended grows ended_is =
+    let whole = some_whole left in
+    answers_by (IsAnswerBy does) left old new ended out_of_memory_text (whole.0, whole.1, inr (inr (refl, ended_is))) grows
+
+-- ---- what was written
+
+-- one text was written, or the write failed
+pub text_written : {O : Type 0} (written : O → Option (List ℕ)) (has_failed : O → Bool) (right_for : List ℕ → Status → Type 0) (old new : O)
+    (text : List ℕ) (wanted ended : Status)
+    → (has_failed old ≡ false → has_failed new ≡ false → Grows (written old) (written new) text × (ended ≡ wanted))
+    → (has_failed old ≡ false → has_failed new ≡ true → ended ≡ status.NoAnswer) → right_for text wanted
+    → WritesRightly written has_failed right_for old new ended
+text_written written has_failed right_for old new text wanted ended grows broken right = record {
+  answered = λ before after. let all = grows before after in
+      record { output = text; right = inl (rw all.1 right); written = all.0 };
+  broken = broken;
+}
+
+-- memory ran out
+pub memory_written : {O : Type 0} (written : O → Option (List ℕ)) (has_failed : O → Bool) (right_for : List ℕ → Status → Type 0)
+    (old new : O) (ended : Status)
+    → (has_failed old ≡ false → has_failed new ≡ false → Grows (written old) (written new) out_of_memory_text)
+    → ended ≡ status.NoAnswer → WritesRightly written has_failed right_for old new ended
+memory_written written has_failed right_for old new ended grows ended_is = record {
+  answered = λ before after. record { output = out_of_memory_text; right = inr (refl, ended_is); written = grows before after };
+  broken = λ before after. ended_is;
+}
+
+-- ---- what was read and written
+
+-- the answer to the input that was read was written, or the write failed
+pub answer_written : {I O : Type 0} (left : I → Option (List ℕ)) (has_broken : I → Bool) (written : O → Option (List ℕ))
+    (has_failed : O → Bool) (does : DoneBy) (input_old input_new : I) (old new : O) (text : List ℕ) (wanted ended : Status)
+    → ((whole : List ℕ) × IsWhole (left input_old) whole × IsAnswerBy does whole text wanted)
+    → has_broken input_new ≡ has_broken input_old → TakesAtMost 1048577 (left input_old) (left input_new)
+    → (has_failed old ≡ false → has_failed new ≡ false → Grows (written old) (written new) text × (ended ≡ wanted))
+    → (has_failed old ≡ false → has_failed new ≡ true → ended ≡ status.NoAnswer)
+    → AnswersRightly left has_broken written has_failed does input_old input_new old new ended
+answer_written left has_broken written has_failed does input_old input_new old new text wanted ended found whole taken grows broken = record {
+  answered = λ input_before input_after before after. let all = grows before after in
+      answers_by (IsAnswerBy does) _ _ _ ended text (found.0, found.1, rw all.1 found.2) all.0;
+  broken_input = λ before after. absurd (false≢true (sym before ∙ (sym whole ∙ after)));
+  broken_output = broken;
+  taken = taken;
+}
+
+-- the input wasn't read or not answered, and that was written
+pub fault_written : {I O : Type 0} (left : I → Option (List ℕ)) (has_broken : I → Bool) (written : O → Option (List ℕ))
+    (has_failed : O → Bool) (does : DoneBy) (input_old input_new : I) (old new : O) (f : InputFault) (ended : Status)
+    → FailsBy (has_broken input_old) (has_broken input_new) f → TakesAtMost 1048577 (left input_old) (left input_new)
+    → (f ≡ fault.Broken → new ≡ old)
+    → (f ≡ fault.OutOfMemory → has_failed old ≡ false → has_failed new ≡ false → Grows (written old) (written new) out_of_memory_text)
+    → ended ≡ status.NoAnswer
+    → AnswersRightly left has_broken written has_failed does input_old input_new old new ended
+fault_written left has_broken written has_failed does input_old input_new old new fault.Broken ended fails taken same grows ended_is = record {
+  answered = λ input_before input_after before after. absurd (false≢true (sym input_after ∙ fails));
+  broken_input = λ before after. (ended_is, same refl);
+  broken_output = λ before after. ended_is;
+  taken = taken;
+}
+fault_written left has_broken written has_failed does input_old input_new old new fault.OutOfMemory ended fails taken same grows ended_is = record {
+  answered = λ input_before input_after before after. out_of_memory_by does _ _ _ ended (grows refl before after) ended_is;
+  broken_input = λ before after. absurd (false≢true (sym before ∙ (sym fails ∙ after)));
+  broken_output = λ before after. ended_is;
+  taken = taken;
+}

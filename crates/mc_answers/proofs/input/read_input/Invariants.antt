@@ -1,0 +1,13 @@
+use Rattle.std.proofs.Common.{◌≡◌, ◌+◌, ◌-◌, ◌≤◌, length}
+use Rattle.mc_answers.specs.Streams.{Loses}
+use Rattle.mc_answers.proofs.input.read_input.Given as goal
+
+abbrev pub invariant-pieces : goal.invariant-pieces
+invariant-pieces g l = record {
+  short : length l.text.items ≤ l.limit + 1;
+  taken : Loses (g.I.Source.left l.initial.input) (g.I.Source.left l.input) l.text.items;
+  same : g.I.Source.has_failed l.input ≡ g.I.Source.has_failed l.initial.input;
+}
+
+abbrev pub decreases-pieces : goal.decreases-pieces
+decreases-pieces g l = l.limit + 1 - length l.text.items

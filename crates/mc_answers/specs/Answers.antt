@@ -1,0 +1,61 @@
+-- What is answered to a text, whatever it is asked.
+use Rattle.std.specs.Prelude.{◌≡◌, ◌⊎◌, ℕ, ◌<◌, ◌≤◌, Bool, true, false, Option, Some, None, List, length, codes}
+use Rattle.mc_cli.specs.declared.question.Question.{Question}
+use Rattle.mc_cli.specs.declared.question.Question.TheVariants as question
+use Rattle.mc_answers.specs.AsmAnswers.{Assembles}
+use Rattle.mc_answers.specs.CheckAnswers.{Checks}
+use Rattle.mc_answers.specs.DriveAnswers.{Drives}
+use Rattle.mc_answers.specs.JudgeAnswers.{Judges}
+use Rattle.mc_answers.specs.Streams.{Grows, TakesAtMost}
+use Rattle.mc_answers.specs.Writing.{out_of_memory_text}
+use Rattle.mc_answers.specs.declared.status.Status.{Status}
+use Rattle.mc_answers.specs.declared.status.Status.TheVariants as status
+
+-- the most bytes of an input
+abbrev pub INPUT_LIMIT : ℕ
+INPUT_LIMIT = 1048576
+
+-- the question is answered about the text: these bytes may be written, and this is the exit status with them
+abbrev pub Does : Question → List ℕ → List ℕ → Status → Type 0
+Does (question.Judge how) text output ended = Judges how text output ended
+Does (question.Check why) text output ended = Checks why text output ended
+Does (question.Asm why) text output ended = Assembles why text output ended
+Does (question.Drive how) text output ended = Drives how.why text output ended
+
+abbrev pub too_long_text : List ℕ
+too_long_text = codes "refused input too long\n"
+
+abbrev pub not_utf8_text : List ℕ
+not_utf8_text = codes "error: the command line is not UTF-8\n"
+
+-- what a text may be answered; or the text is too long, and that is written; or that memory ran out, which it may over any text
+abbrev pub IsAnswerBy : (List ℕ → List ℕ → Status → Type 0) → List ℕ → List ℕ → Status → Type 0
+IsAnswerBy does text output ended = ((length text ≤ INPUT_LIMIT) × does text output ended)
+    ⊎ (((INPUT_LIMIT < length text) × (output ≡ too_long_text) × (ended ≡ status.Refused))
+    ⊎ ((output ≡ out_of_memory_text) × (ended ≡ status.NoAnswer)))
+
+-- ---- inputs
+
+-- the text is all that was left, where that is known
+abbrev pub IsWhole : Option (List ℕ) → List ℕ → Type 0
+IsWhole None text = Unit {0}
+IsWhole (Some left) text = left ≡ text
+
+-- what was written is right for the whole input, and so is the status
+pub record AnswersBy (right_for : List ℕ → List ℕ → Status → Type 0) (left old new : Option (List ℕ)) (ended : Status) : Type 0 where
+  pub text : List ℕ
+  pub whole : IsWhole left text
+  pub output : List ℕ
+  pub right : right_for text output ended
+  pub written : Grows old new output
+
+-- a call that reads its input whole before it writes: where no read and no write fails, what was written is right for the input; else the
+-- status says so, and where a read failed nothing was written
+pub record AnswersRightly {I O : Type 0} (left : I → Option (List ℕ)) (has_broken : I → Bool) (written : O → Option (List ℕ))
+    (has_failed : O → Bool) (does : List ℕ → List ℕ → Status → Type 0) (input_old input_new : I) (old new : O) (ended : Status)
+    : Type 0 where
+  pub answered : has_broken input_old ≡ false → has_broken input_new ≡ false → has_failed old ≡ false → has_failed new ≡ false
+      → AnswersBy (IsAnswerBy does) (left input_old) (written old) (written new) ended
+  pub broken_input : has_broken input_old ≡ false → has_broken input_new ≡ true → (ended ≡ status.NoAnswer) × (new ≡ old)
+  pub broken_output : has_failed old ≡ false → has_failed new ≡ true → ended ≡ status.NoAnswer
+  pub taken : TakesAtMost 1048577 (left input_old) (left input_new)

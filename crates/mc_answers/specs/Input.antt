@@ -1,0 +1,19 @@
+-- What reading the input does. No public contract cites these.
+use Rattle.std.specs.Prelude.{◌≡◌, ℕ, ◌≤◌, Bool, true, Option, Result, MatchResult, List, [], ◌++◌, length}
+use Rattle.mc_answers.specs.declared.input.InputFault.{InputFault}
+use Rattle.mc_answers.specs.declared.input.InputFault.TheVariants as fault
+use Rattle.mc_answers.specs.Streams.{Loses}
+
+-- the input has failed where the fault is its
+abbrev pub FailsBy : Bool → Bool → InputFault → Type 0
+FailsBy before after fault.Broken = after ≡ true
+FailsBy before after fault.OutOfMemory = after ≡ before
+
+abbrev pub Fails : {T : Type 0} → Bool → Bool → Result T InputFault → Type 0
+Fails before after result = MatchResult result (λ _. after ≡ before) (FailsBy before after)
+
+-- some bytes were taken, and no more than `most`; the text grew by them, unless the call failed
+abbrev pub TakesPiece : Option (List ℕ) → Option (List ℕ) → List ℕ → List ℕ → ℕ → Result ℕ InputFault → Type 0
+TakesPiece old new before after most result = MatchResult result
+    (λ count. (taken : List ℕ) × (length taken ≡ count) × (count ≤ most) × Loses old new taken × (after ≡ before ++ taken))
+    (λ _. (after ≡ before) × Loses old new [])

@@ -1,0 +1,17 @@
+pub mod Answers
+pub mod AsmAnswers
+pub mod CheckAnswers
+pub mod Command
+pub mod DriveAnswers
+pub mod Endings
+pub mod GenerateAnswers
+pub mod Input
+pub mod JudgeAnswers
+pub mod Loading
+pub mod Refusing
+pub mod Statuses
+pub mod StepLines
+pub mod Streams
+pub mod Verdicts
+pub mod WhyAnswers
+pub mod Writing

@@ -1,0 +1,76 @@
+//! What `judge` answers to a text.
+ghost use Rattle.std.specs.Prelude.{◌≢◌, IfOk};
+ghost use Rattle.mc_hints.specs.Refusals.{history_refusal};
+ghost use Rattle.mc_model.specs.declared.rules.HistoryKind.TheVariants as kind;
+ghost use Rattle.mc_answers.specs.JudgeAnswers as answers;
+ghost use Rattle.mc_answers.specs.Refusing.{Gives, IfRefused, IsRefusal};
+
+use crate::answer::Answer;
+use crate::outcome::{verdict_status, verdict_text};
+use crate::refusal::{Unanswered, refuse};
+use crate::status::Status;
+use crate::why::{Counted, why_text};
+use mc_claims::confirms;
+use mc_cli::Search;
+use mc_hints::Refused;
+use mc_history::{Explanation, HistoryFault, parse_history};
+use mc_model::History;
+use mc_protocol::fault_of_input;
+use std::alloc::{AllocError, Global};
+
+/// Reads a history, and confirms its explanation, or searches for one.
+pub fn judge(alloc: Global, how: Search, text: &[u8]) -> Result<Answer, Unanswered>
+    ensures { Gives (answers.Judges how text.now) result }
+{
+    match parse_history(alloc, text) {
+        Ok((history, claim)) => match claim {
+            Some(claim) => Ok(confirm(alloc, &history, &claim)?),
+            None => Ok(find_verdict(alloc, how, text, &history)?),
+        },
+        Err(fault) => Err(refuse_history(alloc, how.why, text, fault)),
+    }
+}
+
+fn confirm(alloc: Global, history: &History, claim: &Explanation) -> Result<Answer, AllocError>
+    ensures { IfOk result (λ answer. answers.Confirms history.now claim.now answer.output.items answer.status) }
+{
+    if confirms(alloc, history, claim)? {
+        Ok(Answer {
+            output: Vec::from_slice(alloc, b"confirmed\n")?,
+            status: Status::Success,
+        })
+    } else {
+        Ok(Answer {
+            output: Vec::from_slice(alloc, b"not confirmed\n")?,
+            status: Status::Unexplained,
+        })
+    }
+}
+
+fn find_verdict(
+    alloc: Global,
+    how: Search,
+    text: &[u8],
+    history: &History,
+) -> Result<Answer, AllocError>
+    ensures { IfOk result (λ answer. answers.JudgesHistory how text.now history.now answer.output.items answer.status) }
+{
+    let (verdict, _) = mc_explain::judge(alloc, history, how.limit)?;
+    let why = why_text(alloc, how, Counted::Text(text), history, &verdict)?;
+    let mut output = verdict_text(alloc, &verdict)?;
+    output.extend_from_slice(why.as_slice())?;
+    Ok(Answer {
+        output,
+        status: verdict_status(&verdict),
+    })
+}
+
+fn refuse_history(alloc: Global, why: bool, text: &[u8], fault: HistoryFault) -> Unanswered
+    ensures { IfRefused result (λ refusal. (fault.kind ≢ kind.OutOfMemory)
+        × IsRefusal why (history_refusal fault.kind fault.line) refusal) }
+{
+    match fault_of_input(fault.kind) {
+        Ok(_) => refuse(alloc, why, text, Refused::NoHistory(fault)),
+        Err(_) => Unanswered::OutOfMemory,
+    }
+}

@@ -1,0 +1,12 @@
+pub mod PieceFacts
+pub mod NameFacts
+pub mod BranchLines
+pub mod BranchSteps
+pub mod Formed
+pub mod Texts
+pub mod RefusalFacts
+pub mod Less
+pub mod KeysUnder
+pub mod CodeUnder
+pub mod ImageUnder
+pub mod JobFaults

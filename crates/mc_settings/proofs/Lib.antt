@@ -1,0 +1,2 @@
+pub mod MoreDigits
+pub mod FittingKeys
