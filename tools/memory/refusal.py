@@ -22,9 +22,12 @@ ROOT, SECONDS = HERE.parents[1], 60
 TRIES = 3
 TIME_LIMITS = ("--timeout", "--wait")
 # Command lines that take no input.
-COMMANDS = ["judge", "check", "asm", "drive", "run"]
+COMMANDS = ["judge", "draw", "check", "asm", "drive", "run"]
 LINES = [[], ["--help"], *([it, word] for it in COMMANDS for word in ("--help", "x"))]
-EXAMPLES = [("judge", "history"), ("check", "script"), ("asm", "script"), ("drive", "drive")]
+EXAMPLES = [
+    ("judge", "history"), ("draw", "history"), ("check", "script"), ("asm", "script"),
+    ("drive", "drive"),
+]
 # P alone sends, so what comes of it doesn't rest on the schedule.
 SCRIPT = b"script 1\nkeys a\nbudget P 2 26\nbudget A 0 0\nbudget B 0 0\nP\nset a 0 =5\nA\nB\nend\n"
 MISS, STORED = b"NOT_FOUND\r\n", b"STORED\r\n"

@@ -4,6 +4,7 @@ use Rattle.mc_cli.specs.declared.question.Question.{Question}
 use Rattle.mc_cli.specs.declared.question.Question.TheVariants as question
 use Rattle.mc_answers.specs.AsmAnswers.{Assembles}
 use Rattle.mc_answers.specs.CheckAnswers.{Checks}
+use Rattle.mc_answers.specs.DrawAnswers.{Draws}
 use Rattle.mc_answers.specs.DriveAnswers.{Drives}
 use Rattle.mc_answers.specs.JudgeAnswers.{Judges}
 use Rattle.mc_answers.specs.Streams.{Grows, TakesAtMost}
@@ -21,6 +22,7 @@ Does (question.Judge how) text output ended = Judges how text output ended
 Does (question.Check why) text output ended = Checks why text output ended
 Does (question.Asm why) text output ended = Assembles why text output ended
 Does (question.Drive how) text output ended = Drives how.why text output ended
+Does (question.Draw how) text output ended = Draws output ended
 
 abbrev pub too_long_text : List ℕ
 too_long_text = codes "refused input too long\n"

@@ -9,6 +9,7 @@ reads_input (asked.Judge how) = true
 reads_input (asked.Check why) = true
 reads_input (asked.Asm why) = true
 reads_input (asked.Drive how) = true
+reads_input (asked.Draw how) = true
 reads_input _ = false
 
 -- what is asked for needs a network: lines of `run`, `serve`, `campaign` and `selftest` do

@@ -2,6 +2,7 @@ pub mod Answers
 pub mod AsmAnswers
 pub mod CheckAnswers
 pub mod Command
+pub mod DrawAnswers
 pub mod DriveAnswers
 pub mod Endings
 pub mod GenerateAnswers

@@ -5,6 +5,7 @@ ghost use Rattle.mc_answers.specs.Refusing.{Gives};
 
 use crate::asm::assemble;
 use crate::check::check;
+use crate::draw::draw;
 use crate::drive::drive;
 use crate::judge::judge;
 use crate::refusal::Unanswered;
@@ -41,5 +42,6 @@ fn give(alloc: Global, question: Question, text: &[u8]) -> Result<Answer, Unansw
         Question::Check(why) => check(alloc, why, text),
         Question::Asm(why) => assemble(alloc, why, text),
         Question::Drive(how) => drive(alloc, how, text),
+        Question::Draw(how) => draw(alloc, how, text),
     }
 }

@@ -10,6 +10,7 @@
 mod answer;
 mod asm;
 mod check;
+mod draw;
 mod drive;
 mod generate;
 mod input;

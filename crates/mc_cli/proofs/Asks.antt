@@ -5,7 +5,7 @@ use Rattle.clap.specs.declared.error.kind.ErrorKind.{ErrorKind}
 use Rattle.clap.specs.declared.error.kind.ErrorKind.TheVariants as kind
 use Rattle.mc_protocol.specs.Decimals.{MAX_64}
 use Rattle.mc_cli.proofs.Names as names
-use Rattle.mc_cli.proofs.Once.{plan_once, search_once, service_once, value_once}
+use Rattle.mc_cli.proofs.Once.{draw_once, plan_once, search_once, service_once, value_once}
 use Rattle.mc_cli.specs.Args.{number}
 use Rattle.mc_cli.specs.Asked.{Asked}
 use Rattle.mc_cli.specs.Asked as asked
@@ -33,6 +33,9 @@ with_once value (asked.Asm why) other named is also =
 with_once value (asked.Drive how) other named is also =
     let found = names.is_drive other named in
     rw found.1 (ap asked.Drive (search_once value how found.0 is (rw found.1 at also)))
+with_once value (asked.Draw how) other named is also =
+    let found = names.is_draw other named in
+    rw found.1 (ap asked.Draw (draw_once value how found.0 is (rw found.1 at also)))
 with_once value (asked.Run how) other named (args, is, of_args) also =
     let found = names.is_run other named in
     let more = rw found.1 at also in

@@ -5,6 +5,7 @@ use Rattle.clap.specs.Words.{Text}
 use Rattle.mc_cli.specs.Asked.{Asked}
 use Rattle.mc_cli.specs.Asked as asked
 use Rattle.mc_cli.specs.Asking.{name_of}
+use Rattle.mc_cli.specs.declared.args.DrawArgs.{DrawArgs}
 use Rattle.mc_cli.specs.declared.args.Plan.{Plan}
 use Rattle.mc_cli.specs.declared.args.Search.{Search}
 use Rattle.mc_cli.specs.declared.args.ServeArgs.{ServeArgs}
@@ -22,6 +23,7 @@ is_judge (asked.Judge how) same = (how, refl)
 is_judge (asked.Check why) same = differ (codes "check") (codes "judge") refl same
 is_judge (asked.Asm why) same = differ (codes "asm") (codes "judge") refl same
 is_judge (asked.Drive how) same = differ (codes "drive") (codes "judge") refl same
+is_judge (asked.Draw how) same = differ (codes "draw") (codes "judge") refl same
 is_judge (asked.Run how) same = differ (codes "run") (codes "judge") refl same
 is_judge (asked.Generate seed job) same = differ (codes "generate") (codes "judge") refl same
 is_judge (asked.Serve service) same = differ (codes "serve") (codes "judge") refl same
@@ -33,6 +35,7 @@ is_check (asked.Judge how) same = differ (codes "judge") (codes "check") refl sa
 is_check (asked.Check why) same = (why, refl)
 is_check (asked.Asm why) same = differ (codes "asm") (codes "check") refl same
 is_check (asked.Drive how) same = differ (codes "drive") (codes "check") refl same
+is_check (asked.Draw how) same = differ (codes "draw") (codes "check") refl same
 is_check (asked.Run how) same = differ (codes "run") (codes "check") refl same
 is_check (asked.Generate seed job) same = differ (codes "generate") (codes "check") refl same
 is_check (asked.Serve service) same = differ (codes "serve") (codes "check") refl same
@@ -44,6 +47,7 @@ is_asm (asked.Judge how) same = differ (codes "judge") (codes "asm") refl same
 is_asm (asked.Check why) same = differ (codes "check") (codes "asm") refl same
 is_asm (asked.Asm why) same = (why, refl)
 is_asm (asked.Drive how) same = differ (codes "drive") (codes "asm") refl same
+is_asm (asked.Draw how) same = differ (codes "draw") (codes "asm") refl same
 is_asm (asked.Run how) same = differ (codes "run") (codes "asm") refl same
 is_asm (asked.Generate seed job) same = differ (codes "generate") (codes "asm") refl same
 is_asm (asked.Serve service) same = differ (codes "serve") (codes "asm") refl same
@@ -55,17 +59,31 @@ is_drive (asked.Judge how) same = differ (codes "judge") (codes "drive") refl sa
 is_drive (asked.Check why) same = differ (codes "check") (codes "drive") refl same
 is_drive (asked.Asm why) same = differ (codes "asm") (codes "drive") refl same
 is_drive (asked.Drive how) same = (how, refl)
+is_drive (asked.Draw how) same = differ (codes "draw") (codes "drive") refl same
 is_drive (asked.Run how) same = differ (codes "run") (codes "drive") refl same
 is_drive (asked.Generate seed job) same = differ (codes "generate") (codes "drive") refl same
 is_drive (asked.Serve service) same = differ (codes "serve") (codes "drive") refl same
 is_drive (asked.Campaign plan) same = differ (codes "campaign") (codes "drive") refl same
 is_drive asked.Selftest same = differ (codes "selftest") (codes "drive") refl same
 
+pub is_draw : (wanted : Asked) → name_of wanted ≡ codes "draw" → (how : DrawArgs) × (wanted ≡ asked.Draw how)
+is_draw (asked.Judge how) same = differ (codes "judge") (codes "draw") refl same
+is_draw (asked.Check why) same = differ (codes "check") (codes "draw") refl same
+is_draw (asked.Asm why) same = differ (codes "asm") (codes "draw") refl same
+is_draw (asked.Drive how) same = differ (codes "drive") (codes "draw") refl same
+is_draw (asked.Draw how) same = (how, refl)
+is_draw (asked.Run how) same = differ (codes "run") (codes "draw") refl same
+is_draw (asked.Generate seed job) same = differ (codes "generate") (codes "draw") refl same
+is_draw (asked.Serve service) same = differ (codes "serve") (codes "draw") refl same
+is_draw (asked.Campaign plan) same = differ (codes "campaign") (codes "draw") refl same
+is_draw asked.Selftest same = differ (codes "selftest") (codes "draw") refl same
+
 pub is_run : (wanted : Asked) → name_of wanted ≡ codes "run" → (how : Search) × (wanted ≡ asked.Run how)
 is_run (asked.Judge how) same = differ (codes "judge") (codes "run") refl same
 is_run (asked.Check why) same = differ (codes "check") (codes "run") refl same
 is_run (asked.Asm why) same = differ (codes "asm") (codes "run") refl same
 is_run (asked.Drive how) same = differ (codes "drive") (codes "run") refl same
+is_run (asked.Draw how) same = differ (codes "draw") (codes "run") refl same
 is_run (asked.Run how) same = (how, refl)
 is_run (asked.Generate seed job) same = differ (codes "generate") (codes "run") refl same
 is_run (asked.Serve service) same = differ (codes "serve") (codes "run") refl same
@@ -77,6 +95,7 @@ is_generate (asked.Judge how) same = differ (codes "judge") (codes "generate") r
 is_generate (asked.Check why) same = differ (codes "check") (codes "generate") refl same
 is_generate (asked.Asm why) same = differ (codes "asm") (codes "generate") refl same
 is_generate (asked.Drive how) same = differ (codes "drive") (codes "generate") refl same
+is_generate (asked.Draw how) same = differ (codes "draw") (codes "generate") refl same
 is_generate (asked.Run how) same = differ (codes "run") (codes "generate") refl same
 is_generate (asked.Generate seed job) same = (seed, job, refl)
 is_generate (asked.Serve service) same = differ (codes "serve") (codes "generate") refl same
@@ -88,6 +107,7 @@ is_serve (asked.Judge how) same = differ (codes "judge") (codes "serve") refl sa
 is_serve (asked.Check why) same = differ (codes "check") (codes "serve") refl same
 is_serve (asked.Asm why) same = differ (codes "asm") (codes "serve") refl same
 is_serve (asked.Drive how) same = differ (codes "drive") (codes "serve") refl same
+is_serve (asked.Draw how) same = differ (codes "draw") (codes "serve") refl same
 is_serve (asked.Run how) same = differ (codes "run") (codes "serve") refl same
 is_serve (asked.Generate seed job) same = differ (codes "generate") (codes "serve") refl same
 is_serve (asked.Serve service) same = (service, refl)
@@ -99,6 +119,7 @@ is_campaign (asked.Judge how) same = differ (codes "judge") (codes "campaign") r
 is_campaign (asked.Check why) same = differ (codes "check") (codes "campaign") refl same
 is_campaign (asked.Asm why) same = differ (codes "asm") (codes "campaign") refl same
 is_campaign (asked.Drive how) same = differ (codes "drive") (codes "campaign") refl same
+is_campaign (asked.Draw how) same = differ (codes "draw") (codes "campaign") refl same
 is_campaign (asked.Run how) same = differ (codes "run") (codes "campaign") refl same
 is_campaign (asked.Generate seed job) same = differ (codes "generate") (codes "campaign") refl same
 is_campaign (asked.Serve service) same = differ (codes "serve") (codes "campaign") refl same
@@ -110,6 +131,7 @@ is_selftest (asked.Judge how) same = differ (codes "judge") (codes "selftest") r
 is_selftest (asked.Check why) same = differ (codes "check") (codes "selftest") refl same
 is_selftest (asked.Asm why) same = differ (codes "asm") (codes "selftest") refl same
 is_selftest (asked.Drive how) same = differ (codes "drive") (codes "selftest") refl same
+is_selftest (asked.Draw how) same = differ (codes "draw") (codes "selftest") refl same
 is_selftest (asked.Run how) same = differ (codes "run") (codes "selftest") refl same
 is_selftest (asked.Generate seed job) same = differ (codes "generate") (codes "selftest") refl same
 is_selftest (asked.Serve service) same = differ (codes "serve") (codes "selftest") refl same

@@ -3,8 +3,9 @@ use Rattle.std.proofs.Common.{◌≡◌, ◌∙◌, ◌||◌, ◌+◌, ◌≤◌
 use Rattle.std.proofs.lemmas.Bool.{false≢true}
 use Rattle.clap.specs.Words.{Text}
 use Rattle.mc_protocol.specs.Decimals.{MAX_64}
-use Rattle.mc_cli.specs.Args.{AreJobs, GREATEST_JOBS, IsPlan, IsRepeat, IsSearch, IsService, IsUntil, MayBeName, count, jobs_from, number}
+use Rattle.mc_cli.specs.Args.{AreJobs, GREATEST_JOBS, IsDraw, IsPlan, IsRepeat, IsSearch, IsService, IsUntil, MayBeName, count, jobs_from, number}
 use Rattle.mc_cli.specs.Kinds.{IsValue, MayBeValue, reads}
+use Rattle.mc_cli.specs.declared.args.DrawArgs.{DrawArgs}
 use Rattle.mc_cli.specs.declared.args.Plan.{Plan}
 use Rattle.mc_cli.specs.declared.args.Repeat.{Repeat}
 use Rattle.mc_cli.specs.declared.args.Search.{Search}
@@ -48,6 +49,14 @@ pub search_once : (value : Text → Option Text) (one other : Search) → IsSear
 search_once value one other is also =
     ap (λ n. record { limit = n; why = one.why }) (value_once (number 1000000000) _ _ one.limit other.limit is.limit also.limit)
     ∙ ap (λ b. record { limit = other.limit; why = b }) (is.why ∙ sym also.why)
+
+pub draw_once : (value : Text → Option Text) (one other : DrawArgs) → IsDraw value one → IsDraw value other → one ≡ other
+draw_once value one other is also =
+    ap (λ b. record one { text = b }) (is.text ∙ sym also.text)
+    ∙ (ap (λ b. record other { lines = b; limit = one.limit; job = one.job }) (is.lines ∙ sym also.lines)
+    ∙ (ap (λ n. record other { limit = n; job = one.job })
+    (value_once (number 1000000000) _ _ one.limit other.limit is.limit also.limit)
+    ∙ ap (λ n. record other { job = n }) (maybe_once (number MAX_64) _ one.job other.job is.job also.job)))
 
 pub service_once : (value : Text → Option Text) (one other : ServeArgs) → IsService value one → IsService value other → one ≡ other
 service_once value one other is also =

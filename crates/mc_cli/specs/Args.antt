@@ -10,7 +10,7 @@ use Rattle.mc_settings.specs.declared.meeting.Meeting.TheVariants as meeting
 use Rattle.mc_cli.specs.Kinds.{IsValue, MayBeValue}
 use Rattle.mc_cli.specs.Line.{is_set}
 use Rattle.mc_cli.specs.declared.args.{CampaignArgs.CampaignArgs, Plan.Plan, Repeat.Repeat, RunArgs.RunArgs, Search.Search}
-use Rattle.mc_cli.specs.declared.args.{ServeArgs.ServeArgs, Until.Until}
+use Rattle.mc_cli.specs.declared.args.{DrawArgs.DrawArgs, ServeArgs.ServeArgs, Until.Until}
 use Rattle.mc_cli.specs.declared.rows.Kind.{Kind}
 use Rattle.mc_cli.specs.declared.rows.Kind.TheVariants as kind
 
@@ -29,6 +29,13 @@ count greatest = kind.Number 1 greatest
 pub record IsSearch (value : Text → Option Text) (how : Search) : Type 0 where
   pub limit : IsValue (number 1000000000) (Some 1000000) (value (codes "limit")) how.limit
   pub why : how.why ≡ is_set (value (codes "why"))
+
+-- the values of the options of `draw` say how a history is drawn
+pub record IsDraw (value : Text → Option Text) (how : DrawArgs) : Type 0 where
+  pub text : how.text ≡ is_set (value (codes "text"))
+  pub lines : how.lines ≡ is_set (value (codes "lines"))
+  pub limit : IsValue (number 1000000000) (Some 1000000) (value (codes "limit")) how.limit
+  pub job : MayBeValue (number MAX_64) (value (codes "job")) how.job
 
 pub record IsJob (value : Text → Option Text) (n m : ℕ) : Type 0 where
   pub seed : IsValue (number MAX_64) (Some 1) (value (codes "seed")) n

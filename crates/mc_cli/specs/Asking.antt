@@ -3,7 +3,7 @@ use Rattle.std.specs.Prelude.{◌≡◌, ◌⊎◌, ℕ, Option, Some, List, [],
 use Rattle.clap.specs.Words.{IsAmong, Text}
 use Rattle.clap.specs.declared.error.kind.ErrorKind.{ErrorKind}
 use Rattle.clap.specs.declared.error.kind.ErrorKind.TheVariants as kind
-use Rattle.mc_cli.specs.Args.{IsCampaignArgs, IsJob, IsRunArgs, IsSearch, IsService}
+use Rattle.mc_cli.specs.Args.{IsCampaignArgs, IsDraw, IsJob, IsRunArgs, IsSearch, IsService}
 use Rattle.mc_cli.specs.Asked.{Asked}
 use Rattle.mc_cli.specs.Asked as asked
 use Rattle.mc_cli.specs.Line.{is_set, line_command, line_faults, line_value}
@@ -20,6 +20,7 @@ asked_in (question.Judge how) = asked.Judge how
 asked_in (question.Check why) = asked.Check why
 asked_in (question.Asm why) = asked.Asm why
 asked_in (question.Drive how) = asked.Drive how
+asked_in (question.Draw how) = asked.Draw how
 
 -- what is asked for, without the server and how it is met
 abbrev pub asked_by : Request → Asked
@@ -36,6 +37,7 @@ name_of (asked.Judge how) = codes "judge"
 name_of (asked.Check why) = codes "check"
 name_of (asked.Asm why) = codes "asm"
 name_of (asked.Drive how) = codes "drive"
+name_of (asked.Draw how) = codes "draw"
 name_of (asked.Run how) = codes "run"
 name_of (asked.Generate seed job) = codes "generate"
 name_of (asked.Serve service) = codes "serve"
@@ -48,6 +50,7 @@ IsAskedWith value (asked.Judge how) = IsSearch value how
 IsAskedWith value (asked.Check why) = why ≡ is_set (value (codes "why"))
 IsAskedWith value (asked.Asm why) = why ≡ is_set (value (codes "why"))
 IsAskedWith value (asked.Drive how) = IsSearch value how
+IsAskedWith value (asked.Draw how) = IsDraw value how
 IsAskedWith value (asked.Run how) = (args : RunArgs) × IsRunArgs value args × (args.how ≡ how)
 IsAskedWith value (asked.Generate seed job) = IsJob value seed job
 IsAskedWith value (asked.Serve service) = IsService value service

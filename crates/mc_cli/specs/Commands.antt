@@ -39,6 +39,9 @@ judge_rules = valued (codes "limit") ∷ switch (codes "why") ∷ []
 abbrev pub refused_rules : List Rule
 refused_rules = switch (codes "why") ∷ []
 
+abbrev pub draw_rules : List Rule
+draw_rules = switch (codes "text") ∷ switch (codes "lines") ∷ valued (codes "job") ∷ valued (codes "limit") ∷ []
+
 abbrev pub run_rules : List Rule
 run_rules =
     argument (codes "target") ∷ valued (codes "limit") ∷ switch (codes "why") ∷ valued (codes "meet") ∷
@@ -67,8 +70,8 @@ and_with app name rules = with_subcommand app (app_with name rules).top
 
 -- with those that answer to an input, and need no server
 abbrev pub reading_app : App
-reading_app = and_with (and_with (and_with (and_with bare_app (codes "judge") judge_rules) (codes "check") refused_rules)
-    (codes "asm") refused_rules) (codes "drive") judge_rules
+reading_app = and_with (and_with (and_with (and_with (and_with bare_app (codes "judge") judge_rules) (codes "check") refused_rules)
+    (codes "asm") refused_rules) (codes "drive") judge_rules) (codes "draw") draw_rules
 
 -- with all that ask for something
 abbrev pub asking_app : App

@@ -23,6 +23,19 @@ pub struct Search {
     pub why: bool,
 }
 
+/// How a history is drawn.
+#[derive(Clone, Copy, Debug, Drop, PartialEq, Eq)]
+pub struct DrawArgs {
+    /// Whether the picture is text, and not SVG.
+    pub text: bool,
+    /// Whether a text has the numbers of the lines of the input.
+    pub lines: bool,
+    /// The most turns of a search for what explains the history.
+    pub limit: u64,
+    /// The number of the campaign's job whose history is drawn, if it isn't the first one.
+    pub job: Option<u64>,
+}
+
 /// A time of 0.001 to 86,400 seconds.
 #[derive(Clone, Copy, Debug, Drop, PartialEq, Eq)]
 pub struct Seconds<'a> {

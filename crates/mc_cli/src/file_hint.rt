@@ -30,6 +30,7 @@ fn names_file(text: &str) -> bool {
 fn input_usage(line: &[String]) -> Option<&'static str> {
     match line.get(1)?.as_str() {
         "judge" => Some("mcrace judge"),
+        "draw" => Some("mcrace draw"),
         "check" => Some("mcrace check"),
         "asm" => Some("mcrace asm"),
         "drive" => Some("mcrace drive"),

@@ -3,6 +3,7 @@
 mod asm;
 mod campaign;
 mod check;
+mod draw;
 mod drive;
 mod formats;
 mod generate;
@@ -18,6 +19,7 @@ mod steps;
 pub use asm::ASM;
 pub use campaign::CAMPAIGN;
 pub use check::CHECK;
+pub use draw::DRAW;
 pub use drive::DRIVE;
 pub use formats::FORMATS;
 pub use generate::GENERATE;

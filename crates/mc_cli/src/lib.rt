@@ -21,8 +21,8 @@ mod subcommand;
 mod value;
 
 pub use args::{
-    CampaignArgs, GREATEST_JOBS, GREATEST_WORKERS, Plan, Repeat, RunArgs, Search, Seconds,
-    ServeArgs, Until, has_last,
+    CampaignArgs, DrawArgs, GREATEST_JOBS, GREATEST_WORKERS, Plan, Repeat, RunArgs, Search,
+    Seconds, ServeArgs, Until, has_last,
 };
 pub use question::Question;
 pub use request::{LineFault, Request, long_key_text, read_request};

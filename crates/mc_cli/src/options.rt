@@ -21,6 +21,33 @@ pub const LIMIT: Row = Row {
     help: "The most turns of a search",
 };
 
+pub const TEXT: Row = Row {
+    name: "text",
+    value: "",
+    kind: Kind::Switch,
+    default: None,
+    place: Place::Daily,
+    help: "Draw text for a terminal, not an SVG",
+};
+
+pub const LINES: Row = Row {
+    name: "lines",
+    value: "",
+    kind: Kind::Switch,
+    default: None,
+    place: Place::Daily,
+    help: "Show the lines of the input, with --text",
+};
+
+pub const JOB_TO_DRAW: Row = Row {
+    name: "job",
+    value: "N",
+    kind: Kind::Number(0, u64::MAX),
+    default: None,
+    place: Place::Daily,
+    help: "Draw the history of this job of a campaign",
+};
+
 pub const WHY: Row = Row {
     name: "why",
     value: "",

@@ -1,6 +1,6 @@
 //! What a line asks of its input, if the input alone answers it.
 
-use crate::args::Search;
+use crate::args::{DrawArgs, Search};
 
 /// A question about the input, which no network answers.
 #[derive(Clone, Copy, Debug, Drop, PartialEq, Eq)]
@@ -13,13 +13,15 @@ pub enum Question {
     Asm(bool),
     /// What the steps after a script come to, judged by this search.
     Drive(Search),
+    /// A picture of a history.
+    Draw(DrawArgs),
 }
 
 impl Question {
     /// What is read on standard input, as a person is asked for it.
     pub fn input_name(self) -> &'static str {
         match self {
-            Question::Judge(_) => "a history",
+            Question::Judge(_) | Question::Draw(_) => "a history",
             Question::Check(_) => "a script or an image",
             Question::Asm(_) | Question::Drive(_) => "a script",
         }

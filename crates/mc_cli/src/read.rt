@@ -2,10 +2,10 @@
 ghost use Rattle.std.specs.Prelude.{◌≡◌, ◌≤◌, ℕ, Option, codes, IfErr, IfOk};
 ghost use Rattle.clap.specs.Words.{first_value, found_of};
 ghost use Rattle.mc_cli.specs.Args as spec;
-ghost use Rattle.mc_cli.specs.Args.{IsJob, IsRepeat, IsRunArgs, IsSearch, IsService};
+ghost use Rattle.mc_cli.specs.Args.{IsDraw, IsJob, IsRepeat, IsRunArgs, IsSearch, IsService};
 ghost use Rattle.mc_cli.specs.Kinds.{IsValue};
 
-use crate::args::{Repeat, RunArgs, Search, ServeArgs};
+use crate::args::{DrawArgs, Repeat, RunArgs, Search, ServeArgs};
 use crate::fault::OptionFault;
 use crate::rows::Row;
 use crate::{options as rows, value};
@@ -22,6 +22,21 @@ pub fn read_search<'a>(options: &ArgMatches<'a>) -> Result<Search, OptionFault<'
     Ok(Search {
         limit: value::number(options, &rows::LIMIT)?,
         why: value::is_set(options, &rows::WHY),
+    })
+}
+
+/// The picture that `draw` asks for.
+pub fn read_draw<'a>(options: &ArgMatches<'a>) -> Result<DrawArgs, OptionFault<'a>>
+    ensures how { IfOk result (IsDraw (first_value (found_of options.now))) }
+    ensures none { IfErr result (λ _. (how : DrawArgs) → IsDraw (first_value (found_of options.now)) how → ⊥) }
+{
+    let limit = value::number(options, &rows::LIMIT)?;
+    let job = value::optional(options, &rows::JOB_TO_DRAW)?;
+    Ok(DrawArgs {
+        text: value::is_set(options, &rows::TEXT),
+        lines: value::is_set(options, &rows::LINES),
+        limit,
+        job,
     })
 }
 

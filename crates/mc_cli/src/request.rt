@@ -10,7 +10,7 @@ use crate::fault::{OptionFault, long_key_message};
 use crate::file_hint::error_text;
 use crate::help_line::help_text;
 use crate::question::Question;
-use crate::read::{read_job, read_run, read_search, read_service};
+use crate::read::{read_draw, read_job, read_run, read_search, read_service};
 use crate::read_campaign::read_campaign;
 use crate::subcommand::{program, usage_fault};
 use crate::{options as rows, value};
@@ -94,6 +94,7 @@ fn read_options<'a>(name: &str, options: &ArgMatches<'a>) -> Result<Request<'a>,
         "check" => Ok(Request::Question(Question::Check(value::is_set(options, &rows::REFUSED)))),
         "asm" => Ok(Request::Question(Question::Asm(value::is_set(options, &rows::REFUSED)))),
         "drive" => Ok(Request::Question(Question::Drive(read_search(options)?))),
+        "draw" => Ok(Request::Question(Question::Draw(read_draw(options)?))),
         "run" => Ok(Request::Run(read_run(options)?)),
         "generate" => {
             let (seed, job) = read_job(options)?;

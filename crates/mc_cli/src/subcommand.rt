@@ -5,7 +5,7 @@ ghost use Rattle.mc_cli.specs.Commands as spec;
 ghost use Rattle.mc_cli.specs.Commands.{rule_of_row};
 
 use crate::help::{
-    ASM, CAMPAIGN, CHECK, DRIVE, FORMATS, GENERATE, HISTORY, Help, IMAGE, JUDGE, RUN, SCRIPT,
+    ASM, CAMPAIGN, CHECK, DRAW, DRIVE, FORMATS, GENERATE, HISTORY, Help, IMAGE, JUDGE, RUN, SCRIPT,
     SELFTEST, SERVE, SHORT_STATUSES, STATUSES, STEPS,
 };
 use crate::options as rows;
@@ -21,6 +21,8 @@ const VERSION: &str = "0.1.0";
 const JUDGE_ROWS: &[Row] = &[rows::LIMIT, rows::WHY];
 
 const REFUSED_ROWS: &[Row] = &[rows::REFUSED];
+
+const DRAW_ROWS: &[Row] = &[rows::TEXT, rows::LINES, rows::JOB_TO_DRAW, rows::LIMIT];
 
 const RUN_ROWS: &[Row] = &[
     rows::TARGET,
@@ -104,7 +106,8 @@ fn reading_program<'a>(alloc: Global) -> Result<Command<'a>, AllocError>
         .subcommand(command_of(alloc, &JUDGE, JUDGE_ROWS)?)?
         .subcommand(command_of(alloc, &CHECK, REFUSED_ROWS)?)?
         .subcommand(command_of(alloc, &ASM, REFUSED_ROWS)?)?
-        .subcommand(command_of(alloc, &DRIVE, JUDGE_ROWS)?)
+        .subcommand(command_of(alloc, &DRIVE, JUDGE_ROWS)?)?
+        .subcommand(command_of(alloc, &DRAW, DRAW_ROWS)?)
 }
 
 // The program without its subcommands.
@@ -176,6 +179,7 @@ fn parts_of(name: &str) -> Option<(&'static Help, &'static [Row])> {
         "check" => Some((&CHECK, REFUSED_ROWS)),
         "asm" => Some((&ASM, REFUSED_ROWS)),
         "drive" => Some((&DRIVE, JUDGE_ROWS)),
+        "draw" => Some((&DRAW, DRAW_ROWS)),
         "run" => Some((&RUN, RUN_ROWS)),
         "generate" => Some((&GENERATE, GENERATE_ROWS)),
         "serve" => Some((&SERVE, SERVE_ROWS)),

@@ -4,7 +4,9 @@ use crate::driven::SCRIPT;
 use mc_answers::{
     Reader, Status, Writer, answer_question, command, explain_fault, unread_line, write_generated,
 };
-use mc_cli::{Question, Repeat, Request, RunArgs, Search, Seconds, ServeArgs, read_request};
+use mc_cli::{
+    DrawArgs, Question, Repeat, Request, RunArgs, Search, Seconds, ServeArgs, read_request,
+};
 use mc_settings::Meeting;
 use std::alloc::{AllocError, Global};
 use std::io;
@@ -14,6 +16,13 @@ use std::test::Fail;
 const SEARCH: Search = Search {
     limit: 7,
     why: true,
+};
+
+const DRAWN: DrawArgs = DrawArgs {
+    text: true,
+    lines: false,
+    limit: 7,
+    job: Some(31),
 };
 
 const SERVICE: ServeArgs = ServeArgs {
@@ -53,6 +62,11 @@ static LINES: &[(&[&str], Option<Asked>, Option<&str>)] = &[
         &["mcrace", "drive", "--why", "--limit", "7"],
         Some(Asked::Question(Question::Drive(SEARCH))),
         Some("a script"),
+    ),
+    (
+        &["mcrace", "draw", "--text", "--job", "31", "--limit", "7"],
+        Some(Asked::Question(Question::Draw(DRAWN))),
+        Some("a history"),
     ),
     (
         &["mcrace", "run", "host:1", "--limit=7", "--why"],

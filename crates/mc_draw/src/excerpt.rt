@@ -1,0 +1,94 @@
+//! The part of a text that is a history: what `run` or a report prints before and behind it is left out.
+
+use itoa::Buffer;
+
+/// A part of a text, from the beginning of one of its lines on.
+#[derive(Clone, Copy, Debug, Drop)]
+pub struct Excerpt<'a> {
+    pub text: &'a [u8],
+    /// How many lines of the whole text stand before it.
+    pub lines_before: u32,
+}
+
+/// The first history of the text, with its line `end`; with `job` the first one after the line `job N` of this number. A text with no
+/// such history is answered whole, or for want of the job what stands behind its last line.
+pub fn find_history<'a>(text: &'a [u8], job: Option<u64>) -> Excerpt<'a> {
+    let whole = Excerpt {
+        text,
+        lines_before: 0,
+    };
+    let from_job = match job {
+        Some(number) => {
+            let mut digits = Buffer::new();
+            let wanted: [&[u8]; 2] = [b"job", digits.format(number).as_bytes()];
+            from_line(whole, |line| has_words(line, &wanted))
+        }
+        None => whole,
+    };
+    let from_header = from_line(from_job, is_header);
+    if from_header.text.is_empty() && job.is_none() {
+        whole
+    } else {
+        up_to_end(from_header)
+    }
+}
+
+fn is_header(line: &[u8]) -> bool {
+    has_words(line, &[b"history", b"1"]) || has_words(line, &[b"history", b"2"])
+}
+
+// The text from the first line on that is such a one; what stands behind its last line if none is.
+fn from_line<'a, F: Fn(&[u8]) -> bool>(excerpt: Excerpt<'a>, is_such: F) -> Excerpt<'a>
+    requires { F.IsAlwaysCallable is_such }
+{
+    let mut start: usize = 0;
+    let mut lines_before = excerpt.lines_before;
+    'lines: for line in excerpt.text.split(|byte| *byte == b'\n') {
+        // Behind the last LF there is no line.
+        if start >= excerpt.text.len() || is_such(line) {
+            break;
+        }
+        start = start.saturating_add(line.len()).saturating_add(1);
+        lines_before = lines_before.saturating_add(1);
+    }
+    let (_, text) = excerpt.text.split_at(start.min(excerpt.text.len()));
+    Excerpt { text, lines_before }
+}
+
+// The text with its first line `end`, and without what stands behind it.
+fn up_to_end<'a>(excerpt: Excerpt<'a>) -> Excerpt<'a> {
+    let mut end: usize = 0;
+    'lines: for line in excerpt.text.split(|byte| *byte == b'\n') {
+        end = end.saturating_add(line.len()).saturating_add(1);
+        if has_words(line, &[b"end"]) {
+            break;
+        }
+    }
+    let (text, _) = excerpt.text.split_at(end.min(excerpt.text.len()));
+    Excerpt { text, ..excerpt }
+}
+
+// Whether the line has these words and no others. A CR at its end is dropped.
+fn has_words(line: &[u8], wanted: &[&[u8]]) -> bool {
+    let line = match line {
+        [front @ .., b'\r'] => front,
+        _ => line,
+    };
+    let mut count: usize = 0;
+    'words: for word in line.split(|byte| *byte == b' ') {
+        if !word.is_empty() {
+            if !is_wanted(word, wanted.get(count).copied()) {
+                return false;
+            }
+            count = count.saturating_add(1);
+        }
+    }
+    count == wanted.len()
+}
+
+fn is_wanted(word: &[u8], wanted: Option<&[u8]>) -> bool {
+    match wanted {
+        Some(wanted) => word == wanted,
+        None => false,
+    }
+}

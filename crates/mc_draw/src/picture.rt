@@ -1,0 +1,134 @@
+//! What a picture shows of a history, whichever form it has.
+
+use crate::excerpt::Excerpt;
+use crate::known::Known;
+use crate::rows::{Row, SECTIONS, lane_of, row_at, rows_of};
+use mc_explain::{Explanation, Move};
+use mc_model::{Choice, History};
+use mc_protocol::{Bytes, OutOfMemory, Reply};
+use mc_why::{Answer, Cause, Finding};
+use std::alloc::Global;
+
+/// What a picture shows.
+#[derive(Drop)]
+pub struct Picture<'a> {
+    pub known: &'a Known,
+    /// Whether the history claims an order that doesn't explain it.
+    pub claim_fails: bool,
+    /// Whether the order of the begins and of the replies is known.
+    pub is_ordered: bool,
+    pub rows: Vec<Row<'a>>,
+    /// The items that were there before, by an order that explains the history or its beginning.
+    pub start: &'a [(Bytes, u64)],
+    /// That order.
+    pub steps: Vec<Step>,
+    /// The reply that nothing explains.
+    pub blame: Option<Blame<'a>>,
+}
+
+/// A request takes effect.
+#[derive(Clone, Copy, Debug, Drop)]
+pub struct Step {
+    pub row: usize,
+    pub choice: Choice,
+}
+
+/// A reply that nothing explains.
+#[derive(Clone, Copy, Debug, Drop)]
+pub struct Blame<'a> {
+    pub row: usize,
+    /// What a correct server answers after the steps, or at the request's own step.
+    pub correct: Option<&'a Reply>,
+}
+
+/// The picture of the history that this excerpt spells, with or without a claim, and of which this is known.
+pub fn picture_of<'a>(
+    alloc: Global,
+    history: &'a History,
+    known: &'a Known,
+    has_claim: bool,
+    excerpt: Excerpt<'_>,
+) -> Result<Picture<'a>, OutOfMemory> {
+    let rows = rows_of(alloc, history, excerpt)?;
+    let (start, steps) = match explanation_in(known) {
+        Some(explanation) => (
+            explanation.start.as_slice(),
+            steps_of(alloc, rows.as_slice(), explanation.order.as_slice())?,
+        ),
+        None => (&[] as &[(Bytes, u64)], Vec::new(alloc)),
+    };
+    let blame = blame_in(rows.as_slice(), known);
+    Ok(Picture {
+        known,
+        claim_fails: has_claim && !matches!(known, Known::Confirmed(_)),
+        is_ordered: history.notes().is_some(),
+        rows,
+        start,
+        steps,
+        blame,
+    })
+}
+
+// What explains the history, or if nothing does what stands before the place of its cause.
+fn explanation_in(known: &Known) -> Option<&Explanation> {
+    match known {
+        Known::Confirmed(explanation) | Known::Explained(explanation) => Some(explanation),
+        Known::Unexplained(Finding::Cause(cause)) => Some(&cause.explanation),
+        Known::Unexplained(Finding::Undecided(_)) | Known::Undecided => None,
+    }
+}
+
+fn steps_of(alloc: Global, rows: &[Row<'_>], moves: &[Move]) -> Result<Vec<Step>, OutOfMemory> {
+    let mut steps = Vec::new(alloc);
+    'moves: for (place, by) in moves.iter().enumerate() {
+        let (earlier, _) = moves.split_at(place);
+        let index = earlier.iter().filter(|one| one.actor == by.actor).count();
+        if let Some(row) = row_at(rows, lane_of(by.actor), index) {
+            let choice = by.choice;
+            steps.push(Step { row, choice })?;
+        }
+    }
+    Ok(steps)
+}
+
+fn blame_in<'a>(rows: &[Row<'_>], known: &'a Known) -> Option<Blame<'a>> {
+    match known {
+        Known::Unexplained(Finding::Cause(cause)) => blame_of(rows, cause),
+        _ => None,
+    }
+}
+
+fn blame_of<'a>(rows: &[Row<'_>], cause: &'a Cause) -> Option<Blame<'a>> {
+    let row = rows.iter().position(|row| stands_at(row, cause.place))?;
+    let lane = rows.get(row)?.lane;
+    let section = SECTIONS.get(lane)?;
+    let correct = match cause.answers.get(*section) {
+        Some(Answer::Next { reply, .. }) | Some(Answer::Acted { reply, .. }) => Some(reply),
+        None => None,
+    };
+    Some(Blame { row, correct })
+}
+
+// Whether the request begins or is answered at the place.
+fn stands_at(row: &Row<'_>, place: usize) -> bool {
+    let is_answered = match row.answer {
+        Some(answered) => answered.place == place,
+        None => false,
+    };
+    is_answered || row.begin == place
+}
+
+impl Picture<'_> {
+    /// Whether nothing explains the reply to the row's request.
+    pub fn is_wrong(&self, row: usize) -> bool {
+        match self.blame {
+            Some(blame) => blame.row == row,
+            None => false,
+        }
+    }
+
+    /// What a correct server answers in place of the reply that nothing explains.
+    pub fn correct(&self) -> Option<&Reply> {
+        self.blame?.correct
+    }
+}

@@ -1,0 +1,178 @@
+//! The requests of a history in the order in which they began.
+
+use crate::excerpt::Excerpt;
+use mc_model::{History, Note};
+use mc_protocol::{Actor, Lines, OutOfMemory, Reply, Request, Separator};
+use std::alloc::Global;
+
+/// The sections of a history: each has a lane of a picture.
+pub const SECTIONS: [Actor; 3] = [Actor::P, Actor::A, Actor::B];
+
+/// A request of a history, as a picture shows it.
+#[derive(Debug, Drop)]
+pub struct Row<'a> {
+    /// The lane of its section, counted from 0.
+    pub lane: usize,
+    /// Its place in its section, counted from 0.
+    pub index: usize,
+    pub request: &'a Request,
+    /// The place at which it begins: of the notes, or if there are none of all requests.
+    pub begin: usize,
+    /// The line on which it begins.
+    pub line: u32,
+    pub answer: Option<Answered<'a>>,
+}
+
+/// The reply to a request.
+#[derive(Clone, Copy, Debug, Drop)]
+pub struct Answered<'a> {
+    pub reply: &'a Reply,
+    /// The place at which it comes, as that of a begin.
+    pub place: usize,
+    pub line: u32,
+}
+
+impl Row<'_> {
+    /// The name of its section.
+    pub fn section(&self) -> &'static str {
+        match SECTIONS.get(self.lane) {
+            Some(section) => section.word(),
+            None => "",
+        }
+    }
+}
+
+/// The lane of a section.
+pub fn lane_of(section: Actor) -> usize {
+    match section {
+        Actor::P => 0,
+        Actor::A => 1,
+        Actor::B => 2,
+    }
+}
+
+/// The row of the lane's request with this index.
+pub fn row_at(rows: &[Row<'_>], lane: usize, index: usize) -> Option<usize> {
+    rows.iter()
+        .position(|row| row.lane == lane && row.index == index)
+}
+
+/// The requests of the history, which this excerpt spells, in the order in which they began; if it keeps no notes P's, then A's, then B's.
+pub fn rows_of<'a>(
+    alloc: Global,
+    history: &'a History,
+    excerpt: Excerpt<'_>,
+) -> Result<Vec<Row<'a>>, OutOfMemory> {
+    let lines = numbered_lines(alloc, excerpt)?;
+    match history.notes() {
+        Some(notes) => rows_of_notes(alloc, notes, lines.as_slice()),
+        None => rows_of_sections(alloc, history, lines.as_slice()),
+    }
+}
+
+// The lines after the header: the first byte of the section's name, and the number.
+fn numbered_lines(alloc: Global, excerpt: Excerpt<'_>) -> Result<Vec<(u8, u32)>, OutOfMemory> {
+    let mut numbered = Vec::new(alloc);
+    let mut lines = Lines::new(excerpt.text, Separator::Space);
+    let _header = lines.next();
+    'lines: while let Some(line) = lines.next() {
+        let initial = line.text.iter().copied().find(|byte| *byte != b' ');
+        let number = excerpt.lines_before.saturating_add(line.number);
+        numbered.push((initial.unwrap_or(b' '), number))?;
+    }
+    Ok(numbered)
+}
+
+fn rows_of_notes<'a>(
+    alloc: Global,
+    notes: &'a [(Actor, Note)],
+    lines: &[(u8, u32)],
+) -> Result<Vec<Row<'a>>, OutOfMemory> {
+    let mut rows = Vec::new(alloc);
+    'notes: for (place, (section, note)) in notes.iter().enumerate() {
+        let lane = lane_of(*section);
+        let (_, line) = lines.get(place).copied().unwrap_or((0, 0));
+        match note {
+            Note::Begin(request) => {
+                let index = count_in(rows.as_slice(), lane);
+                rows.push(Row {
+                    lane,
+                    index,
+                    request,
+                    begin: place,
+                    line,
+                    answer: None,
+                })?;
+            }
+            Note::Reply(reply) => answer_last(&mut rows, lane, Answered { reply, place, line }),
+        }
+    }
+    Ok(rows)
+}
+
+fn count_in(rows: &[Row<'_>], lane: usize) -> usize {
+    rows.iter().filter(|row| row.lane == lane).count()
+}
+
+// The lane's last request is answered.
+fn answer_last<'a>(rows: &mut Vec<Row<'a>>, lane: usize, answered: Answered<'a>) {
+    let last = count_in(rows.as_slice(), lane).saturating_sub(1);
+    if let Some(place) = row_at(rows.as_slice(), lane, last) {
+        if let Some(row) = rows.get_mut(place) {
+            row.answer = Some(answered);
+        }
+    }
+}
+
+fn rows_of_sections<'a>(
+    alloc: Global,
+    history: &'a History,
+    lines: &[(u8, u32)],
+) -> Result<Vec<Row<'a>>, OutOfMemory> {
+    let mut rows = Vec::new(alloc);
+    'sections: for section in SECTIONS {
+        push_section(&mut rows, history, section, lines)?;
+    }
+    Ok(rows)
+}
+
+fn push_section<'a>(
+    rows: &mut Vec<Row<'a>>,
+    history: &'a History,
+    section: Actor,
+    lines: &[(u8, u32)],
+) -> Result<(), OutOfMemory> {
+    let lane = lane_of(section);
+    let name = section.word().as_bytes();
+    'requests: for (index, sent) in history.sent(section).iter().enumerate() {
+        let place = rows.len();
+        let line = nth_line(lines, name, index);
+        let answer = match &sent.reply {
+            Some(reply) => Some(Answered { reply, place, line }),
+            None => None,
+        };
+        rows.push(Row {
+            lane,
+            index,
+            request: &sent.request,
+            begin: place,
+            line,
+            answer,
+        })?;
+    }
+    Ok(())
+}
+
+// The number of the line of a section's request with this index.
+fn nth_line(lines: &[(u8, u32)], name: &[u8], index: usize) -> u32 {
+    let mut left = index;
+    'lines: for (initial, number) in lines {
+        if name.first().copied() == Some(*initial) {
+            if left == 0 {
+                return *number;
+            }
+            left -= 1;
+        }
+    }
+    0
+}

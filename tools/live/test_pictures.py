@@ -1,0 +1,71 @@
+"""The pictures that `draw` makes of histories."""
+
+import re
+
+from .pictures import faults_of
+from .program import LiveTest, rows, run
+from .test_examples import examples
+
+KEYS = ["k" * 39 + end for end in "01"]
+# A longest body of each sort of byte, as a history writes it.
+WIDE = "=" + "%00<&'\"%7f>" * 9362
+BODIES = ["=", "=9%20", WIDE]
+
+
+def lines_of(who, requests):
+    return [(f"{who} begin {sent}", f"{who} reply {came}") for sent, came in requests]
+
+
+def full_history():
+    """24 requests in each section, with the longest keys, numbers and bodies."""
+    number = 2**64 - 1
+    hit = f"HIT {2**32 - 1} {WIDE} {number}"
+    prefix = [(f"delete {key}", "NOT_FOUND") for key in KEYS]
+    prefix += [(f"set {KEYS[0]} {2**32 - 1} {WIDE}", "STORED"), (f"gets {KEYS[0]}", hit)]
+    prefix += [(f"get {KEYS[1]}", "MISS")] * (24 - len(prefix))
+    one = [(f"cas {KEYS[0]} 0 =x {number}", "EXISTS")] * 24
+    other = [(f"append {KEYS[1]} {2**32 - 1} =<&>'\"0123456789012345", "NOT_STORED")] * 24
+    yield "history 2"
+    for begin, reply in lines_of("P", prefix):
+        yield from (begin, reply)
+    for (begin, reply), (begin_b, reply_b) in zip(lines_of("A", one), lines_of("B", other)):
+        yield from (begin, begin_b, reply, reply_b)
+    yield "end"
+
+
+def one_without_a_reply(body):
+    yield from ("history 2", "P begin delete k", "P reply NOT_FOUND", f"A begin set k 0 {body}")
+    yield from ("B begin get k", f"B reply HIT 0 {body}", "B begin get k", "B reply MISS", "end")
+
+
+def text(lines):
+    return "".join(line + "\n" for line in lines).encode()
+
+
+MADE = [
+    ("full sections", text(full_history())),
+    *((f"a body of {len(body)}", text(one_without_a_reply(body))) for body in BODIES),
+]
+
+
+class Pictures(LiveTest):
+    """Of each history there is a picture that can be read."""
+
+    @rows([*MADE, *((name, given) for name, _, given in examples("history"))])
+    def test_svg(self, given):
+        ran = run(["draw"], given)
+        if ran.status == 3:
+            self.assertEqual(ran.output, run(["judge"], given).output)
+            return
+        self.assertEqual(ran.status, 0)
+        is_ordered = b"history 2\n" in given
+        begin = rb"^[PAB] begin " if is_ordered else rb"^[PAB] [a-z]+ [a-z0-9-]+"
+        requests = len(re.findall(begin, given.split(b"explain\n")[0], re.M))
+        self.assertEqual([*faults_of(ran.output, requests, is_ordered)], [])
+
+    @rows((name, given) for name, _, given in examples("history"))
+    def test_text(self, given):
+        """The text of an example is ASCII of at most 80 columns."""
+        ran = run(["draw", "--text"], given)
+        self.assertTrue(ran.output.isascii())
+        self.assertLessEqual(max(map(len, ran.output.split(b"\n"))), 80)
