@@ -4,3 +4,9 @@ pub mod Settling
 pub mod Trying
 pub mod Making
 pub mod Versions
+pub mod Alike
+pub mod EachVerb
+pub mod Shown
+pub mod Seen
+pub mod Simulating
+pub mod Covering

@@ -6,3 +6,8 @@ pub mod Claims
 -- What private contracts cite.
 pub mod Standing
 pub mod Trials
+pub mod Held
+pub mod Points
+pub mod Spots
+pub mod Search
+pub mod Searched

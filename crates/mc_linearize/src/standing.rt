@@ -1,10 +1,11 @@
 //! How far an order of a timeline's requests has come.
-ghost use Rattle.std.specs.Prelude.{◌≡◌, ◌≤◌, ◌<◌, ◌↔◌, ⊥, ℕ, length, slice_get, drop, get_or, false, MatchOption, IsTrue, IfOk, List};
+ghost use Rattle.std.specs.Prelude.{◌≡◌, ◌≤◌, ◌↔◌, [], length, slice_get, get_or, MatchOption, IsTrue, IfOk};
+ghost use Rattle.std.specs.Option.{option_copied};
 ghost use Rattle.mc_timeline.specs.Operations.{Operation as TheOperation};
-ghost use Rattle.mc_timeline.specs.Queues as queues;
+ghost use Rattle.mc_timeline.specs.Queues as left;
 ghost use Rattle.mc_linearize.specs.Standing as standing;
 
-use crate::operation::{Operation, Queue};
+use crate::operation::{Answer, Operation, Queue};
 use crate::queues::queues_of;
 use mc_model::Note;
 use mc_protocol::OutOfMemory;
@@ -54,15 +55,17 @@ impl<'a> Standing<'a> {
     /// Lets the client's next operation take effect, if there is one that may: it began before the next operation of any client was
     /// answered.
     pub(crate) fn take(&mut self, client: u8) -> Option<Operation<'a>>
-        ensures { MatchOption result ((x : TheOperation) (after : queues.Queues) → standing.MayAct client self.old x after → ⊥)
+        ensures { MatchOption result ((x : TheOperation) (after : left.Queues) → standing.MayAct client self.old x after → ⊥)
             (λ x. standing.ActsNext client self.old x self.new) }
     {
-        let count = *self.counts.get(client as usize)?;
-        let operation = self.queues.get(client as usize)?.get(count)?.copy();
-        if operation.began > self.place {
-            return None;
-        }
-        self.counts[client as usize] = count + 1;
+        let operation = next_of(
+            self.queues.as_slice(),
+            self.counts.as_slice(),
+            self.place,
+            client,
+        )?
+        .copy();
+        self.counts[client as usize] += 1;
         self.place = settled(
             self.notes,
             self.queues.as_slice(),
@@ -74,21 +77,66 @@ impl<'a> Standing<'a> {
 
     /// Whether the order may end here: every client has nothing left, or one operation that was not answered.
     pub(crate) fn may_end(&self) -> bool
-        ensures { IsTrue result ↔ queues.MayEnd self.now }
+        ensures { IsTrue result ↔ left.MayEnd self.now }
     {
-        'clients: for client in 0..self.queues.len() {
-            if !may_client_end(self.queues.as_slice(), self.counts.as_slice(), client) {
-                return false;
-            }
-        }
-        true
+        may_all_end(self.queues.as_slice(), self.counts.as_slice())
     }
 }
 
-// The last place, from this one on, before which no client's next operation was answered.
-fn settled(notes: &[(u8, Note)], queues: &[Queue<'_>], counts: &[usize], from: usize) -> usize
+/// Whether an order may end here: every client has nothing left, or one operation that was not answered.
+pub(crate) fn may_all_end(queues: &[Queue<'_>], counts: &[usize]) -> bool
+    requires { length counts.now ≡ length queues.now }
+    ensures { IsTrue result ↔ left.MayEnd (standing.left_by queues.now counts.now) }
+{
+    'clients: for client in 0..queues.len() {
+        if !queues[client].may_end(counts[client]) {
+            return false;
+        }
+    }
+    true
+}
+
+/// The client's next operation, if it began no later than this place.
+pub(crate) fn next_of<'q, 'a>(
+    queues: &'q [Queue<'a>],
+    counts: &[usize],
+    place: usize,
+    client: u8,
+) -> Option<&'q Operation<'a>>
+    requires { length counts.now ≡ length queues.now }
+    ensures { MatchOption result (standing.NoneBegan queues.entry.now counts.now place client) (λ x.
+        standing.HasBegan queues.entry.now counts.now place client x.now) }
+{
+    let operation = first_left(queues, counts, client)?;
+    if operation.began > place {
+        return None;
+    }
+    Some(operation)
+}
+
+// The first operation that the client has left.
+fn first_left<'q, 'a>(
+    queues: &'q [Queue<'a>],
+    counts: &[usize],
+    client: u8,
+) -> Option<&'q Operation<'a>>
+    requires { length counts.now ≡ length queues.now }
+    ensures { option_copied result ≡ slice_get (get_or queues.entry.now client []) (get_or counts.now client 0) }
+{
+    let count = *counts.get(client as usize)?;
+    queues.get(client as usize)?.get(count)
+}
+
+/// The last place, from this one on, before which no client's next operation was answered.
+pub(crate) fn settled(
+    notes: &[(u8, Note)],
+    queues: &[Queue<'_>],
+    counts: &[usize],
+    from: usize,
+) -> usize
     requires standing { standing.AreQueues notes.now queues.now }
-    requires none { queues.NoNextCameBefore from (standing.left_by queues.now counts.now) }
+    requires counted { length counts.now ≡ length queues.now }
+    requires none { left.NoNextCameBefore from (standing.left_by queues.now counts.now) }
     requires within { from ≤ length notes.now }
     ensures settled { standing.IsSettled (length notes.now) (standing.left_by queues.now counts.now) result }
     ensures within { result ≤ length notes.now }
@@ -105,28 +153,21 @@ fn settled(notes: &[(u8, Note)], queues: &[Queue<'_>], counts: &[usize], from: u
 
 // Whether the client's next operation was answered at this place.
 fn is_answered_at(queues: &[Queue<'_>], counts: &[usize], client: u8, place: usize) -> bool
+    requires { length counts.now ≡ length queues.now }
     ensures { result ≡ standing.is_answered_at place (standing.queue_left queues.now counts.now client) }
 {
-    let Some(count) = counts.get(client as usize) else {
-        return false;
-    };
-    let Some(queue) = queues.get(client as usize) else {
-        return false;
-    };
-    match queue.get(*count) {
-        Some(operation) => match &operation.answer {
-            Some(answer) => answer.time == place,
-            None => false,
-        },
+    match first_left(queues, counts, client) {
+        Some(operation) => came_at(place, &operation.answer),
         None => false,
     }
 }
 
-// Whether the client has nothing left, or one operation that was not answered.
-fn may_client_end(queues: &[Queue<'_>], counts: &[usize], client: usize) -> bool
-    requires client { client < length queues.now }
-    requires counts { length counts.now ≡ length queues.now }
-    ensures { result ≡ standing.may_queue_end (standing.queue_left queues.now counts.now client) }
+// Whether the answer came at this place.
+fn came_at(place: usize, answer: &Option<Answer<'_>>) -> bool
+    ensures { result ≡ standing.came_at place answer.now }
 {
-    queues[client].may_end(counts[client])
+    match answer {
+        Some(answer) => answer.time == place,
+        None => false,
+    }
 }
