@@ -6,7 +6,6 @@ pub mod Making
 pub mod Versions
 pub mod Alike
 pub mod EachVerb
-pub mod Shown
+pub mod ShownNumbers
 pub mod Seen
 pub mod Simulating
-pub mod Covering

@@ -8,6 +8,3 @@ pub mod Standing
 pub mod Trials
 pub mod Held
 pub mod Points
-pub mod Spots
-pub mod Search
-pub mod Searched

@@ -4,17 +4,12 @@
 //! `confirm_timeline` is true exactly if the explanation explains the timeline (`specs/Claims.antt`).
 #![tactic(auto)]
 
-mod children;
 mod confirm;
 mod explanation;
 mod held;
 mod keys;
-mod numbering;
 mod operation;
 mod queues;
-mod search;
-mod shown;
-mod spot;
 mod standing;
 mod trial;
 mod version;

@@ -58,13 +58,16 @@ impl<'a> Standing<'a> {
         ensures { MatchOption result ((x : TheOperation) (after : left.Queues) → standing.MayAct client self.old x after → ⊥)
             (λ x. standing.ActsNext client self.old x self.new) }
     {
-        let operation = next_of(
+        let next = next_of(
             self.queues.as_slice(),
             self.counts.as_slice(),
             self.place,
             client,
-        )?
-        .copy();
+        );
+        let Some(operation) = next else {
+            return None;
+        };
+        let operation = operation.copy();
         self.counts[client as usize] += 1;
         self.place = settled(
             self.notes,
@@ -107,7 +110,9 @@ pub(crate) fn next_of<'q, 'a>(
     ensures { MatchOption result (standing.NoneBegan queues.entry.now counts.now place client) (λ x.
         standing.HasBegan queues.entry.now counts.now place client x.now) }
 {
-    let operation = first_left(queues, counts, client)?;
+    let Some(operation) = first_left(queues, counts, client) else {
+        return None;
+    };
     if operation.began > place {
         return None;
     }
@@ -123,8 +128,13 @@ fn first_left<'q, 'a>(
     requires { length counts.now ≡ length queues.now }
     ensures { option_copied result ≡ slice_get (get_or queues.entry.now client []) (get_or counts.now client 0) }
 {
-    let count = *counts.get(client as usize)?;
-    queues.get(client as usize)?.get(count)
+    let Some(count) = counts.get(client as usize) else {
+        return None;
+    };
+    let Some(queue) = queues.get(client as usize) else {
+        return None;
+    };
+    queue.get(*count)
 }
 
 /// The last place, from this one on, before which no client's next operation was answered.

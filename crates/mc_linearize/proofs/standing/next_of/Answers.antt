@@ -1,4 +1,25 @@
+use Rattle.std.proofs.Common.{◌≡◌, ◌∙◌, sym, ap, Some, None, slice_get, get_or, [], arith}
+use Rattle.std.specs.Option.{option_copied}
+use Rattle.mc_linearize.proofs.Settling.{none_began, began_later, client_there}
 use Rattle.mc_linearize.proofs.standing.next_of.Goals as goal
 
+pub returns-in_default : goal.returns-in_default
+returns-in_default c =
+    none_began c.args.queues.now c.args.counts.now c.args.place c.args.client (sym c.first_left.ensures ∙ ap option_copied c.in_default.is)
+
+pub returns-then : goal.returns-then
+returns-then c =
+    began_later c.args.queues.now c.args.counts.now c.args.place c.args.client c.in-Some.operation.now
+    (sym c.first_left.ensures ∙ ap option_copied c.in-Some.is) (omega arith)
+
 pub returns : goal.returns
-returns c = ?
+returns c =
+    let queues = c.args.queues.now in
+    let counts = c.args.counts.now in
+    let there : slice_get (get_or queues c.args.client []) (get_or counts c.args.client 0) ≡ Some c.in-Some.operation.now =
+    sym c.first_left.ensures ∙ ap option_copied c.in-Some.is in
+    record {
+      client_there = client_there queues c.args.client (get_or counts c.args.client 0) c.in-Some.operation.now there;
+      next = there;
+      began = omega arith;
+    }
