@@ -1,12 +1,13 @@
 //! How far an order of a timeline's requests has come.
-ghost use Rattle.std.specs.Prelude.{◌≡◌, ◌≤◌, ◌↔◌, [], length, slice_get, get_or, MatchOption, IsTrue, IfOk};
+ghost use Rattle.std.specs.Prelude.{◌≡◌, ◌+◌, ◌^◌, ◌<◌, ◌≤◌, ◌↔◌, [], length, slice_get, get_or, MatchOption, IsTrue, IfOk, IfSome};
+ghost use Rattle.mc_timeline.specs.Rules.{IsTimeline};
 ghost use Rattle.std.specs.Option.{option_copied};
 ghost use Rattle.mc_timeline.specs.Operations.{Operation as TheOperation};
 ghost use Rattle.mc_timeline.specs.Queues as left;
 ghost use Rattle.mc_linearize.specs.Standing as standing;
 
 use crate::operation::{Answer, Operation, Queue};
-use crate::queues::queues_of;
+use crate::queues::{no_counts, queues_of};
 use mc_model::Note;
 use mc_protocol::OutOfMemory;
 use std::alloc::Global;
@@ -39,10 +40,11 @@ impl<'a> Model for Standing<'a> {
 impl<'a> Standing<'a> {
     /// Before the first request takes effect.
     pub(crate) fn new(alloc: Global, notes: &'a [(u8, Note)]) -> Result<Self, OutOfMemory>
+        requires { IsTimeline notes.now }
         ensures { IfOk result (λ left. standing.IsWhole notes.entry.now left) }
     {
         let queues = queues_of(alloc, notes)?;
-        let counts = vec![in alloc; 0; queues.len()]?;
+        let counts = no_counts(alloc, queues.len())?;
         let place = settled(notes, queues.as_slice(), counts.as_slice(), 0);
         Ok(Standing {
             notes,
@@ -126,7 +128,8 @@ fn first_left<'q, 'a>(
     client: u8,
 ) -> Option<&'q Operation<'a>>
     requires { length counts.now ≡ length queues.now }
-    ensures { option_copied result ≡ slice_get (get_or queues.entry.now client []) (get_or counts.now client 0) }
+    ensures first { option_copied result ≡ slice_get (get_or queues.entry.now client []) (get_or counts.now client 0) }
+    ensures counted { IfSome result (λ _. get_or counts.now client 0 + 1 < 2 ^ 64) }
 {
     let Some(count) = counts.get(client as usize) else {
         return None;
@@ -134,6 +137,9 @@ fn first_left<'q, 'a>(
     let Some(queue) = queues.get(client as usize) else {
         return None;
     };
+    if *count >= queue.len() {
+        return None;
+    }
     queue.get(*count)
 }
 

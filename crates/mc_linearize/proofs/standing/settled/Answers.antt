@@ -1,8 +1,8 @@
-use Rattle.std.proofs.Common.{◌≡◌, ◌<◌, ◌∙◌, sym, Some, length, slice_get, arith}
+use Rattle.std.proofs.Common.{◌≡◌, ◌∙◌, sym, Some, slice_get, arith}
 use Rattle.std.specs.Prelude.{slice_index_or}
 use Rattle.std.proofs.lemmas.Option.{slice_get-get_or}
 use Rattle.mc_timeline.specs.Timelines.{ClientNote}
-use Rattle.mc_linearize.proofs.Settling.{crosses, stops, settled_at_end}
+use Rattle.mc_linearize.proofs.Settling.{crosses, stops}
 use Rattle.mc_linearize.proofs.standing.settled.Goals as goal
 
 pub places-preserved : goal.places-preserved
