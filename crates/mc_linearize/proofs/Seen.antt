@@ -6,7 +6,7 @@ use Rattle.std.specs.List.{list_any}
 use Rattle.std.specs.Str.{bytes_eq}
 use Rattle.std.proofs.lemmas.Bool.{and_parts}
 use Rattle.std.proofs.lemmas.Option.{slice_get_within}
-use Rattle.mc_protocol.specs.declared.{request.Request.Request, reply.Reply.Reply}
+use Rattle.mc_protocol.specs.declared.{request.Request.Request}
 use Rattle.mc_model.specs.declared.note.Note.TheVariants as note
 use Rattle.mc_model.specs.declared.rules.HistoryKind.TheVariants as kind
 use Rattle.mc_model.specs.History.{is_cas, is_gets, shows_number, has_words, shows as shown_on}
