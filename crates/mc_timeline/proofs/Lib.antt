@@ -13,6 +13,7 @@ pub mod InOrder
 pub mod MoreNotes
 pub mod Following
 pub mod Begun
+pub mod Answered
 pub mod Replied
 pub mod TimelineOrder
 pub mod RestrictedRules

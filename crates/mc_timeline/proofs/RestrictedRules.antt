@@ -24,7 +24,7 @@ use Rattle.mc_timeline.proofs.Members.{among_parts}
 use Rattle.mc_timeline.proofs.MoreNotes.{unanswered, answered, begun, replied}
 use Rattle.mc_timeline.proofs.Following.{keep_more, shown_on}
 use Rattle.mc_timeline.proofs.Begun.{room_and_free, none_of}
-use Rattle.mc_timeline.proofs.Replied.{none_left, others_wait}
+use Rattle.mc_timeline.proofs.Answered.{none_left, others_wait}
 use Rattle.mc_timeline.proofs.Retiming.{retimed}
 use Rattle.mc_timeline.proofs.Timelines.{restricted_clock, restricted_operations}
 use Rattle.mc_timeline.proofs.TimelineOrder.{are_ordered}

@@ -12,7 +12,7 @@ use Rattle.mc_timeline.specs.Rules as rule
 use Rattle.mc_timeline.specs.Laws.{TimelinesAreInOrder}
 use Rattle.mc_timeline.proofs.MoreNotes.{unanswered, answered, begun, replied}
 use Rattle.mc_timeline.proofs.Begun.{room_and_free, none_of}
-use Rattle.mc_timeline.proofs.Replied.{none_left, others_wait}
+use Rattle.mc_timeline.proofs.Answered.{none_left, others_wait}
 
 abbrev Tells : Waiting → List ClientNote → Type 0
 Tells waits notes = (client : ℕ) → waits client ≡ not (rule.is_unused (rule.waiting_of client (operations_of notes)))

@@ -1,0 +1,11 @@
+pub mod Lefts
+pub mod AnswerNotes
+pub mod Settling
+pub mod Trying
+pub mod Making
+pub mod Versions
+pub mod Alike
+pub mod EachVerb
+pub mod ShownNumbers
+pub mod Seen
+pub mod Simulating

@@ -1,0 +1,14 @@
+-- What the public contracts cite.
+pub use Rattle.mc_timeline.specs.Explanations
+pub use Rattle.mc_timeline.specs.Members
+pub use Rattle.mc_timeline.specs.Operations
+pub use Rattle.mc_timeline.specs.Queues
+pub use Rattle.mc_timeline.specs.Rules
+pub use Rattle.mc_timeline.specs.Timelines
+pub mod Claims
+pub mod Standing
+pub mod Held
+pub mod Points
+pub mod SearchLaws
+-- What private contracts cite.
+pub mod Trials

@@ -1,0 +1,8 @@
+//! What `mc_linearize`'s public calls answer with memory there. The tests stand in a crate of their own so that their proofs don't
+//! prove the library once more.
+#![tactic(auto)]
+
+#[cfg(test)]
+mod confirm_tests;
+#[cfg(test)]
+mod notes;
