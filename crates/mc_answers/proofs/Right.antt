@@ -47,30 +47,6 @@ out_of_memory_by does left old new ended grows ended_is =
     let whole = some_whole left in
     answers_by (IsAnswerBy does) left old new ended out_of_memory_text (whole.0, whole.1, inr (inr (refl, ended_is))) grows
 
--- ---- what was written
-
--- one text was written, or the write failed
-pub text_written : {O : Type 0} (written : O → Option (List ℕ)) (has_failed : O → Bool) (right_for : List ℕ → Status → Type 0) (old new : O)
-    (text : List ℕ) (wanted ended : Status)
-    → (has_failed old ≡ false → has_failed new ≡ false → Grows (written old) (written new) text × (ended ≡ wanted))
-    → (has_failed old ≡ false → has_failed new ≡ true → ended ≡ status.NoAnswer) → right_for text wanted
-    → WritesRightly written has_failed right_for old new ended
-text_written written has_failed right_for old new text wanted ended grows broken right = record {
-  answered = λ before after. let all = grows before after in
-      record { output = text; right = inl (rw all.1 right); written = all.0 };
-  broken = broken;
-}
-
--- memory ran out
-pub memory_written : {O : Type 0} (written : O → Option (List ℕ)) (has_failed : O → Bool) (right_for : List ℕ → Status → Type 0)
-    (old new : O) (ended : Status)
-    → (has_failed old ≡ false → has_failed new ≡ false → Grows (written old) (written new) out_of_memory_text)
-    → ended ≡ status.NoAnswer → WritesRightly written has_failed right_for old new ended
-memory_written written has_failed right_for old new ended grows ended_is = record {
-  answered = λ before after. record { output = out_of_memory_text; right = inr (refl, ended_is); written = grows before after };
-  broken = λ before after. ended_is;
-}
-
 -- ---- what was read and written
 
 -- the answer to the input that was read was written, or the write failed
