@@ -113,6 +113,7 @@ one_more_made c all steps noted old new skipped skipped_then makers front longer
   where
     last : MakesNote c all (length makers) (length steps)
     last = rw made.count (makes c all steps noted old new skipped skipped_then front longer before after more)
+
     at_place : (place : ℕ) → place < length (makers ++ length steps ∷ []) → (place < length makers) ⊎ (length makers ≤ place)
         → MakesNote c all place (slice_index_or (makers ++ length steps ∷ []) place 0)
     at_place place within (inl earlier) = rw (get_or_append_left makers (length steps ∷ []) 0 place earlier) (made.each place earlier)

@@ -30,16 +30,19 @@ returns-in-Err c =
     c.saturating_add.ensures ∙ (ap (λ n. min (n + 1) LAST_NUMBER) c.count_lines-before.ensures
     ∙ ap (λ front. line_after front) c.split_at.ensures.front) in
     IfRefused-weaker c.refuse_steps.result _ (λ text. Drives c.args.how.why c.args.text.now text status.Refused)
-    (λ text is. inr (inr (inr (
-      c.in-Err.fault.kind,
-      c.in-Err.fault.line,
-      record {
-        code = c.args.checked.now.code;
-        size = c.args.size;
-        begins = c.requires;
-        kind = is.0;
-        none = λ steps spelled. c.in-Err.ensures.none is.0 steps (rw c.split_at.ensures.back spelled);
-        after = rw first at (c.in-Err.ensures.line is.0);
-      },
-      is.1,
-    )), refl)) c.refuse_steps.ensures
+    (λ text is. inr (
+      inr (inr (
+        c.in-Err.fault.kind,
+        c.in-Err.fault.line,
+        record {
+          code = c.args.checked.now.code;
+          size = c.args.size;
+          begins = c.requires;
+          kind = is.0;
+          none = λ steps spelled. c.in-Err.ensures.none is.0 steps (rw c.split_at.ensures.back spelled);
+          after = rw first at (c.in-Err.ensures.line is.0);
+        },
+        is.1,
+      )),
+      refl,
+    )) c.refuse_steps.ensures

@@ -37,11 +37,11 @@ steps-preserved c =
             let some = w.if-notes-gt0.true in
             let last : c.take_step-notes.result ≡ 1 = omega (arith, one, some) in
             rw (w.makers-is, w.in_ok-push.ensures.items, before.index) (one_more_made code all steps noted c.steps.world.world
-                c.take_step-notes.new.world.world c.steps.skipped c.take_step-notes.new.skipped c.steps.makers.items
-                (sym front) (sym whole) before.fold fold (rw last at adds) before.made)
+            c.take_step-notes.new.world.world c.steps.skipped c.take_step-notes.new.skipped c.steps.makers.items
+            (sym front) (sym whole) before.fold fold (rw last at adds) before.made)
         | else-notes-gt0 w ↦
             let none = w.if-notes-gt0.false in
             rw w.makers-is (none_made code all c.steps.world.world c.take_step-notes.new.world.world c.steps.makers.items
-                (omega (arith, adds, none)) before.made)
+            (omega (arith, adds, none)) before.made)
       ];
     }
