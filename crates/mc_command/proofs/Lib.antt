@@ -9,3 +9,4 @@ pub mod MoreRuns
 pub mod ReportStatuses
 pub mod Shown
 pub mod TallyMore
+pub mod Unplayed

@@ -1,5 +1,5 @@
 //! The code that a line of `run` plays: that of its script, or that under its name.
-ghost use Rattle.std.specs.Prelude.{◌≡◌, List, Option, ℕ, IfErr, IfOk};
+ghost use Rattle.std.specs.Prelude.{◌≡◌, Bool, List, Option, ℕ, IfErr, IfOk};
 ghost use Rattle.mc_command.specs.RunAnswers as answers;
 
 use crate::run::Remarks;

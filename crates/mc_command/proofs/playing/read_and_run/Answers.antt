@@ -1,2 +1,0 @@
-use Rattle.std.proofs.Common.{inl, inr}
-use Rattle.mc_command.proofs.playing.read_and_run.Goals as goal

@@ -1,1 +1,0 @@
-use Rattle.mc_command.proofs.selftest.racy_passes.Goals as goal
