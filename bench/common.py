@@ -10,6 +10,7 @@ import contextlib
 import fcntl
 import os
 import pathlib
+import re
 import shutil
 import socket
 import subprocess
@@ -158,17 +159,23 @@ def all_compiled(*names):
 @contextlib.contextmanager
 def served(words, port=None):
     """The port and the process of a server, which prints its port if it isn't given one."""
-    process = subprocess.Popen(words, stdout=None if port else subprocess.PIPE, text=True)
-    try:
-        port = port or int(process.stdout.readline().rsplit(":", 1)[1])
-        for _ in range(100):
-            with contextlib.suppress(OSError), socket.create_connection(("127.0.0.1", port), 1):
-                break
-            time.sleep(0.05)
-        yield port, process.pid
-    finally:
-        process.terminate()
-        process.wait()
+    pipes = {"stdin": subprocess.PIPE, "stdout": None if port else subprocess.PIPE, "text": True}
+    with subprocess.Popen(list(map(str, words)), **pipes) as process:
+        try:
+            if port is None:
+                port = int(re.search(r"\d+$", process.stdout.readline())[0])
+            else:
+                wait_for(port)
+            yield port, process
+        finally:
+            process.terminate()
+
+
+def wait_for(port):
+    for _ in range(100):
+        with contextlib.suppress(OSError), socket.create_connection(("127.0.0.1", port), 1):
+            break
+        time.sleep(0.05)
 
 
 def memcached(threads=4):
@@ -178,4 +185,4 @@ def memcached(threads=4):
     with socket.create_server(("127.0.0.1", 0)) as free:
         port = free.getsockname()[1]
     words = ["memcached", "-u", "nobody", "-l", "127.0.0.1", "-p", port, "-t", threads]
-    return served([*map(str, words), "-m", "1024", "-c", "4096"], port)
+    return served([*words, "-m", 1024, "-c", 4096], port)
