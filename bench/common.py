@@ -116,6 +116,16 @@ def timed(words, text):
         return ended.stdout, ended.returncode, time.perf_counter() - began
 
 
+def quickest(repeats, words, text, is_right):
+    """What a command answers to a text, which must be right with its status; the milliseconds of
+    the quickest of its runs; and the most kilobytes that it held."""
+    runs = [timed(words, text) for _ in range(repeats)]
+    for answer, status, _ in runs:
+        if not is_right(answer, status):
+            stop(words, "answered", answer[:80], "with status", status)
+    return runs[0][0], 1000 * min(it for _, _, it in runs), peak(words, text)
+
+
 def peak(words, text):
     """The most kilobytes that a command held, read when its answer is to go into a full pipe."""
     reader, writer = os.pipe()

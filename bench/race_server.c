@@ -14,15 +14,13 @@
 // first, then A's, then B's, and nothing is kept from one run for the next. With `shared` a run is
 // any number of connections, 64 at once, until the next report. A line on standard input asks for a
 // report, while nobody is connected: a line of numbers for each run since the last one, and then
-// `end`. Times are in µs, and 0 where there was nothing of the kind:
-//
-//   1, 2    when A's first request came, and when its reply had been sent
-//   3, 4    the same of B's
-//   5       how often the race happened, which the replies then show
-//   6, 7    of a late set, when STORED had been sent, and when the last get came that showed the
-//           old value
+// `end`. These are: whether the first request of A came before that of B; whether each came before
+// the reply to the other one had been sent; how often the race happened, which the replies then
+// show; and how many µs after STORED of a late set the last get came that showed the old value, or
+// nan.
 #include "sockets.h"
 #include <inttypes.h>
+#include <math.h>
 #include <search.h>
 #include <stdatomic.h>
 
@@ -298,9 +296,10 @@ static void *serve(void *unused) {
 static void report(void) {
   int count = is_shared ? 1 : (taken + SECTIONS - 1) / SECTIONS;
   for (const struct run *run = runs; run < runs + count; run++) {
-    const struct visit *a = &run->first[A], *b = &run->first[B];
-    printf("%.1f %.1f %.1f %.1f %d %.1f %.1f\n", a->came, a->left, b->came, b->left, run->shown,
-           run->stored, run->last_old);
+    struct visit a = run->first[A], b = run->first[B];
+    double late = run->last_old && run->stored ? run->last_old - run->stored : NAN;
+    printf("%d %d %d %.1f\n", a.came && a.came < b.came, a.came < b.left && b.came < a.left,
+           run->shown + (late > 0), late);
   }
   memset(runs, 0, sizeof *runs * count);
   taken = 0;

@@ -3,6 +3,7 @@
 import collections
 import contextlib
 import functools
+import math
 import re
 from statistics import fmean
 
@@ -15,10 +16,8 @@ ROUND = 100
 CLEARLY = 20
 TOTALS = re.compile(r"runs (\d+) explained \d+ unexplained (\d+) other 0 overlapped \d+")
 
-# A run as the server saw it: the branch that came first, whether the other one came before the
-# reply to it was sent, how often the race happened, and the µs from STORED to a get of the old
-# value, or None.
-Visit = collections.namedtuple("Visit", "first overlapped shown late")
+# A run as the server saw it (race_server.c); `late` is in µs, or nan.
+Visit = collections.namedtuple("Visit", "is_a_first overlapped shown late")
 
 
 # ---- scripts
@@ -42,7 +41,8 @@ RACES = {
 def script_of(race, of_a, of_b):
     """The text of a script with so many requests of A and of B, whose key is a."""
     is_cas = race is RACES["cas"]
-    head = ["script 1", "keys a", *is_cas * ["vars unique"], *(f"budget {it} 24 1000" for it in "PAB")]
+    head = ["script 1", "keys a", *is_cas * ["vars unique"]]
+    head += [f"budget {it} 24 1000" for it in "PAB"]
     a, b = ([*(its * count)[:count], *is_cas * ["gone:"]]
             for its, count in ((race.a, of_a), (race.b, of_b)))
     return "\n".join([*head, "P", *race.prefix, "A", *a, "B", *b, "end\n"])
@@ -80,14 +80,6 @@ def request_of(line):
 # ---- the server
 
 
-def visit_of(line):
-    a_came, a_left, b_came, b_left, shown, stored, last_old = map(float, line.split())
-    both, late = a_came and b_came, last_old - stored if last_old and stored else None
-    overlapped = both and a_came < b_left and b_came < a_left
-    first = "-" if not both else "A" if a_came < b_came else "B"
-    return Visit(first, bool(overlapped), int(shown) or int(late is not None and late > 0), late)
-
-
 @contextlib.contextmanager
 def race_server(program, race, window, delay=0, is_shared=False):
     """The port of a server with a race whose window of so many µs opens so late, and a function
@@ -97,7 +89,8 @@ def race_server(program, race, window, delay=0, is_shared=False):
     with served(words) as (port, process):
         def visits():
             print("report", file=process.stdin, flush=True)
-            return [visit_of(it) for it in iter(process.stdout.readline, "end\n")]
+            lines = iter(process.stdout.readline, "end\n")
+            return [Visit(*map(float, it.split())) for it in lines]
 
         yield port, visits
 
@@ -158,35 +151,26 @@ def seen(name, play, server, race, runs):
     if len(visits) != runs:
         stop(f"{name}, {race}: {len(visits)} runs came to the server of {runs}")
     for is_found, it in zip(found or [], visits):
-        is_late = race.startswith("late") and not (is_found and it.late is None)
+        is_late = race.startswith("late") and not (is_found and math.isnan(it.late))
         if is_found != bool(it.shown) and not is_late:
             stop(f"{name}, {race}: found {is_found}, but the server saw {it}")
     return list(zip(found or [it.shown > 0 for it in visits], visits))
 
 
 def series(program, race, window, delay, players, runs):
-    """The runs of each player by its name, about so many, in which they take turns."""
+    """The shares of each player by its name, of about so many runs, in which they take turns."""
     rounds = -(-runs // ROUND)
     with race_server(program, race.split("-")[0], window, delay) as server:
         plays = {name: functools.partial(seen, name, play, server, race, -(-runs // rounds))
                  for name, play in players.items()}
-        return {name: sum(its, []) for name, its in in_turns(rounds, plays).items()}
+        found = in_turns(rounds, plays)
+    return {name: shares_of(sum(its, [])) for name, its in found.items()}
 
 
-def found_share(runs):
-    return fmean(found for found, _ in runs)
-
-
-def overlap_share(runs):
-    return fmean(it.overlapped for _, it in runs)
-
-
-def first_share(runs):
-    """The share of the runs in which A came first."""
-    return fmean(it.first == "A" for _, it in runs)
-
-
-def clear_share(runs):
-    """Of the runs that clearly broke the recorded order, the share that was found."""
-    clear = [found for found, it in runs if it.late is not None and it.late >= CLEARLY]
-    return fmean(clear) if clear else 0
+def shares_of(runs):
+    """The shares of the runs that found the race, in which the requests overlapped, and in which A
+    came first; and of those that clearly broke the recorded order, the share that found it."""
+    found, visits = zip(*runs)
+    clear = [is_found for is_found, it in runs if it.late >= CLEARLY]
+    return {"found": fmean(found), "overlapped": fmean(it.overlapped for it in visits),
+            "A first": fmean(it.is_a_first for it in visits), "clear": fmean(clear or [0])}
