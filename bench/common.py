@@ -175,17 +175,13 @@ def served(words, port=None):
             if port is None:
                 port = int(re.search(r"\d+$", process.stdout.readline())[0])
             else:
-                wait_for(port)
+                for _ in range(100):
+                    with contextlib.suppress(OSError), socket.create_connection(("127.0.0.1", port)):
+                        break
+                    time.sleep(0.05)
             yield port, process
         finally:
             process.terminate()
-
-
-def wait_for(port):
-    for _ in range(100):
-        with contextlib.suppress(OSError), socket.create_connection(("127.0.0.1", port), 1):
-            break
-        time.sleep(0.05)
 
 
 def memcached(threads=4):

@@ -7,9 +7,9 @@ import math
 import re
 from statistics import fmean
 
-from common import in_turns, ran, served, stop
+from common import in_turns, ran, served, stop  # which finds the model
+from model import STORES
 
-STORING = ("set", "add", "cas", "append", "replace", "prepend")
 # The runs that a program plays before it is another's turn.
 ROUND = 100
 # If a get that showed the old value came so long after STORED, in µs, a client can know it.
@@ -70,7 +70,7 @@ def request_of(line):
     """What a line of a script sends, without its marks and with no time of expiry; | ends a line,
     and $ stands for a number that was shown."""
     verb, *words = [it for it in line.split() if ":" not in it and it[0] not in ">?+-"]
-    if verb not in STORING:
+    if verb not in STORES:
         return " ".join([verb, *words]) + "|"
     key, flags, body, *number = words
     words = [verb, key, flags, "0", str(len(body) - 1), *("$" for _ in number)]
