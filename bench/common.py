@@ -135,22 +135,18 @@ def peak(words, text):
         given.seek(0)
         with subprocess.Popen(words, stdin=given, stdout=writer) as process:
             os.close(writer)
-            while stat_of(process.pid)[0] not in "SZ":
+            while status_of(process.pid, "State") not in "SZ":
                 time.sleep(0.001)
-            kilobytes = status_of(process.pid, "VmHWM")
+            kilobytes = int(status_of(process.pid, "VmHWM"))
             output.read()
     return kilobytes
 
 
-def stat_of(process):
-    """The words of a process's `stat`, from its state on."""
-    return pathlib.Path(f"/proc/{process}/stat").read_text().rsplit(")", 1)[1].split()
-
-
 def status_of(process, name):
-    """A line of a process's status, as a number; 0 if there is none."""
-    lines = pathlib.Path(f"/proc/{process}/status").read_text().splitlines()
-    return next((int(it.split()[1]) for it in lines if it.startswith(f"{name}:")), 0)
+    """The first word of a line of a process's status; 0 if there is none."""
+    text = pathlib.Path(f"/proc/{process}/status").read_text()
+    found = re.search(rf"^{name}:\s+(\w+)", text, re.M)
+    return found[1] if found else "0"
 
 
 @contextlib.contextmanager
@@ -176,7 +172,8 @@ def served(words, port=None):
                 port = int(re.search(r"\d+$", process.stdout.readline())[0])
             else:
                 for _ in range(100):
-                    with contextlib.suppress(OSError), socket.create_connection(("127.0.0.1", port)):
+                    with contextlib.suppress(OSError):
+                        socket.create_connection(("127.0.0.1", port), 1).close()
                         break
                     time.sleep(0.05)
             yield port, process
