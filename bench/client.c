@@ -15,7 +15,6 @@
 //   keep     a worker's connections serve all its jobs
 //   quit     the server is asked to close the connections, and does so before they are closed here
 #include "sockets.h"
-#include <semaphore.h>
 #include <stdatomic.h>
 
 enum { MOST_JOBS = 10000, MOST_REQUESTS = 16, LONGEST = 256, MOST_WORKERS = 16 };
@@ -32,9 +31,10 @@ struct job {
 // A worker, the job that it plays, and the last reply to each section.
 struct worker {
   pthread_t thread, second;
-  sem_t given, done;
-  pthread_barrier_t meeting;
+  // where both threads meet: before and after a job, and before their first requests
+  pthread_barrier_t turn, meeting;
   const struct job *job;
+  bool is_open;
   int connections[SECTIONS];
   char replies[SECTIONS][LONGEST];
   double connecting;
@@ -122,9 +122,9 @@ static void *play_a(void *worker) {
 // The second thread of a worker, until it is given no job.
 static void *serve_worker(void *worker) {
   struct worker *it = worker;
-  while (sem_wait(&it->given), it->job) {
+  while (pthread_barrier_wait(&it->turn), it->job) {
     play(it, A);
-    sem_post(&it->done);
+    pthread_barrier_wait(&it->turn);
   }
   return 0;
 }
@@ -137,9 +137,9 @@ static void play_branches(struct worker *it) {
     play(it, B);
     pthread_join(of_a, 0);
   } else {
-    sem_post(&it->given);
+    pthread_barrier_wait(&it->turn);
     play(it, B);
-    sem_wait(&it->done);
+    pthread_barrier_wait(&it->turn);
   }
 }
 
@@ -162,31 +162,29 @@ static void close_all(struct worker *it) {
 }
 
 static void play_job(struct worker *it) {
-  if (!is_on[KEEP])
+  if (!it->is_open)
     open_all(it);
+  it->is_open = is_on[KEEP];
   play(it, P);
   play_branches(it);
-  if (!is_on[KEEP])
+  if (!it->is_open)
     close_all(it);
 }
 
 static void *work(void *worker) {
   struct worker *it = worker;
-  sem_init(&it->given, 0, 0);
-  sem_init(&it->done, 0, 0);
+  pthread_barrier_init(&it->turn, 0, 2);
   pthread_barrier_init(&it->meeting, 0, 2);
   it->second = started(serve_worker, it);
-  if (is_on[KEEP])
-    open_all(it);
   for (int number; (number = atomic_fetch_add(&next_job, 1)) < job_count;)
     for (int repeat = 0; repeat < repeats; repeat++) {
       it->job = &jobs[number];
       play_job(it);
     }
-  if (is_on[KEEP])
+  if (it->is_open)
     close_all(it);
   it->job = 0;
-  sem_post(&it->given);
+  pthread_barrier_wait(&it->turn);
   pthread_join(it->second, 0);
   return 0;
 }

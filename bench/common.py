@@ -10,6 +10,7 @@ import contextlib
 import fcntl
 import os
 import pathlib
+import re
 import shutil
 import socket
 import subprocess
@@ -115,6 +116,16 @@ def timed(words, text):
         return ended.stdout, ended.returncode, time.perf_counter() - began
 
 
+def quickest(repeats, words, text, is_right):
+    """What a command answers to a text, which must be right with its status; the milliseconds of
+    the quickest of its runs; and the most kilobytes that it held."""
+    runs = [timed(words, text) for _ in range(repeats)]
+    for answer, status, _ in runs:
+        if not is_right(answer, status):
+            stop(words, "answered", answer[:80], "with status", status)
+    return runs[0][0], 1000 * min(it for _, _, it in runs), peak(words, text)
+
+
 def peak(words, text):
     """The most kilobytes that a command held, read when its answer is to go into a full pipe."""
     reader, writer = os.pipe()
@@ -124,22 +135,18 @@ def peak(words, text):
         given.seek(0)
         with subprocess.Popen(words, stdin=given, stdout=writer) as process:
             os.close(writer)
-            while stat_of(process.pid)[0] not in "SZ":
+            while status_of(process.pid, "State") not in "SZ":
                 time.sleep(0.001)
-            kilobytes = status_of(process.pid, "VmHWM")
+            kilobytes = int(status_of(process.pid, "VmHWM"))
             output.read()
     return kilobytes
 
 
-def stat_of(process):
-    """The words of a process's `stat`, from its state on."""
-    return pathlib.Path(f"/proc/{process}/stat").read_text().rsplit(")", 1)[1].split()
-
-
 def status_of(process, name):
-    """A line of a process's status, as a number; 0 if there is none."""
-    lines = pathlib.Path(f"/proc/{process}/status").read_text().splitlines()
-    return next((int(it.split()[1]) for it in lines if it.startswith(f"{name}:")), 0)
+    """The first word of a line of a process's status; 0 if there is none."""
+    text = pathlib.Path(f"/proc/{process}/status").read_text()
+    found = re.search(rf"^{name}:\s+(\w+)", text, re.M)
+    return found[1] if found else "0"
 
 
 @contextlib.contextmanager
@@ -158,17 +165,20 @@ def all_compiled(*names):
 @contextlib.contextmanager
 def served(words, port=None):
     """The port and the process of a server, which prints its port if it isn't given one."""
-    process = subprocess.Popen(words, stdout=None if port else subprocess.PIPE, text=True)
-    try:
-        port = port or int(process.stdout.readline().rsplit(":", 1)[1])
-        for _ in range(100):
-            with contextlib.suppress(OSError), socket.create_connection(("127.0.0.1", port), 1):
-                break
-            time.sleep(0.05)
-        yield port, process.pid
-    finally:
-        process.terminate()
-        process.wait()
+    pipes = {"stdin": subprocess.PIPE, "stdout": None if port else subprocess.PIPE, "text": True}
+    with subprocess.Popen(list(map(str, words)), **pipes) as process:
+        try:
+            if port is None:
+                port = int(re.search(r"\d+$", process.stdout.readline())[0])
+            else:
+                for _ in range(100):
+                    with contextlib.suppress(OSError):
+                        socket.create_connection(("127.0.0.1", port), 1).close()
+                        break
+                    time.sleep(0.05)
+            yield port, process
+        finally:
+            process.terminate()
 
 
 def memcached(threads=4):
@@ -178,4 +188,4 @@ def memcached(threads=4):
     with socket.create_server(("127.0.0.1", 0)) as free:
         port = free.getsockname()[1]
     words = ["memcached", "-u", "nobody", "-l", "127.0.0.1", "-p", port, "-t", threads]
-    return served([*map(str, words), "-m", "1024", "-c", "4096"], port)
+    return served([*words, "-m", 1024, "-c", 4096], port)

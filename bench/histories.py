@@ -203,9 +203,7 @@ def turns_of(program, kind, text, limit):
         return verdict, limit
     if verdict != (kind.verdict or verdict):
         stop(f"of kind {kind.name} the verdict is {verdict}, which is wrong, for", text.decode())
-    too_few, enough = -1, 0
-    while verdict_of(program, text, enough)[0] == "undecided":
-        too_few, enough = enough, min(max(4 * enough, 16), limit)
+    too_few, enough = -1, limit
     while enough - too_few > 1:
         middle = (too_few + enough) // 2
         if verdict_of(program, text, middle)[0] == "undecided":

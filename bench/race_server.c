@@ -14,19 +14,17 @@
 // first, then A's, then B's, and nothing is kept from one run for the next. With `shared` a run is
 // any number of connections, 64 at once, until the next report. A line on standard input asks for a
 // report, while nobody is connected: a line of numbers for each run since the last one, and then
-// `end`. Times are in µs, and 0 where there was nothing of the kind:
-//
-//   1, 2    when A's first request came, and when its reply had been sent
-//   3, 4    the same of B's
-//   5       how often the race happened, which the replies then show
-//   6, 7    of a late set, when STORED had been sent, and when the last get came that showed the
-//           old value
+// `end`. These are: whether the first request of A came before that of B; whether each came before
+// the reply to the other one had been sent; how often the race happened, which the replies then
+// show; and how many µs after STORED of a late set the last get came that showed the old value, or
+// nan.
 #include "sockets.h"
 #include <inttypes.h>
+#include <math.h>
 #include <search.h>
 #include <stdatomic.h>
 
-enum { MOST_RUNS = 100000, MOST_KEYS = 1 << 16, THREADS = 64 };
+enum { MOST_RUNS = 100000, MOST_KEYS = 1 << 20, THREADS = 64 };
 enum { LONGEST = 4096, KEY = 64, BODY = 256 };
 // The commands, those that store a body first.
 enum { SET, ADD, CAS, APPEND, INCR, DECR, DELETE, GET, GETS, COMMANDS };
@@ -64,30 +62,26 @@ struct run {
   bool effective;
 };
 
-// A connection, and the run that it belongs to. `first` is the first visit of a branch, or null.
+// A connection, the run that it belongs to, and its first visit.
 struct talk {
   int connection;
   struct run *run;
-  struct visit *first;
+  struct visit first;
   size_t got;
   char text[LONGEST + 1];
-};
-
-// A connection as it is given to a thread, and how many were taken before it; 0 if all share a run.
-struct ticket {
-  int connection, number;
 };
 
 // The command that races; or COMMANDS, and then sets are late or the server is right.
 static int race;
 static bool is_late;
 static double window, delay;
-static int listener, tickets[SECTIONS][2];
+static int listener, taken;
 static bool is_shared;
 static struct run runs[MOST_RUNS];
-static atomic_int taken, open_connections;
-// Who looks at the cache or at a run locks it, but for what only waits.
-static pthread_mutex_t lock = PTHREAD_MUTEX_INITIALIZER;
+static atomic_int open_connections;
+// Who looks at the cache or at a run locks it, but for what only waits; who takes a connection, the
+// other one.
+static pthread_mutex_t lock = PTHREAD_MUTEX_INITIALIZER, taking = PTHREAD_MUTEX_INITIALIZER;
 
 static void spin_until(double time) {
   while (microseconds() < time)
@@ -211,41 +205,36 @@ static bool understood(const char *text, size_t got, struct request *request) {
 static void say(struct talk *talk, const char *reply) {
   // a client that has gone needs no reply
   send(talk->connection, reply, strlen(reply), MSG_NOSIGNAL);
+  if (!talk->first.left)
+    talk->first.left = microseconds();
 }
 
-static void note_left(struct talk *talk) {
-  if (talk->first && !talk->first->left)
-    talk->first->left = microseconds();
-}
-
-static bool is_there(const char *key) {
+// Answers a set before it takes effect, if it is over an item and sets are late.
+static bool said_early(struct talk *talk, const struct request *request) {
   pthread_mutex_lock(&lock);
-  bool there = item_of(key)->there;
+  bool early = is_late && request->verb == SET && item_of(request->key)->there;
   pthread_mutex_unlock(&lock);
-  return there;
+  if (early) {
+    say(talk, "STORED\r\n");
+    talk->run->stored = microseconds();
+    spin_until(talk->run->stored + window);
+  }
+  return early;
 }
 
 static void answer(struct talk *talk, const struct request *request) {
   char room[LONGEST];
-  bool late = is_late && request->verb == SET && is_there(request->key);
-  if (late) {
-    say(talk, "STORED\r\n");
-    double stored = talk->run->stored = microseconds();
-    note_left(talk);
-    spin_until(stored + window);
-  } else if (request->verb == race) {
+  bool early = said_early(talk, request);
+  if (request->verb == race)
     spin_until(request->came + delay);
-  }
   pthread_mutex_lock(&lock);
   const char *made = act(request, room, &talk->run->shown);
-  talk->run->effective |= late;
-  if (made[0] == 'V' && talk->first && !talk->run->effective)
+  talk->run->effective |= early;
+  if (made[0] == 'V' && !talk->run->effective)
     talk->run->last_old = request->came;
   pthread_mutex_unlock(&lock);
-  if (late)
-    return;
-  say(talk, made);
-  note_left(talk);
+  if (!early)
+    say(talk, made);
 }
 
 static void converse(struct talk *talk) {
@@ -259,13 +248,12 @@ static void converse(struct talk *talk) {
     // a client waits for each reply, so that nothing follows a request
     if (!understood(talk->text, talk->got, &request))
       continue;
-    if (talk->first && !talk->first->came)
-      talk->first->came = request.came;
+    if (!talk->first.came)
+      talk->first.came = request.came;
     talk->got = 0;
     answer(talk, &request);
   }
   close(talk->connection);
-  open_connections--;
 }
 
 static void wait_until_open(int connections) {
@@ -273,33 +261,34 @@ static void wait_until_open(int connections) {
     usleep(20);
 }
 
-// Serves the connections of one section, one after another: a thread that is there already answers
-// the first request as soon as a later one.
-static void *serve(void *tickets) {
-  struct ticket it;
-  while (read(((int *)tickets)[0], &it, sizeof it) == sizeof it) {
-    struct run *run = &runs[it.number / SECTIONS];
-    int section = it.number % SECTIONS;
-    struct talk talk = {it.connection, run, section == P ? 0 : &run->first[section], 0, ""};
-    converse(&talk);
+// Takes a connection, and answers how many were taken before it; 0 if all share a run.
+static int take(struct talk *talk) {
+  pthread_mutex_lock(&taking);
+  talk->connection = undelayed(accept4(listener, 0, 0, SOCK_CLOEXEC));
+  open_connections++;
+  int number = is_shared ? 0 : taken++;
+  if (number == MOST_RUNS * SECTIONS)
+    stop("a run too many");
+  // what the run before did late is over before this one begins
+  if (!is_shared && number % SECTIONS == P) {
+    wait_until_open(1);
+    forget();
   }
-  return 0;
+  pthread_mutex_unlock(&taking);
+  return number;
 }
 
-// Takes connections, and gives them to the threads of their sections.
-static void *welcome(void *unused) {
+// Serves one connection after another. A thread that is there already answers the first request as
+// soon as a later one.
+static void *serve(void *unused) {
   for (;;) {
-    struct ticket it = {undelayed(accept4(listener, 0, 0, SOCK_CLOEXEC)), 0};
-    open_connections++;
-    if (!is_shared && (it.number = taken++) >= MOST_RUNS * SECTIONS)
-      stop("a run too many");
-    // what the run before did late is over before this one begins
-    if (!is_shared && it.number % SECTIONS == P) {
-      wait_until_open(1);
-      forget();
-    }
-    if (write(tickets[it.number % SECTIONS][1], &it, sizeof it) != sizeof it)
-      stop("write");
+    struct talk talk = {0};
+    int number = take(&talk), section = number % SECTIONS;
+    talk.run = &runs[number / SECTIONS];
+    converse(&talk);
+    if (section != P)
+      talk.run->first[section] = talk.first;
+    open_connections--;
   }
   return unused;
 }
@@ -307,9 +296,10 @@ static void *welcome(void *unused) {
 static void report(void) {
   int count = is_shared ? 1 : (taken + SECTIONS - 1) / SECTIONS;
   for (const struct run *run = runs; run < runs + count; run++) {
-    const struct visit *a = &run->first[A], *b = &run->first[B];
-    printf("%.1f %.1f %.1f %.1f %d %.1f %.1f\n", a->came, a->left, b->came, b->left, run->shown,
-           run->stored, run->last_old);
+    struct visit a = run->first[A], b = run->first[B];
+    double late = run->last_old && run->stored ? run->last_old - run->stored : NAN;
+    printf("%d %d %d %.1f\n", a.came && a.came < b.came, a.came < b.left && b.came < a.left,
+           run->shown + (late > 0), late);
   }
   memset(runs, 0, sizeof *runs * count);
   taken = 0;
@@ -338,13 +328,8 @@ int main(int count, char **words) {
     return 2;
   forget();
   listen_somewhere();
-  for (int section = P; section < SECTIONS; section++) {
-    if (pipe(tickets[section]))
-      stop("pipe");
-    for (int thread = 0; thread < (is_shared ? THREADS : 1); thread++)
-      started(serve, tickets[section]);
-  }
-  started(welcome, 0);
+  for (int thread = 0; thread < THREADS; thread++)
+    started(serve, 0);
   while (fgets(line, sizeof line, stdin)) {
     wait_until_open(0);
     report();

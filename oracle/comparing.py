@@ -3,6 +3,7 @@
 import argparse
 import collections
 import subprocess
+import sys
 
 
 def parser_of(doc, program=None, **options):
@@ -24,12 +25,12 @@ def asked(program, command, text):
     return ran.stdout.decode(errors="replace"), ran.returncode
 
 
-def close(answers):
-    """Counts the answers, each with words for what was compared, and what is wrong or None. It
-    prints what is wrong, how many had the same words, and last `N passed, M failed`. The result is
-    the exit status, 1 if any failed."""
+def compare(parser, answers):
+    """Counts the answers to what a command line asks, each with words for what was compared, and
+    what is wrong or None. It prints what is wrong, how many had the same words, and last `N passed,
+    M failed`, and exits with status 1 if any failed."""
     seen, failed = collections.Counter(), 0
-    for words, fault in answers:
+    for words, fault in answers(parser.parse_args()):
         seen[words] += 1
         if fault is not None:
             failed += 1
@@ -37,4 +38,4 @@ def close(answers):
     for words, count in sorted(seen.items()):
         print(f"{count:8} {words}")
     print(f"{sum(seen.values()) - failed} passed, {failed} failed")
-    return 1 if failed else 0
+    sys.exit(1 if failed else 0)

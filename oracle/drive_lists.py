@@ -12,9 +12,8 @@ verdict. The lists are counted by the ends of their sections and their verdict.
 
 import pathlib
 import random
-import sys
 
-from comparing import asked, close, parser_of
+from comparing import asked, compare, parser_of
 from model import (CLASSES, GREATEST, SECTIONS, STORES, Cache, history_text, legal, words_in,
                    words_of)
 
@@ -29,9 +28,7 @@ NAMES = {word: name for name, word in REPLIES.items()}
 
 def sections_of(text):
     """The keys of a script that is accepted, and the lines of its sections, as words."""
-    lines = [line.removesuffix("\r").replace("\t", " ") for line in text.split("\n")]
-    lines = [[word for word in line.split(" ") if word] for line in lines if line[:1] != "#"]
-    lines = [line for line in lines if line]
+    lines = [line.split() for line in text.split("\n") if line[:1] != "#" and line.strip()]
     keys = next(words[1:] for words in lines if words[0] == "keys")
     starts = [lines.index([name]) for name in SECTIONS] + [lines.index(["end"])]
     return keys, [lines[start + 1 : end] for start, end in zip(starts, starts[1:])]
@@ -212,4 +209,4 @@ def answers(given):
 if __name__ == "__main__":
     parser = parser_of(__doc__, lists=100, seed=1)
     parser.add_argument("scripts", nargs="+", metavar="SCRIPT")
-    sys.exit(close(answers(parser.parse_args())))
+    compare(parser, answers)

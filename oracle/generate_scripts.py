@@ -60,19 +60,14 @@ def script(seed, job):
     return "\n".join(lines + ["end", ""])
 
 
-def checksum(data):
-    total = 0xCBF29CE484222325
-    for byte in data:
-        total = ((total ^ byte) * 0x100000001B3) & MASK
-    return total
-
-
 def main():
     given, drawn = parser_of(__doc__, "", seed=1, job=0, sum=0).parse_args(), outputs(42, 54)
     assert [next(drawn) for _ in REFERENCE] == REFERENCE
     if given.sum:
-        texts = "".join(script(given.seed, job) for job in range(given.sum))
-        print(hex(checksum(texts.encode())))
+        total = 0xCBF29CE484222325
+        for byte in "".join(script(given.seed, job) for job in range(given.sum)).encode():
+            total = ((total ^ byte) * 0x100000001B3) & MASK
+        print(hex(total))
     else:
         print(script(given.seed, given.job), end="")
 

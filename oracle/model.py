@@ -66,70 +66,68 @@ def request_text(code, template):
 
 # ---- the image
 
-# A template's verb, key, flags, kind of number, number, and length of its body.
-TEMPLATE_HEAD = ">BBIBQB"
+
+class Image:
+    """Bytes that are read if they are given, and else written. What a method is given is written,
+    and answered; or what was read is answered."""
+
+    def __init__(self, version, given=None):
+        self.stream, self.is_read = io.BytesIO(given), given is not None
+        self.version, self.masks = version, ">4Q" if version == b"MCR2" else ">4I"
+
+    def numbers(self, form, its=()):
+        if self.is_read:
+            return struct.unpack(form, self.stream.read(struct.calcsize(form)))
+        self.stream.write(struct.pack(form, *its))
+        return its
+
+    def number(self, it=0):
+        return self.numbers("B", (it,))[0]
+
+    def many(self, each, its=()):
+        count = self.number(len(its))
+        return [each() for _ in range(count)] if self.is_read else [each(it) for it in its]
+
+    def text(self, it=""):
+        size = self.number(len(it))
+        return self.numbers(f"{size}s", (it.encode(),))[0].decode()
+
+    def template(self, it=Template("set", 0)):
+        kind = 2 if it.variable is not None else 0 if it.number is None else 1
+        argument = (it.variable if kind == 2 else it.number) or 0
+        its = VERBS.index(it.verb), it.key, it.flags, kind, argument
+        verb, key, flags, kind, argument = self.numbers(">BBIBQ", its)
+        given = (argument if kind == it else None for it in (1, 2))
+        body, masks = self.text(it.body), self.numbers(self.masks, it[-len(MASKS) :])
+        return Template(VERBS[verb], key, flags, *given, body, *masks)
+
+    def instruction(self, it=Halt()):
+        sizes = {Send: 1 + len(CLASSES), Bind: 1, Goto: 1, Halt: 0}
+        kinds = list(sizes)
+        kind = kinds[self.number(kinds.index(type(it)))]
+        its = (it.template, *it.next) if isinstance(it, Send) else it
+        its = self.numbers(f"{sizes[kind]}B", its)
+        return Send(its[0], list(its[1:])) if kind is Send else kind(*its)
+
+    def code(self, it=Code((), 0, 0, 3 * [()], (), 3 * [()])):
+        names = self.many(self.text, it.keys), self.number(it.flags), self.number(it.vars)
+        budgets = [self.numbers(">BH", its) for its in it.budgets]
+        templates = self.many(self.template, it.templates)
+        sections = [self.many(self.instruction, its) for its in it.sections]
+        return Code(*names, budgets, templates, sections)
 
 
 def image_of(code):
     """The code's image in version 1, or in version 2 if it is too large for that."""
     is_large = code.flags > 32 or max(map(len, code.sections)) > 64
-    out = [b"MCR2" if is_large else b"MCR1", bytes([len(code.keys)])]
-    out += [bytes([len(key)]) + key.encode() for key in code.keys]
-    out += [bytes([code.flags, code.vars])]
-    out += [struct.pack(">BH", *budget) for budget in code.budgets]
-    out += [bytes([len(code.templates)])]
-    out += [template_bytes(it, ">4Q" if is_large else ">4I") for it in code.templates]
-    for section in code.sections:
-        out += [bytes([len(section)]), *map(instruction_bytes, section)]
-    return b"".join(out)
-
-
-def template_bytes(it, masks):
-    kind = 2 if it.variable is not None else 0 if it.number is None else 1
-    argument = (it.variable if kind == 2 else it.number) or 0
-    numbers = VERBS.index(it.verb), it.key, it.flags, kind, argument, len(it.body)
-    of_masks = struct.pack(masks, *(getattr(it, name) for name in MASKS))
-    return struct.pack(TEMPLATE_HEAD, *numbers) + it.body.encode() + of_masks
-
-
-def instruction_bytes(it):
-    if isinstance(it, Send):
-        return bytes([0, it.template, *it.next])
-    if isinstance(it, Bind):
-        return bytes([1, it.variable])
-    return bytes([2, it.place]) if isinstance(it, Goto) else b"\3"
+    image = Image(b"MCR2" if is_large else b"MCR1")
+    image.code(code)
+    return image.version + image.stream.getvalue()
 
 
 def code_of(image):
     """The code whose image this is."""
-    stream, masks = io.BytesIO(image[4:]), ">4Q" if image[:4] == b"MCR2" else ">4I"
-
-    def numbers(form):
-        return struct.unpack(form, stream.read(struct.calcsize(form)))
-
-    def number():
-        return stream.read(1)[0]
-
-    def many(read):
-        return [read() for _ in range(number())]
-
-    def text():
-        return stream.read(number()).decode()
-
-    def template():
-        verb, key, flags, kind, argument = numbers(TEMPLATE_HEAD[:-1])
-        given = (argument if kind == it else None for it in (1, 2))
-        return Template(VERBS[verb], key, flags, *given, text(), *numbers(masks))
-
-    def instruction():
-        kind = number()
-        if kind == 0:
-            return Send(number(), list(stream.read(len(CLASSES))))
-        return Bind(number()) if kind == 1 else Goto(number()) if kind == 2 else Halt()
-
-    keys, flags, variables = many(text), number(), number()
-    budgets, templates = [numbers(">BH") for _ in SECTIONS], many(template)
-    return Code(keys, flags, variables, budgets, templates, [many(instruction) for _ in SECTIONS])
+    return Image(image[:4], image[4:]).code()
 
 
 # ---- requests and replies: tuples of words, in which bodies are bytes

@@ -22,7 +22,7 @@ ROOT = pathlib.Path(__file__).resolve().parents[1]
 sys.path.append(str(ROOT / "tools"))
 
 import cases
-from comparing import close, parser_of
+from comparing import compare, parser_of
 from model import SECTIONS, code_of
 from verifier import NAMES, odd_answer, runs_apart
 
@@ -93,11 +93,11 @@ def answer_for(program, name, given, printed):
     return " ".join(printed.split()[:4]), fault and f"{name}: {fault}"
 
 
-def answers(program):
+def answers(given):
     refusals = [it for it in expected_answers() if it[2].startswith("refused verify ")]
     with multiprocessing.Pool() as pool:
-        yield from pool.starmap(functools.partial(answer_for, program), refusals, chunksize=4)
+        yield from pool.starmap(functools.partial(answer_for, given.program), refusals, chunksize=4)
 
 
 if __name__ == "__main__":
-    sys.exit(close(answers(parser_of(__doc__).parse_args().program)))
+    compare(parser_of(__doc__), answers)
