@@ -29,8 +29,6 @@ def numbers_in(answer):
 
 
 class Repeats(LiveTest):
-    """How runs end, and that none begins."""
-
     @rows([("of several", "--times 1", b"quit\r\n"), ("one run", "", b"")])
     def test_ends_of_connections(self, options, rest):
         """Only a run of several asks the server to close."""
@@ -38,13 +36,6 @@ class Repeats(LiveTest):
             runs(server.port, options)
             server.wait()
         self.assertEqual(server.rests, 3 * [rest])
-
-    def test_nothing_ran(self):
-        """Then there are no statistics."""
-        refused = runs(1, "--times 3 --stats", b"history 1\n")
-        self.assertEqual((refused.faults, refused.status), ("", 3), refused)
-        lost = runs(servers.free_port(), "--times 3 --stats")
-        self.assertRegex(lost.faults, "\\A[^\n]*Connection refused[^\n]*\n\\Z")
 
 
 class ManyRuns(LiveTest):
