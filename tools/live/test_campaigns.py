@@ -7,7 +7,7 @@ import re
 
 from . import servers
 from .campaigns import MOST_IN_BLOCK, MOST_IN_REPORT, CampaignTest, campaign, steps_of
-from .program import LiveTest, rows, run, statistics_in
+from .program import LiveTest, rows, run
 from .servers import Replying, answers
 
 # By how many seconds a campaign for a time may end late: it ends its block, and the program begins
@@ -136,15 +136,19 @@ class StatisticsOfCampaigns(servers.ServedTest, CampaignTest):
     def test_sums(self):
         """They are those of the scripts. Each `gets` that hits is followed by a `cas`."""
         found = campaign(self.port, "--jobs 60 --stats")
-        before, stats = statistics_in(found.faults)
-        self.assertEqual(before, "mcrace: seed 1, jobs 0 to 59, 4 workers\n")
-        self.assertEqual((found.status, len(found.jobs)), (0, 60))
-        sums = {verb: sum(classes.values()) for verb, classes in stats.answers.items()}
+        told = "mcrace: seed 1, jobs 0 to 59, 4 workers\n"
+        told += r"mcrace: 60 runs, (\d+) overlapped, A's first reply first in (\d+) of (\d+)\n"
+        of_runs = re.match(told, found.faults)
+        self.assertEqual((bool(of_runs), found.status, len(found.jobs)), (True, 0, 60), found)
+        lines = found.faults[of_runs.end() :].splitlines()
+        form = r"mcrace: ([a-z]+): (\d+ [a-z ]+(?:, \d+ [a-z ]+)*)"
+        answers = dict(re.fullmatch(form, line).groups() for line in lines)
+        sums = {verb: sum(map(int, re.findall(r"\d+", of))) for verb, of in answers.items()}
         self.assertEqual({verb: sums.get(verb, 0) for verb in SURE}, self.requests(60))
-        self.assertEqual(sums.get("cas", 0), stats.answers["gets"].get("hit", 0))
-        self.assertEqual(stats.runs, 60)
-        self.assertTrue(0 <= stats.a_first <= stats.answered <= 60, stats)
-        self.assertTrue(0 < stats.overlapped <= 60, stats)
+        hits = re.search(r"(\d+) hit", answers["gets"])
+        self.assertEqual(sums.get("cas", 0), int(hits[1]) if hits else 0)
+        overlapped, a_first, answered = map(int, of_runs.groups())
+        self.assertTrue(0 <= a_first <= answered <= 60 and 0 < overlapped <= 60, found.faults)
 
 
 class Selftest(LiveTest):

@@ -4,7 +4,7 @@ import re
 
 from . import servers
 from .campaigns import MOST_IN_BLOCK, CampaignTest, campaign, steps_of
-from .program import judged, play, rows, run, statistics_in
+from .program import judged, play, rows, run
 
 # How often a campaign is run until it finds a race that depends on how threads meet.
 MOST_CAMPAIGNS = 50
@@ -73,12 +73,6 @@ class Races(RacesTest):
         self.assert_left(found, found.unexplained[0])
         self.assertTrue(found.shrunk.endswith("end\n"), found.shrunk)
 
-    def test_histories(self):
-        """They are shown as they were judged."""
-        _, shown = self.shown_of(self.find_race("--jobs 1000 --tries 3 --show"))
-        for _, history in shown:
-            self.assertEqual(judged(history.encode()), "unexplained\n", history)
-
     def test_name(self):
         """The keys of the histories are under the name, and those of the script aren't."""
         found = self.find_race("--jobs 1000 --tries 3 --show --name ci7")
@@ -114,8 +108,7 @@ class Races(RacesTest):
         options = "--jobs 1000 --stats"
         found = campaign_that_finds(port, options, is_found=lambda it: it.shrunk)
         self.assertTrue(found.shrunk, found.totals)
-        _, stats = statistics_in(found.faults)
-        self.assertEqual(stats and stats.runs, 1000, found.faults)
+        self.assertRegex(found.faults, r"(?m)^mcrace: 1000 runs, \d+ overlapped, A's first reply")
 
 
 class LosingEach(RacesTest):

@@ -196,10 +196,3 @@ def sweeps_of_tests(made, crates):
             name = f"{crate} {test}"
             found[name] = Sweep(name, [program, test], test_may_end, made)
     return found
-
-
-def spread(count, many):
-    """So many numbers up to the count, evenly spread, or all."""
-    if count <= many:
-        return list(range(1, count + 1))
-    return [1 + i * count // many for i in range(many)]
