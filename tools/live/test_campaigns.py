@@ -29,6 +29,12 @@ class RightServers(servers.ServedTest, CampaignTest):
     def test_serve(self, *options):
         self.assert_right(self.port, *options)
 
+    def test_two_at_once(self):
+        """They have the same jobs, and each has a name of its own."""
+        with concurrent.futures.ThreadPoolExecutor() as threads:
+            names = "--name ci7", "--name ci8"
+            list(threads.map(lambda name: self.assert_right(self.port, 300, name), names))
+
     def test_no_turns_for_the_verdicts(self):
         found = campaign(self.port, "--jobs 30 --limit 0")
         self.assertEqual(found.jobs, [f"{job} undecided" for job in range(30)])
@@ -86,16 +92,6 @@ class Times(servers.ServedTest, CampaignTest):
         whole = campaign(self.port, "--jobs 150")
         self.assertEqual(campaign(self.port, "--jobs 150 --stop-after 1"), whole)
         self.assertEqual(len(whole.jobs), 150)
-
-
-class CampaignNames(servers.ServedTest, CampaignTest):
-    """Campaigns under names."""
-
-    def test_two_at_once(self):
-        """They have the same jobs, and each has a name of its own."""
-        with concurrent.futures.ThreadPoolExecutor() as threads:
-            names = "--name ci7", "--name ci8"
-            list(threads.map(lambda name: self.assert_right(self.port, 300, name), names))
 
 
 class WrongServers(CampaignTest):

@@ -16,16 +16,15 @@ NOBODY = "127.0.0.1:1"
 WITH_P = 4
 
 
-class ConnectionTest(LiveTest):
+class NoConnections(LiveTest):
+    """No descriptor is left; connects with a time limit, and waits for a server that comes late, or
+    for none. Other rows are in cases/run/no-connection.cases."""
+
     def assert_no_connection(self, section, told, found):
         """There is none for this section, and one line tells why."""
         self.assertEqual((found.text, found.status), (f"no connection {section}\n", 4), found)
         self.assertRegex(found.faults, r"\Amcrace: [^\n]*\n\Z")
         self.assertIn(told, found.faults)
-
-
-class NoDescriptors(ConnectionTest):
-    """Other runs without a connection are in cases/run/no-connection.cases."""
 
     @rows([("A", "A", WITH_P), ("B", "B", WITH_P + 1)])
     def test_no_descriptor(self, section, files):
@@ -35,10 +34,6 @@ class NoDescriptors(ConnectionTest):
         with Scripted((P, A, B)) as server:
             found = play(server.port, preexec_fn=limit)
         self.assert_no_connection(section, "Too many open files", found)
-
-
-class Waits(ConnectionTest):
-    """Connects with a time limit, and waits for a server that comes late, or for none."""
 
     @rows([("one", "--timeout", "0.2"), ("none of several", "--timeout=0.05", "--wait=0.2")])
     def test_connect_of_p_is_not_answered(self, *options):

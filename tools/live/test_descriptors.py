@@ -58,13 +58,6 @@ class ClosedStreams(LiveTest):
             self.assertEqual(found.text, "" if descriptor == 1 else wanted)
             self.assert_sent_nothing_else(server)
 
-    def test_campaign_without_input(self):
-        with servers.serving() as (_, port):
-            words = ["campaign", f"127.0.0.1:{port}", "--jobs", "20"]
-            found = run_without(0, words)
-        totals = "jobs 20 explained 20 unexplained 0 other 0"
-        self.assertEqual((found.status, found.text.splitlines()[-1:]), (0, [totals]))
-
     @rows([("input", 0), ("errors", 2)])
     def test_serve(self, descriptor):
         """The client reads replies alone, and the program ends as ever."""

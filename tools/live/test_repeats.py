@@ -28,7 +28,9 @@ def numbers_in(answer):
     return [int(it or 0) for it in found.groups()] if found else 7 * [0]
 
 
-class Repeats(LiveTest):
+class ManyRuns(LiveTest):
+    """How runs end."""
+
     @rows([("of several", "--times 1", b"quit\r\n"), ("one run", "", b"")])
     def test_ends_of_connections(self, options, rest):
         """Only a run of several asks the server to close."""
@@ -36,10 +38,6 @@ class Repeats(LiveTest):
             runs(server.port, options)
             server.wait()
         self.assertEqual(server.rests, 3 * [rest])
-
-
-class ManyRuns(LiveTest):
-    """Runs at `mcrace serve`."""
 
     def assert_history(self, answer):
         """The history that is written is judged as the run was."""

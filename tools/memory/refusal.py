@@ -21,9 +21,8 @@ ROOT, SECONDS = HERE.parents[1], 60
 # What has a time limit is tried as often as this: the machine may stand still for longer.
 TRIES = 3
 TIME_LIMITS = ("--timeout", "--wait")
-# Command lines that take no input.
-COMMANDS = ["judge", "check", "asm", "drive", "run"]
-LINES = [[], ["--help"], *([it, word] for it in COMMANDS for word in ("--help", "x"))]
+# Command lines with a fault, beside those of cases.
+LINES = [["judge", "x"], ["run", "x"]]
 EXAMPLES = [("judge", "history"), ("check", "script"), ("asm", "script"), ("drive", "drive")]
 # P alone sends, so what comes of it doesn't rest on the schedule.
 SCRIPT = b"script 1\nkeys a\nbudget P 2 26\nbudget A 0 0\nbudget B 0 0\nP\nset a 0 =5\nA\nB\nend\n"
@@ -158,7 +157,7 @@ MAY_END = {"campaign": campaign_may_end, "serve": serve_may_end, "selftest": sel
 
 
 def sweeps_of_cases(program, made, folder):
-    """The program on each case, each example and some command lines without input."""
+    """The program on each case, each example and two command lines without input."""
     given = [(it.name, it.words, it.input) for of in cases.all_files() for it in cases.cases_in(of)
              if not it.runs]
     given += [(it.name, [command], it.read_bytes()) for command, kind in EXAMPLES
