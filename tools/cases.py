@@ -149,7 +149,8 @@ def cases_of(text, where):
         except ValueError as fault:
             raise BadFile(f"{where}:{number}: {fault}") from None
     if is_frame or not cases:
-        raise BadFile(f"{where}: " + ("its last frame has no end" if is_frame else "it has no case"))
+        why = "its last frame has no end" if is_frame else "it has no case"
+        raise BadFile(f"{where}: {why}")
     return cases
 
 

@@ -17,18 +17,14 @@ LATE, RUNS, KEPT_RUNS = 0.004, 400, 60
 JOB = 2
 
 
-class Exchanging(servers.Listening):
+class Exchanging(servers.Carrying):
     """A proxy before the server on a port. A client waits for each reply, so a request comes at
     once, and so does a reply."""
 
-    def __init__(self, port):
-        super().__init__()
-        self.behind = port
-
     def begin(self, client):
-        threading.Thread(target=self.carry, args=(client, self.taken), daemon=True).start()
+        threading.Thread(target=self.exchange, args=(client, self.taken), daemon=True).start()
 
-    def carry(self, client, number):
+    def exchange(self, client, number):
         with contextlib.suppress(OSError), client, servers.connect(self.behind) as server:
             ends, counts = (client, server), itertools.count(1)
             while (request := client.recv(65_536)) not in (b"", b"quit\r\n"):
