@@ -29,8 +29,8 @@ TYPED = [
 
 # Command lines that read nothing, with the statuses of theirs.
 UNREAD = [("--version", 0), ("judge --help", 0), ("generate", 0), ("serve 0 --connections 0", 0)]
-# Command lines with a fault, after which nothing is read.
-FAULTY = ["", "judge x", "run", f"run {NOBODY} --timeout 0", f"rnu {NOBODY}"]
+UNREAD += [("", 2), ("judge x", 2), ("run", 2), (f"run {NOBODY} --timeout 0", 2)]
+UNREAD += [(f"rnu {NOBODY}", 2)]
 
 
 class TerminalTest(LiveTest):
@@ -71,13 +71,10 @@ class Typed(TerminalTest):
 
     @rows((row[0], *row) for row in UNREAD)
     def test_nothing_is_read(self, line, status):
-        self.assertEqual(self.type(line)[1:], ("", status))
-
-    @rows((line, line) for line in FAULTY)
-    def test_faulty_lines(self, line):
-        output, faults, status = self.type(line)
-        self.assertEqual((output, status), (b"", 2))
-        self.assertTrue(faults)
+        """Only of a fault something is told, and nothing is written then."""
+        output, faults, ended = self.type(line)
+        is_faulty = status == 2
+        self.assertEqual((ended, bool(faults), bool(output)), (status, is_faulty, not is_faulty))
         self.assertNotIn("reading", faults)
 
 
