@@ -9,7 +9,7 @@ from __future__ import annotations
 import pathlib
 import re
 import shlex
-from dataclasses import dataclass, field
+from dataclasses import dataclass, field, replace
 
 ROOT = pathlib.Path(__file__).resolve().parents[1]
 
@@ -26,162 +26,141 @@ class BadFile(Exception):
 
 
 @dataclass
-class Lines:
-    """The lines of a frame or of a case."""
+class Case:
+    """The lines of a frame, of a case, or of a case inside its frame."""
 
+    name: str = ""
     words: list | None = None
-    before: list = field(default_factory=list)
-    after: list | None = None
-    output: list | None = None
+    # The input; of a frame what stands before its line `...`, and after it.
+    input: bytes = b""
+    after: bytes | None = None
+    # The whole output, or texts that stand in it.
+    output: bytes | None = None
     parts: list = field(default_factory=list)
+    # The first line of standard error, or all lines if there is a server; empty if it may be any,
+    # and None where nothing is written there. And texts that stand in it.
     faults: str | None = None
     told: list = field(default_factory=list)
     status: int | None = None
+    # The lines `<!` and `>!`, by which reading and writing are to fail too.
     fails: set = field(default_factory=set)
-    # What a server does on the connections of P, A and B; such runs by name; the names of those
-    # that it does, and how many connections it is to take.
+    # What a server does on the connections of P, A and B; such runs by name; those that it does,
+    # and how many connections it is to take.
     talk: dict = field(default_factory=dict)
     named: dict = field(default_factory=dict)
     runs: list = field(default_factory=list)
     taken: int | None = None
 
+    def add(self, line):
+        """Adds a line of the file; what is wrong with it is a ValueError."""
+        mark, _, text = line.partition(" ")
+        if line == "...":
+            if self.after is not None:
+                raise ValueError("a frame has one line `...`")
+            self.after = b""
+        elif mark == "$":
+            self.words = shlex.split(text)
+        elif mark == "!":
+            self.faults = f"{self.faults}\n{text}" if self.faults else text
+        elif mark == "!~" and text:
+            self.told.append(text.encode())
+        elif mark == "~" and text:
+            self.parts.append(text.replace("\\n", "\n").encode())
+        elif line in ("<!", ">!"):
+            self.fails.add(line)
+        elif mark in ("@P", "@A", "@B"):
+            self.talk[mark[1]] = text
+        elif mark == "@=":
+            self.named[text] = dict(self.talk)
+        elif mark == "@:":
+            self.runs = text.split()
+        elif mark == "@#":
+            self.taken = int(text)
+        elif mark == "=":
+            self.status = int(text)
+        elif not line.startswith("<"):
+            self.output = (self.output or b"") + bytes_of(line)
+        elif self.after is None:
+            self.input += bytes_of(line)
+        else:
+            self.after += bytes_of(line)
 
-@dataclass
-class Case:
-    name: str
-    words: list
-    input: bytes
-    output: bytes
-    # Texts that stand in the output, where it isn't compared whole.
-    parts: list
-    # The first line of standard error, or all lines if there is a server; empty if it may be any,
-    # and None where nothing is written there.
-    faults: str | None
-    # Texts that stand in standard error.
-    told: list
-    status: int
-    # Whether reading and writing are to fail too.
-    input_fails: bool
-    output_fails: bool
-    # What the server does in each of its runs, by section, and how many connections it is to take.
-    runs: list
-    taken: int | None
 
-
-def bytes_of(line, where):
+def bytes_of(line):
     """The bytes that a line of input or output stands for."""
     form = BYTES.match(line)
     if not form:
-        raise BadFile(f"{where}: no line of a case begins so: {line[:40]!r}")
+        raise ValueError(f"no line of a case begins so: {line[:40]!r}")
     _, kind, times, text = form.groups()
     text = text or ""
-    try:
-        piece = bytes.fromhex(text) if kind == "x" else text.encode() + b"\n" * (kind is None)
-    except ValueError:
-        raise BadFile(f"{where}: no bytes in hexadecimal: {text[:40]!r}") from None
+    piece = bytes.fromhex(text) if kind == "x" else text.encode() + b"\n" * (kind is None)
     return piece * int(times or 1)
 
 
-def add_line(lines, line, where):
-    """Adds a line of the file to a frame's or a case's."""
-    if line == "...":
-        if lines.after is not None:
-            raise BadFile(f"{where}: a frame has one line `...`")
-        lines.after = []
-    elif line.startswith("$"):
-        lines.words = shlex.split(line[1:])
-    elif line == "!" or line.startswith("! "):
-        lines.faults = "\n".join([lines.faults, line[2:]] if lines.faults else [line[2:]])
-    elif line.startswith("!~ "):
-        lines.told.append(line[3:].encode())
-    elif line.startswith("~ "):
-        lines.parts.append(line[2:].replace("\\n", "\n").encode())
-    elif line in ("<!", ">!"):
-        lines.fails.add(line)
-    elif talk := re.fullmatch(r"@([PAB]) ?(.*)", line):
-        lines.talk[talk[1]] = talk[2]
-    elif name := re.fullmatch(r"@= (\w+)", line):
-        lines.named[name[1]] = dict(lines.talk)
-    elif re.fullmatch(r"@: [\w ]+", line):
-        lines.runs = line[3:].split()
-    elif re.fullmatch(r"@# \d+", line):
-        lines.taken = int(line[3:])
-    elif re.fullmatch(r"= \d{1,3}", line):
-        lines.status = int(line[2:])
-    elif line.startswith("<"):
-        (lines.before if lines.after is None else lines.after).append(bytes_of(line, where))
-    else:
-        piece = bytes_of(line, where)
-        lines.output = [*(lines.output or []), piece]
-
-
-def case_of(name, own, frame, where):
+def case_of(name, own, frame):
     """The case that these lines are inside this frame."""
-    if own.after is not None:
-        raise BadFile(f"{where}: `...` stands in a frame alone")
-    words = frame.words if own.words is None else own.words
-    status = frame.status if own.status is None else own.status
-    output = frame.output if own.output is None else own.output
-    if words is None or status is None:
-        raise BadFile(f"{where}: a case or its frame needs a line `$` and a line `=`")
-    given = b"".join([*frame.before, *own.before, *(frame.after or [])])
-    faults = frame.faults if own.faults is None else own.faults
-    parts, fails = [*frame.parts, *own.parts], frame.fails | own.fails
-    told = [*frame.told, *own.told]
-    if told and faults is None:
-        raise BadFile(f"{where}: a case with lines `!~` has a line `!` too")
-    if fails and len(given) > MOST_FAILING:
-        raise BadFile(f"{where}: with `<!` or `>!` an input has at most {MOST_FAILING} bytes")
-    try:
-        runs = [frame.named[it] for it in own.runs]
-    except KeyError as unnamed:
-        raise BadFile(f"{where}: its frame has no run {unnamed}") from None
-    if not runs and frame.talk | own.talk:
-        runs = [frame.talk | own.talk]
-    if parts and (output is not None and not runs or fails):
-        raise BadFile(f"{where}: a case with lines `~` has no line of output, `<!` or `>!`")
-    return Case(name, words, given, b"".join(output or []), parts, faults, told, status,
-                "<!" in fails, ">!" in fails, runs, own.taken)
+    first = lambda it: getattr(frame if getattr(own, it) is None else own, it)
+    if unnamed := [it for it in own.runs if it not in frame.named]:
+        raise ValueError(f"its frame has no run {unnamed[0]}")
+    talk, fails = frame.talk | own.talk, frame.fails | own.fails
+    its = replace(
+        own, name=name, words=first("words"), status=first("status"), output=first("output") or b"",
+        input=frame.input + own.input + (frame.after or b""), faults=first("faults"), fails=fails,
+        parts=frame.parts + own.parts, told=frame.told + own.told,
+        runs=[frame.named[it] for it in own.runs] or [talk] * bool(talk),
+    )
+    wrong = {
+        "`...` stands in a frame alone": own.after is not None,
+        "a case or its frame needs a line `$` and a line `=`": None in (its.words, its.status),
+        "a case with lines `!~` has a line `!` too": its.told and its.faults is None,
+        f"with `<!` or `>!` an input has at most {MOST_FAILING} bytes":
+            fails and len(its.input) > MOST_FAILING,
+        "a case with lines `~` has no line of output, `<!` or `>!`":
+            its.parts and (first("output") is not None and not its.runs or fails),
+    }
+    if faults := [why for why, is_so in wrong.items() if is_so]:
+        raise ValueError(faults[0])
+    return its
+
+
+def cases_of(text, where):
+    """The cases of a text; each is named by its place, of which `where` is the first part."""
+    frame, own, is_frame, comment, cases = Case(), None, False, [], []
+    # A last case ends as one before an empty line does.
+    for number, line in enumerate([*text.split("\n")[:-1], ""], 1):
+        try:
+            if line in ("{", "}"):
+                if is_frame == (line == "{") or own is not None:
+                    raise ValueError(f"{line} stands in no place for it")
+                is_frame, frame, comment = line == "{", Case() if line == "{" else frame, []
+            elif line.startswith("#"):
+                if own is not None:
+                    raise ValueError("a comment stands in front of a case, not inside it")
+                comment.append(line[1:].strip())
+            elif is_frame and line:
+                frame.add(line)
+            elif line:
+                own, began = own or Case(), began if own else f"{where}:{number}"
+                own.add(line)
+            elif not is_frame:
+                if own is not None:
+                    cases.append(case_of(" ".join([f"{began}:", *comment]), own, frame))
+                own, comment = None, []
+        except ValueError as fault:
+            raise BadFile(f"{where}:{number}: {fault}") from None
+    if is_frame or not cases:
+        why = "its last frame has no end" if is_frame else "it has no case"
+        raise BadFile(f"{where}: {why}")
+    return cases
 
 
 def cases_in(path):
     """The cases of a file, in their order."""
     short = path.relative_to(ROOT) if path.is_relative_to(ROOT) else path
-    frame, own, is_frame, comment, cases, began = Lines(), None, False, [], [], ""
-
-    def end():
-        nonlocal own, comment
-        if own is not None:
-            cases.append(case_of(" ".join([f"{began}:", *comment]), own, frame, began))
-        own, comment = None, []
-
     text = path.read_bytes().decode()
     if not text.endswith("\n"):
         raise BadFile(f"{short}: its last line has no LF")
-    for number, line in enumerate(text.split("\n")[:-1], 1):
-        where = f"{short}:{number}"
-        if line == "{" or line == "}":
-            if is_frame == (line == "{") or own is not None:
-                raise BadFile(f"{where}: {line} stands in no place for it")
-            is_frame, frame, comment = line == "{", Lines() if line == "{" else frame, []
-        elif line.startswith("#"):
-            if own is not None:
-                raise BadFile(f"{where}: a comment stands in front of a case, not inside it")
-            comment = [*comment, line[1:].strip()]
-        elif is_frame:
-            if line:
-                add_line(frame, line, where)
-        elif not line:
-            end()
-        else:
-            own, began = own or Lines(), began if own else where
-            add_line(own, line, where)
-    if is_frame:
-        raise BadFile(f"{short}: its last frame has no end")
-    end()
-    if not cases:
-        raise BadFile(f"{short}: it has no case")
-    return cases
+    return cases_of(text, short)
 
 
 def all_files():

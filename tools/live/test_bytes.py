@@ -89,11 +89,6 @@ class OwnBytes(servers.ServedTest):
                 stream.sendall(ASKED[at : at + 1])
             self.assertEqual(read(stream, len(ANSWERED)), ANSWERED)
 
-    def test_quit(self):
-        with self.connect() as stream:
-            stream.sendall(b"get a\r\nquit\r\nget a\r\n")
-            self.assertEqual(read(stream, 1000), b"END\r\n")
-
     def test_client_ends_after_each_byte(self):
         """What it began isn't answered, and doesn't happen."""
         for cut in range(len(ASKED)):
@@ -106,12 +101,13 @@ class OwnBytes(servers.ServedTest):
                     wanted += reply if end <= cut else b""
                 self.assertEqual(read(stream, len(ANSWERED)), wanted)
 
-    def test_line_too_long(self):
-        """The server closes the connection after one."""
-        for line in TOO_LONG:
-            with self.connect() as stream:
-                stream.sendall(line)
-                self.assertEqual(read(stream, 1000), b"CLIENT_ERROR line too long\r\n")
+    @rows([("quit", b"get a\r\nquit\r\nget a\r\n", b"END\r\n"),
+           *((f"{line[:9]!r}..", line, b"CLIENT_ERROR line too long\r\n") for line in TOO_LONG)])
+    def test_server_closes(self, asked, answered):
+        """After a `quit`, and after a line that is too long."""
+        with self.connect() as stream:
+            stream.sendall(asked)
+            self.assertEqual(read(stream, 1000), answered)
 
     def test_client_leaves_in_a_request(self):
         for cut in (3, 14, 20):

@@ -7,14 +7,12 @@ import re
 
 from . import servers
 from .campaigns import MOST_IN_BLOCK, MOST_IN_REPORT, CampaignTest, campaign, steps_of
-from .program import LiveTest, rows, run, statistics_in, three_times
-from .servers import Replying, Step, answers
+from .program import LiveTest, rows, run
+from .servers import Replying, answers
 
 # By how many seconds a campaign for a time may end late: it ends its block, and the program begins
 # and ends.
 LATE = 3
-# What answers each request of P of a generated script.
-OF_P = answers(b"NOT_FOUND\r\n", b"NOT_FOUND\r\n", b"STORED\r\n", b"STORED\r\n")
 # What /proc/net/tcp calls a connection of which this side was the first to close.
 TIME_WAIT = "06"
 # The verbs whose requests a generated script always sends.
@@ -31,18 +29,16 @@ class RightServers(servers.ServedTest, CampaignTest):
     def test_serve(self, *options):
         self.assert_right(self.port, *options)
 
+    def test_two_at_once(self):
+        """They have the same jobs, and each has a name of its own."""
+        with concurrent.futures.ThreadPoolExecutor() as threads:
+            names = "--name ci7", "--name ci8"
+            list(threads.map(lambda name: self.assert_right(self.port, 300, name), names))
+
     def test_no_turns_for_the_verdicts(self):
         found = campaign(self.port, "--jobs 30 --limit 0")
         self.assertEqual(found.jobs, [f"{job} undecided" for job in range(30)])
         self.assertEqual((found.totals, found.status, found.rest), ((30, 0, 0, 30), 4, []))
-
-    def test_resets_are_not_told_as_late(self):
-        reset = [Step.READ, Step.RESET]
-        with Replying(OF_P, reset, reset) as server:
-            found = campaign(server.port, "--jobs 2 --workers 1 --timeout 20")
-        failed = [f"{job} explained A ReadFailed B ReadFailed" for job in range(2)]
-        told = "mcrace: seed 1, jobs 0 to 1, 1 worker\n"
-        self.assertEqual((found.jobs, found.faults), (failed, told))
 
     def test_parts(self):
         """The lines of parts are those of the whole, and a brief report has the totals alone."""
@@ -98,62 +94,19 @@ class Times(servers.ServedTest, CampaignTest):
         self.assertEqual(len(whole.jobs), 150)
 
 
-class CampaignNames(servers.ServedTest, CampaignTest):
-    """Campaigns under names."""
-
-    def test_two_at_once(self):
-        """They have the same jobs, and each has a name of its own."""
-        with concurrent.futures.ThreadPoolExecutor() as threads:
-            names = "--name ci7", "--name ci8"
-            list(threads.map(lambda name: self.assert_right(self.port, 300, name), names))
-
-
 class WrongServers(CampaignTest):
-    """Servers that answer wrongly or late, or that go away."""
+    """Those at which rows differ by how workers meet; others are in cases/campaign."""
 
-    def assert_told_of_ten(self, found, form):
-        """It is said of ten jobs, of each once, in this form, whose first group is the job."""
-        told = [re.fullmatch(f"mcrace: {form}", line) for line in found.told]
+    def test_wrong_replies(self):
+        """It is said at once what came, of ten jobs, of each once. Each request is answered by a
+        bare LF."""
+        with Replying(answers(b"6\n")) as server:
+            found = campaign(server.port, "--jobs 12")
+        form = r'mcrace: job (\d+): P: to "delete r\1-0" came "6\\n": the line ends without CR'
+        told = [re.fullmatch(form, line) for line in found.told]
         self.assertTrue(all(told), found.faults)
         self.assertEqual((len(told), len({it[1] for it in told})), (10, 10), found.faults)
-
-    @rows([("no name", "--jobs 12", ""), ("a name", "--jobs 10 --name ci7", "ci7-")])
-    def test_wrong_replies(self, options, name):
-        """It is said at once what came, of the first ten. Each request is answered by a bare LF."""
-        with Replying(answers(b"6\n")) as server:
-            found = campaign(server.port, options)
-        form = rf'job (\d+): P: to "delete {name}r\1-0" came "6\\n": the line ends without CR'
-        self.assert_told_of_ten(found, form)
         self.assertEqual(found.status, 1)
-
-    @rows([("none", [], "no reply"), ("a part", [b"NOT_F"], 'no more than "NOT_F"')])
-    @three_times
-    def test_late_replies(self, texts, told):
-        with Replying(answers(*texts)) as server:
-            found = campaign(server.port, "--jobs 12 --timeout 0.2")
-        self.assert_told_of_ten(found, rf'job (\d+): P: {told} to "delete r\1-0" within 0\.2 s')
-        self.assertEqual(found.jobs, [f"{job} explained P ReadFailed" for job in range(12)])
-        self.assertEqual(found.status, 4)
-
-    @three_times
-    def test_late_branches(self):
-        """It is said once of each branch. With one worker connections come in the order P, A, B of
-        one job after the other."""
-        with Replying(OF_P, [], []) as server:
-            found = campaign(server.port, "--jobs 4 --workers 1 --timeout 0.2")
-        form = re.compile(r'mcrace: (job \d+: [AB]): no reply to "\w+ r\d+-[01].*" within 0\.2 s')
-        told = [it and it[1] for it in map(form.fullmatch, found.told)]
-        self.assertEqual(told, [f"job {job}: {branch}" for job in range(4) for branch in "AB"])
-
-    @three_times
-    def test_late_and_wrong(self):
-        """Ten faults in all are told if one job gets no reply and the next one a wrong one."""
-        with Replying([], [], [], answers(b"6\n"), [], []) as server:
-            found = campaign(server.port, "--jobs 14 --workers 1 --timeout 0.2")
-        late = r'mcrace: job \d*[02468]: P: no reply to "delete r\d+-0" within 0\.2 s'
-        wrong = r'mcrace: job \d*[13579]: P: to "delete r\d+-0" came "6\\n": '
-        wrong += "the line ends without CR"
-        self.assertRegex("\n".join(found.told), f"^{late}\n{wrong}(?:\n{late}\n{wrong}){{4}}$")
 
     def test_server_goes_away(self):
         """`serve` ends after 30 connections, and later ones are refused."""
@@ -179,20 +132,19 @@ class StatisticsOfCampaigns(servers.ServedTest, CampaignTest):
     def test_sums(self):
         """They are those of the scripts. Each `gets` that hits is followed by a `cas`."""
         found = campaign(self.port, "--jobs 60 --stats")
-        before, stats = statistics_in(found.faults)
-        self.assertEqual(before, "mcrace: seed 1, jobs 0 to 59, 4 workers\n")
-        self.assertEqual((found.status, len(found.jobs)), (0, 60))
-        sums = {verb: sum(classes.values()) for verb, classes in stats.answers.items()}
+        told = "mcrace: seed 1, jobs 0 to 59, 4 workers\n"
+        told += r"mcrace: 60 runs, (\d+) overlapped, A's first reply first in (\d+) of (\d+)\n"
+        of_runs = re.match(told, found.faults)
+        self.assertEqual((bool(of_runs), found.status, len(found.jobs)), (True, 0, 60), found)
+        lines = found.faults[of_runs.end() :].splitlines()
+        form = r"mcrace: ([a-z]+): (\d+ [a-z ]+(?:, \d+ [a-z ]+)*)"
+        answers = dict(re.fullmatch(form, line).groups() for line in lines)
+        sums = {verb: sum(map(int, re.findall(r"\d+", of))) for verb, of in answers.items()}
         self.assertEqual({verb: sums.get(verb, 0) for verb in SURE}, self.requests(60))
-        self.assertEqual(sums.get("cas", 0), stats.answers["gets"].get("hit", 0))
-        self.assertEqual(stats.runs, 60)
-        self.assertTrue(0 <= stats.a_first <= stats.answered <= 60, stats)
-        self.assertTrue(0 < stats.overlapped <= 60, stats)
-
-    def test_no_job_ran(self):
-        found = campaign(servers.free_port(), "--jobs 3 --stats")
-        self.assertNotIn("overlapped", found.faults)
-        self.assertEqual(found.status, 4)
+        hits = re.search(r"(\d+) hit", answers["gets"])
+        self.assertEqual(sums.get("cas", 0), int(hits[1]) if hits else 0)
+        overlapped, a_first, answered = map(int, of_runs.groups())
+        self.assertTrue(0 <= a_first <= answered <= 60 and 0 < overlapped <= 60, found.faults)
 
 
 class Selftest(LiveTest):

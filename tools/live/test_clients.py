@@ -193,7 +193,3 @@ class WithPylibmc(ClientTests, LiveTest):
             self.assertEqual(self.client.get(key), value)
         self.assertTrue(self.client.append("c", "n"))
         self.assertEqual(self.client.get("c"), "mn")
-
-    def test_counts_by_one(self):
-        self.client.set("a", "9")
-        self.assertEqual(self.client.incr("a"), 10)

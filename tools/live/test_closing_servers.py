@@ -3,7 +3,6 @@ they act a moment later. Nothing that a later run receives may be taken for a fa
 
 import contextlib
 import itertools
-import re
 import socket
 import threading
 import time
@@ -16,25 +15,16 @@ from .program import ALL_DONE, COUNTER, rows, run
 LATE, RUNS, KEPT_RUNS = 0.004, 400, 60
 # A job whose only number is A's, so that the run is unexplained if that is wrong.
 JOB = 2
-TOTALS = re.compile(rb"^runs (\d+) explained (\d+) unexplained (\d+) other (\d+) ", re.M)
-# The counter with a key so long that no name fits it.
-KEY = 32 * b"a"
-LONG_KEY = re.sub(rb"(keys|set|incr) a\b", rb"\1 " + KEY, COUNTER)
-LONG_KEY = re.sub(rb"(budget . \d+) \d+", rb"\1 200", LONG_KEY)
 
 
-class Exchanging(servers.Listening):
+class Exchanging(servers.Carrying):
     """A proxy before the server on a port. A client waits for each reply, so a request comes at
     once, and so does a reply."""
 
-    def __init__(self, port):
-        super().__init__()
-        self.behind = port
-
     def begin(self, client):
-        threading.Thread(target=self.carry, args=(client, self.taken), daemon=True).start()
+        threading.Thread(target=self.exchange, args=(client, self.taken), daemon=True).start()
 
-    def carry(self, client, number):
+    def exchange(self, client, number):
         with contextlib.suppress(OSError), client, servers.connect(self.behind) as server:
             ends, counts = (client, server), itertools.count(1)
             while (request := client.recv(65_536)) not in (b"", b"quit\r\n"):
@@ -115,25 +105,13 @@ class ClosingServers(servers.ServedTest):
         self.assertEqual(found.splitlines(True)[2:5], ALL_DONE.splitlines(True))
         self.assertEqual(server.taken, of_p + 2 * of_branch)
 
-    def run_late(self, times, script=COUNTER):
-        """What so many runs at a late server answer, with its numbers of runs."""
-        with Late(self.port) as server:
-            words = ["run", f"127.0.0.1:{server.port}", "--times", str(times)]
-            answer = run([*words, "--keep-going", "--reconnect"], script)
-        return answer, [*map(int, TOTALS.search(answer.output).groups())], server.lost
-
     def test_runs_that_go_on(self):
-        answer, counts, lost = self.run_late(RUNS)
-        self.assertEqual(counts, [RUNS, RUNS, 0, 0], answer)
-        self.assertGreater(lost, RUNS / 4)
-
-    def test_runs_without_room_for_a_name(self):
-        """They end after the first one that the server may still act on."""
-        answer, (runs, *_), _ = self.run_late(50, LONG_KEY)
-        self.assertTrue(0 < runs < 50, answer)
-        told = f"mcrace: no run follows run {runs}: the server may still act on a request of it, "
-        told += "and no new name fits its keys\n"
-        self.assertEqual(answer.faults, told)
+        with Late(self.port) as server:
+            words = ["run", f"127.0.0.1:{server.port}", "--times", str(RUNS)]
+            answer = run([*words, "--keep-going", "--reconnect"], COUNTER)
+        begin = f"runs {RUNS} explained {RUNS} unexplained 0 other 0 "
+        self.assertTrue(answer.text.partition("\n")[2].startswith(begin), answer)
+        self.assertGreater(server.lost, RUNS / 4)
 
     def test_shrinking(self):
         """The first number of the job is made wrong, so its run is unexplained, and all is right

@@ -2,7 +2,6 @@
 
 import resource
 import signal
-import socket
 import threading
 import time
 
@@ -17,16 +16,15 @@ NOBODY = "127.0.0.1:1"
 WITH_P = 4
 
 
-class ConnectionTest(LiveTest):
+class NoConnections(LiveTest):
+    """No descriptor is left; connects with a time limit, and waits for a server that comes late, or
+    for none. Other rows are in cases/run/no-connection.cases."""
+
     def assert_no_connection(self, section, told, found):
         """There is none for this section, and one line tells why."""
         self.assertEqual((found.text, found.status), (f"no connection {section}\n", 4), found)
         self.assertRegex(found.faults, r"\Amcrace: [^\n]*\n\Z")
         self.assertIn(told, found.faults)
-
-
-class NoConnections(ConnectionTest):
-    """No descriptor is left, or nobody listens at a branch's own server."""
 
     @rows([("A", "A", WITH_P), ("B", "B", WITH_P + 1)])
     def test_no_descriptor(self, section, files):
@@ -36,26 +34,6 @@ class NoConnections(ConnectionTest):
         with Scripted((P, A, B)) as server:
             found = play(server.port, preexec_fn=limit)
         self.assert_no_connection(section, "Too many open files", found)
-
-    @rows([("A", "A"), ("B", "B")])
-    def test_nobody_listens_at_a_branch_s_own_server(self, section):
-        nobody = f"127.0.0.1:{servers.free_port()}"
-        with Scripted((P, A, B)) as server:
-            found = play(server.port, f"--{section.lower()}", nobody)
-        self.assert_no_connection(section, f"mcrace: {nobody}: {REFUSED}\n", found)
-
-    def test_script_is_read_first(self):
-        """A script with a fault is refused before anything is connected."""
-        with socket.create_server(("127.0.0.1", 0)) as server:
-            found = play(server.getsockname()[1], script=b"script 2\n")
-            server.settimeout(0.2)
-            with self.assertRaises(socket.timeout):
-                server.accept()
-        self.assertEqual(found.status, 3, found)
-
-
-class Waits(ConnectionTest):
-    """Connects with a time limit, and waits for a server that comes late, or for none."""
 
     @rows([("one", "--timeout", "0.2"), ("none of several", "--timeout=0.05", "--wait=0.2")])
     def test_connect_of_p_is_not_answered(self, *options):

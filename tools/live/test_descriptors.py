@@ -7,7 +7,6 @@ from . import servers
 from .program import COUNTER, SECONDS, LiveTest, begun, rows, run
 from .servers import A, B, P, Replying, Scripted, answers, answers_both
 
-HISTORY = b"history 1\nP delete a -> NOT_FOUND\nend\n"
 NO_INPUT, NO_OUTPUT = (
     f"mcrace: standard {it}: Bad file descriptor (os error 9)\n"
     for it in ("input", "output")
@@ -16,8 +15,6 @@ NO_INPUT, NO_OUTPUT = (
 # ended, whose connections serve the third one.
 SURPLUS = (P, answers_both(b"6\r\nSTORED\r\n"), B)
 THREE_RUNS = [SURPLUS, tuple(2 * steps for steps in (P, A, B))]
-# A closed stream, the status, and what is told of it.
-CLOSED = [("input", 0, 4, NO_INPUT), ("output", 1, 4, NO_OUTPUT), ("errors", 2, 0, "")]
 
 
 def run_without(descriptor, words, given=b""):
@@ -33,12 +30,12 @@ class ClosedStreams(LiveTest):
         server.wait()
         self.assertLessEqual(set(server.rests), {b"", b"quit\r\n"})
 
-    @rows(CLOSED)
-    def test_judge(self, descriptor, status, told):
-        output = b"explained\nP 0\nend\n" if descriptor == 2 else b""
-        self.assert_answer(run_without(descriptor, ["judge"], HISTORY), output, status, told)
+    def test_judge(self):
+        """Without errors. Cases with `<!` or `>!` close the others."""
+        answer = run_without(2, ["judge"], b"history 1\nP delete a -> NOT_FOUND\nend\n")
+        self.assert_answer(answer, b"explained\nP 0\nend\n", 0)
 
-    @rows(CLOSED)
+    @rows([("input", 0, 4, NO_INPUT), ("output", 1, 4, NO_OUTPUT), ("errors", 2, 0, "")])
     def test_run(self, descriptor, status, told):
         with Scripted(*THREE_RUNS) as server:
             words = ["run", f"127.0.0.1:{server.port}", "--times", "3"]
@@ -60,13 +57,6 @@ class ClosedStreams(LiveTest):
             wanted += "jobs 40 explained 40 unexplained 0 other 0\n"
             self.assertEqual(found.text, "" if descriptor == 1 else wanted)
             self.assert_sent_nothing_else(server)
-
-    def test_campaign_without_input(self):
-        with servers.serving() as (_, port):
-            words = ["campaign", f"127.0.0.1:{port}", "--jobs", "20"]
-            found = run_without(0, words)
-        totals = "jobs 20 explained 20 unexplained 0 other 0"
-        self.assertEqual((found.status, found.text.splitlines()[-1:]), (0, [totals]))
 
     @rows([("input", 0), ("errors", 2)])
     def test_serve(self, descriptor):

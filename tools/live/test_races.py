@@ -4,7 +4,7 @@ import re
 
 from . import servers
 from .campaigns import MOST_IN_BLOCK, CampaignTest, campaign, steps_of
-from .program import judged, play, rows, run, statistics_in
+from .program import judged, play, rows, run
 
 # How often a campaign is run until it finds a race that depends on how threads meet.
 MOST_CAMPAIGNS = 50
@@ -17,31 +17,17 @@ MOST_RUNS = 50
 SECONDS_OF_GATE = 0.03
 
 
-def campaign_that_finds(port, options, is_found=lambda found: found.status):
-    """The first campaign that finds this, or the last one: what is found depends on how threads
-    meet."""
-    for _ in range(MOST_CAMPAIGNS):
-        found = campaign(port, options)
-        if is_found(found):
-            break
-    return found
-
-
-def is_small(found):
-    """Whether a small script is left after a campaign."""
-    return found.status == 1 and found.shrunk and len(steps_of(found.shrunk)) <= MOST_LEFT
-
-
 class RacesTest(CampaignTest):
     """What tests of races have in common."""
 
-    def find_race(self, options):
-        """A campaign that finds the race of `mcrace serve --racy`."""
-        port = self.enter(servers.serving("--racy"))[1]
-        found = campaign_that_finds(port, options)
-        self.assertEqual(found.status, 1, found.faults)
-        self.assertTrue(found.unexplained, found.totals)
-        return found
+    def find(self, options, is_found=lambda found: found.status):
+        """The first campaign at the server that finds this, which depends on how threads meet."""
+        for _ in range(MOST_CAMPAIGNS):
+            found = campaign(self.port, options)
+            if is_found(found):
+                self.assertEqual((found.status, bool(found.unexplained)), (1, True), found.faults)
+                return found
+        return self.fail(f"it wasn't found: {found.totals}, {found.shrunk}")
 
     def assert_told(self, found):
         """The unexplained jobs are told at once, in any order, the first ten."""
@@ -66,22 +52,19 @@ class RacesTest(CampaignTest):
 class Races(RacesTest):
     """The race of `mcrace serve --racy` is found, told and shown."""
 
+    def setUp(self):
+        self.port = self.enter(servers.serving("--racy"))[1]
+
     def test_found(self):
-        found = self.find_race("--jobs 1000")
+        found = self.find("--jobs 1000")
         self.assertEqual(len(found.jobs), 1000)
         self.assert_told(found)
         self.assert_left(found, found.unexplained[0])
         self.assertTrue(found.shrunk.endswith("end\n"), found.shrunk)
 
-    def test_histories(self):
-        """They are shown as they were judged."""
-        _, shown = self.shown_of(self.find_race("--jobs 1000 --tries 3 --show"))
-        for _, history in shown:
-            self.assertEqual(judged(history.encode()), "unexplained\n", history)
-
     def test_name(self):
         """The keys of the histories are under the name, and those of the script aren't."""
-        found = self.find_race("--jobs 1000 --tries 3 --show --name ci7")
+        found = self.find("--jobs 1000 --tries 3 --show --name ci7")
         _, shown = self.shown_of(found)
         for job, history in shown:
             keys = re.findall(r"^[PAB] begin \w+ (\S+)", history, flags=re.M)
@@ -103,19 +86,15 @@ class Races(RacesTest):
 
     def test_reasons(self):
         """It is said of each history that is shown from which line on nothing explains it."""
-        _, shown = self.shown_of(self.find_race("--jobs 1000 --show --why"))
+        _, shown = self.shown_of(self.find("--jobs 1000 --show --why"))
         for _, text in shown:
             reasons, _, rest = text.partition("history 2\n")
             self.assert_reasons(reasons, f"history 2\n{rest}")
 
     def test_statistics(self):
         """Smaller scripts aren't counted."""
-        port = self.enter(servers.serving("--racy"))[1]
-        options = "--jobs 1000 --stats"
-        found = campaign_that_finds(port, options, is_found=lambda it: it.shrunk)
-        self.assertTrue(found.shrunk, found.totals)
-        _, stats = statistics_in(found.faults)
-        self.assertEqual(stats and stats.runs, 1000, found.faults)
+        found = self.find("--jobs 1000 --stats", lambda it: it.shrunk)
+        self.assertRegex(found.faults, r"(?m)^mcrace: 1000 runs, \d+ overlapped, A's first reply")
 
 
 class LosingEach(RacesTest):
@@ -131,10 +110,8 @@ class SmallScripts(LosingEach):
     seconds = 10
 
     def find_small(self, options):
-        found = campaign_that_finds(self.port, options, is_small)
-        self.assertEqual(found.status, 1, found.faults)
-        self.assertLessEqual(len(steps_of(found.shrunk)), MOST_LEFT, found.shrunk)
-        return found.shrunk
+        is_small = lambda it: it.shrunk and len(steps_of(it.shrunk)) <= MOST_LEFT
+        return self.find(options, is_small).shrunk
 
     def test_no_name(self):
         script = self.find_small("--jobs 300").encode()

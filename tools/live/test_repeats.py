@@ -4,7 +4,7 @@ right or racy. Those whose runs differ are in cases/run/runs.cases."""
 import re
 
 from . import servers
-from .program import COUNTER, LiveTest, judged, rows, run, statistics_in
+from .program import COUNTER, LiveTest, judged, rows, run
 from .servers import A, B, P, Scripted
 
 # How often there are so many runs at a server that is right: the options, and seconds.
@@ -28,8 +28,8 @@ def numbers_in(answer):
     return [int(it or 0) for it in found.groups()] if found else 7 * [0]
 
 
-class Repeats(LiveTest):
-    """How runs end, and that none begins."""
+class ManyRuns(LiveTest):
+    """How runs end."""
 
     @rows([("of several", "--times 1", b"quit\r\n"), ("one run", "", b"")])
     def test_ends_of_connections(self, options, rest):
@@ -38,17 +38,6 @@ class Repeats(LiveTest):
             runs(server.port, options)
             server.wait()
         self.assertEqual(server.rests, 3 * [rest])
-
-    def test_nothing_ran(self):
-        """Then there are no statistics."""
-        refused = runs(1, "--times 3 --stats", b"history 1\n")
-        self.assertEqual((refused.faults, refused.status), ("", 3), refused)
-        lost = runs(servers.free_port(), "--times 3 --stats")
-        self.assertRegex(lost.faults, "\\A[^\n]*Connection refused[^\n]*\n\\Z")
-
-
-class ManyRuns(LiveTest):
-    """Runs at `mcrace serve`."""
 
     def assert_history(self, answer):
         """The history that is written is judged as the run was."""
@@ -77,11 +66,6 @@ class ManyRuns(LiveTest):
         self.assert_history(answer)
 
 
-def counter(runs, **deletes):
-    """How so many runs of the counter are answered, and the deletes of P."""
-    return {"set": {"stored": runs}, "incr": {"number": 2 * runs}, "delete": deletes}
-
-
 # Both branches read what isn't there.
 READS = b"script 1\nkeys a\nbudget P 1 10\nbudget A 1 7\nbudget B 1 7\n"
 READS += b"P\nA\nget a\nB\nget a\nend\n"
@@ -90,21 +74,22 @@ READS += b"P\nA\nget a\nB\nget a\nend\n"
 class RightServer(servers.ServedTest):
     """At `mcrace serve`."""
 
+    def assert_told(self, answer, runs, overlapped, firsts, verbs):
+        """Nothing is told but the statistics, and all of them."""
+        told = rf"mcrace: {runs} runs, {overlapped} overlapped, A's first reply first in {firsts}\n"
+        told += "".join(f"mcrace: {verb}\n" for verb in verbs)
+        self.assertRegex(answer.faults, rf"\A{told}\Z")
+
     def test_reads_that_miss(self):
         answer = runs(self.port, "--times 50 --stats", READS)
-        before, found = statistics_in(answer.faults)
-        self.assertEqual((before, found and found.runs), ("", 50), answer)
-        self.assertEqual(found.answers, {"get": {"miss": 100}, "delete": {"notfound": 50}})
+        verbs = "get: 100 miss", "delete: 50 notfound"
+        self.assert_told(answer, 50, r"\d+", r"\d+ of \d+", verbs)
 
     def test_sums(self):
         """The key is there but for the first run."""
         answer = runs(self.port, "--times 300 --stats")
-        before, found = statistics_in(answer.faults)
-        self.assertTrue(found and not before, answer)
-        numbers = found.runs, found.overlapped, found.answered
-        self.assertEqual(numbers, (300, numbers_in(answer)[6], 300), answer)
-        self.assertEqual(found.answers, counter(300, notfound=1, deleted=299))
-        self.assertTrue(0 <= found.a_first <= 300, found)
+        verbs = "set: 300 stored", "incr: 600 number", "delete: 1 notfound, 299 deleted"
+        self.assert_told(answer, 300, numbers_in(answer)[6], r"([0-2]?\d?\d|300) of 300", verbs)
 
 
 class RightMemcached(RightServer):

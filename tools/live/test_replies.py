@@ -3,7 +3,7 @@
 import re
 
 from . import servers
-from .program import ALL_DONE, LiveTest, play, rows, scripts
+from .program import LiveTest, play, rows, scripts
 from .servers import A, B, P, Scripted
 
 BRANCH_BEGINS = re.compile(rb"^([AB]) begin", re.M)
@@ -28,24 +28,8 @@ class Replies(LiveTest):
         self.fail(f"of 100 runs only {first} began first")
 
 
-# Each branch increments one counter so often, and a script is played so often until this is lost.
-INCREMENTS, MOST_TIMES = 22, 1_000
-MANY = b"script 1\nkeys a\nbudget P 2 26\nbudget A 22 220\nbudget B 22 220\nP\nset a 0 =5\n"
-MANY += b"A\n%bB\n%bend\n" % (2 * (INCREMENTS * b"incr a 1\n",))
-
-
 class LosingServers(LiveTest):
-    """Servers that lose an update, or hold nothing of what P stored."""
-
-    def test_serve_with_a_race(self):
-        port = self.enter(servers.serving("--racy"))[1]
-        for time in range(1, MOST_TIMES + 1):
-            found = play(port, script=MANY)
-            self.assertEqual(found.endings, ALL_DONE, found)
-            if found.verdict == "unexplained\n":
-                print(f"the race was found in run {time}")
-                return
-        self.fail(f"the race wasn't found in {MOST_TIMES} runs")
+    """Servers that lose an update, or hold nothing of what P stored; test_repeats has one more."""
 
     def test_example(self):
         with servers.losing_updates() as port:

@@ -17,60 +17,47 @@ REPLIES = [
 ]
 
 
-def stopped(words, stops, given=b""):
-    """The status, output and errors of the program that is stopped so."""
-    began = time.monotonic()
-    with begun(words, given) as process:
-        for at, number in zip(sum(stops, ()), len(stops) * [signal.SIGSTOP, signal.SIGCONT]):
-            time.sleep(max(0, began + at - time.monotonic()))
-            process.send_signal(number)
-        output, told = process.communicate(timeout=SECONDS)
-    return process.returncode, output.decode(), told.decode()
-
-
 class Stops(LiveTest):
-    """A read has a time limit."""
+    """A read has a time limit. In a campaign a worker waits for the reply to P's first request."""
 
     seconds = 6
+
+    def stopped(self, command, server, limit, stops):
+        """The status, output and lines of errors of the command, stopped so, at the server."""
+        words = [command, f"127.0.0.1:{server.port}", "--timeout", limit]
+        words += ["--jobs", "1", "--workers", "1"] if command == "campaign" else []
+        began = time.monotonic()
+        with begun(words, COUNTER) as process:
+            for at, number in zip(sum(stops, ()), len(stops) * [signal.SIGSTOP, signal.SIGCONT]):
+                time.sleep(max(0, began + at - time.monotonic()))
+                process.send_signal(number)
+            output, told = process.communicate(timeout=SECONDS)
+        return process.returncode, output.decode(), told.decode().splitlines()
 
     @rows(REPLIES)
     def test_reply_comes(self, limit, stops):
         with Scripted(SLOW) as server:
-            words = ["run", f"127.0.0.1:{server.port}", "--timeout", limit]
-            status, output, told = stopped(words, stops, COUNTER)
-        self.assertEqual((status, output[: len(ALL_DONE)], told), (0, ALL_DONE, ""), output)
-
-    @three_times
-    def test_no_reply_comes(self):
-        """What is left of the limit is waited for, and no more."""
-        with Replying([Step.READ]) as server, self.assert_takes(1, 1.3):
-            words = ["run", f"127.0.0.1:{server.port}", "--timeout", "1"]
-            status, output, told = stopped(words, ONCE, COUNTER)
-        self.assertEqual((status, output.splitlines()[0]), (4, "P failed 2 ReadFailed"))
-        self.assertEqual(told, 'mcrace: P: no reply to "delete a" within 1 s\n')
-
-
-class StopsOfCampaigns(LiveTest):
-    """The same of a campaign, whose worker waits for the reply to P's first request."""
-
-    def stopped_campaign(self, talk, limit, stops):
-        """The status, the line of the job, and what is told after the first line."""
-        with Replying(talk, [], []) as server:
-            words = f"campaign 127.0.0.1:{server.port} --jobs 1 --workers 1 --timeout {limit}"
-            status, output, told = stopped(words.split(), stops)
-        return status, output.splitlines()[0], told.splitlines()[1:]
+            status, output, told = self.stopped("run", server, limit, stops)
+        self.assertEqual((status, output[: len(ALL_DONE)], told), (0, ALL_DONE, []), output)
 
     @rows(REPLIES)
-    def test_reply_comes(self, limit, stops):
+    def test_reply_comes_in_a_campaign(self, limit, stops):
         """It is a line that reports an error."""
-        found = self.stopped_campaign([*SLOWLY, b"ERROR\r\n"], limit, stops)
-        told = r'mcrace: job 0: P: to "delete r0-0" came "ERROR\r\n"'
-        self.assertEqual(found, (4, "0 explained P ErrorLine", [told]))
+        with Replying([*SLOWLY, b"ERROR\r\n"], [], []) as server:
+            status, output, told = self.stopped("campaign", server, limit, stops)
+        self.assertEqual((status, output.splitlines()[0]), (4, "0 explained P ErrorLine"))
+        self.assertEqual(told[1:], [r'mcrace: job 0: P: to "delete r0-0" came "ERROR\r\n"'])
 
+    # What is left of the limit is waited for, and no more; but the call of a worker begins anew
+    # when the program goes on, with its whole limit.
+    @rows([
+        ("run", "run", 1, 1.3, "P failed 2 ReadFailed", 'P: no reply to "delete a"'),
+        ("a campaign", "campaign", 1.3, 1.8, "0 explained P ReadFailed",
+         'job 0: P: no reply to "delete r0-0"'),
+    ])
     @three_times
-    def test_no_reply_comes(self):
-        """The call begins anew when the program goes on, with its whole limit."""
-        with self.assert_takes(1.3, 1.8):
-            found = self.stopped_campaign([Step.READ], "1", ONCE)
-        told = 'mcrace: job 0: P: no reply to "delete r0-0" within 1 s'
-        self.assertEqual(found, (4, "0 explained P ReadFailed", [told]))
+    def test_no_reply_comes(self, command, least, most, first, told):
+        with Replying([Step.READ], [], []) as server, self.assert_takes(least, most):
+            status, output, faults = self.stopped(command, server, "1", ONCE)
+        self.assertEqual((status, output.splitlines()[0]), (4, first))
+        self.assertEqual(faults[command == "campaign" :], [f"mcrace: {told} within 1 s"])

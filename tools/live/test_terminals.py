@@ -29,25 +29,33 @@ TYPED = [
 
 # Command lines that read nothing, with the statuses of theirs.
 UNREAD = [("--version", 0), ("judge --help", 0), ("generate", 0), ("serve 0 --connections 0", 0)]
-# Command lines with a fault, after which nothing is read.
-FAULTY = ["", "judge x", "run", f"run {NOBODY} --timeout 0", f"rnu {NOBODY}"]
+UNREAD += [("", 2), ("judge x", 2), ("run", 2), (f"run {NOBODY} --timeout 0", 2)]
+UNREAD += [(f"rnu {NOBODY}", 2)]
 
 
-class Typed(LiveTest):
+class TerminalTest(LiveTest):
+    @contextlib.contextmanager
+    def at_terminal(self, line, stream, environment=None):
+        """The program with a terminal as this stream and pipes as the others, and our end."""
+        ours, theirs = pty.openpty()
+        streams = dict.fromkeys(("stdin", "stdout", "stderr"), subprocess.PIPE) | {stream: theirs}
+        try:
+            with subprocess.Popen([PROGRAM, *line.split()], env=environment, **streams) as process:
+                os.close(theirs)
+                yield process, ours
+        finally:
+            os.close(ours)
+
+
+class Typed(TerminalTest):
     """Standard error says what is read, and nothing if nothing is or if it isn't typed."""
 
     def type(self, line, text=b""):
         """The output, standard error and the status if the text is typed, with its end."""
-        ours, theirs = pty.openpty()
-        streams = {"stdout": subprocess.PIPE, "stderr": subprocess.PIPE}
-        try:
-            with subprocess.Popen([PROGRAM, *line.split()], stdin=theirs, **streams) as process:
-                os.close(theirs)
-                os.write(ours, text + END)
-                output, faults = process.communicate(timeout=SECONDS)
-                return output, faults.decode(), process.returncode
-        finally:
-            os.close(ours)
+        with self.at_terminal(line, "stdin") as (process, ours):
+            os.write(ours, text + END)
+            output, faults = process.communicate(timeout=SECONDS)
+        return output, faults.decode(), process.returncode
 
     @rows((row[0], *row) for row in TYPED)
     def test_typed(self, line, text, begin, what, told, status):
@@ -57,27 +65,20 @@ class Typed(LiveTest):
 
     @rows((row[0], *row) for row in TYPED)
     def test_terminal_for_the_output_alone(self, line, text, _, what, told, status):
-        ours, theirs = pty.openpty()
-        streams = {"stdout": theirs, "stderr": subprocess.PIPE}
-        words = [PROGRAM, *line.split()]
-        ran = subprocess.run(words, input=text, timeout=SECONDS, **streams)
-        os.close(ours)
-        os.close(theirs)
-        self.assertEqual((ran.stderr.decode(), ran.returncode), (told, status), what)
+        with self.at_terminal(line, "stdout") as (process, _):
+            faults = process.communicate(text, SECONDS)[1]
+        self.assertEqual((faults.decode(), process.returncode), (told, status), what)
 
     @rows((row[0], *row) for row in UNREAD)
     def test_nothing_is_read(self, line, status):
-        self.assertEqual(self.type(line)[1:], ("", status))
-
-    @rows((line, line) for line in FAULTY)
-    def test_faulty_lines(self, line):
-        output, faults, status = self.type(line)
-        self.assertEqual((output, status), (b"", 2))
-        self.assertTrue(faults)
+        """Only of a fault something is told, and nothing is written then."""
+        output, faults, ended = self.type(line)
+        is_faulty = status == 2
+        self.assertEqual((ended, bool(faults), bool(output)), (status, is_faulty, not is_faulty))
         self.assertNotIn("reading", faults)
 
 
-class Progress(LiveTest):
+class Progress(TerminalTest):
     """How far a command is, is told in one line, if standard error is a terminal that can."""
 
     def setUp(self):
@@ -86,12 +87,9 @@ class Progress(LiveTest):
     def watch(self, line, text=b"", is_interrupted=False, **environment):
         """The output, what is said at a terminal, with line ends as they were written, and the
         status. The command is interrupted, if it is, once it has said thrice how far it is."""
-        ours, theirs = pty.openpty()
         known = {it: os.environ[it] for it in os.environ if it not in ("TERM", "COLUMNS")}
-        streams = {"stdin": subprocess.PIPE, "stdout": subprocess.PIPE, "stderr": theirs}
-        words, told = [PROGRAM, *line.split()], b""
-        with subprocess.Popen(words, env={**known, **environment}, **streams) as process:
-            os.close(theirs)
+        told = b""
+        with self.at_terminal(line, "stderr", known | environment) as (process, ours):
             process.stdin.write(text)
             process.stdin.close()
             # The other end of a terminal is gone with whoever had it.
@@ -101,7 +99,6 @@ class Progress(LiveTest):
                     if is_interrupted and told.count(b" unexplained, ") >= 3:
                         process.send_signal(signal.SIGINT)
             output = process.stdout.read()
-        os.close(ours)
         return output, told.decode().replace("\r\n", "\n"), process.returncode
 
     def of_campaign(self, *more, **environment):
@@ -124,11 +121,9 @@ class Progress(LiveTest):
         lines = self.of_campaign(COLUMNS="20").split("\r\x1b[K")
         self.assertEqual([line for line in lines if len(line) > 20], [])
 
-    def test_quiet(self):
-        self.assertEqual(self.of_campaign("--quiet"), "")
-
-    def test_dumb(self):
-        self.assertEqual(self.of_campaign(TERM="dumb"), "")
+    def test_nothing_is_said(self):
+        """If it is to be quiet, or the terminal can't."""
+        self.assertEqual((self.of_campaign("--quiet"), self.of_campaign(TERM="dumb")), ("", ""))
 
     def test_interrupt(self):
         """Ctrl-C ends many runs, and how far they were is left."""

@@ -21,9 +21,8 @@ ROOT, SECONDS = HERE.parents[1], 60
 # What has a time limit is tried as often as this: the machine may stand still for longer.
 TRIES = 3
 TIME_LIMITS = ("--timeout", "--wait")
-# Command lines that take no input.
-COMMANDS = ["judge", "draw", "check", "asm", "drive", "run"]
-LINES = [[], ["--help"], *([it, word] for it in COMMANDS for word in ("--help", "x"))]
+# Command lines with a fault, beside those of cases.
+LINES = [["judge", "x"], ["draw", "x"], ["run", "x"]]
 EXAMPLES = [
     ("judge", "history"), ("draw", "history"), ("check", "script"), ("asm", "script"),
     ("drive", "drive"),
@@ -161,7 +160,7 @@ MAY_END = {"campaign": campaign_may_end, "serve": serve_may_end, "selftest": sel
 
 
 def sweeps_of_cases(program, made, folder):
-    """The program on each case, each example and some command lines without input."""
+    """The program on each case, each example and two command lines without input."""
     given = [(it.name, it.words, it.input) for of in cases.all_files() for it in cases.cases_in(of)
              if not it.runs]
     given += [(it.name, [command], it.read_bytes()) for command, kind in EXAMPLES
@@ -199,10 +198,3 @@ def sweeps_of_tests(made, crates):
             name = f"{crate} {test}"
             found[name] = Sweep(name, [program, test], test_may_end, made)
     return found
-
-
-def spread(count, many):
-    """So many numbers up to the count, evenly spread, or all."""
-    if count <= many:
-        return list(range(1, count + 1))
-    return [1 + i * count // many for i in range(many)]
