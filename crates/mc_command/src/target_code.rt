@@ -84,8 +84,8 @@ pub fn put_code_under(
 
 /// What is written in place of a run, with what standard error says.
 pub fn unplayed_answer(alloc: Global, unplayed: Unplayed) -> Result<(Answer, Remarks), AllocError>
-    ensures { (why : Bool) (name : Option (List ℕ)) (text : List ℕ) → answers.IsUnplayed why name text unplayed
-        → IfOk result (λ found. answers.Refuses why name text found.0.output.items found.0.status) }
+    ensures { IfOk result (λ found. (why : Bool) (name : Option (List ℕ)) (text : List ℕ) → answers.IsUnplayed why name text unplayed
+        → answers.Refuses why name text found.0.output.items found.0.status) }
 {
     match unplayed {
         Unplayed::Refused(output) => Ok((
