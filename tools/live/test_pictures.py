@@ -3,7 +3,7 @@
 import re
 
 from .pictures import faults_of
-from .program import LiveTest, rows, run
+from .program import ROOT, LiveTest, rows, run
 from .test_examples import examples
 
 KEYS = ["k" * 39 + end for end in "01"]
@@ -69,3 +69,10 @@ class Pictures(LiveTest):
         ran = run(["draw", "--text"], given)
         self.assertTrue(ran.output.isascii())
         self.assertLessEqual(max(map(len, ran.output.split(b"\n"))), 80)
+
+    def test_readme(self):
+        """The picture in README is drawn from the history above it."""
+        page = (ROOT / "README.md").read_text()
+        given = page[page.index("history 2\n") : page.index("end\n```")] + "end\n"
+        drawn = (ROOT / "docs/lost-update.svg").read_bytes()
+        self.assertEqual(run(["draw"], given.encode()).output, drawn)
