@@ -1,5 +1,5 @@
-"""What the benches share: their options, programs that are measured, servers, tables in Markdown,
-and targets.
+"""What the benches share: their options, programs that are measured, tables in Markdown, and
+targets.
 
 A bench ends with status 0, with 3 if a target isn't met, and with 1 if a program answers otherwise
 than it should.
@@ -11,8 +11,6 @@ import fcntl
 import os
 import pathlib
 import re
-import shutil
-import socket
 import subprocess
 import sys
 import tempfile
@@ -24,7 +22,9 @@ NOT_MET = 3
 # It stands in Python's `fcntl` since 3.10.
 F_GETPIPE_SZ = 1032
 
-sys.path.append(str(ROOT / "oracle"))
+sys.path += [str(ROOT / "oracle"), str(ROOT / "tools")]
+
+from live import servers
 
 
 def bench(measure, **numbers):
@@ -48,9 +48,6 @@ def bench(measure, **numbers):
 
 def stop(*texts):
     sys.exit(f"{pathlib.Path(sys.argv[0]).name}: " + " ".join(str(it)[-500:] for it in texts))
-
-
-# ---- tables and targets
 
 
 def row(*cells):
@@ -92,9 +89,6 @@ def in_turns(rounds, plays):
         for name in list(plays)[:: -1 if number % 2 else 1]:
             found[name].append(plays[name]())
     return found
-
-
-# ---- programs
 
 
 def ran(words, text="", statuses=(0,), seconds=600):
@@ -159,33 +153,6 @@ def all_compiled(*names):
         yield [f"{folder}/{name}" for name in names]
 
 
-# ---- servers
-
-
-@contextlib.contextmanager
-def served(words, port=None):
-    """The port and the process of a server, which prints its port if it isn't given one."""
-    pipes = {"stdin": subprocess.PIPE, "stdout": None if port else subprocess.PIPE, "text": True}
-    with subprocess.Popen(list(map(str, words)), **pipes) as process:
-        try:
-            if port is None:
-                port = int(re.search(r"\d+$", process.stdout.readline())[0])
-            else:
-                for _ in range(100):
-                    with contextlib.suppress(OSError):
-                        socket.create_connection(("127.0.0.1", port), 1).close()
-                        break
-                    time.sleep(0.05)
-            yield port, process
-        finally:
-            process.terminate()
-
-
 def memcached(threads=4):
-    """The same of a memcached with so many threads, on a free port."""
-    if shutil.which("memcached") is None:
-        stop("memcached is not installed")
-    with socket.create_server(("127.0.0.1", 0)) as free:
-        port = free.getsockname()[1]
-    words = ["memcached", "-u", "nobody", "-l", "127.0.0.1", "-p", port, "-t", threads]
-    return served([*words, "-m", 1024, "-c", 4096], port)
+    """A memcached with so many threads, for as many connections as a bench opens."""
+    return servers.memcached(threads, "-m", 1024, "-c", 4096)

@@ -14,9 +14,6 @@ NEVER = "A get a -> HIT 0 =never"
 VERBS = "set add replace append prepend cas cas get get gets gets incr incr decr decr delete touch"
 
 
-# ---- histories of a server, at random
-
-
 class Run:
     """Three sections over one cache, with what each of them was answered."""
 
@@ -115,9 +112,6 @@ def numbers_24(rng):
     return Run(rng, ["a"]).branch_out([24, 24], request_of_one_body)
 
 
-# ---- kinds
-
-
 class Kind(collections.namedtuple("Kind", "name made verdict limit version",
                                   defaults=(None, None, 1))):
     """A kind of histories: the lines of one, or how one is made from a generator of random numbers;
@@ -174,9 +168,6 @@ KINDS = [Kind(name, made, None if name == "changed" else "explained")
          for name, made in SERVED.items()]
 KINDS += [Kind(name, lines, "unexplained", 10_000 if name == "bodies" else None,
                2 if name == "alike-pairs" else 1) for name, lines in HOPELESS.items()]
-
-
-# ---- verdicts of `mcrace judge`
 
 
 STATUSES = {"explained": 0, "unexplained": 1, "undecided": 4}

@@ -7,7 +7,7 @@ import math
 import re
 from statistics import fmean
 
-from common import in_turns, ran, served, stop  # which finds the model
+from common import in_turns, ran, servers, stop  # which finds the model
 from model import STORES
 
 # The runs that a program plays before it is another's turn.
@@ -77,26 +77,24 @@ def request_of(line):
     return f"{' '.join(words)}|{body[1:]}|"
 
 
-# ---- the server
-
-
 @contextlib.contextmanager
 def race_server(program, race, window, delay=0, is_shared=False):
     """The port of a server with a race whose window of so many µs opens so late, and a function
     that answers the runs since its last call and empties the cache. If the server is shared, all
     connections since then are one run."""
     words = [program, race, window, delay, *["shared"] * is_shared]
-    with served(words) as (port, process):
+    with servers.started(words) as (process, port):
         def visits():
-            print("report", file=process.stdin, flush=True)
-            lines = iter(process.stdout.readline, "end\n")
+            process.stdin.write(b"report\n")
+            process.stdin.flush()
+            lines = iter(process.stdout.readline, b"end\n")
             return [Visit(*map(float, it.split())) for it in lines]
 
         yield port, visits
 
 
-# ---- programs: each plays a script so many times at a port, and answers in which of the runs the
-# race was found, or None
+# What follows makes programs that play a script so many times at a port, and answer in which of the
+# runs the race was found, or None.
 
 
 def plain(client, *how, is_one_process=False):
@@ -137,9 +135,6 @@ def repeated(program, *options):
         return [at < int(totals[2]) for at in range(runs)]
 
     return play
-
-
-# ---- series of runs
 
 
 def seen(name, play, server, race, runs):

@@ -148,9 +148,6 @@ class World:
         return ("\n".join(lines), status), words
 
 
-# ---- step lists at random
-
-
 def reply_at_random(rng, name, verb):
     if name == "hit":
         flags, body = rng.choice([0, 0, 7]), rng.choice(["", "0", "5", "6", "x"])

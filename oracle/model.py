@@ -64,9 +64,6 @@ def request_text(code, template):
     return f"{head} 0\r\n" if template.verb == "touch" else f"{head}\r\n"
 
 
-# ---- the image
-
-
 class Image:
     """Bytes that are read if they are given, and else written. What a method is given is written,
     and answered; or what was read is answered."""
@@ -130,7 +127,8 @@ def code_of(image):
     return Image(image[:4], image[4:]).code()
 
 
-# ---- requests and replies: tuples of words, in which bodies are bytes
+# Requests and replies are tuples of words, in which bodies are bytes. An item of a cache is its
+# flags, its body and its number.
 
 
 def body_word(body):
@@ -162,9 +160,6 @@ def history_text(lines, version=1):
 def line_of(actor, request, reply):
     """A line of a `history 1`; the reply is None if it never came."""
     return f"{actor} {words_of(request)} -> {words_of(reply) if reply else '?'}"
-
-
-# ---- what a server answers: an item is its flags, its body and its number
 
 
 def outcomes(request, item, number):

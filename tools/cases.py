@@ -86,6 +86,12 @@ class Case:
             self.after += bytes_of(line)
 
 
+def written_bytes(text):
+    """The bytes that a text stands for: `x*20` is 20 times `x`, and `\\n` or `\\xff` a byte."""
+    text = re.sub(r"(.)\*(\d+)", lambda it: it[1] * int(it[2]), text)
+    return text.encode("latin-1").decode("unicode_escape").encode("latin-1")
+
+
 def bytes_of(line):
     """The bytes that a line of input or output stands for."""
     form = BYTES.match(line)

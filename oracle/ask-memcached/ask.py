@@ -14,21 +14,13 @@ what was answered, also to lines without replies.
 """
 
 import pathlib
-import re
-import socket
 import sys
 
 HERE = pathlib.Path(__file__).resolve().parent
-sys.path.append(str(HERE.parents[1] / "bench"))
+sys.path.append(str(HERE.parents[1] / "tools"))
 
-from common import memcached
-
-REPEATED = re.compile(r"(.)\*(\d+)")
-
-
-def bytes_of(text):
-    text = REPEATED.sub(lambda it: it[1] * int(it[2]), text)
-    return text.encode("latin-1").decode("unicode_escape").encode("latin-1")
+from cases import written_bytes
+from live import servers
 
 
 def reply(server, stream, requests):
@@ -43,11 +35,11 @@ def reply(server, stream, requests):
 def main():
     path = HERE / f"{sys.argv[1]}.txt"
     known, *lines = path.read_text(encoding="utf-8").splitlines()
-    with memcached() as (port, _), socket.create_connection(("127.0.0.1", port), 10) as server:
+    with servers.memcached(4) as (_, port), servers.connect(port) as server:
         stream, answered = server.makefile("rb"), []
         for line in lines:
             requests = line.partition(" -> ")[0]
-            said, version = reply(server, stream, bytes_of(requests))
+            said, version = reply(server, stream, written_bytes(requests))
             answered.append(f"{requests} -> {said}")
     version = f"memcached {version.split()[1]}"
     if "--write" in sys.argv:

@@ -1,11 +1,11 @@
 """Servers for the tests: scripted ones, memcached, and `mcrace serve`, each on a free port of
 127.0.0.1."""
 
+import collections
 import contextlib
 import enum
 import itertools
 import re
-import resource
 import shutil
 import socket
 import struct
@@ -18,8 +18,10 @@ from dataclasses import dataclass
 
 from .program import PROGRAM, ROOT, SECONDS, LiveTest
 
-LISTENING = re.compile(rb"listening 127\.0\.0\.1:(\d+)\n")
+LISTENING = re.compile(rb"listening (?:127\.0\.0\.1:)?(\d+)\n")
 WITH_BLOCK = (b"set", b"add", b"replace", b"append", b"prepend", b"cas")
+
+Server = collections.namedtuple("Server", "process port")
 
 
 def free_port():
@@ -50,51 +52,40 @@ def wait_for(port, process):
 
 
 @contextlib.contextmanager
-def started(words, port):
-    """A server that is a program of its own, as long as the block runs."""
-    process = subprocess.Popen(words, stdout=subprocess.DEVNULL, stderr=subprocess.DEVNULL)
-    try:
-        wait_for(port, process)
-        yield port
-    finally:
-        process.terminate()
-        process.wait()
+def started(words, port=None, stderr=subprocess.DEVNULL):
+    """A server that is a program of its own, as long as the block runs. Its first line says at
+    which port it listens, if that isn't given."""
+    streams = {"stdin": subprocess.PIPE, "stdout": subprocess.PIPE, "stderr": stderr}
+    with subprocess.Popen(list(map(str, words)), **streams) as process:
+        try:
+            if port:
+                wait_for(port, process)
+            yield Server(process, port or int(LISTENING.fullmatch(process.stdout.readline())[1]))
+        finally:
+            process.terminate()
 
 
-def memcached():
-    """A memcached with one thread, as the user nobody if root starts it; without one the test is
-    skipped."""
+def memcached(threads=1, *more):
+    """A memcached with so many threads, as the user nobody if root starts it; without one the test
+    is skipped."""
     program, port = shutil.which("memcached"), free_port()
     if program is None:
         raise unittest.SkipTest("memcached is not installed; on Debian: apt-get install memcached")
-    words = [program, "-t", "1", "-u", "nobody", "-l", "127.0.0.1", "-p", str(port)]
+    words = [program, "-t", threads, "-u", "nobody", "-l", "127.0.0.1", "-p", port, *more]
     return started(words, port)
 
 
 def losing_updates(seconds=1):
     """The example of a server that loses each update that it can. It waits for the other one of two
     so many seconds."""
-    port = free_port()
-    return started([sys.executable, ROOT / "examples/racy-server", str(port), str(seconds)], port)
+    return started([sys.executable, ROOT / "examples/racy-server", 0, seconds])
 
 
-@contextlib.contextmanager
 def serving(*words, files=None):
-    """`mcrace serve`, with its process and its port. So many files may be open in it at first, if
-    that is said; whoever may open them later may raise that."""
-
-    def limit():
-        most = resource.getrlimit(resource.RLIMIT_NOFILE)[1]
-        resource.setrlimit(resource.RLIMIT_NOFILE, (files, most))
-
-    streams = {"stdin": subprocess.DEVNULL, "stdout": subprocess.PIPE, "stderr": subprocess.PIPE}
-    words = [PROGRAM, "serve", "0", *words]
-    with subprocess.Popen(words, preexec_fn=limit if files else None, **streams) as process:
-        try:
-            listening = LISTENING.fullmatch(process.stdout.readline())
-            yield process, int(listening[1]) if listening else 0
-        finally:
-            process.kill()
+    """`mcrace serve`. So many files may be open in it at first, if that is said; whoever may open
+    them later may raise that."""
+    limit = ["prlimit", f"--nofile={files}:"] if files else []
+    return started([*limit, PROGRAM, "serve", 0, *words], stderr=subprocess.PIPE)
 
 
 @contextlib.contextmanager

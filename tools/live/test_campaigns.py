@@ -23,7 +23,7 @@ class RightServers(servers.ServedTest, CampaignTest):
     """All jobs are explained, but if a verdict may take no turn."""
 
     def test_memcached(self):
-        self.assert_right(self.enter(servers.memcached()), 300)
+        self.assert_right(self.enter(servers.memcached()).port, 300)
 
     @rows([("300 jobs", 300), ("in time", 100, "--timeout 20")])
     def test_serve(self, *options):
@@ -110,7 +110,7 @@ class WrongServers(CampaignTest):
 
     def test_server_goes_away(self):
         """`serve` ends after 30 connections, and later ones are refused."""
-        port = self.enter(servers.serving("--connections", "30"))[1]
+        port = self.enter(servers.serving("--connections", 30)).port
         found = campaign(port, "--jobs 40 --workers 1")
         self.assertEqual([line.split()[1] for line in found.jobs[:10]], 10 * ["explained"])
         self.assertEqual(found.status, 4)

@@ -51,7 +51,7 @@ class RaceTest(ScriptTest):
 
     def test_racy_server(self):
         """It stays found, though the campaign meets requests that this server doesn't know."""
-        with losing_updates(0.5) as port:
+        with losing_updates(0.5) as (_, port):
             status, told, folder = self.run_at(port, 1, COUNTER)
         self.assertRegex(told, r"\Atwo-increments: exit status 1\nrun ")
         self.assertEqual(status, 1)

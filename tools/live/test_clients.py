@@ -61,7 +61,7 @@ class ClientTests:
         except ImportError:
             raise unittest.SkipTest(f"{cls.needs} is not installed") from None
         server = servers.serving()
-        cls.port = server.__enter__()[1]
+        cls.port = server.__enter__().port
         cls.addClassCleanup(server.__exit__, None, None, None)
 
     def call(self, method, *given):

@@ -53,7 +53,7 @@ class Races(RacesTest):
     """The race of `mcrace serve --racy` is found, told and shown."""
 
     def setUp(self):
-        self.port = self.enter(servers.serving("--racy"))[1]
+        self.port = self.enter(servers.serving("--racy")).port
 
     def test_found(self):
         found = self.find("--jobs 1000")
@@ -101,7 +101,7 @@ class LosingEach(RacesTest):
     """The example server loses each update that it can."""
 
     def setUp(self):
-        self.port = self.enter(servers.losing_updates(SECONDS_OF_GATE))
+        self.port = self.enter(servers.losing_updates(SECONDS_OF_GATE)).port
 
 
 class SmallScripts(LosingEach):

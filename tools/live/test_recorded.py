@@ -47,7 +47,7 @@ class Recorded(servers.ServedTest):
                 self.assertIn(f"rounds {ROUNDS} raised 0 ", told)
 
     def test_right_with_memcached(self):
-        self.port = self.enter(servers.memcached())
+        self.port = self.enter(servers.memcached()).port
         self.test_right()
 
     def test_wrong(self):

@@ -96,4 +96,4 @@ class RightMemcached(RightServer):
     """At memcached."""
 
     def setUp(self):
-        self.port = self.enter(servers.memcached())
+        self.port = self.enter(servers.memcached()).port

@@ -32,15 +32,15 @@ class LosingServers(LiveTest):
     """Servers that lose an update, or hold nothing of what P stored; test_repeats has one more."""
 
     def test_example(self):
-        with servers.losing_updates() as port:
+        with servers.losing_updates() as (_, port):
             found = play(port)
         self.assert_done(found, 1, "unexplained\n")
         self.assert_judged_again(found)
 
     def test_another_server_of_a(self):
         """A's server is another one, so it holds nothing of what P stored."""
-        with servers.losing_updates() as port, servers.losing_updates() as other:
-            found = play(port, "--a", f"127.0.0.1:{other}")
+        with servers.losing_updates() as (_, port), servers.losing_updates() as other:
+            found = play(port, "--a", f"127.0.0.1:{other.port}")
             alike = play(port, f"--a=127.0.0.1:{port}", "--meet", "never")
         self.assert_done(found, 1, "unexplained\n")
         lines = found.history.splitlines()
@@ -65,11 +65,11 @@ class Scripts(LiveTest):
             self.assert_judged_again(found)
 
     def setUp(self):
-        self.port = self.enter(servers.memcached())
+        self.port = self.enter(servers.memcached()).port
 
 
 class ScriptsAtServe(Scripts):
     """The same at `mcrace serve`."""
 
     def setUp(self):
-        self.port = self.enter(servers.serving())[1]
+        self.port = self.enter(servers.serving()).port

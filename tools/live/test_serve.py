@@ -44,7 +44,7 @@ class Serve(LiveTest):
 
     @rows([("right",), ("with a race", "--racy")])
     def test_three_connections(self, *words):
-        with servers.serving("--connections", "3", *words) as (process, port):
+        with servers.serving("--connections", 3, *words) as (process, port):
             found = play(port, "--meet", "never")
             self.assertEqual(found.endings, ALL_DONE, found)
             self.assertTrue(found.status == 0 or words, found)
@@ -66,7 +66,7 @@ class Serve(LiveTest):
 
     def test_fewer_failed_accepts(self):
         most = resource.getrlimit(resource.RLIMIT_NOFILE)[1]
-        with servers.serving("--connections", "1", files=WITH_LISTENER) as (process, port):
+        with servers.serving("--connections", 1, files=WITH_LISTENER) as (process, port):
             time.sleep(10 * REST)
             resource.prlimit(process.pid, resource.RLIMIT_NOFILE, (64, most))
             with servers.connect(port) as client:
@@ -76,7 +76,7 @@ class Serve(LiveTest):
 
     def test_no_thread(self):
         """There is no memory for a stack: the connection is closed and counted."""
-        with servers.serving("--connections", "1") as (process, port):
+        with servers.serving("--connections", 1) as (process, port):
             pages = int(pathlib.Path(f"/proc/{process.pid}/statm").read_text().split()[0])
             limit = pages * resource.getpagesize(), resource.RLIM_INFINITY
             resource.prlimit(process.pid, resource.RLIMIT_AS, limit)

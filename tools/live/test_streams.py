@@ -44,7 +44,7 @@ class BesideMemcached(LiveTest):
         return without_numbers(got)
 
     def test_streams(self):
-        ports = self.enter(servers.serving())[1], self.enter(servers.memcached())
+        ports = (self.enter(it()).port for it in (servers.serving, servers.memcached))
         both = [servers.connect(port) for port in ports]
         for connection in both:
             connection.sendall(b"set end-of-the-stream 0 0 1\r\n.\r\n")
@@ -61,7 +61,7 @@ class ChangedStreams(LiveTest):
     """After changed streams the server answers, and has lost nothing that it acknowledged."""
 
     def test_rounds(self):
-        port = self.enter(servers.serving())[1]
+        port = self.enter(servers.serving()).port
         rounds = Rounds(port, int(os.environ.get("MCRACE_SEED", mutations.seed_of_commit())))
         fault = rounds.fault(SECONDS, int(os.environ.get("MCRACE_ROUND", 0)))
         self.assertIsNone(fault)

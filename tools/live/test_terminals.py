@@ -82,7 +82,7 @@ class Progress(TerminalTest):
     """How far a command is, is told in one line, if standard error is a terminal that can."""
 
     def setUp(self):
-        self.server = f"127.0.0.1:{self.enter(servers.serving())[1]}"
+        self.server = f"127.0.0.1:{self.enter(servers.serving()).port}"
 
     def watch(self, line, text=b"", is_interrupted=False, **environment):
         """The output, what is said at a terminal, with line ends as they were written, and the
