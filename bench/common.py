@@ -5,7 +5,6 @@ A bench ends with status 0, with 3 if a target isn't met, and with 1 if a progra
 than it should.
 """
 
-import argparse
 import contextlib
 import fcntl
 import os
@@ -25,23 +24,17 @@ F_GETPIPE_SZ = 1032
 sys.path += [str(ROOT / "oracle"), str(ROOT / "tools")]
 
 from live import servers
+from options import parser_of
 
 
 def bench(measure, **numbers):
     """Runs a bench: what its command line asks for and its targets are given to `measure`. The
     numbers are options, each with what it is if left out, and what with --short."""
-    form = argparse.RawDescriptionHelpFormatter
-    doc = sys.modules["__main__"].__doc__
-    parser = argparse.ArgumentParser(description=doc, formatter_class=form)
-    parser.add_argument("--program", type=os.path.abspath, default=str(ROOT / "release/mcrace"),
-                        help="the program mcrace; release/mcrace if left out")
-    parser.add_argument("--short", action="store_true", help="take less time, and say less")
+    asked, targets = parser_of(sys.modules["__main__"].__doc__, program=ROOT / "release/mcrace",
+                               short=False, **dict.fromkeys(numbers, 0)).parse_args(), Targets()
+    asked.program = str(asked.program.resolve())
     for name, (number, short) in numbers.items():
-        parser.add_argument(f"--{name}", type=int, metavar="N", help=f"{number}; {short} if short")
-    asked, targets = parser.parse_args(), Targets()
-    for name, (number, short) in numbers.items():
-        if getattr(asked, name) is None:
-            setattr(asked, name, short if asked.short else number)
+        setattr(asked, name, getattr(asked, name) or (short if asked.short else number))
     measure(asked, targets)
     sys.exit(targets.status())
 
@@ -59,27 +52,24 @@ def head(*cells):
     print("|" + len(cells) * "---|")
 
 
-class Targets:
-    """What is wanted, and whether it is met."""
-
-    def __init__(self):
-        self.rows = []
+class Targets(list):
+    """Rows of what is wanted, and whether it is met."""
 
     def add(self, words, measured, least=None, most=None, form="{:,.2f}"):
         shown = form if "%" in form else "{:,}"
         wanted = [f"{word} {shown.format(limit)}" for word, limit in
                   (("at least", least), ("at most", most)) if limit is not None]
         is_met = (least is None or least <= measured) and (most is None or measured <= most)
-        self.rows.append((words, " and ".join(wanted), form.format(measured),
-                          "met" if is_met else "not met"))
+        self.append((words, " and ".join(wanted), form.format(measured),
+                     "met" if is_met else "not met"))
 
     def status(self):
         """Prints them, and answers the status of the bench."""
         print()
         head("target", "wanted", "measured", "")
-        for it in self.rows:
+        for it in self:
             row(*it)
-        return 0 if all(it[-1] == "met" for it in self.rows) else NOT_MET
+        return 0 if all(it[-1] == "met" for it in self) else NOT_MET
 
 
 def in_turns(rounds, plays):

@@ -1,5 +1,4 @@
-"""The histories that `bench/judge` and `bench/instructions` measure, by their kinds, and how
-`mcrace judge` judges them."""
+"""The histories that `bench/judge` and `bench/instructions` measure, and how they are judged."""
 
 import collections
 import random
@@ -107,8 +106,7 @@ def changed_24(rng):
 
 
 def numbers_24(rng):
-    """Both branches store one body at one key and ask for its number, so that only numbers tell the
-    versions apart."""
+    """Both branches store one body at one key: only the numbers tell the versions apart."""
     return Run(rng, ["a"]).branch_out([24, 24], request_of_one_body)
 
 
@@ -187,8 +185,8 @@ def verdict_of(program, text, limit):
 
 
 def turns_of(program, kind, text, limit):
-    """The verdict, which must not be wrong, and its turns: the least limit that doesn't leave it
-    undecided, or the limit."""
+    """The verdict, which must not be wrong, and its turns: the least limit that is enough for it,
+    or the limit."""
     verdict, _ = verdict_of(program, text, limit)
     if verdict == "undecided":
         return verdict, limit

@@ -79,16 +79,13 @@ static int listener, taken;
 static bool is_shared;
 static struct run runs[MOST_RUNS];
 static atomic_int open_connections;
-// Who looks at the cache or at a run locks it, but for what only waits; who takes a connection, the
-// other one.
+// Who looks at the cache or at a run locks the first, and who takes a connection the second.
 static pthread_mutex_t lock = PTHREAD_MUTEX_INITIALIZER, taking = PTHREAD_MUTEX_INITIALIZER;
 
 static void spin_until(double time) {
   while (microseconds() < time)
     ;
 }
-
-// ---- the cache
 
 // The items by key. What is forgotten isn't freed, since a run has a key or two.
 static struct hsearch_data items;
@@ -200,8 +197,6 @@ static bool understood(const char *text, size_t got, struct request *request) {
   return got >= line + request->size + 2;
 }
 
-// ---- connections
-
 static void say(struct talk *talk, const char *reply) {
   // a client that has gone needs no reply
   send(talk->connection, reply, strlen(reply), MSG_NOSIGNAL);
@@ -278,8 +273,7 @@ static int take(struct talk *talk) {
   return number;
 }
 
-// Serves one connection after another. A thread that is there already answers the first request as
-// soon as a later one.
+// Serves one connection after another: a thread that is there answers a first request at once.
 static void *serve(void *unused) {
   for (;;) {
     struct talk talk = {0};

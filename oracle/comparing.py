@@ -1,21 +1,20 @@
 """What the comparisons share: their options, the program's answers, and the count at the end."""
 
-import argparse
 import collections
+import pathlib
 import subprocess
 import sys
 
+ROOT = pathlib.Path(__file__).resolve().parents[1]
+sys.path.append(str(ROOT / "tools"))
 
-def parser_of(doc, program=None, **options):
-    """A parser of a command line: the program, which may be left out if there is one here, unless
-    that is empty; and these options, each with what it is if left out."""
-    form = argparse.RawDescriptionHelpFormatter
-    parser = argparse.ArgumentParser(description=doc, formatter_class=form)
-    if program != "":
-        parser.add_argument("program", nargs="?" if program else None, default=program)
-    for name, value in options.items():
-        kind = {"action": "store_true"} if value is False else {"type": type(value)}
-        parser.add_argument(f"--{name}", default=value, **kind)
+import options
+
+
+def parser_of(doc, program=None, **more):
+    """A parser of these options, and of the program, which may be left out if there is one here."""
+    parser = options.parser_of(doc, **more)
+    parser.add_argument("program", nargs="?" if program else None, default=program)
     return parser
 
 

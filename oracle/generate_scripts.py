@@ -10,7 +10,7 @@ written from the rules in docs/FORMATS.md (`generate`) alone, and checks its num
 of PCG's C code.
 """
 
-from comparing import parser_of
+from comparing import options
 
 MASK = 2**64 - 1
 # The first outputs of PCG's C code, from the seed 42 on the sequence 54.
@@ -61,7 +61,8 @@ def script(seed, job):
 
 
 def main():
-    given, drawn = parser_of(__doc__, "", seed=1, job=0, sum=0).parse_args(), outputs(42, 54)
+    given = options.parser_of(__doc__, seed=1, job=0, sum=0).parse_args()
+    drawn = outputs(42, 54)
     assert [next(drawn) for _ in REFERENCE] == REFERENCE
     if given.sum:
         total = 0xCBF29CE484222325

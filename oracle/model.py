@@ -127,8 +127,7 @@ def code_of(image):
     return Image(image[:4], image[4:]).code()
 
 
-# Requests and replies are tuples of words, in which bodies are bytes. An item of a cache is its
-# flags, its body and its number.
+# Requests and replies are tuples of words, bodies are bytes. An item is its flags, body and number.
 
 
 def body_word(body):
@@ -163,8 +162,8 @@ def line_of(actor, request, reply):
 
 
 def outcomes(request, item, number):
-    """The answers that a server may give, each with what the key then holds: None or an item. A new
-    version has this number."""
+    """The answers that a server may give, each with what the key then holds: None or an item, which
+    has this number if it is new."""
     verb, _, *fields = request
     if verb in STORES:
         return [stored(verb, item, number, *fields)]

@@ -13,18 +13,14 @@ fault.
 import ast
 import functools
 import multiprocessing
-import pathlib
 import re
 import subprocess
-import sys
 
-ROOT = pathlib.Path(__file__).resolve().parents[1]
-sys.path.append(str(ROOT / "tools"))
-
-import cases
-from comparing import compare, parser_of
+from comparing import ROOT, compare, parser_of
 from model import SECTIONS, code_of
 from verifier import NAMES, odd_answer, runs_apart
+
+import cases  # which comparing finds
 
 FORCED = "cases/check/forced-runs.cases"
 # What the tests of mc_verify have: images of sound code, and rows of what is changed of the one

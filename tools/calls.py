@@ -5,11 +5,9 @@ import re
 import functions
 
 FILE = "tools/memory/calls.txt"
-# What the program does, the line that it reads, and what it says of a refused input: refused on
-# each case and example.
+# What the program does, reads and says: its allocations are refused on each case and example.
 PROGRAM = {"mc_answers", "mc_cli", "mc_command", "mc_hints"}
-# The words of answers that say it: of std, of what ended a connection, and a count in which threads
-# are that weren't made.
+# The words of answers that say it: of std, of ended connections, and a count of missing threads.
 WORDS = {"OutOfMemory", "AllocError", "Memory", "Listened"}
 DECLARED = re.compile(r"^pub (?:enum|struct) (\w+)[^;{]*\{(.*?)^\}", re.S | re.M)
 ALIAS = re.compile(r"^pub type (\w+)[^=]*= ([^;]*);", re.M)
@@ -35,8 +33,7 @@ def types_that_say_so(texts):
 
 
 def public_calls(folder):
-    """What a library offers, but for laws, and what its public traits ask for: names, and texts up
-    to the body."""
+    """What a library offers or its traits ask for, but for laws: names, and texts up to a body."""
     of_crate = functions.functions_of(folder)
     root = (folder / "src/lib.rt").read_text(encoding="utf-8")
     used = set(re.findall(r"\w+", " ".join(re.findall(r"(?m)^pub use ([^;]*);", root))))

@@ -13,8 +13,7 @@ from dataclasses import dataclass, field, replace
 
 ROOT = pathlib.Path(__file__).resolve().parents[1]
 
-# How a line of input or output begins: `-` for no LF at its end, `x` for hexadecimal, `*N` for N
-# times.
+# How a line of input or output begins: `-` has no LF at its end, `x` is hexadecimal, `*N` N times.
 BYTES = re.compile(r"([<>])(-|x)?(?:\*(\d+))?(?: (.*))?\Z", re.S)
 
 # The most bytes of an input of which each front is read.

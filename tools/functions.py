@@ -101,8 +101,7 @@ def owner_of(header):
 
 
 def functions_in(block, first, last, homes):
-    """The functions among these lines of a block. A type's own methods are named by the module
-    that declares it."""
+    """The functions among these lines of a block. Methods are named by the module of their type."""
     for head, above, at, end in items_in(block.lines, first, last, block.indent):
         if head["kind"] == "fn":
             yield function(block, head, above, at, end)

@@ -1,5 +1,4 @@
-"""Inputs that differ a little from those that stand in the tree: bytes, numbers, words and lines
-changed, and two inputs joined."""
+"""Inputs of the tree with bytes, numbers, words and lines changed, or with another one's end."""
 
 import pathlib
 import re

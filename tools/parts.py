@@ -41,6 +41,13 @@ def kit():
     return pathlib.Path(said.strip()).parent
 
 
+def shell(line):
+    """What a line of the shell prints at the top, with the functions of tools/sources.sh."""
+    words = ["bash", "-c", f". tools/sources.sh; {line}"]
+    how = {"cwd": pathlib.Path(__file__).resolve().parents[1], "stdout": subprocess.PIPE}
+    return subprocess.run(words, text=True, check=False, **how).stdout.strip()
+
+
 def run(words, folder):
     """Runs a command. Answers its status, all that it wrote and its processor seconds."""
     how = {"stdin": subprocess.DEVNULL, "stdout": subprocess.PIPE, "stderr": subprocess.STDOUT}
@@ -92,8 +99,7 @@ class Parts:
 
     def end(self, name, process, log):
         """Waits for a part, and prints what it says. Its last line that counts is added. If its
-        name begins with `=`, its status says whether it holds; if it does, only the last line is
-        printed, since it is a list."""
+        name begins with `=`, its status counts, and what holds is printed by its last line."""
         is_counted, name = name[0] != "=", name.lstrip("=&")
         print(f"== {name} (after {time.monotonic() - self.began:.0f} s)", flush=True)
         said, is_over = "", False

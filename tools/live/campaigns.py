@@ -72,8 +72,7 @@ class CampaignTest(LiveTest):
         self.assertEqual(answered, ((jobs, jobs, 0, 0), 0, []))
 
     def assert_reports(self, reports, first):
-        """They are of 10,000 jobs each, but the last one, each job once, in order, from the first
-        on, with right totals."""
+        """They are of 10,000 jobs, but the last one, in order from the first on, and add up."""
         sizes = [len(jobs) for jobs, _ in reports]
         for jobs, totals in reports:
             numbers = [int(line.split()[0]) for line in jobs]

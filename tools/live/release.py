@@ -8,17 +8,12 @@ import pathlib
 import subprocess
 import tempfile
 
+from parts import shell
+
 from .program import PROGRAM, ROOT, LiveTest, rows
 
 KEPT, BUILT_FROM = ROOT / "release/mcrace", ROOT / "release/built-from"
 HISTORY = (ROOT / "examples/lost-update.history").read_bytes()
-
-
-def shell(line):
-    """What a line of the shell prints, with the functions of tools/sources.sh."""
-    words = ["bash", "-c", f". tools/sources.sh; {line}"]
-    told = subprocess.run(words, cwd=ROOT, capture_output=True, text=True, check=True).stdout
-    return told.strip()
 
 
 class Release(LiveTest):

@@ -1,5 +1,4 @@
-"""Servers for the tests: scripted ones, memcached, and `mcrace serve`, each on a free port of
-127.0.0.1."""
+"""Servers on free ports of 127.0.0.1: scripted ones, memcached, and `mcrace serve`."""
 
 import collections
 import contextlib
@@ -66,8 +65,7 @@ def started(words, port=None, stderr=subprocess.DEVNULL):
 
 
 def memcached(threads=1, *more):
-    """A memcached with so many threads, as the user nobody if root starts it; without one the test
-    is skipped."""
+    """A memcached with so many threads, not run by root. Without one the test is skipped."""
     program, port = shutil.which("memcached"), free_port()
     if program is None:
         raise unittest.SkipTest("memcached is not installed; on Debian: apt-get install memcached")
@@ -76,14 +74,12 @@ def memcached(threads=1, *more):
 
 
 def losing_updates(seconds=1):
-    """The example of a server that loses each update that it can. It waits for the other one of two
-    so many seconds."""
+    """The example server that loses updates. It waits so many seconds for the other one of two."""
     return started([sys.executable, ROOT / "examples/racy-server", 0, seconds])
 
 
 def serving(*words, files=None):
-    """`mcrace serve`. So many files may be open in it at first, if that is said; whoever may open
-    them later may raise that."""
+    """`mcrace serve`, in which so many files may be open, if that is said, until it is raised."""
     limit = ["prlimit", f"--nofile={files}:"] if files else []
     return started([*limit, PROGRAM, "serve", 0, *words], stderr=subprocess.PIPE)
 
@@ -152,8 +148,7 @@ def read_request(reader):
 
 
 class Listening:
-    """A server on a free port, or on this one, as long as the block runs. `taken` is how many
-    connections there were."""
+    """A server on a free port, or on this one, as long as the block runs. It counts connections."""
 
     def __init__(self, port=0):
         self.listener = socket.create_server(("127.0.0.1", port), backlog=100)
@@ -249,8 +244,7 @@ class Scripted(Talking):
 
 
 class Replying(Talking):
-    """It takes any number of connections, and does these talks, one after another, over and over
-    again."""
+    """It takes any number of connections, and does these talks in turn."""
 
     def __init__(self, *talks):
         super().__init__()
@@ -261,8 +255,7 @@ class Replying(Talking):
 
 
 class Carrying(Listening):
-    """A proxy before the server on a port. It carries between clients and the server, and makes no
-    fault."""
+    """A proxy before the server on a port, which makes no fault."""
 
     def __init__(self, port):
         super().__init__()

@@ -36,8 +36,7 @@ CONNECTIONS, SOURCES, MOST_CUTS, MOST_RUBBISH = 6, 60, 8, 65_536
 # The most bytes that are told of what is wrong.
 MOST_TOLD = 100
 ENDINGS = ["close", "reset", "leave", "end", "end", "end"]
-# How often a key is kept at a turn, and how many are looked at after each round; all are looked at
-# in the end.
+# How often a key is kept at a turn, and how many are looked at after each round; in the end all.
 KEPT, LOOKED_AT = 0.1, 15
 LARGE = b"x" * 65_536
 
@@ -101,8 +100,7 @@ def request(lots):
 
 
 def stream(seed):
-    """The stream of this number. No body that is counted on becomes shorter, since memcached fills
-    up a shorter one with spaces."""
+    """The stream of this number. No count gets shorter, as memcached would fill it with spaces."""
     lots = random.Random(seed)
     return b"delete a noreply\r\n" + b"".join(request(lots) for _ in range(REQUESTS)) + LAST
 

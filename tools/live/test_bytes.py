@@ -1,5 +1,4 @@
-"""What a client that writes its own bytes does with `mcrace serve`: pipelines, and requests that
-come in pieces; and memccapable."""
+"""Clients of `mcrace serve` that write their own bytes, at once or in pieces; and memccapable."""
 
 import shutil
 import socket
@@ -116,8 +115,7 @@ class OwnBytes(servers.ServedTest):
         self.test_pipelines()
 
 
-# The tests of memccapable. Those of `flush_all`, `verbosity`, `stats` and `version` are left out:
-# the server doesn't have these.
+# The tests of memccapable, but for `flush_all`, `verbosity`, `stats`, `version`, which aren't here.
 STORING = ["set", "add", "replace", "cas", "delete", "incr", "decr", "append", "prepend"]
 CAPABLE = ["quit", "get", "gets", "mget", *STORING, *(f"{it} noreply" for it in STORING)]
 # These wait for the reply to a `version`, which the proxy answers.

@@ -1,5 +1,4 @@
-"""What `mcrace campaign` reports of servers that are right, that answer wrongly or late, or that go
-away; and `mcrace selftest`."""
+"""What `mcrace campaign` reports of servers that are right, wrong, late or gone; and `selftest`."""
 
 import concurrent.futures
 import pathlib
@@ -10,8 +9,7 @@ from .campaigns import MOST_IN_BLOCK, MOST_IN_REPORT, CampaignTest, campaign, st
 from .program import LiveTest, rows, run
 from .servers import Replying, answers
 
-# By how many seconds a campaign for a time may end late: it ends its block, and the program begins
-# and ends.
+# By how many seconds a campaign for a time may end late, since it ends its block.
 LATE = 3
 # What /proc/net/tcp calls a connection of which this side was the first to close.
 TIME_WAIT = "06"
@@ -72,8 +70,7 @@ class Times(servers.ServedTest, CampaignTest):
         self.assertTrue(last % MOST_IN_BLOCK == 0 or last == MOST_IN_REPORT, last)
 
     def test_several_reports(self):
-        """One ends at 10,000 jobs, each with its ranges on standard error. Nothing connects, so
-        jobs are quick."""
+        """Of 10,000 jobs each, with ranges on standard error. Nothing connects, so it is quick."""
         port = servers.free_port()
         for seconds in (3, 30):
             found = campaign(port, f"--for {seconds}s --show")
@@ -98,8 +95,7 @@ class WrongServers(CampaignTest):
     """Those at which rows differ by how workers meet; others are in cases/campaign."""
 
     def test_wrong_replies(self):
-        """It is said at once what came, of ten jobs, of each once. Each request is answered by a
-        bare LF."""
+        """It is said at once of ten jobs what came: a bare LF for each request."""
         with Replying(answers(b"6\n")) as server:
             found = campaign(server.port, "--jobs 12")
         form = r'mcrace: job (\d+): P: to "delete r\1-0" came "6\\n": the line ends without CR'

@@ -18,8 +18,7 @@ JOB = 2
 
 
 class Exchanging(servers.Carrying):
-    """A proxy before the server on a port. A client waits for each reply, so a request comes at
-    once, and so does a reply."""
+    """A proxy for clients that wait for each reply, so that a request comes whole."""
 
     def begin(self, client):
         threading.Thread(target=self.exchange, args=(client, self.taken), daemon=True).start()
@@ -50,9 +49,8 @@ class Closing(Exchanging):
 
 
 class Late(Exchanging):
-    """Each third request of a branch, counted together, is lost: it closes the client's connection,
-    and hands the request on a moment later. If `wrong` is set, the next number that a server
-    replies is made another one."""
+    """Of each three requests of branches one is lost: it closes the client's connection, and hands
+    the request on a moment later. If it is `wrong`, it changes the next number in a reply."""
 
     def __init__(self, port, wrong=False):
         super().__init__(port)

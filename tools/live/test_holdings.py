@@ -23,8 +23,7 @@ BEFORE = [
     ("a pipeline of 32", b"get held\r\n" * 32, HIT * 32),
 ]
 
-# Keys of one byte with bodies of the most bytes, of which a line of 2,048 bytes names a thousand:
-# each several times.
+# Keys of one byte with bodies of the most bytes. A line of 2,048 bytes names a thousand times one.
 KEYS = [b"%c" % code for code in range(33, 127)]
 NAMED, BODY_BYTES = 1_000, 65_536
 # The most that the server may hold for their answer, in kilobytes.

@@ -1,5 +1,4 @@
-"""What `tools/package` makes, unpacked into a folder: the program, its manual pages and its
-completions."""
+"""What `tools/package` makes, unpacked: the program, its manual pages and its completions."""
 
 import gzip
 import os

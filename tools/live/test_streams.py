@@ -21,8 +21,7 @@ END = b"VALUE end-of-the-stream 0 1\r\n.\r\nEND\r\n"
 
 
 def without_numbers(replies):
-    """The replies with each cas unique as its order among those that were shown before; two keys
-    may have the same one."""
+    """The replies with each cas unique of a key as its order among those that were shown before."""
     order = {}
 
     def number(shown):
@@ -126,8 +125,7 @@ class Rambling(servers.Carrying):
         return piece.replace(b"ERROR\r\n", b"ERROR!\r\n")
 
 
-# A server with a fault, and how that is told. A connection that an ending server has taken ends or
-# is reset.
+# A server with a fault, and how that is told. What an ending server has taken ends or is reset.
 FAULTY = [
     ("a lost key", Losing, "answers b'get kept-"),
     ("an end", Ending, "refused|reset by peer|Broken pipe|b'' answers"),

@@ -15,8 +15,7 @@ NOBODY = "127.0.0.1:1"
 HISTORY = b"history 2\nP begin delete a\nP reply NOT_FOUND\nend\n"
 UNREACHED = "mcrace: 127.0.0.1:1: Connection refused (os error 111)\n"
 
-# A command line, what is typed, what the output begins with, what is said to be read, what else is
-# told, and the status.
+# A command line, what is typed, how the output begins, what is read, what else is told, the status.
 TYPED = [
     ("judge", HISTORY, b"explained\nP 0\nend\n", "a history", "", 0),
     ("judge --limit 5", b"", b"refused history 1 Header line 1\n", "a history", "", 3),

@@ -44,8 +44,7 @@ static struct note {
 static _Atomic long allocations;
 static _Atomic int noted, threads, prologue = -1, prologue_replies;
 
-// Of each thread: requests sent, replies received, and calls between its last reply and next
-// request.
+// Of each thread: requests sent, replies received, and calls since its last reply.
 static _Atomic int sent[THREADS], received[THREADS], calls[THREADS];
 
 // Whether the held thread came to its call, or past it.

@@ -1,5 +1,4 @@
-"""Programs with the library of allocations.c before them, whose allocations may be refused, and how
-they may end then."""
+"""Programs whose allocations are refused by the library of allocations.c, and how they may end."""
 
 import contextlib
 import itertools

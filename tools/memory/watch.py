@@ -95,8 +95,7 @@ class Watched:
         return next((it for it in self.seen[:at][::-1] if it.thread == self.seen[at].thread), None)
 
     def sent_while_held(self, thread):
-        """Which request of this thread was sent, after a reply, while the other was held; or
-        None."""
+        """Which request of this thread was sent after a reply while the other was held; or None."""
         requests, held, received = 0, False, False
         for it in self.seen:
             held = it.done == "held" or held and it.done != "released"
