@@ -18,10 +18,8 @@
 #include <stdatomic.h>
 
 enum { MOST_JOBS = 10000, MOST_REQUESTS = 16, LONGEST = 256, MOST_WORKERS = 16 };
-enum { ONE, THREAD, MEET, KEEP, QUIT, WORDS };
-
-static const char LETTERS[] = "PAB";
-static const char *const NAMES[WORDS] = {"one", "thread", "meet", "keep", "quit"};
+// The words of the command line, by their first letters.
+enum { ONE = 'o', THREAD = 't', MEET = 'm', KEEP = 'k', QUIT = 'q', LETTERS = 128 };
 
 struct job {
   int counts[SECTIONS];
@@ -42,7 +40,7 @@ struct worker {
 
 static struct job *jobs;
 static int job_count, port, repeats;
-static bool is_on[WORDS];
+static bool is_on[LETTERS];
 static atomic_int next_job;
 
 static void read_jobs(void) {
@@ -50,14 +48,15 @@ static void read_jobs(void) {
   jobs = calloc(MOST_JOBS, sizeof *jobs);
   while (job_count < MOST_JOBS && fgets(line, sizeof line, stdin)) {
     struct job *job = &jobs[job_count];
-    const char *letter = strchr(LETTERS, line[0]);
+    const char *sections = "PAB", *letter = strchr(sections, line[0]);
     if (!strcmp(line, "end\n")) {
       job_count++;
       continue;
     }
-    if (!letter || job->counts[letter - LETTERS] == MOST_REQUESTS || strlen(line) > LONGEST / 2)
+    int section = letter ? letter - sections : P;
+    if (!letter || job->counts[section] == MOST_REQUESTS || strlen(line) > LONGEST / 2)
       stop("a request");
-    char *to = job->requests[letter - LETTERS][job->counts[letter - LETTERS]++];
+    char *to = job->requests[section][job->counts[section]++];
     for (const char *from = line + 2; *from && *from != '\n'; from++) {
       if (*from == '|')
         *to++ = '\r';
@@ -189,13 +188,6 @@ static void *work(void *worker) {
   return 0;
 }
 
-static bool takes(const char *word) {
-  for (int at = 0; at < WORDS; at++)
-    if (!strcmp(word, NAMES[at]))
-      return is_on[at] = true;
-  return false;
-}
-
 int main(int count, char **words) {
   static struct worker workers[MOST_WORKERS];
   double connecting = 0;
@@ -204,8 +196,7 @@ int main(int count, char **words) {
   port = atoi(words[1]), repeats = atoi(words[3]);
   int wanted = atoi(words[2]);
   for (int at = 4; at < count; at++)
-    if (!takes(words[at]))
-      return 2;
+    is_on[*words[at] % LETTERS] = true;
   if (!port || wanted < 1 || wanted > MOST_WORKERS || repeats < 1)
     return 2;
   read_jobs();

@@ -5,19 +5,16 @@
 //
 // RACE is incr, decr, cas, add, append or delete: of this command the server looks at the item
 // DELAY µs after the request came, and acts WINDOW µs later on what it saw then, whatever another
-// connection did meanwhile: an increment or an append is lost, a cas number wins twice, an item is
-// added or deleted twice. A decrement loses an increment too, which itself has no race. Or it is
-// late: a set over an item is answered at once, and takes effect WINDOW µs later. Or it is none:
-// the server is right.
+// connection did meanwhile. A decrement loses an increment too, which itself has no race. Or it is
+// late: a set over an item is answered at once, and takes effect WINDOW µs later. Or it is none.
 //
 // It listens on a free port of 127.0.0.1, which it prints. A run is three connections, that of P
-// first, then A's, then B's, and nothing is kept from one run for the next. With `shared` a run is
-// any number of connections, 64 at once, until the next report. A line on standard input asks for a
-// report, while nobody is connected: a line of numbers for each run since the last one, and then
-// `end`. These are: whether the first request of A came before that of B; whether each came before
-// the reply to the other one had been sent; how often the race happened, which the replies then
-// show; and how many µs after STORED of a late set the last get came that showed the old value, or
-// nan.
+// first, then A's, then B's, and nothing is kept for the next. With `shared` a run is any number of
+// connections, 64 at once, until the next report. A line on standard input asks for a report, while
+// nobody is connected: a line for each run since the last one, and then `end`. It says whether the
+// first request of A came before that of B; whether each came before the reply to the other one had
+// been sent; how often the race happened, which the replies then show; and how many µs after STORED
+// of a late set the last get came that showed the old value, or nan.
 #include "sockets.h"
 #include <inttypes.h>
 #include <math.h>
@@ -313,9 +310,9 @@ static void listen_somewhere(void) {
 
 int main(int count, char **words) {
   char line[64];
-  is_shared = count == 5 && !strcmp(words[4], "shared");
-  if (count != 4 + is_shared)
+  if (count < 4)
     return 2;
+  is_shared = count > 4;
   race = command_of(words[1]), window = atof(words[2]), delay = atof(words[3]);
   is_late = !strcmp(words[1], "late");
   if (race == COMMANDS && !is_late && strcmp(words[1], "none"))

@@ -20,8 +20,6 @@ TOTALS = re.compile(r"runs (\d+) explained \d+ unexplained (\d+) other 0 overlap
 Visit = collections.namedtuple("Visit", "is_a_first overlapped shown late")
 
 
-# ---- scripts
-
 # What P sends, what A and B send again and again, and how many of these show the race at least.
 Race = collections.namedtuple("Race", "prefix a b least", defaults=(1,))
 SET, INCR, TOGGLES = ["set a 0 =5"], ["incr a 1"], ["add a 0 =6", "delete a"]

@@ -35,10 +35,8 @@ TOO_LARGE = r"refused asm (?:1 TooManyTemplates|2 TooManyInstructions [PAB])\n"
 NO_IMAGE = rf"refused image {numbered('Magic Short Range Template Extra')} byte \d+\n"
 NO_STEPS = rf"refused steps {numbered('Header Line TooMany Unended')} line \d+\n"
 # A fault of a run is shown by one, call by call.
-UNSOUND = (
-    rf"refused verify (?:{numbered(FAULTS_OF_SHAPE)} [PAB] \d+\n"
-    rf"|{numbered(FAULTS_OF_A_RUN, 5)} [PAB] \d+\n(?:[PAB] [a-z]+\n)*end\n)"
-)
+UNSOUND = (rf"refused verify (?:{numbered(FAULTS_OF_SHAPE)} [PAB] \d+\n"
+           rf"|{numbered(FAULTS_OF_A_RUN, 5)} [PAB] \d+\n(?:[PAB] [a-z]+\n)*end\n)")
 ENDING = rf"(?:done|running|not begun|failed {numbered(FAULTS_OF_SECTION)})"
 ENDINGS = rf"P (?P<p>{ENDING})\nA (?P<a>{ENDING})\nB (?P<b>{ENDING})\n"
 HISTORY = r"history 2\n(?:[PAB] (?:begin|reply) [ -~]+\n)*end\n"

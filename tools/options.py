@@ -4,7 +4,7 @@ import argparse
 
 
 def parser_of(doc, **options):
-    """A parser of these options, each with what it is if left out; those with False are switches."""
+    """A parser of options, each with what it is if left out; False stands for a switch."""
     form = argparse.RawDescriptionHelpFormatter
     parser = argparse.ArgumentParser(description=doc, formatter_class=form)
     for name, value in options.items():

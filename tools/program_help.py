@@ -23,8 +23,7 @@ class Page:
         options = lambda part: [
             Option([*filter(None, (short, name))], value, " ".join(text.split()),
                    re.split(", | or ", words[1]) if (words := WORDS.search(text)) else [])
-            for short, name, value, text in OPTION.findall(parts[part])
-        ]
+            for short, name, value, text in OPTION.findall(parts[part])]
         about = about or self.text.strip()
         self.name, self.about = name, about[:1].lower() + about[1:]
         self.usage = parts["Usage"].strip()

@@ -6,11 +6,8 @@ from dataclasses import dataclass
 
 from .program import SECONDS, LiveTest, run
 
-JOB = re.compile(
-    r"\d+ (?:explained|unexplained|undecided)(?: [PAB] \w+)*|\d+ no connection [PAB]"
-    r"|\d+ not (?:run|made)"
-)
-
+JOB = re.compile(r"\d+ (?:explained|unexplained|undecided)(?: [PAB] \w+)*|\d+ no connection [PAB]"
+                 r"|\d+ not (?:run|made)")
 TOTALS = re.compile(r"jobs (\d+) explained (\d+) unexplained (\d+) other (\d+)")
 # The most jobs of a block, and of a report, if a campaign runs in blocks.
 MOST_IN_BLOCK = 64

@@ -236,11 +236,9 @@ class Scripted(Talking):
                 if number == len(self.runs):
                     self.listener.close()
                 # A connection that is reset unread is gone before another one is answered.
-                is_reset = lambda it: it[1][:1] == [Step.RESET]
-                for connection, talk in filter(is_reset, taken):
-                    self.talk(connection, talk, meeting)
-                for connection, talk in itertools.filterfalse(is_reset, taken):
-                    self.start(connection, talk, meeting)
+                is_reset = lambda talk: talk[:1] == [Step.RESET]
+                for connection, talk in sorted(taken, key=lambda it: not is_reset(it[1])):
+                    (self.talk if is_reset(talk) else self.start)(connection, talk, meeting)
 
 
 class Replying(Talking):

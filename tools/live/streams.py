@@ -54,13 +54,10 @@ SPECIAL = [
     b"incr a 18446744073709551615\r\n" * 40,
 ]
 
-REPLY = re.compile(
-    rb"(STORED|NOT_STORED|EXISTS|NOT_FOUND|END|DELETED|TOUCHED|ERROR|\d{1,20}"
-    rb"|CLIENT_ERROR (bad command line format|bad data chunk|line too long"
-    rb"|cannot increment or decrement non-numeric value)"
-    rb"|SERVER_ERROR (expiry not supported|object too large for cache))\r\n"
-)
-
+REPLY = re.compile(rb"(STORED|NOT_STORED|EXISTS|NOT_FOUND|END|DELETED|TOUCHED|ERROR|\d{1,20}"
+                   rb"|CLIENT_ERROR (bad command line format|bad data chunk|line too long"
+                   rb"|cannot increment or decrement non-numeric value)"
+                   rb"|SERVER_ERROR (expiry not supported|object too large for cache))\r\n")
 BLOCK = re.compile(rb"VALUE [^ \r\n]{1,250} \d{1,10} (\d{1,5})( \d{1,20})?\r\n")
 
 
@@ -79,8 +76,7 @@ def body(lots):
 
 def request(lots):
     key, noreply = lots.choice(KEYS), lots.choice([b"", b"", b"", b" noreply"])
-    verbs = ["store", "store", "get", "gets", "incr", "delete", "touch", "cas", "wrong"]
-    verb = lots.choice(verbs)
+    verb = lots.choice(["store", "store", *"get gets incr delete touch cas wrong".split()])
     if verb == "store":
         name, text, flags = lots.choice(STORING), body(lots), lots.choice([0, 7, 2**32 - 1])
         return b"%b %b %d 0 %d%b\r\n%b\r\n" % (name, key, flags, len(text), noreply, text)

@@ -19,29 +19,22 @@ BODIES = [EVERY_BYTE, EVERY_BYTE[::-1], b"\r\n", b"END\r\n", b"\0" * 1000]
 CALLS = {
     "sets and gets": [
         ("get", "a", None), ("set", "a", b"1", True), ("get", "a", b"1"), ("set", "a", b"", True),
-        ("get", "a", b""), ("set", "a", LONGEST, True), ("get", "a", LONGEST),
-    ],
+        ("get", "a", b""), ("set", "a", LONGEST, True), ("get", "a", LONGEST)],
     "adds and replaces": [
         ("replace", "a", b"1", False), ("add", "a", b"2", True), ("add", "a", b"3", False),
-        ("get", "a", b"2"), ("replace", "a", b"4", True), ("get", "a", b"4"),
-    ],
+        ("get", "a", b"2"), ("replace", "a", b"4", True), ("get", "a", b"4")],
     "appends and prepends": [
         ("append", "a", b"x", False), ("prepend", "a", b"x", False), ("set", "a", b"m", True),
-        ("append", "a", b"yz", True), ("prepend", "a", b"kl", True), ("get", "a", b"klmyz"),
-    ],
+        ("append", "a", b"yz", True), ("prepend", "a", b"kl", True), ("get", "a", b"klmyz")],
     "counts": [
         ("incr", "a", 1, None), ("decr", "a", 1, None), ("set", "a", b"9", True),
         ("incr", "a", 1, 10), ("incr", "a", 5, 15), ("decr", "a", 20, 0),
-        ("set", "a", b"%d" % (2**64 - 1), True), ("incr", "a", 2, 1),
-    ],
+        ("set", "a", b"%d" % (2**64 - 1), True), ("incr", "a", 2, 1)],
     "deletes and touches": [
         ("delete", "a", False), ("touch", "a", 0, False), ("set", "a", b"1", True),
-        ("touch", "a", 0, True), ("delete", "a", True), ("get", "a", None),
-    ],
-    "many keys": [
-        ("set_many", {"a": b"1", "b": b"2"}, []),
-        ("get_many", ["a", "b", "c"], {"a": b"1", "b": b"2"}),
-    ],
+        ("touch", "a", 0, True), ("delete", "a", True), ("get", "a", None)],
+    "many keys": [("set_many", {"a": b"1", "b": b"2"}, []),
+                  ("get_many", ["a", "b", "c"], {"a": b"1", "b": b"2"})],
 }
 
 

@@ -7,10 +7,8 @@ from . import servers
 from .program import COUNTER, SECONDS, LiveTest, begun, rows, run
 from .servers import A, B, P, Replying, Scripted, answers, answers_both
 
-NO_INPUT, NO_OUTPUT = (
-    f"mcrace: standard {it}: Bad file descriptor (os error 9)\n"
-    for it in ("input", "output")
-)
+NO_INPUT, NO_OUTPUT = (f"mcrace: standard {it}: Bad file descriptor (os error 9)\n"
+                       for it in ("input", "output"))
 # Three runs. The reply to A in the first one has more bytes. That is told when the second one has
 # ended, whose connections serve the third one.
 SURPLUS = (P, answers_both(b"6\r\nSTORED\r\n"), B)

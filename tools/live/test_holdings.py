@@ -18,11 +18,8 @@ IDLE, MOST_IDLE = 500, 16
 # What they did before.
 HIT = b"VALUE held 0 100\r\n%b\r\nEND\r\n" % (b"x" * 100)
 SET_HELD = b"set held 0 0 100\r\n%b\r\n" % (b"x" * 100)
-BEFORE = [
-    ("a get", b"get no-such-key\r\n", b"END\r\n"),
-    ("a pipeline of 32", b"get held\r\n" * 32, HIT * 32),
-]
-
+BEFORE = [("a get", b"get no-such-key\r\n", b"END\r\n"),
+          ("a pipeline of 32", b"get held\r\n" * 32, HIT * 32)]
 # Keys of one byte with bodies of the most bytes. A line of 2,048 bytes names a thousand times one.
 KEYS = [b"%c" % code for code in range(33, 127)]
 NAMED, BODY_BYTES = 1_000, 65_536

@@ -78,10 +78,9 @@ class Packages(LiveTest):
 
     def test_files(self):
         """Both have the same files, but for licences and where zsh looks for completions."""
-        package, archive = (
-            {str(it.relative_to(top)): (it.read_bytes(), it.stat().st_mode)
-             for it in top.rglob("*") if it.is_file()} for top in (self.usr, self.prefix)
-        )
+        package, archive = ({str(it.relative_to(top)): (it.read_bytes(), it.stat().st_mode)
+                             for it in top.rglob("*") if it.is_file()}
+                            for top in (self.usr, self.prefix))
         moved = "share/zsh/vendor-completions/_mcrace"
         archive[moved] = archive.pop("share/zsh/site-functions/_mcrace")
         only = {"LICENSE-APACHE", "LICENSE-MIT", "copyright", "changelog.gz", "mcrace"}

@@ -42,10 +42,8 @@ def text(lines):
     return "".join(line + "\n" for line in lines).encode()
 
 
-MADE = [
-    ("full sections", text(full_history())),
-    *((f"a body of {len(body)}", text(one_without_a_reply(body))) for body in BODIES),
-]
+MADE = [("full sections", text(full_history())),
+        *((f"a body of {len(body)}", text(one_without_a_reply(body))) for body in BODIES)]
 
 
 class Pictures(LiveTest):

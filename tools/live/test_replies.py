@@ -1,9 +1,10 @@
-"""What `mcrace run` makes of servers that are right, lose updates, or answer late."""
+"""What `mcrace run` makes of servers that are right, lose updates or answer late, in one run and in
+many (`--times`, `--for`, `--keep-going`, `--stats`). More is in cases/run."""
 
 import re
 
 from . import servers
-from .program import LiveTest, play, rows, scripts
+from .program import COUNTER, LiveTest, judged, play, rows, run, scripts
 from .servers import A, B, P, Scripted
 
 BRANCH_BEGINS = re.compile(rb"^([AB]) begin", re.M)
@@ -29,7 +30,7 @@ class Replies(LiveTest):
 
 
 class LosingServers(LiveTest):
-    """Servers that lose an update, or hold nothing of what P stored; test_repeats has one more."""
+    """Servers that lose an update, or hold nothing of what P stored."""
 
     def test_example(self):
         with servers.losing_updates() as (_, port):
@@ -73,3 +74,91 @@ class ScriptsAtServe(Scripts):
 
     def setUp(self):
         self.port = self.enter(servers.serving()).port
+
+
+# How often there are so many runs at a server that is right: the options, and seconds.
+MANY = [("500 runs", "--times 500", 0, 50), ("one second", "--for 1s", 1, 4),
+        ("one second, going on", "--for=1s --keep-going --quiet", 1, 4)]
+NUMBERS = re.compile(rb"run (\d+)(?: of (\d+))?\nruns (\d+) explained (\d+) unexplained (\d+) "
+                     rb"other (\d+) overlapped (\d+)\n")
+
+
+def runs(port, options, script=COUNTER):
+    return run(["run", f"127.0.0.1:{port}", *options.split()], script)
+
+
+def numbers_in(answer):
+    """The seven numbers of the first two lines; 0 for one that isn't there."""
+    found = NUMBERS.match(answer.output)
+    return [int(it or 0) for it in found.groups()] if found else 7 * [0]
+
+
+class ManyRuns(LiveTest):
+    """How runs end."""
+
+    @rows([("of several", "--times 1", b"quit\r\n"), ("one run", "", b"")])
+    def test_ends_of_connections(self, options, rest):
+        """Only a run of several asks the server to close."""
+        with Scripted((P, A, B)) as server:
+            runs(server.port, options)
+            server.wait()
+        self.assertEqual(server.rests, 3 * [rest])
+
+    def assert_history(self, answer):
+        """The history that is written is judged as the run was."""
+        before, begin, history = answer.output.partition(b"history 2\n")
+        self.assertTrue(before.decode().endswith(judged(begin + history)), answer)
+
+    @rows(MANY)
+    def test_right_server(self, options, least, most):
+        with servers.serving() as (_, port), self.assert_takes(least, most):
+            answer = runs(port, options)
+        number, _, count, explained, unexplained, other, overlapped = numbers_in(answer)
+        self.assertEqual((answer.status, answer.faults), (0, ""), answer)
+        self.assertEqual((number, explained, unexplained, other), (count, count, 0, 0), answer)
+        self.assertTrue(0 < overlapped <= count, answer)
+        self.assert_history(answer)
+
+    def test_server_with_a_race(self):
+        """They end with the first run that is unexplained."""
+        with servers.serving("--racy") as (_, port):
+            answer = runs(port, "--times 100000")
+        *found, overlapped = numbers_in(answer)
+        count = found[0]
+        self.assertEqual(answer.status, 1, answer)
+        self.assertEqual(found, [count, 100_000, count, count - 1, 1, 0], answer)
+        self.assertLessEqual(overlapped, count)
+        self.assert_history(answer)
+
+
+# Both branches read what isn't there.
+READS = b"script 1\nkeys a\nbudget P 1 10\nbudget A 1 7\nbudget B 1 7\n"
+READS += b"P\nA\nget a\nB\nget a\nend\n"
+
+
+class RightServer(servers.ServedTest):
+    """At `mcrace serve`."""
+
+    def assert_told(self, answer, runs, overlapped, firsts, verbs):
+        """Nothing is told but the statistics, and all of them."""
+        told = rf"mcrace: {runs} runs, {overlapped} overlapped, A's first reply first in {firsts}\n"
+        told += "".join(f"mcrace: {verb}\n" for verb in verbs)
+        self.assertRegex(answer.faults, rf"\A{told}\Z")
+
+    def test_reads_that_miss(self):
+        answer = runs(self.port, "--times 50 --stats", READS)
+        verbs = "get: 100 miss", "delete: 50 notfound"
+        self.assert_told(answer, 50, r"\d+", r"\d+ of \d+", verbs)
+
+    def test_sums(self):
+        """The key is there but for the first run."""
+        answer = runs(self.port, "--times 300 --stats")
+        verbs = "set: 300 stored", "incr: 600 number", "delete: 1 notfound, 299 deleted"
+        self.assert_told(answer, 300, numbers_in(answer)[6], r"([0-2]?\d?\d|300) of 300", verbs)
+
+
+class RightMemcached(RightServer):
+    """At memcached."""
+
+    def setUp(self):
+        self.port = self.enter(servers.memcached()).port

@@ -11,10 +11,8 @@ SLOWLY = [Step.READ, *10 * [Step.PAUSE]]
 SLOW = ([*SLOWLY, b"NOT_FOUND\r\n", *answers(b"STORED\r\n")], A, B)
 # When the program is stopped and goes on, in seconds.
 ONCE, TWICE, LONG = [(0.2, 0.3)], [(0.1, 0.2), (0.3, 0.4)], [(0.2, 1.5)]
-REPLIES = [
-    ("once", "30", ONCE), ("twice", "30", TWICE),
-    ("for longer than the limit, and the reply is there", "1", LONG),
-]
+REPLIES = [("once", "30", ONCE), ("twice", "30", TWICE),
+           ("for longer than the limit, and the reply is there", "1", LONG)]
 
 
 class Stops(LiveTest):
@@ -50,11 +48,9 @@ class Stops(LiveTest):
 
     # What is left of the limit is waited for, and no more; but the call of a worker begins anew
     # when the program goes on, with its whole limit.
-    @rows([
-        ("run", "run", 1, 1.3, "P failed 2 ReadFailed", 'P: no reply to "delete a"'),
-        ("a campaign", "campaign", 1.3, 1.8, "0 explained P ReadFailed",
-         'job 0: P: no reply to "delete r0-0"'),
-    ])
+    @rows([("run", "run", 1, 1.3, "P failed 2 ReadFailed", 'P: no reply to "delete a"'),
+           ("a campaign", "campaign", 1.3, 1.8, "0 explained P ReadFailed",
+            'job 0: P: no reply to "delete r0-0"')])
     @three_times
     def test_no_reply_comes(self, command, least, most, first, told):
         with Replying([Step.READ], [], []) as server, self.assert_takes(least, most):

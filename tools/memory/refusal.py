@@ -22,10 +22,8 @@ TRIES = 3
 TIME_LIMITS = ("--timeout", "--wait")
 # Command lines with a fault, beside those of cases.
 LINES = [["judge", "x"], ["draw", "x"], ["run", "x"]]
-EXAMPLES = [
-    ("judge", "history"), ("draw", "history"), ("check", "script"), ("asm", "script"),
-    ("drive", "drive"),
-]
+EXAMPLES = [("judge", "history"), ("draw", "history"), ("check", "script"), ("asm", "script"),
+            ("drive", "drive")]
 # P alone sends, so what comes of it doesn't rest on the schedule.
 SCRIPT = b"script 1\nkeys a\nbudget P 2 26\nbudget A 0 0\nbudget B 0 0\nP\nset a 0 =5\nA\nB\nend\n"
 MISS, STORED = b"NOT_FOUND\r\n", b"STORED\r\n"
@@ -39,16 +37,12 @@ AT_SERVERS = [
 ]
 # What a run may write if there is no memory: that, no run, or that P failed for it.
 NO_MEMORY = re.compile(
-    rb"(?:out of memory\n|not run\n|no connection [PAB]\n|P failed 8 Memory\n.*)?", re.S
-)
+    rb"(?:out of memory\n|not run\n|no connection [PAB]\n|P failed 8 Memory\n.*)?", re.S)
 WANT = r"\b(OutOfMemory|AllocError|AllocFailed)\b"
 # How a test ends whose call answered that there is no memory, perhaps for a thread: it gives that
 # on, or compares it with what it expected.
-SAYS_SO = re.compile(
-    rf"\Aerror: [^\n]*(?:{WANT}|\bNoThread\b)"
-    rf"|\Aassertion `left == right` failed.*^ +left: [^\n]*{WANT}",
-    re.S | re.M,
-)
+SAYS_SO = re.compile(rf"\Aerror: [^\n]*(?:{WANT}|\bNoThread\b)"
+                     rf"|\Aassertion `left == right` failed.*^ +left: [^\n]*{WANT}", re.S | re.M)
 
 
 def library(folder):

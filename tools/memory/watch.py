@@ -1,9 +1,5 @@
 """Whether a branch of `mcrace run` allocates or frees while its request, or the note of its reply,
-waits for that.
-
-The branches meet before each request. Between their meeting, or the note of Begin, and the first
-byte of a request nothing may be allocated or freed; between the last byte of a reply and its note,
-only the body of a hit may be allocated.
+waits for that (docs/GATE.md). The branches meet before each request.
 
 The notes can't be seen while the program runs, but the history that it prints has their order. So
 each call of a branch that allocates or frees is held, in a run of its own, until the other branch

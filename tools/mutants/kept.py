@@ -1,11 +1,5 @@
 """Outcomes that are kept: `tools/mutants/kept` has a line `CRATE SUM` for each crate whose mutants
-were all killed over the texts of this sum.
-
-The sum is over all that they rest on: the logic by which it is proved, what judges mutants, the
-crate's own texts and its mutants, and of the crates below it what a proof above can cite: lines of
-crates.txt, definitions, lemmas, and sources without the bodies of functions. Anybody can compute
-it, so a line is no evidence by itself; one in twenty mutants of such a crate is tried all the same,
-others on each commit.
+were all killed over the texts of this sum. docs/GATE.md says what it covers.
 """
 
 import functools
