@@ -15,7 +15,6 @@ ROUND = 100
 # If a get that showed the old value came so long after STORED, in µs, a client can know it.
 CLEARLY = 20
 TOTALS = re.compile(r"runs (\d+) explained \d+ unexplained (\d+) other 0 overlapped \d+")
-
 # A run as the server saw it (race_server.c); `late` is in µs, or nan.
 Visit = collections.namedtuple("Visit", "is_a_first overlapped shown late")
 

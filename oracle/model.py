@@ -16,7 +16,6 @@ SECTIONS = "PAB"
 NO_ENTRY = 255
 GREATEST = 2**64 - 1
 MASKS = "require_set require_clear sets clears".split()
-
 Template = collections.namedtuple(
     "Template", ["verb", "key", "flags", "number", "variable", "body", *MASKS],
     defaults=(0, None, None, "", 0, 0, 0, 0))

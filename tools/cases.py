@@ -12,10 +12,8 @@ import shlex
 from dataclasses import dataclass, field, replace
 
 ROOT = pathlib.Path(__file__).resolve().parents[1]
-
 # How a line of input or output begins: `-` has no LF at its end, `x` is hexadecimal, `*N` N times.
 BYTES = re.compile(r"([<>])(-|x)?(?:\*(\d+))?(?: (.*))?\Z", re.S)
-
 # The most bytes of an input of which each front is read.
 MOST_FAILING = 4096
 

@@ -9,7 +9,6 @@ MOST_SECONDS = 2.0
 MOST_KIBIBYTES = 600 * 1024
 # A program that waits takes no processor time.
 PATIENCE = 20
-
 FAULTS_OF_HISTORY = "Header Line Number Order WrongReply NotCleared UnseenNumber TooMany Unended"
 FAULTS_OF_SCRIPT = ("Header Line Name Duplicate UnknownKey UnknownFlag UnknownVar UnknownLabel "
                     "BackwardLabel Number Data TooMany Budget Unended")

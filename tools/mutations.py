@@ -10,7 +10,6 @@ ROOT = pathlib.Path(__file__).resolve().parents[1]
 # A longer input says no more and takes the time of many.
 MOST_BYTES = 20_000
 MOST_CHANGES = 6
-
 NUMBER = re.compile(rb"\d+")
 WORD = re.compile(rb"[^ \n]+")
 # Numbers at the limits of a field, and one beyond them.

@@ -22,7 +22,6 @@ PATIENCE = 5
 PR_SET_CHILD_SUBREAPER = 36
 # A command of `run` ends after so many seconds.
 SECONDS = 3600
-
 # Held while a command is begun; once all are ended, none is.
 beginning, ending = threading.Lock(), threading.Event()
 

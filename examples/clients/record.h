@@ -42,12 +42,12 @@ static inline const char *body_word(char *room, const void *body, size_t size) {
 }
 
 // Adds a line. The lock is held meanwhile, so that lines stand in the order in which it happened.
-static inline void history_note(struct history *history, char section, const char *what,
-                                const char *format, va_list words) {
-  va_list again;
-  va_copy(again, words);
-  size_t size = vsnprintf(0, 0, format, again);
-  va_end(again);
+__attribute__((format(printf, 4, 5))) static inline void
+history_note(struct history *history, char section, const char *what, const char *format, ...) {
+  va_list words;
+  va_start(words, format);
+  size_t size = vsnprintf(0, 0, format, words);
+  va_end(words);
   pthread_mutex_lock(&history->lock);
   if (history->room - history->size < size + 16) {
     history->room = 2 * history->room + size + 16;
@@ -56,28 +56,17 @@ static inline void history_note(struct history *history, char section, const cha
       abort();
   }
   history->size += sprintf(history->text + history->size, "%c %s ", section, what);
+  va_start(words, format);
   history->size += vsprintf(history->text + history->size, format, words);
+  va_end(words);
   history->text[history->size++] = '\n';
   pthread_mutex_unlock(&history->lock);
 }
 
-// Call this before the request is sent.
-__attribute__((format(printf, 3, 4))) static inline void
-call_begin(struct history *history, char section, const char *format, ...) {
-  va_list words;
-  va_start(words, format);
-  history_note(history, section, "begin", format, words);
-  va_end(words);
-}
-
-// Call this after the reply has come.
-__attribute__((format(printf, 3, 4))) static inline void
-call_reply(struct history *history, char section, const char *format, ...) {
-  va_list words;
-  va_start(words, format);
-  history_note(history, section, "reply", format, words);
-  va_end(words);
-}
+// Call this before the request is sent, and the other one after the reply has come: each takes a
+// format and its words.
+#define call_begin(history, section, ...) history_note(history, section, "begin", __VA_ARGS__)
+#define call_reply(history, section, ...) history_note(history, section, "reply", __VA_ARGS__)
 
 static inline void history_begin(struct history *history, int keys, const char *const *key) {
   *history = (struct history){.lock = PTHREAD_MUTEX_INITIALIZER};

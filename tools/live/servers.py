@@ -13,14 +13,14 @@ import sys
 import threading
 import time
 import unittest
-from dataclasses import dataclass
 
 from .program import PROGRAM, ROOT, SECONDS, LiveTest
 
 LISTENING = re.compile(rb"listening (?:127\.0\.0\.1:)?(\d+)\n")
 WITH_BLOCK = (b"set", b"add", b"replace", b"append", b"prepend", b"cas")
-
 Server = collections.namedtuple("Server", "process port")
+# A step that takes a request of just these bytes. If others come, it ends the connection.
+Request = collections.namedtuple("Request", "text")
 
 
 def free_port():
@@ -113,13 +113,6 @@ class Step(enum.Enum):
     MEET = "wait until another connection of the run comes to this step too"
     END = "end the connection"
     RESET = "end it by a reset"
-
-
-@dataclass(frozen=True)
-class Request:
-    """A step that takes a request of just these bytes. If others come, it ends the connection."""
-
-    text: bytes
 
 
 def answers(*texts):

@@ -39,7 +39,6 @@ ENDINGS = ["close", "reset", "leave", "end", "end", "end"]
 # How often a key is kept at a turn, and how many are looked at after each round; in the end all.
 KEPT, LOOKED_AT = 0.1, 15
 LARGE = b"x" * 65_536
-
 # Beside the streams that memcached is sent too: what is at a limit or beyond it, more replies than
 # fit anywhere, and ends of a connection.
 SPECIAL = [
@@ -53,7 +52,6 @@ SPECIAL = [
     b"set a 0 0 2\r\n123\r\nget a\r\n",
     b"incr a 18446744073709551615\r\n" * 40,
 ]
-
 REPLY = re.compile(rb"(STORED|NOT_STORED|EXISTS|NOT_FOUND|END|DELETED|TOUCHED|ERROR|\d{1,20}"
                    rb"|CLIENT_ERROR (bad command line format|bad data chunk|line too long"
                    rb"|cannot increment or decrement non-numeric value)"

@@ -10,7 +10,6 @@ from .program import LiveTest, rows
 
 # Seconds between the two pieces of a request, so that the server reads them one by one.
 APART = 0.001
-
 # Each request with its reply, in this order, beginning with no key.
 TALK = [
     (b"delete a\r\n", b"NOT_FOUND\r\n"),
@@ -34,7 +33,6 @@ TALK = [
     (b"delete a\r\n", b"DELETED\r\n"),
     (b"get a\r\n", b"END\r\n"),
 ]
-
 ASKED = b"".join(request for request, _ in TALK)
 ANSWERED = b"".join(reply for _, reply in TALK)
 TOO_LONG = [b"x" * 2048, b"get " + b"a " * 1022 + b"\r\n", b"delete a noreply" + b" " * 2048]

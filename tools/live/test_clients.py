@@ -14,7 +14,6 @@ EVERY_BYTE = bytes(range(256))
 LONGEST = EVERY_BYTE * 256
 LENGTHS = [*range(300), 1023, 1024, 2047, 2048, 4095, 4096, 16384, 65535, 65536]
 BODIES = [EVERY_BYTE, EVERY_BYTE[::-1], b"\r\n", b"END\r\n", b"\0" * 1000]
-
 # Calls, each with what it answers, beginning with no key.
 CALLS = {
     "sets and gets": [

@@ -6,7 +6,6 @@ The environment may say for how many seconds streams are changed (MCRACE_SECONDS
 
 import os
 import re
-import socket
 
 import mutations
 
@@ -75,64 +74,47 @@ FROM = 20
 KEPT = re.compile(rb"set (kept-[0-9a-f]+-\d+) ")
 
 
-class Losing(servers.Carrying):
-    """It loses the key that was stored last."""
+# The faults that a server may have, and how each is told. What an ending one has taken ends or is
+# reset.
+FAULTS = [("a lost key", "answers b'get kept-"), ("silence", "timed out"),
+          ("an end", "refused|reset by peer|Broken pipe|b'' answers"),
+          ("a connection that is held", "isn't ended"), ("other words", "it wrote b'ERROR!")]
+
+
+class Faulty(servers.Carrying):
+    """A proxy that has one of these faults from a connection on."""
 
     kept = None
 
+    def __init__(self, port, fault):
+        super().__init__(port)
+        self.fault = fault
+
+    def has(self, fault):
+        return self.fault == fault and self.taken > FROM
+
     def begin(self, client):
-        if self.kept and self.taken > FROM:
+        if self.has("an end"):
+            self.listener.close()
+            raise ConnectionAbortedError
+        if self.has("a lost key") and self.kept:
             with servers.connect(self.behind) as stream:
                 stream.sendall(b"delete %b\r\n" % self.kept)
                 stream.recv(100)
         super().begin(client)
 
     def request(self, piece):
-        for found in KEPT.finditer(piece):
-            self.kept = found[1]
+        self.kept = [self.kept, *KEPT.findall(piece)][-1]
         return piece
 
-
-class Ending(servers.Carrying):
-    """It ends."""
-
-    def begin(self, client):
-        if self.taken > FROM:
-            self.listener.close()
-            raise ConnectionAbortedError
-        super().begin(client)
-
-
-class Silent(servers.Carrying):
-    """It answers nothing any more."""
-
     def reply(self, piece):
-        return b"" if self.taken > FROM else piece
-
-
-class Holding(servers.Carrying):
-    """It doesn't end a connection that its client has ended."""
+        if self.has("other words"):
+            return piece.replace(b"ERROR\r\n", b"ERROR!\r\n")
+        return b"" if self.has("silence") else piece
 
     def end(self, target):
-        if self.taken <= FROM:
-            target.shutdown(socket.SHUT_WR)
-
-
-class Rambling(servers.Carrying):
-    """It writes what no document has."""
-
-    def reply(self, piece):
-        return piece.replace(b"ERROR\r\n", b"ERROR!\r\n")
-
-
-# A server with a fault, and how that is told. What an ending server has taken ends or is reset.
-FAULTY = [
-    ("a lost key", Losing, "answers b'get kept-"),
-    ("an end", Ending, "refused|reset by peer|Broken pipe|b'' answers"),
-    ("silence", Silent, "timed out"),
-    ("a connection that is held", Holding, "isn't ended"),
-    ("other words", Rambling, "it wrote b'ERROR!"),
-]
+        if not self.has("a connection that is held"):
+            super().end(target)
 
 
 class FaultyServers(servers.ServedTest):
@@ -140,12 +122,10 @@ class FaultyServers(servers.ServedTest):
 
     seconds = 9
 
-    @rows(FAULTY)
-    def test_faults(self, kind, told):
-        with kind(self.port) as server:
-            fault = Rounds(server.port, 1).fault(MOST_SECONDS)
-        self.assertIsNotNone(fault, kind.__doc__)
-        self.assertRegex(fault, told)
+    @rows((name, name, told) for name, told in FAULTS)
+    def test_faults(self, name, told):
+        with Faulty(self.port, name) as server:
+            self.assertRegex(str(Rounds(server.port, 1).fault(MOST_SECONDS)), told)
 
     def test_no_fault(self):
         rounds = Rounds(self.enter(servers.Carrying(self.port)).port, 1)

@@ -14,7 +14,6 @@ END = b"\x04"
 NOBODY = "127.0.0.1:1"
 HISTORY = b"history 2\nP begin delete a\nP reply NOT_FOUND\nend\n"
 UNREACHED = "mcrace: 127.0.0.1:1: Connection refused (os error 111)\n"
-
 # A command line, what is typed, how the output begins, what is read, what else is told, the status.
 TYPED = [
     ("judge", HISTORY, b"explained\nP 0\nend\n", "a history", "", 0),
@@ -25,7 +24,6 @@ TYPED = [
     (f"run {NOBODY}", COUNTER, b"no connection P\n", "a script", UNREACHED, 4),
     (f"run {NOBODY} --name ci7", b"", b"refused script 1 Header line 1\n", "a script", "", 3),
 ]
-
 # Command lines that read nothing, with the statuses of theirs.
 UNREAD = [("--version", 0), ("judge --help", 0), ("generate", 0), ("serve 0 --connections 0", 0)]
 UNREAD += [("", 2), ("judge x", 2), ("run", 2), (f"run {NOBODY} --timeout 0", 2)]

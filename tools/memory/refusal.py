@@ -16,7 +16,6 @@ from live import servers
 
 HERE = pathlib.Path(__file__).resolve().parent
 ROOT, SECONDS = HERE.parents[1], 60
-
 # What has a time limit is tried as often as this: the machine may stand still for longer.
 TRIES = 3
 TIME_LIMITS = ("--timeout", "--wait")
