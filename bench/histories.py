@@ -185,8 +185,7 @@ def verdict_of(program, text, limit):
 
 
 def turns_of(program, kind, text, limit):
-    """The verdict, which must not be wrong, and its turns: the least limit that is enough for it,
-    or the limit."""
+    """The verdict, which must not be wrong, and the turns it takes, or the limit."""
     verdict, _ = verdict_of(program, text, limit)
     if verdict == "undecided":
         return verdict, limit

@@ -64,8 +64,7 @@ def job_of(script):
 
 
 def request_of(line):
-    """What a line of a script sends, without its marks and with no time of expiry; | ends a line,
-    and $ stands for a number that was shown."""
+    """What a line of a script sends. A | ends a line, and $ stands for a number that was shown."""
     verb, *words = [it for it in line.split() if ":" not in it and it[0] not in ">?+-"]
     if verb not in STORES:
         return " ".join([verb, *words]) + "|"
@@ -77,8 +76,7 @@ def request_of(line):
 @contextlib.contextmanager
 def race_server(program, race, window, delay=0, is_shared=False):
     """The port of a server with a race whose window of so many µs opens so late, and a function
-    that answers the runs since its last call and empties the cache. If the server is shared, all
-    connections since then are one run."""
+    that answers the runs since its last call; if the server is shared, all that came is one."""
     words = [program, race, window, delay, *["shared"] * is_shared]
     with servers.started(words) as (process, port):
         def visits():
@@ -90,13 +88,9 @@ def race_server(program, race, window, delay=0, is_shared=False):
         yield port, visits
 
 
-# What follows makes programs that play a script so many times at a port, and answer in which of the
-# runs the race was found, or None.
-
-
 def plain(client, *how, is_one_process=False):
-    """The plain program, started for each run, or once for all of them. It looks at no reply: what
-    is found is what the server counts."""
+    """Plays a script so many times at a port by the plain program, started for each or for all. It
+    looks at no reply, so it doesn't answer in which of them the race was found."""
     def play(port, script, runs):
         processes, each = (1, runs) if is_one_process else (runs, 1)
         for _ in range(processes):
@@ -135,9 +129,8 @@ def repeated(program, *options):
 
 
 def seen(name, play, server, race, runs):
-    """In which runs the race was found, each with what the server saw. What mcrace finds must be
-    what the server counts by itself. Of a late set that rests on how fast the client is: there a
-    run that was found has an old value."""
+    """In which runs the race was found, each with what the server saw. mcrace must find what the
+    server counts; but of late sets, which rest on its speed, any that have an old value."""
     port, visits_of = server
     found, visits = play(port, SHORT[race], runs), visits_of()
     if len(visits) != runs:

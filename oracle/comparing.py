@@ -26,8 +26,7 @@ def asked(program, command, text):
 
 def compare(parser, answers):
     """Counts the answers to what a command line asks, each with words for what was compared, and
-    what is wrong or None. It prints what is wrong, how many had the same words, and last `N passed,
-    M failed`, and exits with status 1 if any failed."""
+    what is wrong or None. It prints these, and last `N passed, M failed`, and exits."""
     seen, failed = collections.Counter(), 0
     for words, fault in answers(parser.parse_args()):
         seen[words] += 1

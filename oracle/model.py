@@ -64,8 +64,7 @@ def request_text(code, template):
 
 
 class Image:
-    """Bytes that are read if they are given, and else written. What a method is given is written,
-    and answered; or what was read is answered."""
+    """Bytes that are given, or are written. A method answers what it read, or wrote of its own."""
 
     def __init__(self, version, given=None):
         self.stream, self.is_read = io.BytesIO(given), given is not None
@@ -161,8 +160,8 @@ def line_of(actor, request, reply):
 
 
 def outcomes(request, item, number):
-    """The answers that a server may give, each with what the key then holds: None or an item, which
-    has this number if it is new."""
+    """The answers that a server may give, each with what the key then holds. A new item has this
+    number."""
     verb, _, *fields = request
     if verb in STORES:
         return [stored(verb, item, number, *fields)]

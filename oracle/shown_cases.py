@@ -23,8 +23,7 @@ from verifier import NAMES, odd_answer, runs_apart
 import cases  # which comparing finds
 
 FORCED = "cases/check/forced-runs.cases"
-# What the tests of mc_verify have: images of sound code, and rows of what is changed of the one
-# above and what that is refused for.
+# The tests of mc_verify: images of sound code, and what is changed of each and then refused.
 TESTS = ROOT / "crates/test_verify/src"
 BYTES = r'b"((?:[^"\\]|\\.)*)"'
 STATIC = re.compile(rf"static \w+: &\[u8\] =\s*{BYTES};|static \w+: &\[Row\] = &\[\n(.*?)^\];",

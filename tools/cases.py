@@ -41,8 +41,7 @@ class Case:
     status: int | None = None
     # The lines `<!` and `>!`, by which reading and writing are to fail too.
     fails: set = field(default_factory=set)
-    # What a server does on the connections of P, A and B; such runs by name; those that it does,
-    # and how many connections it is to take.
+    # What a server does on each connection; runs of that by name; those to do, and connections.
     talk: dict = field(default_factory=dict)
     named: dict = field(default_factory=dict)
     runs: list = field(default_factory=list)

@@ -7,8 +7,10 @@ in a block there, and an item begins and ends at its own indent.
 import re
 from dataclasses import dataclass
 
-ITEM = re.compile(r"(?P<public>pub )?(?:pub\([^)]*\) )?(?:const |unsafe )*"
-                  r"(?P<kind>fn|trait|impl)\b *(?P<name>\w*)")
+ITEM = re.compile(
+    r"(?P<public>pub )?(?:pub\([^)]*\) )?(?:const |unsafe )*"
+    r"(?P<kind>fn|trait|impl)\b *(?P<name>\w*)"
+)
 # What ends an item, after its indent; the last clause ends a function that has no body.
 END = r"(?:(?=\S)(?:\}|.*(?:\{\}|;| \})$)| {4}(?:requires|ensures)\b.*;$)"
 # What stands in angle brackets, with others inside.
@@ -99,7 +101,8 @@ def owner_of(header):
 
 
 def functions_in(block, first, last, homes):
-    """The functions among these lines of a block. Methods are named by the module of their type."""
+    """The functions among these lines of a block. A type's own methods are named by the module
+    that declares it."""
     for head, above, at, end in items_in(block.lines, first, last, block.indent):
         if head["kind"] == "fn":
             yield function(block, head, above, at, end)
@@ -120,9 +123,17 @@ def function(block, head, first, at, last):
     is_used = cycle or "const fn" in above or block.kind == "trait"
     is_used = is_used or block.kind and head["name"] == "drop"
     has_body = not end.endswith(";") and (body < last or is_law)
-    path = *block.module, *filter(None, [block.owner]), head["name"]
-    return Function(block.file, path, first, body, last, bool(head["public"]), block.kind,
-                    block.owner, is_law, cycle[1] if cycle else "", bool(is_used or not has_body))
+    return Function(
+        block.file,
+        (*block.module, *filter(None, [block.owner]), head["name"]),
+        *(first, body, last),
+        is_public=bool(head["public"]),
+        kind=block.kind,
+        owner=block.owner,
+        is_law=is_law,
+        cycle=cycle[1] if cycle else "",
+        keeps_body=bool(is_used or not has_body),
+    )
 
 
 def functions_of(folder):
@@ -150,7 +161,11 @@ def public_functions(folder, functions):
     used = " ".join(re.findall(r"(?m)^pub use ([^;]*);", text))
     names = set(re.findall(r"(\w+)(?=\s*(?:[,} ]|\Z))", used))
     modules = {(), *((it,) for it in re.findall(r"(?m)^pub mod (\w+);", text))}
-    module_of = lambda it: it.path[: -2 if it.owner else -1]
-    is_offered = lambda it: (it.owner or it.name) in names or module_of(it) in modules
-    return [it for it in functions
-            if it.is_public and it.kind in ("", "impl") and not it.is_law and is_offered(it)]
+    return [
+        it
+        for it in functions
+        if it.is_public
+        and it.kind in ("", "impl")
+        and not it.is_law
+        and ((it.owner or it.name) in names or it.path[: -2 if it.owner else -1] in modules)
+    ]

@@ -27,8 +27,7 @@ beginning, ending = threading.Lock(), threading.Event()
 
 
 def jobs():
-    """How many proofs are to run side by side: RT_JOBS, or as many as there are processors, but
-    one for each three gigabytes that are free."""
+    """How many proofs run side by side: RT_JOBS, or one for each processor and 3 free gigabytes."""
     free = re.search(r"MemAvailable: *(\d+)", pathlib.Path("/proc/meminfo").read_text())[1]
     fitting = max(1, min(len(os.sched_getaffinity(0)), int(free) // (3 << 20)))
     return int(os.environ.get("RT_JOBS") or fitting)

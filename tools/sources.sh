@@ -3,9 +3,8 @@
 # Patterns such as !(NAME) are read only after this.
 shopt -s extglob
 
-# Prints one hash, SHA-256 in hexadecimal, of all that the program is built from: crates.txt, and
-# the sources, definitions and proofs of each crate that is no crate of tests, by their names and
-# texts. $1 is the top of the repository.
+# Prints one SHA-256 of all that the program is built from: crates.txt, and sources, definitions and
+# proofs but of crates of tests, by names and texts. $1 is the top of the repository.
 source_hash() (
     cd "$1" || exit 1
     LC_ALL=C

@@ -16,8 +16,7 @@ MOST_IN_REPORT = 10_000
 
 @dataclass
 class Campaign:
-    """What a campaign answered: its status, the job lines and the totals of each report, the lines
-    that follow the last one, and standard error."""
+    """What a campaign answered: of each report job lines and totals, and the lines after these."""
 
     status: int
     reports: list

@@ -39,8 +39,7 @@ ENDINGS = ["close", "reset", "leave", "end", "end", "end"]
 # How often a key is kept at a turn, and how many are looked at after each round; in the end all.
 KEPT, LOOKED_AT = 0.1, 15
 LARGE = b"x" * 65_536
-# Beside the streams that memcached is sent too: what is at a limit or beyond it, more replies than
-# fit anywhere, and ends of a connection.
+# What memcached isn't sent: what is at a limit or beyond it, and more replies than fit anywhere.
 SPECIAL = [
     b"set large 0 0 65536\r\n%b\r\n" % LARGE + b"get large\r\n" * 500,
     b"set large 0 0 65536\r\n%b\r\nget large large\r\n" % LARGE,
@@ -152,8 +151,7 @@ class Sender:
             self.stream.close()
 
     def read_on(self):
-        """Reads to the end, and looks at all that was read; not if the connection was reset with
-        bytes that the server hadn't read."""
+        """Reads to the end, and looks at all that was read, unless the connection was reset."""
         try:
             while piece := self.stream.recv(65_536):
                 self.got += piece

@@ -112,8 +112,7 @@ class ClosingServers(servers.ServedTest):
         self.assertGreater(server.lost, RUNS / 4)
 
     def test_shrinking(self):
-        """The first number of the job is made wrong, so its run is unexplained, and all is right
-        from then on. So no step is left out."""
+        """Only the first number of the job is made wrong, so no step is left out."""
         with Late(self.port, wrong=True) as server:
             options = f"--seed 1 --from {JOB} --jobs 1 --workers 1 --tries {RUNS // 10}"
             found = campaign(server.port, options)

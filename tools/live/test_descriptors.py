@@ -1,5 +1,4 @@
-"""The program with one of its standard streams closed: it says so if it needs the stream, and no
-server is sent what is meant for it."""
+"""The program with a standard stream closed: it says so, and no server gets what is for that one."""
 
 import os
 
@@ -9,8 +8,7 @@ from .servers import A, B, P, Replying, Scripted, answers, answers_both
 
 NO_INPUT, NO_OUTPUT = (f"mcrace: standard {it}: Bad file descriptor (os error 9)\n"
                        for it in ("input", "output"))
-# Three runs. The reply to A in the first one has more bytes. That is told when the second one has
-# ended, whose connections serve the third one.
+# Three runs. The reply to A in the first one has more bytes, which the end of the second one tells.
 SURPLUS = (P, answers_both(b"6\r\nSTORED\r\n"), B)
 THREE_RUNS = [SURPLUS, tuple(2 * steps for steps in (P, A, B))]
 

@@ -28,15 +28,13 @@ MOST_HELD = 256
 # What is read at once of it, and after how many reads the server is looked at. Each look takes
 # longer than all of those reads, so the client is slow: the server waits for it most of the time.
 PIECE, LOOKS_APART = 16_384, 16
-# Connections one after another: what is left of the first ones is what the server needs anyway.
-# Kilobytes that may be left of the others.
+# The first connections leave what the server needs anyway. Kilobytes that the others may leave.
 FIRST, MOST_LEFT = 1_000, 1_024
 
 
 def kilobytes(process):
-    """The resident memory of a process by its pages, but for those of its program and libraries:
-    when the kernel maps these depends on the page cache. `VmRSS` and `VmHWM` are counters, which
-    may be hundreds of kilobytes behind."""
+    """The resident memory of a process by its pages, but for those of files, which rest on the page
+    cache. `VmRSS` and `VmHWM` are counters, which may be hundreds of kilobytes behind."""
     text = pathlib.Path(f"/proc/{process.pid}/smaps_rollup").read_text(encoding="ascii")
     return int(re.search(r"^Anonymous:\s+(\d+)", text, re.M)[1])
 

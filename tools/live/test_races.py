@@ -12,8 +12,7 @@ MOST_CAMPAIGNS = 50
 MOST_LEFT = 3
 # How often a shrunk script is run until it is unexplained.
 MOST_RUNS = 50
-# How long the server that loses updates waits for the other one of two. A job with one alone waits
-# as long, and a campaign has many.
+# How long the losing server waits for the other one of two updates: short, as many jobs have one.
 SECONDS_OF_GATE = 0.03
 
 
@@ -74,8 +73,7 @@ class Races(RacesTest):
         self.assert_told(found)
 
     def assert_reasons(self, reasons, history):
-        """This is what `judge` says of it too; what stands before the line that it names is
-        explained, and isn't with the line."""
+        """`judge` says this too. What stands before the named line is explained."""
         answer = run(["judge", "--why"], history.encode()).text
         self.assertEqual(answer, f"unexplained\n{reasons}", history)
         line = int(re.match(r"why\nline (\d+) ", reasons)[1])

@@ -18,8 +18,7 @@ MOST_FAILED, REST = 100, 0.01
 
 
 class Serve(LiveTest):
-    """It listens where it can, serves as long as it is to, and ends by signals; and what it does if
-    connections get no descriptor or no thread."""
+    """It serves where and as long as it is to, also if connections get no descriptor or thread."""
 
     def assert_ends(self, process, status, told=b""):
         """It ends with this, and nothing more on its output."""

@@ -46,8 +46,7 @@ class Stops(LiveTest):
         self.assertEqual((status, output.splitlines()[0]), (4, "0 explained P ErrorLine"))
         self.assertEqual(told[1:], [r'mcrace: job 0: P: to "delete r0-0" came "ERROR\r\n"'])
 
-    # What is left of the limit is waited for, and no more; but the call of a worker begins anew
-    # when the program goes on, with its whole limit.
+    # What is left of the limit is waited for, but a worker's call begins anew with all of it.
     @rows([("run", "run", 1, 1.3, "P failed 2 ReadFailed", 'P: no reply to "delete a"'),
            ("a campaign", "campaign", 1.3, 1.8, "0 explained P ReadFailed",
             'job 0: P: no reply to "delete r0-0"')])

@@ -38,8 +38,7 @@ AT_SERVERS = [
 NO_MEMORY = re.compile(
     rb"(?:out of memory\n|not run\n|no connection [PAB]\n|P failed 8 Memory\n.*)?", re.S)
 WANT = r"\b(OutOfMemory|AllocError|AllocFailed)\b"
-# How a test ends whose call answered that there is no memory, perhaps for a thread: it gives that
-# on, or compares it with what it expected.
+# How a test ends whose call said that there is no memory: it gives that on, or compares it.
 SAYS_SO = re.compile(rf"\Aerror: [^\n]*(?:{WANT}|\bNoThread\b)"
                      rf"|\Aassertion `left == right` failed.*^ +left: [^\n]*{WANT}", re.S | re.M)
 
@@ -54,8 +53,7 @@ def library(folder):
 
 
 def ran(words, made, given="/dev/null", **settings):
-    """The status, the output, and standard error of a program with the library before it and these
-    variables; None if it doesn't end."""
+    """Status, output and errors of a program with the library and variables; None if it goes on."""
     more = {name: str(value) for name, value in settings.items()}
     environment = {**os.environ, "LD_PRELOAD": str(made), **more}
     with open(given, "rb") as file, contextlib.suppress(subprocess.TimeoutExpired):

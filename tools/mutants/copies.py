@@ -72,7 +72,8 @@ def take_body(function, folder):
 
 
 def take_proof(function, crate, folder):
-    """Puts a hole in place of the written proofs of a function, and of closures (folders `fn`)."""
+    """Puts a hole in place of what is written of the function's proof and its closures', which
+    stand in folders `fn`."""
     path = function.path
     for at in range(len(path)):
         shutil.rmtree(folder.joinpath("proofs", *path[:at], "fn", *path[at:]), ignore_errors=True)

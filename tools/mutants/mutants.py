@@ -10,7 +10,8 @@ from dataclasses import dataclass, field
 import functions
 
 FILE = "mutants"
-# What kills a mutant: an open goal of its function, what is written of its proof, or a test.
+# What kills a mutant: an open goal of its function, what is written of the function's proof, or
+# a test.
 GOAL, PROOF, TEST = "goal", "proof", "test"
 
 
@@ -58,7 +59,8 @@ def lines_of(file):
 
 
 def read_all(crate, of_crate):
-    """The mutants of a crate with these functions, and what is wrong with others, or has none."""
+    """The mutants of a crate with these functions, and what is wrong with others or with functions
+    that have none."""
     file, found, none, faults = crate.folder / FILE, {}, set(), {}
     text = file.read_text(encoding="utf-8") if file.is_file() else ""
     for block in re.split(r"\n\s*\n", re.sub(r"(?m)^#.*\n", "", text).strip("\n")):

@@ -16,7 +16,8 @@ NOT_PROVED = "`search` did not prove "
 
 
 class Answer:
-    """What a check wrote of each function: its words, open goals, and errors of its proof files."""
+    """What a check wrote: of each function its words and its open goals, and the errors of its
+    proof files, each with the file."""
 
     def __init__(self, said, folder):
         self.said, self.folder = said, folder
