@@ -24,9 +24,8 @@ class Campaign:
     faults: str
 
     def __post_init__(self):
-        """Beside these: all job lines, the totals if there is one report, the numbers of the
-        unexplained jobs, what is told after the first line, which says what is run, and the script
-        that is left, with the histories that are shown after it."""
+        """Beside these: all job lines, the totals of a single report, the unexplained jobs, what is
+        told after the first line, and the script that is left with what is shown after it."""
         self.jobs = [line for jobs, _ in self.reports for line in jobs]
         self.totals = self.reports[0][1] if len(self.reports) == 1 else None
         self.unexplained = [it.split()[0] for it in self.jobs if it.split()[1] == "unexplained"]

@@ -5,10 +5,8 @@ random bytes, in pieces that take turns with those of the others. Then the clien
 connection, resets it, lets it be and reads nothing, or ends its side and reads on. What it reads by
 then has to be replies that docs/FORMATS.md has, and the server has to end the connection.
 Meanwhile a connection that stays open is served, and after each round a new one; of the first one
-each key is as it was when its `set` was acknowledged. No answer may take longer than 5 seconds.
-
-The streams follow from the seed and the number of the round alone; how they meet in the server
-doesn't.
+each key is as it was when its `set` was acknowledged. No answer may take longer than 5 seconds. The
+streams follow from the seed and the round's number; how they meet in the server doesn't.
 """
 
 import contextlib

@@ -4,7 +4,7 @@ many (`--times`, `--for`, `--keep-going`, `--stats`). More is in cases/run."""
 import re
 
 from . import servers
-from .program import COUNTER, LiveTest, judged, play, rows, run, scripts
+from .program import COUNTER, ROOT, LiveTest, judged, play, rows, run
 from .servers import A, B, P, Scripted
 
 BRANCH_BEGINS = re.compile(rb"^([AB]) begin", re.M)
@@ -50,14 +50,16 @@ class LosingServers(LiveTest):
         self.assertNotIn(b"NOT_FOUND", alike.history.replace(b"P reply NOT_FOUND", b""))
 
 
-# The branches race anew each time.
+# What is played against servers that are right, and how often, since the branches race anew.
+SCRIPTS = [*sorted(ROOT.glob("cases/run/*.script")), ROOT / "examples/two-increments.script",
+           ROOT / "examples/bound-number.script"]
 TIMES = 10
 
 
 class Scripts(LiveTest):
     """Each section is done, the verdict is `explained`, and the history is judged again."""
 
-    @rows([(script.name, script) for script in scripts()])
+    @rows((script.name, script) for script in SCRIPTS)
     def test_scripts(self, script):
         for _ in range(TIMES):
             found = play(self.port, script=script.read_bytes())
@@ -69,11 +71,8 @@ class Scripts(LiveTest):
         self.port = self.enter(servers.memcached()).port
 
 
-class ScriptsAtServe(Scripts):
+class ScriptsAtServe(servers.ServedTest, Scripts):
     """The same at `mcrace serve`."""
-
-    def setUp(self):
-        self.port = self.enter(servers.serving()).port
 
 
 # How often there are so many runs at a server that is right: the options, and seconds.

@@ -11,12 +11,8 @@ import refusal
 LIBRARY = """mod texts;
 pub use texts::{Fault, Marked, Text, WordsFault, Writer, length, words};
 """
-TEXTS = """pub enum Fault {
-    Memory,
-}
-pub struct Marked<K> {
-    kind: K,
-}
+TEXTS = """pub enum Fault { Memory }
+pub struct Marked<K> { kind: K }
 pub type WordsFault = Marked<Fault>;
 impl Text {
     pub fn copy(&self) -> Result<Text, OutOfMemory>
