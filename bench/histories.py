@@ -166,8 +166,7 @@ KINDS = [Kind(name, made, None if name == "changed" else "explained")
          for name, made in SERVED.items()]
 KINDS += [Kind(name, lines, "unexplained", 10_000 if name == "bodies" else None,
                2 if name == "alike-pairs" else 1) for name, lines in HOPELESS.items()]
-
-
+# Of the verdicts of `mcrace judge`.
 STATUSES = {"explained": 0, "unexplained": 1, "undecided": 4}
 
 

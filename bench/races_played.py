@@ -17,8 +17,6 @@ CLEARLY = 20
 TOTALS = re.compile(r"runs (\d+) explained \d+ unexplained (\d+) other 0 overlapped \d+")
 # A run as the server saw it (race_server.c); `late` is in µs, or nan.
 Visit = collections.namedtuple("Visit", "is_a_first overlapped shown late")
-
-
 # What P sends, what A and B send again and again, and how many of these show the race at least.
 Race = collections.namedtuple("Race", "prefix a b least", defaults=(1,))
 SET, INCR, TOGGLES = ["set a 0 =5"], ["incr a 1"], ["add a 0 =6", "delete a"]

@@ -29,22 +29,13 @@ static double seconds;
 static char *body;
 static uint32_t *micros;
 static _Atomic size_t batches;
-static _Thread_local uint64_t state;
-
-// xorshift64
-static uint64_t draw(uint64_t below) {
-  state ^= state << 13;
-  state ^= state >> 7;
-  state ^= state << 17;
-  return state % below;
-}
+static _Thread_local unsigned short state[3];
 
 static void ask(struct connection *c) {
   static _Thread_local char text[ROOM];
   size_t length = 0;
   for (int at = 0; at < depth; at++) {
-    uint64_t lot = draw(10);
-    int key = draw(keys);
+    int lot = nrand48(state) % 10, key = nrand48(state) % keys;
     c->asked[at] = lot < 8 ? GET : lot == 8 ? SET : INCR;
     if (c->asked[at] == SET)
       length += sprintf(text + length, "set key-%d 0 0 %d\r\n%s\r\n", key, body_length, body);
@@ -103,7 +94,7 @@ static void take(struct connection *c) {
 static void *carry(void *count) {
   int poll = epoll_create1(0), own = *(int *)count;
   struct epoll_event ready[64];
-  state = 88172645463325252ull + ((int *)count - connections);
+  state[0] = (int *)count - connections;
   for (int at = 0; at < own; at++) {
     struct connection *c = calloc(1, sizeof *c);
     struct epoll_event wanted = {.events = EPOLLIN, .data.ptr = c};

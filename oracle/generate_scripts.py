@@ -5,7 +5,7 @@ usage: generate_scripts.py [--seed N] [--job N]
        generate_scripts.py --sum JOBS [--seed N]
 
 With --sum it prints a checksum of the texts of the jobs from 0 on, one after the other: FNV-1a of
-64 bits, which a test of `crates/test_campaign` compares with that of the program's texts. It was
+64 bits, which a test of `crates/test_generate` compares with that of the program's texts. It was
 written from the rules in docs/FORMATS.md (`generate`) alone, and checks its numbers against those
 of PCG's C code.
 """

@@ -6,8 +6,8 @@ It is written from docs/FORMATS.md and memcached's protocol, and shares no code 
 import collections
 import io
 import itertools
-import re
 import struct
+import urllib.parse
 
 VERBS = "set add replace append prepend cas get gets incr decr delete touch".split()
 STORES = VERBS[:6]
@@ -134,10 +134,7 @@ def body_word(body):
 
 def body_of(word):
     """The body that a word stands for."""
-    def byte(found):
-        return chr(int(found[1], 16))
-
-    return re.sub("%(..)", byte, word.removeprefix("=")).encode("latin-1")
+    return urllib.parse.unquote_to_bytes(word.removeprefix("="))
 
 
 def words_of(words):

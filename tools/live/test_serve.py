@@ -1,5 +1,5 @@
-"""What `mcrace serve` writes and ends with; and what it holds of memory, descriptors and threads for
-connections that wait, for a long answer, and for connections that are gone.
+"""What `mcrace serve` writes and ends with; and what it holds of memory, descriptors and threads,
+for connections that wait, for a long answer, and for connections that are gone.
 
 The environment may say how many connections come one after another (MCRACE_CONNECTIONS, 10,000).
 """

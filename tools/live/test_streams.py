@@ -72,10 +72,7 @@ MOST_SECONDS, WITHOUT_FAULT = 60, 2
 # The fault shows from this connection on.
 FROM = 20
 KEPT = re.compile(rb"set (kept-[0-9a-f]+-\d+) ")
-
-
-# The faults that a server may have, and how each is told. What an ending one has taken ends or is
-# reset.
+# The faults of a server, and how each is told. What an ending one has taken ends or is reset.
 FAULTS = [("a lost key", "answers b'get kept-"), ("silence", "timed out"),
           ("an end", "refused|reset by peer|Broken pipe|b'' answers"),
           ("a connection that is held", "isn't ended"), ("other words", "it wrote b'ERROR!")]
