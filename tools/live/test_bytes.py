@@ -5,34 +5,16 @@ import socket
 import subprocess
 import time
 
+from cases import written_bytes
+
 from . import servers
-from .program import LiveTest, rows
+from .program import ROOT, LiveTest, rows
 
 # Seconds between the two pieces of a request, so that the server reads them one by one.
 APART = 0.001
 # Each request with its reply, in this order, beginning with no key.
-TALK = [
-    (b"delete a\r\n", b"NOT_FOUND\r\n"),
-    (b"set a 5 0 3\r\nx\r\n\r\n", b"STORED\r\n"),
-    (b"get a b\r\n", b"VALUE a 5 3\r\nx\r\n\r\nEND\r\n"),
-    (b"add a 0 0 1\r\n1\r\n", b"NOT_STORED\r\n"),
-    (b"append a 9 0 0\r\n\r\n", b"STORED\r\n"),
-    (b"prepend a 9 0 2\r\nyz\r\n", b"STORED\r\n"),
-    (b"get a\n", b"VALUE a 5 5\r\nyzx\r\n\r\nEND\r\n"),
-    (b"incr a 1\r\n", b"CLIENT_ERROR cannot increment or decrement non-numeric value\r\n"),
-    (b"replace a 0 0 2\r\n10\r\n", b"STORED\r\n"),
-    (b"incr a 5\r\n", b"15\r\n"),
-    (b"decr a 6\r\n", b"9\r\n"),
-    (b"touch a 0\r\n", b"TOUCHED\r\n"),
-    (b"touch b 0\r\n", b"NOT_FOUND\r\n"),
-    (b"set a 0 0 1 noreply\r\n7\r\n", b""),
-    (b"get  a \r\n", b"VALUE a 0 1\r\n7\r\nEND\r\n"),
-    (b"cas b 0 0 1 7\r\n1\r\n", b"NOT_FOUND\r\n"),
-    (b"incr b 1\r\n", b"NOT_FOUND\r\n"),
-    (b"replace b 0 0 1\r\n1\r\n", b"NOT_STORED\r\n"),
-    (b"delete a\r\n", b"DELETED\r\n"),
-    (b"get a\r\n", b"END\r\n"),
-]
+LINES = (ROOT / "cases/serve/talk.txt").read_text(encoding="ascii").splitlines()
+TALK = [tuple(map(written_bytes, line.split(" -> "))) for line in LINES]
 ASKED = b"".join(request for request, _ in TALK)
 ANSWERED = b"".join(reply for _, reply in TALK)
 TOO_LONG = [b"x" * 2048, b"get " + b"a " * 1022 + b"\r\n", b"delete a noreply" + b" " * 2048]

@@ -2,39 +2,15 @@
 memory, one that never says it, a test that ends in another way; and nothing else."""
 
 import pathlib
+import re
 import tempfile
 import unittest
 
 import calls
 import refusal
 
-LIBRARY = """mod texts;
-pub use texts::{Fault, Marked, Text, WordsFault, Writer, length, words};
-"""
-TEXTS = """pub enum Fault { Memory }
-pub struct Marked<K> { kind: K }
-pub type WordsFault = Marked<Fault>;
-impl Text {
-    pub fn copy(&self) -> Result<Text, OutOfMemory>
-        ensures { IfOk result (λ text. text ≡ self) }
-    {
-        Ok(Text { letters: self.letters })
-    }
-
-    fn hidden(&self) -> Result<Text, OutOfMemory> {
-        self.copy()
-    }
-}
-pub trait Writer {
-    fn write(&mut self, text: &Text) -> Result<(), Fault>;
-}
-pub fn length(text: &Text) -> usize {
-    text.letters
-}
-pub fn words(text: &Text) -> Option<WordsFault> {
-    None
-}
-"""
+LIBRARY = pathlib.Path(__file__).with_name("small-library").read_text(encoding="utf-8")
+FILES = dict(re.findall(r"(?ms)^== (\S+)\n(.*?)(?=^== |\Z)", LIBRARY))
 COPIES = "test_small texts::copies: mc_small::Text::copy"
 NONE = "none, it is asked for: mc_small::Writer::write"
 LACKS, HAS = f"{calls.FILE} lacks mc_small::", f"{calls.FILE} has mc_small::"
@@ -60,8 +36,7 @@ class Memory(unittest.TestCase):
         for listed, wanted in LISTS:
             with self.subTest(listed), tempfile.TemporaryDirectory() as folder:
                 root = pathlib.Path(folder)
-                for name, text in [("crates/mc_small/src/lib.rt", LIBRARY), (calls.FILE, listed),
-                                   ("crates/mc_small/src/texts.rt", TEXTS)]:
+                for name, text in {**FILES, calls.FILE: listed}.items():
                     (root / name).parent.mkdir(parents=True, exist_ok=True)
                     (root / name).write_text(text, encoding="utf-8")
                 found = calls.faults(root)

@@ -14,26 +14,9 @@ import unittest
 TOOLS = pathlib.Path(__file__).resolve().parents[1]
 REPOSITORY = (TOOLS / "mutants/small-repository").read_text(encoding="utf-8")
 FILES = dict(re.findall(r"(?ms)^== (\S+)\n(.*?)(?=^== |\Z)", REPOSITORY))
-# The mutants that are killed, each in a line, without its line `file:`.
-KILLED = """answers_the_smaller; named: it answers the smaller; old: if a < b {; new: if b < a {
-a_fifth; named: it answers a fifth; by: proof; old:     n / 4; new:     n / 5
-a_constant; old:     n / 4; new:     200
-forgets_the_third; old: larger(two, c); new: larger(two, a)
-short_to_ten; test: test_small::tells_short_numbers; old: n < 10; new: n <= 10
-"""
-NONE = "small::itself; none: there is nothing else to answer\n"
-# Those that fail, each with the beginning of what is said.
-FAILED = """weak; old: larger(two, c); new: larger(two / 2, c) = SURVIVED: no goal of small::largest
-wrong_type; old:     n / 4; new:     "fourth" = the check has no verdict: src/lib.rt:
-unlike; test: test_small::tells_short_numbers; old: n < 10; new: n < 10 || n > 76 = SURVIVED
-no_test; test: test_small::tells; old: n < 10; new: n < 11 = the test test_small::tells doesn't run
-gone; old: n / 8; new: n / 9 = bad mutant: its old text stands 0 times
-often; old: larger; new: smaller = bad mutant: its old text stands
-sixth; named: a sixth; old:     n / 4; new:     n / 6 = it is named, and to be killed by a goal
-same; old:     n / 4; new:     n / 4 = bad mutant: it changes nothing
-contract; old: third { c; new: third { a = bad mutant: src/lib.rt, line
-small::quarter; none: a mutant stands in it = `none:` is of no public function
-"""
+# The mutants that are killed, each in a line, without its line `file:`; a line `none:`; and those that
+# fail, each with the beginning of what is said.
+KILLED, NONE, FAILED = (FILES.pop(it) for it in ("killed", "none", "failed"))
 WHY = dict(re.findall(r"(?m)^([\w:]+);.* = (.*)$", FAILED)) | {"small::itself": "no mutant stands"}
 # Prints the line that keeps the outcome of `small`.
 FORGE = """import crates, kept, pathlib
