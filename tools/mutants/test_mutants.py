@@ -14,7 +14,7 @@ import unittest
 TOOLS = pathlib.Path(__file__).resolve().parents[1]
 REPOSITORY = (TOOLS / "mutants/small-repository").read_text(encoding="utf-8")
 FILES = dict(re.findall(r"(?ms)^== (\S+)\n(.*?)(?=^== |\Z)", REPOSITORY))
-# The mutants that are killed, each in a line, without its line `file:`; a line `none:`; and those that
+# The mutants that are killed, each in a line, without its line `file:`; one `none:`; and those that
 # fail, each with the beginning of what is said.
 KILLED, NONE, FAILED = (FILES.pop(it) for it in ("killed", "none", "failed"))
 WHY = dict(re.findall(r"(?m)^([\w:]+);.* = (.*)$", FAILED)) | {"small::itself": "no mutant stands"}
