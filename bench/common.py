@@ -135,12 +135,13 @@ def status_of(process, name):
 
 @contextlib.contextmanager
 def all_compiled(*names):
-    """The programs in C of these names."""
+    """The programs in C of these paths below the repository."""
     with tempfile.TemporaryDirectory() as folder:
-        for name in names:
-            words = ["cc", "-O2", "-Wall", "-Wextra", "-Werror", "-pthread"]
-            subprocess.run([*words, "-o", f"{folder}/{name}", BENCH / f"{name}.c"], check=True)
-        yield [f"{folder}/{name}" for name in names]
+        made = [f"{folder}/{pathlib.Path(name).name}" for name in names]
+        for name, to in zip(names, made):
+            words = ["cc", "-O2", "-Wall", "-Wextra", "-Werror", "-pthread", "-o", to]
+            subprocess.run([*words, BENCH.parent / f"{name}.c"], check=True)
+        yield made
 
 
 def memcached(threads=4):

@@ -1,4 +1,4 @@
-"""The races of race_server.c: their scripts, and the programs that play them."""
+"""The races of faulty_server.c: their scripts, and the programs that play them."""
 
 import collections
 import contextlib
@@ -15,21 +15,23 @@ ROUND = 100
 # If a get that showed the old value came so long after STORED, in µs, a client can know it.
 CLEARLY = 20
 TOTALS = re.compile(r"runs (\d+) explained \d+ unexplained (\d+) other 0 overlapped \d+")
-# A run as the server saw it (race_server.c); `late` is in µs, or nan.
+# A run as the server saw it (faulty_server.c); `late` is in µs, or nan.
 Visit = collections.namedtuple("Visit", "is_a_first overlapped shown late")
-# What P sends, what A and B send again and again, and how many of these show the race at least.
-Race = collections.namedtuple("Race", "prefix a b least", defaults=(1,))
+# The server's bug, what P sends, what A and B send again and again, and how many of these show the
+# race at least.
+Race = collections.namedtuple("Race", "bug prefix a b least", defaults=(1,))
 SET, INCR, TOGGLES = ["set a 0 =5"], ["incr a 1"], ["add a 0 =6", "delete a"]
-# By the name that the server has for it. What is there can't be added, and what isn't can't be
+# What is there can't be added, and what isn't can't be
 # deleted, so the one undoes the other; after each append is seen whether one is lost.
 RACES = {
-    "incr": Race(SET, INCR, INCR),
-    "decr": Race(["set a 0 =50"], INCR, ["decr a 1"]),
-    "cas": Race(SET, *(["gets a miss:gone >unique", f"cas a 0 ={it} $unique"] for it in (6, 7)), 2),
-    "add": Race([], TOGGLES, TOGGLES),
-    "append": Race(SET, *([f"append a 0 ={it}", "get a"] for it in (6, 7)), 2),
-    "delete": Race(SET, TOGGLES[::-1], TOGGLES[::-1]),
-    "late": Race(SET, ["get a"], [f"set a 0 ={it}" for it in range(6, 18)]),
+    "incr": Race("lost-increment", SET, INCR, INCR),
+    "decr": Race("lost-decrement", ["set a 0 =50"], INCR, ["decr a 1"]),
+    "cas": Race("cas-two-winners", SET, *(["gets a miss:gone >unique", f"cas a 0 ={it} $unique"]
+                                          for it in (6, 7)), 2),
+    "add": Race("add-twice", [], TOGGLES, TOGGLES),
+    "append": Race("lost-append", SET, *([f"append a 0 ={it}", "get a"] for it in (6, 7)), 2),
+    "delete": Race("delete-twice", SET, TOGGLES[::-1], TOGGLES[::-1]),
+    "late": Race("stale-get", SET, ["get a"], [f"set a 0 ={it}" for it in range(6, 18)]),
 }
 
 
@@ -72,11 +74,11 @@ def request_of(line):
 
 
 @contextlib.contextmanager
-def race_server(program, race, window, delay=0, is_shared=False):
-    """The port of a server with a race whose window of so many µs opens so late, and a function
+def faulty_server(program, bug, window=0, delay=0, is_shared=False):
+    """The port of a server with a bug whose window of so many µs opens so late, and a function
     that answers the runs since its last call; if the server is shared, all that came is one."""
-    words = [program, race, window, delay, *["shared"] * is_shared]
-    with servers.started(words) as (process, port):
+    words = [program, "--bug", bug, "--window", window, "--delay", delay]
+    with servers.started([*words, "--report", "all" if is_shared else "runs"]) as (process, port):
         def visits():
             process.stdin.write(b"report\n")
             process.stdin.flush()
@@ -143,7 +145,8 @@ def seen(name, play, server, race, runs):
 def series(program, race, window, delay, players, runs):
     """The shares of each player by its name, of about so many runs, in which they take turns."""
     rounds = -(-runs // ROUND)
-    with race_server(program, race.split("-")[0], window, delay) as server:
+    bug = RACES[race.split("-")[0]].bug
+    with faulty_server(program, bug, window, delay) as server:
         plays = {name: functools.partial(seen, name, play, server, race, -(-runs // rounds))
                  for name, play in players.items()}
         found = in_turns(rounds, plays)

@@ -74,3 +74,9 @@ class Pictures(LiveTest):
         given = page[page.index("history 2\n") : page.index("end\n```")] + "end\n"
         drawn = (ROOT / "docs/lost-update.svg").read_bytes()
         self.assertEqual(run(["draw"], given.encode()).output, drawn)
+
+    @rows((it.name, it) for it in sorted((ROOT / "examples/findings").glob("*.svg")))
+    def test_findings(self, picture):
+        """The picture of a finding is drawn from its history."""
+        given = picture.with_suffix(".history").read_bytes()
+        self.assertEqual(run(["draw"], given).output, picture.read_bytes())

@@ -1,21 +1,31 @@
-// A cache server that is right but for one race, so that programs can be compared by how often they
-// run into it.
+// A cache server that is right but for one bug, to try scripts and testers on.
 //
-// usage: race_server RACE WINDOW DELAY [shared]
+// usage: faulty_server --bug NAME [--window MICROS] [--delay MICROS] [--port PORT] [--report WHAT]
 //
-// RACE is incr, decr, cas, add, append or delete: of this command the server looks at the item
-// DELAY µs after the request came, and acts WINDOW µs later on what it saw then, whatever another
-// connection did meanwhile. A decrement loses an increment too, which itself has no race. Or it is
-// late: a set over an item is answered at once, and takes effect WINDOW µs later. Or it is none.
+// Its bugs are these; `none` is a right server. A command that races looks at the item, and acts
+// MICROS later (5 by itself) on what it saw, whatever another connection did meanwhile; with a
+// delay it waits so long before it looks.
 //
-// It listens on a free port of 127.0.0.1, which it prints. A run is three connections, that of P
-// first, then A's, then B's, and nothing is kept for the next. With `shared` a run is any number of
-// connections, 64 at once, until the next report. A line on standard input asks for a report, while
-// nobody is connected: a line for each run since the last one, and then `end`. It says whether the
-// first request of A came before that of B; whether each came before the reply to the other one had
-// been sent; how often the race happened, which the replies then show; and how many µs after STORED
-// of a late set the last get came that showed the old value, or nan.
-#include "sockets.h"
+//   lost-increment lost-decrement  two commands act on one number (a decrement undoes an incr)
+//   lost-append                    two appends act on one body
+//   cas-two-winners                a cas number wins twice
+//   add-twice delete-twice         a key is added, or an item deleted, twice
+//   stale-get                      a set over an item is answered before it takes effect
+//   torn-body                      a set over an item first writes half of the new body
+//   lost-flags                     an append stores the flags of its own line, in no race
+//   increment-again                an incr acts once more if another connection wrote meanwhile
+//
+// It listens on this port of 127.0.0.1, or on a free one, which it prints. It serves 64 connections
+// at once, until it is killed. With `--report` it reads standard input instead, and ends with it:
+// a line asks for a report, while nobody is connected, after which nothing is kept. WHAT is `runs`
+// if a run is three connections, that of P first, then A's, then B's, and nothing is kept from one
+// for the next; or `all` if all connections since the last report are one run. A report is a line
+// of numbers for each run, and then `end`: whether the first request of A came before that of B;
+// whether each came before the reply to the other one had been sent; how often the race happened,
+// which the replies then show; and how many microseconds after STORED of a late set the last get
+// came that showed the old value, or nan.
+#include "../bench/sockets.h"
+#include <getopt.h>
 #include <inttypes.h>
 #include <math.h>
 #include <search.h>
@@ -68,12 +78,21 @@ struct talk {
   char text[LONGEST + 1];
 };
 
-// The command that races; or COMMANDS, and then sets are late or the server is right.
-static int race;
-static bool is_late;
-static double window, delay;
-static int listener, taken;
-static bool is_shared;
+// The bugs without a command that races, after those with one.
+enum { STALE = 6, TORN, FLAGS, AGAIN, NONE };
+
+// The bugs, and the commands that race by them, if any does.
+static const struct { const char *name; int verb; } BUGS[] = {
+    {"lost-increment", INCR},   {"lost-decrement", DECR}, {"lost-append", APPEND},
+    {"cas-two-winners", CAS},   {"add-twice", ADD},       {"delete-twice", DELETE},
+    [STALE] = {"stale-get", COMMANDS}, [TORN] = {"torn-body", COMMANDS},
+    [FLAGS] = {"lost-flags", COMMANDS}, [AGAIN] = {"increment-again", COMMANDS},
+    [NONE] = {"none", COMMANDS}};
+
+static int bug = -1;
+static double window = 5, delay;
+static int listener, port, taken;
+static bool is_shared = true, reports;
 static struct run runs[MOST_RUNS];
 static atomic_int open_connections;
 // Who looks at the cache or at a run locks the first, and who takes a connection the second.
@@ -150,8 +169,26 @@ static const char *get(const struct item *at, const struct request *request, cha
   return room;
 }
 
-// Does what is asked, and answers the reply. Between its look at the item and its write, the
-// command that races unlocks the cache for the window, and notes if another connection wrote.
+// Unlocks the cache for the window, and answers whether another connection wrote to the item.
+static bool is_changed(const struct item *at) {
+  uint64_t version = at->version;
+  pthread_mutex_unlock(&lock);
+  spin_until(microseconds() + window);
+  pthread_mutex_lock(&lock);
+  return at->version != version;
+}
+
+// Stores the item of what was there, and answers the reply.
+static const char *store(struct item *at, struct item item, const struct request *request,
+                         char *room) {
+  const char *reply = written(&item, request, room);
+  item.version = ++last_version;
+  *at = item;
+  return reply;
+}
+
+// Does what is asked, and answers the reply. The command that races gives others the window between
+// its look at the item and its write, and notes if one wrote.
 static const char *act(const struct request *request, char *room, int *raced) {
   struct item *at = item_of(request->key), item = *at;
   if (request->verb == GET || request->verb == GETS)
@@ -159,15 +196,17 @@ static const char *act(const struct request *request, char *room, int *raced) {
   const char *refused = refusal(at, request), *reply;
   if (refused)
     return refused;
-  if (request->verb == race) {
-    pthread_mutex_unlock(&lock);
-    spin_until(microseconds() + window);
-    pthread_mutex_lock(&lock);
-    *raced += at->version != item.version;
+  if (request->verb == BUGS[bug].verb)
+    *raced += is_changed(at);
+  if (bug == TORN && request->verb == SET && at->there) {
+    memcpy(at->body, request->body, request->size / 2);
+    is_changed(at);
   }
-  reply = written(&item, request, room);
-  item.version = ++last_version;
-  *at = item;
+  if (bug == FLAGS && request->verb == APPEND)
+    item.flags = request->flags;
+  reply = store(at, item, request, room);
+  if (bug == AGAIN && request->verb == INCR && is_changed(at))
+    reply = store(at, *at, request, room);
   return reply;
 }
 
@@ -204,7 +243,7 @@ static void say(struct talk *talk, const char *reply) {
 // Answers a set before it takes effect, if it is over an item and sets are late.
 static bool said_early(struct talk *talk, const struct request *request) {
   pthread_mutex_lock(&lock);
-  bool early = is_late && request->verb == SET && item_of(request->key)->there;
+  bool early = bug == STALE && request->verb == SET && item_of(request->key)->there;
   pthread_mutex_unlock(&lock);
   if (early) {
     say(talk, "STORED\r\n");
@@ -217,7 +256,7 @@ static bool said_early(struct talk *talk, const struct request *request) {
 static void answer(struct talk *talk, const struct request *request) {
   char room[LONGEST];
   bool early = said_early(talk, request);
-  if (request->verb == race)
+  if (request->verb == BUGS[bug].verb)
     spin_until(request->came + delay);
   pthread_mutex_lock(&lock);
   const char *made = act(request, room, &talk->run->shown);
@@ -298,9 +337,11 @@ static void report(void) {
 }
 
 static void listen_somewhere(void) {
-  struct sockaddr_in address = loopback(0);
+  struct sockaddr_in address = loopback(port);
   socklen_t size = sizeof address;
+  int on = 1;
   listener = socket(AF_INET, SOCK_STREAM | SOCK_CLOEXEC, 0);
+  setsockopt(listener, SOL_SOCKET, SO_REUSEADDR, &on, sizeof on);
   if (listener < 0 || bind(listener, (struct sockaddr *)&address, size) || listen(listener, 64) ||
       getsockname(listener, (struct sockaddr *)&address, &size))
     stop("listen");
@@ -308,19 +349,41 @@ static void listen_somewhere(void) {
   fflush(stdout);
 }
 
+static void read_options(int count, char **words) {
+  static const struct option NAMES[] = {{"bug", 1, 0, 'b'},   {"window", 1, 0, 'w'},
+                                        {"delay", 1, 0, 'd'}, {"port", 1, 0, 'p'},
+                                        {"report", 1, 0, 'r'}, {0}};
+  for (int found; (found = getopt_long(count, words, "", NAMES, 0)) != -1;) {
+    if (found == 'b')
+      for (bug = NONE; bug >= 0 && strcmp(optarg, BUGS[bug].name);)
+        bug--;
+    else if (found == 'w')
+      window = atof(optarg);
+    else if (found == 'd')
+      delay = atof(optarg);
+    else if (found == 'p')
+      port = atoi(optarg);
+    else if (found == 'r' && (!strcmp(optarg, "runs") || !strcmp(optarg, "all")))
+      reports = true, is_shared = *optarg == 'a';
+    else
+      exit(2);
+  }
+  if (optind == count && bug >= 0)
+    return;
+  for (bug = 0; bug <= NONE; bug++)
+    fprintf(stderr, "%s %s", bug ? "" : "faulty_server: --bug is one of", BUGS[bug].name);
+  exit(2);
+}
+
 int main(int count, char **words) {
   char line[64];
-  if (count < 4)
-    return 2;
-  is_shared = count > 4;
-  race = command_of(words[1]), window = atof(words[2]), delay = atof(words[3]);
-  is_late = !strcmp(words[1], "late");
-  if (race == COMMANDS && !is_late && strcmp(words[1], "none"))
-    return 2;
+  read_options(count, words);
   forget();
   listen_somewhere();
   for (int thread = 0; thread < THREADS; thread++)
     started(serve, 0);
+  while (!reports)
+    pause();
   while (fgets(line, sizeof line, stdin)) {
     wait_until_open(0);
     report();
