@@ -57,6 +57,12 @@ campaign_rules =
     switch (codes "why") ∷ valued (codes "tries") ∷ switch (codes "quiet") ∷ valued (codes "spread") ∷
     switch (codes "stats") ∷ valued (codes "for") ∷ valued (codes "stop-after") ∷ []
 
+abbrev pub generate_rules : List Rule
+generate_rules = valued (codes "seed") ∷ valued (codes "job") ∷ []
+
+abbrev pub serve_rules : List Rule
+serve_rules = argument (codes "port") ∷ valued (codes "connections") ∷ switch (codes "racy") ∷ []
+
 -- the program without its subcommands
 abbrev pub bare_app : App
 bare_app = record {
@@ -64,23 +70,21 @@ bare_app = record {
   subs = [];
 }
 
--- the program with one subcommand more
-abbrev pub and_with : App → Text → List Rule → App
-and_with app name rules = with_subcommand app (app_with name rules).top
+-- the program with these subcommands more, each with its options
+abbrev pub and_with : App → List (Text × List Rule) → App
+and_with app subcommands = fold (λ whole sub. with_subcommand whole (app_with sub.0 sub.1).top) app subcommands
 
 -- with those that answer to an input, and need no server
 abbrev pub reading_app : App
-reading_app = and_with (and_with (and_with (and_with (and_with bare_app (codes "judge") judge_rules) (codes "check") refused_rules)
-    (codes "asm") refused_rules) (codes "drive") judge_rules) (codes "draw") draw_rules
+reading_app = and_with bare_app ((codes "judge", judge_rules) ∷ (codes "check", refused_rules) ∷ (codes "asm", refused_rules) ∷
+    (codes "drive", judge_rules) ∷ (codes "draw", draw_rules) ∷ [])
 
 -- with all that ask for something
 abbrev pub asking_app : App
-asking_app = and_with (and_with (and_with (and_with (and_with reading_app (codes "run") run_rules)
-    (codes "generate") (valued (codes "seed") ∷ valued (codes "job") ∷ []))
-    (codes "serve") (argument (codes "port") ∷ valued (codes "connections") ∷ switch (codes "racy") ∷ []))
-    (codes "campaign") campaign_rules) (codes "selftest") []
+asking_app = and_with reading_app ((codes "run", run_rules) ∷ (codes "generate", generate_rules) ∷ (codes "serve", serve_rules) ∷
+    (codes "campaign", campaign_rules) ∷ (codes "selftest", []) ∷ [])
 
 -- with the topics of help, which are subcommands that ask for nothing
 abbrev pub program_app : App
-program_app = and_with (and_with (and_with (and_with (and_with (and_with asking_app (codes "formats") []) (codes "history") [])
-    (codes "image") []) (codes "script") []) (codes "steps") []) (codes "all") []
+program_app = and_with asking_app ((codes "formats", []) ∷ (codes "history", []) ∷ (codes "image", []) ∷ (codes "script", []) ∷
+    (codes "steps", []) ∷ (codes "all", []) ∷ [])
