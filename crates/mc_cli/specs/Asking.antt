@@ -3,7 +3,7 @@ use Rattle.std.specs.Prelude.{◌≡◌, ◌⊎◌, ℕ, Option, Some, List, [],
 use Rattle.clap.specs.Words.{IsAmong, Text}
 use Rattle.clap.specs.declared.error.kind.ErrorKind.{ErrorKind}
 use Rattle.clap.specs.declared.error.kind.ErrorKind.TheVariants as kind
-use Rattle.mc_cli.specs.Args.{IsCampaignArgs, IsDraw, IsJob, IsRunArgs, IsSearch, IsService}
+use Rattle.mc_cli.specs.Args.{IsCampaignArgs, IsCheck, IsConvert, IsDraw, IsJob, IsJudge, IsRunArgs, IsSearch, IsService}
 use Rattle.mc_cli.specs.Line.{is_set, line_command, line_faults, line_value}
 use Rattle.mc_cli.specs.declared.args.{CampaignArgs.CampaignArgs, RunArgs.RunArgs}
 use Rattle.mc_cli.specs.declared.question.Question.TheVariants as question
@@ -14,10 +14,11 @@ use Rattle.mc_cli.specs.declared.request.Request.TheVariants as request
 -- the name of the subcommand that asks for this
 abbrev pub name_of : Request → Text
 name_of (request.Question (question.Judge how)) = codes "judge"
-name_of (request.Question (question.Check why)) = codes "check"
+name_of (request.Question (question.Check how)) = codes "check"
 name_of (request.Question (question.Asm why)) = codes "asm"
 name_of (request.Question (question.Drive how)) = codes "drive"
 name_of (request.Question (question.Draw how)) = codes "draw"
+name_of (request.Question (question.Convert how)) = codes "convert"
 name_of (request.Run args) = codes "run"
 name_of (request.Generate seed job) = codes "generate"
 name_of (request.Serve service) = codes "serve"
@@ -26,11 +27,12 @@ name_of request.Selftest = codes "selftest"
 
 -- what the values of its options ask for
 abbrev pub IsAskedWith : (Text → Option Text) → Request → Type 0
-IsAskedWith value (request.Question (question.Judge how)) = IsSearch value how
-IsAskedWith value (request.Question (question.Check why)) = why ≡ is_set (value (codes "why"))
+IsAskedWith value (request.Question (question.Judge how)) = IsJudge value how
+IsAskedWith value (request.Question (question.Check how)) = IsCheck value how
 IsAskedWith value (request.Question (question.Asm why)) = why ≡ is_set (value (codes "why"))
 IsAskedWith value (request.Question (question.Drive how)) = IsSearch value how
 IsAskedWith value (request.Question (question.Draw how)) = IsDraw value how
+IsAskedWith value (request.Question (question.Convert how)) = IsConvert value how
 IsAskedWith value (request.Run args) = IsRunArgs value args
 IsAskedWith value (request.Generate seed job) = IsJob value seed job
 IsAskedWith value (request.Serve service) = IsService value service

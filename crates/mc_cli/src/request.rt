@@ -8,7 +8,9 @@ use crate::fault::{OptionFault, long_key_message};
 use crate::file_hint::error_text;
 use crate::help_line::help_text;
 use crate::question::Question;
-use crate::read::{read_draw, read_job, read_run, read_search, read_service};
+use crate::read::{
+    read_check, read_convert, read_draw, read_job, read_judge, read_run, read_search, read_service,
+};
 use crate::read_campaign::read_campaign;
 use crate::subcommand::{program, usage_fault};
 use crate::{options as rows, value};
@@ -85,11 +87,12 @@ fn read_options<'a>(name: &str, options: &ArgMatches<'a>) -> Result<Request<'a>,
     ensures none { IfErr result (λ _. (wanted : Request) → IsAskedBy (Some name.now) (first_value (found_of options.now)) wanted → ⊥) }
 {
     match name {
-        "judge" => Ok(Request::Question(Question::Judge(read_search(options)?))),
-        "check" => Ok(Request::Question(Question::Check(value::is_set(options, &rows::REFUSED)))),
+        "judge" => Ok(Request::Question(Question::Judge(read_judge(options)?))),
+        "check" => Ok(Request::Question(Question::Check(read_check(options)))),
         "asm" => Ok(Request::Question(Question::Asm(value::is_set(options, &rows::REFUSED)))),
         "drive" => Ok(Request::Question(Question::Drive(read_search(options)?))),
         "draw" => Ok(Request::Question(Question::Draw(read_draw(options)?))),
+        "convert" => Ok(Request::Question(Question::Convert(read_convert(options)?))),
         "run" => Ok(Request::Run(read_run(options)?)),
         "generate" => {
             let (seed, job) = read_job(options)?;
