@@ -142,7 +142,16 @@ plan_once value one other is also =
     ∙ (ap (λ n. record one { seed = other.seed; random_seed = other.random_seed; first = n }) first
     ∙ (ap (λ n. record one { seed = other.seed; random_seed = other.random_seed; first = other.first; jobs = n }) jobs
     ∙ (ap (λ n. record one { seed = other.seed; random_seed = other.random_seed; first = other.first; jobs = other.jobs; workers = n }) workers
-    ∙ (ap (λ n. record other { limit = n; brief = one.brief; json = one.json; junit = one.junit; show = one.show; why = one.why; tries = one.tries; until = one.until }) limit
+    ∙ (ap (λ n. record other {
+      limit = n;
+      brief = one.brief;
+      json = one.json;
+      junit = one.junit;
+      show = one.show;
+      why = one.why;
+      tries = one.tries;
+      until = one.until;
+    }) limit
     ∙ (ap (λ b. record other { brief = b; json = one.json; junit = one.junit; show = one.show; why = one.why; tries = one.tries; until = one.until }) brief
     ∙ (ap (λ b. record other { json = b; junit = one.junit; show = one.show; why = one.why; tries = one.tries; until = one.until }) json
     ∙ (ap (λ b. record other { junit = b; show = one.show; why = one.why; tries = one.tries; until = one.until }) junit

@@ -8,11 +8,11 @@ use std::alloc::{AllocError, Global};
 // How clap begins its text of a word that it can't place.
 const UNEXPECTED: &str = "error: unexpected argument '";
 
-// How clap begins a tip that names a similar option.
-const TIP: &str = "\n\n  tip: a similar argument exists: ";
+// How clap begins its tips: that a similar option exists, or how to write a value.
+const TIP: &str = "\n\n  tip: ";
 
 /// Clap's text of the error. If the line gives a file, or `-`, to a subcommand that reads standard input, how to write that follows; and
-/// after an option of other subcommands their names, in place of clap's tip.
+/// after an option of other subcommands their names, in place of clap's tips.
 pub fn error_text(alloc: Global, line: &[String], error: &Error) -> Result<String, AllocError> {
     let mut text = error.to_string(alloc)?;
     if error.kind() != ErrorKind::UnknownArgument {
@@ -49,10 +49,10 @@ fn other_option(text: &str) -> Option<&str> {
     }
 }
 
-// Clap's text without its tip, and which subcommands have the option.
+// Clap's text without its tips, and which subcommands have the option.
 fn option_text(alloc: Global, text: &str, option: &str) -> Result<String, AllocError> {
     let (before, after) = match text.split_once(TIP) {
-        Some((before, tip)) => (before, tip.split_once("\n\n").map_or("", |parts| parts.1)),
+        Some((before, tips)) => (before, tips.split_once("\n\n").map_or("", |parts| parts.1)),
         None => text.split_once("\n\n").unwrap_or((text, "")),
     };
     let mut said = format!(in alloc; "{before}\n\n{after}\nmcrace: --{option} is an option of ")?;

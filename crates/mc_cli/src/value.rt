@@ -125,7 +125,7 @@ pub fn notation<'a>(options: &ArgMatches<'a>, row: &Row) -> Result<Notation, Opt
     match word {
         "json" => Ok(Notation::Json),
         "edn" => Ok(Notation::Edn),
-        _ => Err(OptionFault::Value(*row, word)),
+        other => Err(OptionFault::Value(*row, other)),
     }
 }
 
