@@ -47,8 +47,7 @@ seconds_in word = seconds_at word (position is_point word)
 abbrev pub in_unit : ℕ → List ℕ → Option ℕ
 in_unit number name =
     if bytes_eq name (codes "ms") then Some number else if bytes_eq name (codes "s") then Some (number * 1000)
-    else if bytes_eq name (codes "m") then Some (number * 60000)
-    else if bytes_eq name (codes "h") then Some (number * 3600000) else None
+    else if bytes_eq name (codes "m") then Some (number * 60000) else if bytes_eq name (codes "h") then Some (number * 3600000) else None
 
 abbrev pub time_by : Result ℕ DecimalFault → List ℕ → Option ℕ
 time_by (Ok number) name = option_and_then if_time (in_unit number name)
