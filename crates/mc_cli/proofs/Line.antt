@@ -7,7 +7,14 @@ use Rattle.clap.specs.declared.parser.matches.ArgMatches.{ArgMatches}
 use Rattle.clap.proofs.OnLiterals.{clap_on_literals}
 use Rattle.clap.proofs.WalkLemmas.{first_value-rows}
 use Rattle.mc_cli.specs.Commands.{program_app}
-use Rattle.mc_cli.specs.Line.{given_name, given_value, line_command, line_faults, line_value}
+use Rattle.mc_cli.specs.Line.{line_command, line_faults, line_value}
+
+-- the name of a subcommand that was found, and the first value of an option or an argument of it
+abbrev given_name : Option (Text × List Row) → Option Text
+given_name entered = option_map (λ found. found.0) entered
+
+abbrev given_value : Option (Text × List Row) → Text → Option Text
+given_value entered name = option_and_then (λ found. first_of name found.1) entered
 
 -- the faults of the command that the program makes
 pub line_faults-is : (app : App) (words : List (List ℕ)) → app ≡ program_app

@@ -1,6 +1,6 @@
 -- What the values of a subcommand's options say.
-use Rattle.std.specs.Prelude.{◌≡◌, ◌+◌, ◌-◌, ◌≤◌, ◌^◌, ◌||◌, ℕ, true, false, nat_lt, Option, Some, None, is_some, List, codes, option_map}
-use Rattle.std.specs.Prelude.{if◌then◌else◌}
+use Rattle.std.specs.Prelude.{◌≡◌, ◌+◌, ◌-◌, ◌≤◌, ◌^◌, ◌&&◌, ◌||◌, ℕ, Bool, true, false, nat_lt, Option, Some, None, is_some, List}
+use Rattle.std.specs.Prelude.{codes, option_map, if◌then◌else◌}
 use Rattle.clap.specs.Words.{Text}
 use Rattle.mc_protocol.specs.Decimals.{MAX_64}
 use Rattle.mc_settings.specs.JobKeys.{NameFits}
@@ -10,7 +10,9 @@ use Rattle.mc_settings.specs.declared.meeting.Meeting.TheVariants as meeting
 use Rattle.mc_cli.specs.Kinds.{IsValue, MayBeValue}
 use Rattle.mc_cli.specs.Line.{is_set}
 use Rattle.mc_cli.specs.declared.args.{CampaignArgs.CampaignArgs, Plan.Plan, Repeat.Repeat, RunArgs.RunArgs, Search.Search}
-use Rattle.mc_cli.specs.declared.args.{DrawArgs.DrawArgs, ServeArgs.ServeArgs, Until.Until}
+use Rattle.mc_cli.specs.declared.args.{CheckArgs.CheckArgs, ConvertArgs.ConvertArgs, DrawArgs.DrawArgs, JudgeArgs.JudgeArgs}
+use Rattle.mc_cli.specs.declared.args.{Notation.Notation, ServeArgs.ServeArgs, Until.Until}
+use Rattle.mc_cli.specs.declared.args.Notation.TheVariants as notation
 use Rattle.mc_cli.specs.declared.rows.Kind.{Kind}
 use Rattle.mc_cli.specs.declared.rows.Kind.TheVariants as kind
 
@@ -29,6 +31,25 @@ count greatest = kind.Number 1 greatest
 pub record IsSearch (value : Text → Option Text) (how : Search) : Type 0 where
   pub limit : IsValue (number 1000000000) (Some 1000000) (value (codes "limit")) how.limit
   pub why : how.why ≡ is_set (value (codes "why"))
+
+-- the values of the options of `judge` say how a history is judged; a job is one of what a campaign printed
+pub record IsJudge (value : Text → Option Text) (args : JudgeArgs) : Type 0 where
+  pub how : IsSearch value args.how
+  pub json : args.json ≡ is_set (value (codes "json"))
+  pub run : args.run ≡ (is_set (value (codes "run")) || is_some args.job)
+  pub job : MayBeValue (number MAX_64) (value (codes "job")) args.job
+
+pub record IsCheck (value : Text → Option Text) (args : CheckArgs) : Type 0 where
+  pub why : args.why ≡ is_set (value (codes "why"))
+  pub json : args.json ≡ is_set (value (codes "json"))
+
+abbrev pub notation_word : Notation → List ℕ
+notation_word notation.Json = codes "json"
+notation_word notation.Edn = codes "edn"
+
+pub record IsConvert (value : Text → Option Text) (args : ConvertArgs) : Type 0 where
+  pub to : value (codes "to") ≡ Some (notation_word args.to)
+  pub job : MayBeValue (number MAX_64) (value (codes "job")) args.job
 
 -- the values of the options of `draw` say how a history is drawn
 pub record IsDraw (value : Text → Option Text) (how : DrawArgs) : Type 0 where
@@ -70,12 +91,7 @@ IsRepeat value (Some repeat) = MayBeValue (count 1000000) (value (codes "times")
     × MayBeValue kind.Time (value (codes "for")) repeat.time × ((is_some repeat.times || is_some repeat.time) ≡ true)
     × (repeat.keep_going ≡ is_set (value (codes "keep-going")))
 
--- the microseconds of `--spread` if the line names none: a script that is run repeatedly is run as the jobs of a campaign are
-abbrev pub default_spread : Option Repeat → ℕ
-default_spread None = 0
-default_spread (Some repeat) = 64
-
--- the values of the options of `run` say this
+-- the values of the options of `run` say this; a script that is run repeatedly is run as the jobs of a campaign are
 pub record IsRunArgs (value : Text → Option Text) (args : RunArgs) : Type 0 where
   pub server : value (codes "target") ≡ Some args.server.now
   pub a : option_map (λ server. server.now) args.a ≡ value (codes "a")
@@ -83,13 +99,14 @@ pub record IsRunArgs (value : Text → Option Text) (args : RunArgs) : Type 0 wh
   pub how : IsSearch value args.how
   pub meeting : IsMeeting (value (codes "meet")) args.meeting
   pub name : MayBeName (value (codes "name")) args.name
-  pub timeout : MayBeValue kind.Seconds (value (codes "timeout")) (option_map (λ time. time.milliseconds) args.timeout)
-  pub wait : MayBeValue kind.Seconds (value (codes "wait")) (option_map (λ time. time.milliseconds) args.wait)
+  pub timeout : MayBeValue kind.Time (value (codes "timeout")) (option_map (λ time. time.milliseconds) args.timeout)
+  pub wait : MayBeValue kind.Time (value (codes "wait")) (option_map (λ time. time.milliseconds) args.wait)
   pub repeat : IsRepeat value args.repeat
   pub reconnect : args.reconnect ≡ is_set (value (codes "reconnect"))
   pub quiet : args.quiet ≡ is_set (value (codes "quiet"))
   pub stats : args.stats ≡ is_set (value (codes "stats"))
-  pub spread : IsValue (number 10000) (Some (default_spread args.repeat)) (value (codes "spread")) args.spread
+  pub json : args.json ≡ is_set (value (codes "json"))
+  pub spread : IsValue (number 10000) (Some (if is_some args.repeat then 64 else 0)) (value (codes "spread")) args.spread
 
 -- the values of the options of `campaign` say until when it runs in blocks, if they name a time or a number of unexplained jobs; a time
 -- doesn't stand beside a number of jobs
@@ -108,9 +125,19 @@ abbrev pub AreJobs : Option (List ℕ) → Option (List ℕ) → ℕ → ℕ →
 AreJobs None word first jobs = IsValue (count GREATEST_JOBS) (Some 100) word jobs
 AreJobs (Some time) word first jobs = jobs ≡ jobs_from first
 
+-- whether a seed is drawn, for which the line names none
+abbrev pub IsRandomSeed : (Text → Option Text) → Bool → Type 0
+IsRandomSeed value random = (random ≡ is_set (value (codes "random-seed"))) × (random ≡ true → value (codes "seed") ≡ None)
+
+-- whether a report is brief, JSON or JUnit's XML: one of these at most
+abbrev pub AreForms : (Text → Option Text) → Bool → Bool → Bool → Type 0
+AreForms value brief json junit = (brief ≡ is_set (value (codes "brief"))) × (json ≡ is_set (value (codes "json")))
+    × (junit ≡ is_set (value (codes "junit"))) × (((brief && (json || junit)) || (json && junit)) ≡ false)
+
 -- the values of the options of `campaign` name these jobs, the last of which has a number of 64 bits
 pub record IsPlan (value : Text → Option Text) (plan : Plan) : Type 0 where
   pub seed : IsValue (number MAX_64) (Some 1) (value (codes "seed")) plan.seed
+  pub random_seed : IsRandomSeed value plan.random_seed
   pub first : IsValue (number MAX_64) (Some 0) (value (codes "from")) plan.first
   pub until : IsUntil value plan.until
   pub jobs : AreJobs (value (codes "for")) (value (codes "jobs")) plan.first plan.jobs
@@ -118,7 +145,7 @@ pub record IsPlan (value : Text → Option Text) (plan : Plan) : Type 0 where
   pub limit : IsValue (number 1000000000) (Some 1000000) (value (codes "limit")) plan.limit
   pub tries : IsValue (count 1000) (Some 1) (value (codes "tries")) plan.tries
   pub last : plan.first + plan.jobs ≤ 2 ^ 64
-  pub brief : plan.brief ≡ is_set (value (codes "brief"))
+  pub forms : AreForms value plan.brief plan.json plan.junit
   pub show : plan.show ≡ is_set (value (codes "show"))
   pub why : plan.why ≡ is_set (value (codes "why"))
 
@@ -126,11 +153,13 @@ pub record IsPlan (value : Text → Option Text) (plan : Plan) : Type 0 where
 -- beside `--show`
 pub record IsCampaignArgs (value : Text → Option Text) (args : CampaignArgs) : Type 0 where
   pub server : value (codes "target") ≡ Some args.server.now
+  pub a : option_map (λ server. server.now) args.a ≡ value (codes "a")
+  pub b : option_map (λ server. server.now) args.b ≡ value (codes "b")
   pub plan : IsPlan value args.plan
   pub meeting : IsMeeting (value (codes "meet")) args.meeting
   pub name : MayBeName (value (codes "name")) args.name
-  pub timeout : MayBeValue kind.Seconds (value (codes "timeout")) (option_map (λ time. time.milliseconds) args.timeout)
-  pub wait : MayBeValue kind.Seconds (value (codes "wait")) (option_map (λ time. time.milliseconds) args.wait)
+  pub timeout : MayBeValue kind.Time (value (codes "timeout")) (option_map (λ time. time.milliseconds) args.timeout)
+  pub wait : MayBeValue kind.Time (value (codes "wait")) (option_map (λ time. time.milliseconds) args.wait)
   pub quiet : args.quiet ≡ is_set (value (codes "quiet"))
   pub stats : args.stats ≡ is_set (value (codes "stats"))
   pub spread : IsValue (number 10000) (Some 64) (value (codes "spread")) args.spread

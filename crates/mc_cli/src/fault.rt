@@ -19,6 +19,8 @@ pub enum OptionFault<'a> {
     LastJob { first: u64, jobs: u64 },
     /// Under the name, the keys of this job are too long.
     LongKey(Namespace<'a>, u64),
+    /// Under the name, keys are too long of a job to which a campaign with `--for` may come.
+    LongName(Namespace<'a>),
     /// The subcommand is a topic of help; or there is none, which clap finds first.
     NoSubcommand,
 }
@@ -44,6 +46,10 @@ impl OptionFault<'_> {
                 let key = format!(in alloc; "r{job}-0")?;
                 long_key_message(alloc, name, key.as_bytes())
             }
+            OptionFault::LongName(name) => format!(in alloc;
+                "invalid value '{}' for '--name <NAME>': with --for a name has at most 16 bytes",
+                name.as_slice().escape_ascii()
+            ),
             OptionFault::NoSubcommand => format!(in alloc;
                 "a subcommand is required; 'mcrace help TOPIC' shows a topic"
             ),
@@ -84,9 +90,9 @@ impl Display for Kind {
     fn fmt<W: Write>(&self, f: &mut Formatter<W>) -> Result<(), Error> {
         match self {
             Kind::Number(least, greatest) => write!(f, "a number from {least} to {greatest}"),
-            Kind::Seconds => write!(f, "0.001 to 86400, with at most 3 places"),
-            Kind::Time => write!(f, "1s to 86400s, 1m to 1440m or 1h to 24h"),
+            Kind::Time => write!(f, "a time up to 24h, as 500ms, 2s, 10m, 2h or 0.5"),
             Kind::Meeting => write!(f, "drawn, each, first or never"),
+            Kind::Notation => write!(f, "json or edn"),
             Kind::Name => write!(f, "1 to {NAMESPACE_BYTES_LIMIT} of a to z, 0 to 9 and -"),
             Kind::Address => write!(f, "HOST:PORT"),
             Kind::Switch => write!(f, "no value"),

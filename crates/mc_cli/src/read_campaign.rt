@@ -1,10 +1,10 @@
 //! What the values of the options of `campaign` ask for.
-ghost use Rattle.std.specs.Prelude.{◌≡◌, ◌+◌, ◌≤◌, ◌^◌, ◌↔◌, ℕ, Option, codes, true, IfErr, IfOk};
+ghost use Rattle.std.specs.Prelude.{◌≡◌, ◌+◌, ◌≤◌, ◌^◌, ◌↔◌, ℕ, Bool, Option, codes, true, IfErr, IfOk};
 ghost use Rattle.std.specs.Option.{option_copied};
 ghost use Rattle.clap.specs.Words.{first_value, found_of};
 ghost use Rattle.mc_settings.specs.JobKeys.{NameFits};
 ghost use Rattle.mc_cli.specs.Args as spec;
-ghost use Rattle.mc_cli.specs.Args.{AreJobs, IsCampaignArgs, IsPlan, IsUntil};
+ghost use Rattle.mc_cli.specs.Args.{AreForms, AreJobs, IsCampaignArgs, IsPlan, IsRandomSeed, IsUntil};
 
 use crate::args::{CampaignArgs, Plan, Until, has_last};
 use crate::fault::OptionFault;
@@ -22,7 +22,8 @@ pub fn read_campaign<'a>(options: &ArgMatches<'a>) -> Result<CampaignArgs<'a>, O
     let plan = read_plan(options)?;
     let name = value::name(options, &rows::NAME)?;
     if !name_fits(&name, plan.first, plan.jobs) {
-        return Err(long_key(name, plan.first, plan.jobs));
+        let in_time = options.get_str(rows::FOR_OF_CAMPAIGN.name).is_some();
+        return Err(long_key(name, plan.first, plan.jobs, in_time));
     }
     if plan.why && !plan.show {
         return Err(OptionFault::Together("--why needs --show"));
@@ -33,6 +34,8 @@ pub fn read_campaign<'a>(options: &ArgMatches<'a>) -> Result<CampaignArgs<'a>, O
     let wait = value::seconds(options, &rows::WAIT)?;
     Ok(CampaignArgs {
         server,
+        a: options.get_str(rows::SERVER_OF_A.name),
+        b: options.get_str(rows::SERVER_OF_B.name),
         plan,
         meeting,
         name,
@@ -50,7 +53,9 @@ fn read_plan<'a>(options: &ArgMatches<'a>) -> Result<Plan, OptionFault<'a>>
     ensures none { IfErr result (λ _. (plan : Plan) → IsPlan (first_value (found_of options.now)) plan → ⊥) }
 {
     let seed = value::number(options, &rows::SEED)?;
+    let random_seed = read_random_seed(options)?;
     let first = value::number(options, &rows::FROM)?;
+    let (brief, json, junit) = read_forms(options)?;
     let until = read_until(options)?;
     let jobs = read_jobs(options, first)?;
     let workers = value::number(options, &rows::WORKERS)?;
@@ -61,16 +66,48 @@ fn read_plan<'a>(options: &ArgMatches<'a>) -> Result<Plan, OptionFault<'a>>
     }
     Ok(Plan {
         seed,
+        random_seed,
         first,
         jobs,
         workers: workers as u32,
         limit,
-        brief: value::is_set(options, &rows::BRIEF),
+        brief,
+        json,
+        junit,
         show: value::is_set(options, &rows::SHOW),
         why: value::is_set(options, &rows::WHY_OF_SHOWN),
         tries,
         until,
     })
+}
+
+// Whether a seed is drawn, for which the line names none.
+fn read_random_seed<'a>(options: &ArgMatches<'a>) -> Result<bool, OptionFault<'a>>
+    ensures random { IfOk result (IsRandomSeed (first_value (found_of options.now))) }
+    ensures none { IfErr result (λ _. (random : Bool) → IsRandomSeed (first_value (found_of options.now)) random → ⊥) }
+{
+    let is_random = value::is_set(options, &rows::RANDOM_SEED);
+    if is_random && options.get_str(rows::SEED.name).is_some() {
+        return Err(OptionFault::Together("--random-seed and --seed can't stand together"));
+    }
+    Ok(is_random)
+}
+
+// Whether the report is brief, JSON or JUnit's XML.
+fn read_forms<'a>(options: &ArgMatches<'a>) -> Result<(bool, bool, bool), OptionFault<'a>>
+    ensures forms { IfOk result (λ forms. AreForms (first_value (found_of options.now)) forms.0 forms.1 forms.2) }
+    ensures none { IfErr result (λ _. (brief json junit : Bool)
+        → AreForms (first_value (found_of options.now)) brief json junit → ⊥) }
+{
+    let brief = value::is_set(options, &rows::BRIEF);
+    let json = value::is_set(options, &rows::JSON);
+    let junit = value::is_set(options, &rows::JUNIT);
+    if brief && (json || junit) || json && junit {
+        return Err(OptionFault::Together(
+            "only one of --brief, --json and --junit can stand there",
+        ));
+    }
+    Ok((brief, json, junit))
 }
 
 // Until when the campaign runs in blocks, if it does.
@@ -120,11 +157,12 @@ fn name_fits(name: &Option<Namespace<'_>>, first: u64, jobs: u64) -> bool
     }
 }
 
-// The fault of a name under which the keys of the last of these jobs are too long.
-fn long_key(name: Option<Namespace<'_>>, first: u64, jobs: u64) -> OptionFault<'_>
+// The fault of a name under which the keys of the last of these jobs are too long; `in_time` says whether `--for` ends them.
+fn long_key(name: Option<Namespace<'_>>, first: u64, jobs: u64, in_time: bool) -> OptionFault<'_>
     requires { first + jobs ≤ 2 ^ 64 }
 {
     match name {
+        Some(name) if in_time => OptionFault::LongName(name),
         Some(name) => OptionFault::LongKey(name, first + jobs.saturating_sub(1)),
         None => OptionFault::Missing(rows::NAME),
     }
