@@ -64,7 +64,9 @@ class Times(servers.ServedTest, CampaignTest):
         with self.assert_takes(2, 2 + LATE):
             found = campaign(self.port, "--for 2s --from 5")
         self.assertEqual((found.status, found.rest), (0, []), found.faults)
-        self.assertEqual(found.faults, "mcrace: seed 1, jobs from 5 on, 4 workers\n")
+        first, *told = found.faults.splitlines()
+        self.assertEqual(first, "mcrace: seed 1, jobs from 5 on, 4 workers")
+        self.assertEqual(len(told), int(len(found.reports) > 1), told)
         self.assert_reports(found.reports, 5)
         last = len(found.reports[-1][0])
         self.assertTrue(last % MOST_IN_BLOCK == 0 or last == MOST_IN_REPORT, last)
@@ -82,6 +84,9 @@ class Times(servers.ServedTest, CampaignTest):
         ends = [*range(MOST_IN_REPORT - 1, last, MOST_IN_REPORT), last]
         told = re.findall(r"\(jobs \d+ to (\d+)\)", found.faults)
         self.assertEqual([*map(int, told)], ends)
+        jobs = len(found.jobs)
+        totals = f"jobs {jobs} explained 0 unexplained 0 other {jobs}"
+        self.assertEqual(found.told[-1], f"mcrace: in all reports: {totals}")
         self.assert_reports(found.reports, 0)
 
     def test_nothing_to_end_it(self):
@@ -99,8 +104,10 @@ class WrongServers(CampaignTest):
         with Replying(answers(b"6\n")) as server:
             found = campaign(server.port, "--jobs 12")
         form = r'mcrace: job (\d+): P: to "delete r\1-0" came "6\\n": the line ends without CR'
-        told = [re.fullmatch(form, line) for line in found.told]
+        *told, last = found.told
+        told = [re.fullmatch(form, line) for line in told]
         self.assertTrue(all(told), found.faults)
+        self.assertEqual(last, "mcrace: 12 of 12 jobs had a failed section: 12 BadReply")
         self.assertEqual((len(told), len({it[1] for it in told})), (10, 10), found.faults)
         self.assertEqual(found.status, 1)
 

@@ -66,6 +66,7 @@ where
     let answer = target_answer(rt, alloc, target, &connector, &mut teller, output);
     dialer.wait_for_the_last();
     teller.end_report();
+    teller.tell_totals();
     match answer {
         Ok(answer) => {
             let status = write_text(answer.output.as_slice(), answer.status, output);

@@ -13,6 +13,7 @@ mod campaigning;
 mod evidence;
 mod gathered;
 mod job_connector;
+mod job_totals;
 mod keeping;
 mod lanes;
 mod meeting;

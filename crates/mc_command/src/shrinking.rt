@@ -6,9 +6,8 @@ ghost use Rattle.mc_generate.specs.Shrunk.{IsShrunk};
 use mc_answers::verify_code;
 use mc_campaign::{Campaign, Connector, Standing, play_job};
 use mc_code::Code;
-use mc_generate::{PutFault, Shrinker, generate_script, put_under};
+use mc_generate::{Shrinker, generate_script, put_under};
 use mc_lane::Stream;
-use mc_protocol::OutOfMemory;
 use mc_run::FreeGate;
 use mc_script::Script;
 use mc_settings::Namespace;
@@ -46,13 +45,13 @@ pub fn shrunk_script<S: Stream + Send, C: Connector<S>, R: Threads + Wait + Sync
             job,
             checked.code(),
             &mut played,
-        )?;
+        );
         shrinker.answer(unexplained);
     }
     Ok(shrinker.into_script())
 }
 
-// Whether one of this many runs of the code in place of that of the job has no explanation. So many were played before.
+// Whether one of at most `tries` runs of the code in place of that of the job has no explanation. `played` counts the runs of all scripts.
 fn becomes_unexplained<S: Stream + Send, C: Connector<S>, R: Threads + Wait + Sync>(
     rt: &R,
     alloc: Global,
@@ -62,42 +61,34 @@ fn becomes_unexplained<S: Stream + Send, C: Connector<S>, R: Threads + Wait + Sy
     job: u64,
     code: &Code,
     played: &mut u64,
-) -> Result<bool, OutOfMemory> {
+) -> bool {
     'tries: for _ in 0..tries {
-        let Some(checked) = code_of_try(alloc, code, campaign.name, *played)? else {
-            return Ok(false);
+        let Some(checked) = code_of_try(alloc, code, campaign.name, *played) else {
+            return false;
         };
         *played = played.saturating_add(1);
         let outcome = play_job(rt, alloc, campaign, connector, &FreeGate, job, &checked);
-        // A run that has no connection, or that there is none of, counts as explained.
+        // A run without a connection, or a job that couldn't be run, counts as explained.
         if Standing::of(&outcome) == Standing::Unexplained {
-            return Ok(true);
+            return true;
         }
     }
-    Ok(false)
+    false
 }
 
-// The code under the name where there is one, and then under one of the try's own. If it may be played.
+// The code with its keys under the campaign's name, if it has one, and then under a name of this try alone. There is none if a key becomes
+// too long, or there is no memory for it: the try counts as explained then.
 fn code_of_try(
     alloc: Global,
     code: &Code,
     name: Option<&Namespace<'_>>,
     number: u64,
-) -> Result<Option<Checked>, OutOfMemory> {
-    let own = format!(in alloc; "t{number}")?;
-    let Some(own) = Namespace::new(own.as_bytes()) else {
-        return Ok(None);
-    };
+) -> Option<Checked> {
+    let own = format!(in alloc; "t{number}").ok()?;
+    let own = Namespace::new(own.as_bytes())?;
     let under = match name {
-        Some(name) => match put_under(alloc, code, name) {
-            Ok(named) => put_under(alloc, &named, &own),
-            Err(fault) => Err(fault),
-        },
+        Some(name) => put_under(alloc, &put_under(alloc, code, name).ok()?, &own),
         None => put_under(alloc, code, &own),
     };
-    match under {
-        Ok(under) => Ok(verify_code(alloc, under)?.ok()),
-        Err(PutFault::OutOfMemory) => Err(AllocError),
-        Err(PutFault::KeyTooLong(_)) => Ok(None),
-    }
+    verify_code(alloc, under.ok()?).ok()?.ok()
 }

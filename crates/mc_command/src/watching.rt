@@ -1,9 +1,10 @@
 //! What the program says of jobs while a campaign runs.
 use crate::evidence::failure_text;
+use crate::job_totals::{FailedSections, JobTotals};
 use crate::progress::{Progress, lead};
 use crate::statistics::Statistics;
 use mc_campaign::{JobOutcome, Standing, Watcher};
-use mc_cli::{CampaignArgs, Plan, Seconds, Until};
+use mc_cli::{CampaignArgs, GREATEST_JOBS, Plan, Seconds, Until};
 use mc_connect::Dialer;
 use mc_lane::Stream;
 use mc_protocol::{Actor, Sections};
@@ -28,6 +29,7 @@ pub struct Teller<'a, R> {
     lead: &'static str,
     progress: Option<Progress<'a, R>>,
     statistics: Statistics,
+    totals: JobTotals,
     timeout: Option<Seconds<'a>>,
     dialer: &'a Dialer<'a, R>,
 }
@@ -59,6 +61,7 @@ impl<'a, R: Eprint + Clock + Wait> Teller<'a, R> {
                 known_jobs(plan),
             )),
             statistics: Statistics::new(),
+            totals: JobTotals::new(),
             timeout: target.timeout,
             dialer,
         }
@@ -76,6 +79,16 @@ impl<'a, R: Eprint + Clock + Wait> Teller<'a, R> {
             progress.clear();
         }
         self.dialer.tell_failures();
+    }
+
+    /// Says on standard error which sections failed, and what the jobs came to if they have more than one report.
+    pub fn tell_totals(&self) {
+        let totals = self.totals;
+        // There is nowhere else to say that this could not be said.
+        let _ = eprint!(self.rt; "{}", FailedSections(&totals));
+        if totals.jobs > GREATEST_JOBS {
+            let _ = eprintln!(self.rt; "mcrace: in all reports: {totals}");
+        }
     }
 
     // Says that a job is unexplained.
@@ -131,6 +144,7 @@ impl<'a, S: Stream, R: Eprint + Clock + Wait> Watcher<S> for Teller<'a, R> {
         if let Some(progress) = &mut self.progress {
             progress.add(is_unexplained);
         }
+        self.totals.add(outcome);
         if let JobOutcome::Ran { run, history, .. } = outcome {
             self.statistics.add(run.world.notes(), history);
         }
