@@ -1,6 +1,9 @@
 //! The part of a text that is a history: what `run` or a report prints before and behind it is left out.
+ghost use Rattle.std.specs.Prelude.{◌≢◌};
 
 use itoa::Buffer;
+use mc_history::{HistoryFault, TextFault};
+use mc_model::HistoryKind;
 
 /// A part of a text, from the beginning of one of its lines on.
 #[derive(Clone, Copy, Debug, Drop)]
@@ -8,6 +11,19 @@ pub struct Excerpt<'a> {
     pub text: &'a [u8],
     /// How many lines of the whole text stand before it.
     pub lines_before: u32,
+}
+
+impl Excerpt<'_> {
+    /// A fault that was found in this part, with its line in the whole text.
+    pub fn fault_in_whole(self, fault: HistoryFault) -> HistoryFault
+        requires { fault.kind ≢ HistoryKind.OutOfMemory }
+    {
+        TextFault {
+            kind: fault.kind,
+            line: fault.line.saturating_add(self.lines_before),
+            misread: fault.misread,
+        }
+    }
 }
 
 /// The first history of the text, with its line `end`; with `job` the first one after the line `job N` of this number. A text with no
@@ -68,8 +84,8 @@ fn up_to_end<'a>(excerpt: Excerpt<'a>) -> Excerpt<'a> {
     Excerpt { text, ..excerpt }
 }
 
-// Whether the line has these words and no others. A CR at its end is dropped.
-fn has_words(line: &[u8], wanted: &[&[u8]]) -> bool {
+/// Whether the line has these words and no others. A CR at its end is dropped.
+pub fn has_words(line: &[u8], wanted: &[&[u8]]) -> bool {
     let line = match line {
         [front @ .., b'\r'] => front,
         _ => line,
