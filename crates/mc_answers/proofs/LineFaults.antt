@@ -1,13 +1,13 @@
 -- Why a line asks for nothing.
 use Rattle.std.proofs.Common.{◌≡◌, ◌⊎◌, ℕ, List, String, inl, inr, refl}
 use Rattle.std.specs.Global.{Global}
-use Rattle.mc_cli.specs.Asked.{Asked}
 use Rattle.mc_cli.specs.Asking.{AsksFor, IsFaultOf, MayShow, MayTell}
 use Rattle.mc_cli.specs.declared.request.LineFault.{LineFault}
 use Rattle.mc_cli.specs.declared.request.LineFault.TheVariants as fault
+use Rattle.mc_cli.specs.declared.request.Request.{Request}
 
 -- a line that asks for something fails only where memory runs out
-pub asking_lacks_memory : (words : List (List ℕ)) (wanted : Asked) (found : LineFault) → AsksFor words wanted → IsFaultOf words found
+pub asking_lacks_memory : (words : List (List ℕ)) (wanted : Request) (found : LineFault) → AsksFor words wanted → IsFaultOf words found
     → found ≡ fault.OutOfMemory
 asking_lacks_memory words wanted (fault.Shown text) asks is = absurd (is.0 wanted asks)
 asking_lacks_memory words wanted (fault.Wrong text) asks is = absurd (is.0 wanted asks)

@@ -1,5 +1,5 @@
 -- What is answered to a text, whatever it is asked.
-use Rattle.std.specs.Prelude.{◌≡◌, ◌⊎◌, ℕ, ◌<◌, ◌≤◌, Bool, true, false, Option, Some, None, List, length, codes}
+use Rattle.std.specs.Prelude.{◌≡◌, ◌⊎◌, ℕ, ◌<◌, ◌≤◌, Bool, true, false, Option, Some, None, List, [], length, codes}
 use Rattle.mc_cli.specs.declared.question.Question.{Question}
 use Rattle.mc_cli.specs.declared.question.Question.TheVariants as question
 use Rattle.mc_answers.specs.AsmAnswers.{Assembles}
@@ -18,11 +18,12 @@ INPUT_LIMIT = 1048576
 
 -- the question is answered about the text: these bytes may be written, and this is the exit status with them
 abbrev pub Does : Question → List ℕ → List ℕ → Status → Type 0
-Does (question.Judge how) text output ended = Judges how text output ended
-Does (question.Check why) text output ended = Checks why text output ended
+Does (question.Judge args) text output ended = Judges args.how text output ended
+Does (question.Check args) text output ended = Checks args.why text output ended
 Does (question.Asm why) text output ended = Assembles why text output ended
 Does (question.Drive how) text output ended = Drives how.why text output ended
 Does (question.Draw how) text output ended = Draws output ended
+Does (question.Convert args) text output ended = (output ≡ []) × (ended ≡ status.NoAnswer)
 
 abbrev pub too_long_text : List ℕ
 too_long_text = codes "refused input too long\n"

@@ -38,10 +38,14 @@ fn give(alloc: Global, question: Question, text: &[u8]) -> Result<Answer, Unansw
     ensures { Gives (Does question text.now) result }
 {
     match question {
-        Question::Judge(how) => judge(alloc, how, text),
-        Question::Check(why) => check(alloc, why, text),
+        Question::Judge(args) => judge(alloc, args.how, text),
+        Question::Check(args) => check(alloc, args.why, text),
         Question::Asm(why) => assemble(alloc, why, text),
         Question::Drive(how) => drive(alloc, how, text),
         Question::Draw(how) => draw(alloc, how, text),
+        Question::Convert(_) => Ok(Answer {
+            output: Vec::new(alloc),
+            status: Status::NoAnswer,
+        }),
     }
 }

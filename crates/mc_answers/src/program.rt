@@ -1,9 +1,7 @@
 //! What is done for a line that asks a question about its input, or for a generated script.
 ghost use Rattle.std.specs.Prelude.{◌≡◌, ◌≢◌, ◌⊎◌, ℕ, List, String, true, false, map, string_bytes, IfOk};
 ghost use Rattle.std.specs.Global.{Global};
-ghost use Rattle.mc_cli.specs.Asked as asked;
-ghost use Rattle.mc_cli.specs.Asked.{Asked};
-ghost use Rattle.mc_cli.specs.Asking.{AsksFor, IsFaulty, MayShow, MayTell, asked_in};
+ghost use Rattle.mc_cli.specs.Asking.{AsksFor, IsFaulty, MayShow, MayTell};
 ghost use Rattle.mc_answers.specs.Answers.{AnswersBy, AnswersRightly, Does, IsAnswerBy, IsWhole, not_utf8_text};
 ghost use Rattle.mc_answers.specs.Command.{needs_network, reads_input};
 ghost use Rattle.mc_answers.specs.GenerateAnswers.{Generates};
@@ -38,21 +36,21 @@ pub fn command<I: Source, O: Sink, F: Sink>(
     output: &mut O,
     faults: &mut F,
 ) -> u8
-    ensures answered { (question : Question) → AsksFor (map string_bytes line.now) (asked_in question)
+    ensures answered { (question : Question) → AsksFor (map string_bytes line.now) (Request.Question question)
         → I.has_failed input.old ≡ false → I.has_failed input.new ≡ false
         → O.has_failed output.old ≡ false → O.has_failed output.new ≡ false
         → (ended : Status) × (result ≡ status_number ended)
         × AnswersBy (IsAnswerBy (Does question)) (I.left input.old) (O.written output.old) (O.written output.new) ended }
-    ensures generated { (seed : ℕ) (job : ℕ) → AsksFor (map string_bytes line.now) (asked.Generate seed job)
+    ensures generated { (seed : ℕ) (job : ℕ) → AsksFor (map string_bytes line.now) (Request.Generate seed job)
         → O.has_failed output.old ≡ false → O.has_failed output.new ≡ false
         → (ended : Status) × (result ≡ status_number ended)
         × WritesBy (Generates seed job) (O.written output.old) (O.written output.new) ended }
-    ensures elsewhere { (wanted : Asked) → AsksFor (map string_bytes line.now) wanted → needs_network wanted ≡ true
+    ensures elsewhere { (wanted : Request) → AsksFor (map string_bytes line.now) wanted → needs_network wanted ≡ true
         → O.has_failed output.old ≡ false → O.has_failed output.new ≡ false
         → (result ≡ 4) × ((output.new ≡ output.old) ⊎ Grows (O.written output.old) (O.written output.new) out_of_memory_text) }
-    ensures unasked { (wanted : Asked) → AsksFor (map string_bytes line.now) wanted → reads_input wanted ≡ false
+    ensures unasked { (wanted : Request) → AsksFor (map string_bytes line.now) wanted → reads_input wanted ≡ false
         → input.new ≡ input.old }
-    ensures no_fault { (wanted : Asked) → AsksFor (map string_bytes line.now) wanted → faults.new ≡ faults.old }
+    ensures no_fault { (wanted : Request) → AsksFor (map string_bytes line.now) wanted → faults.new ≡ faults.old }
 
     ensures fault { IsFaulty (map string_bytes line.now)
         → O.has_failed output.old ≡ false → O.has_failed output.new ≡ false

@@ -7,54 +7,55 @@ use Rattle.mc_protocol.specs.Decimals.{MAX_64}
 use Rattle.mc_cli.proofs.Names as names
 use Rattle.mc_cli.proofs.Once.{draw_once, plan_once, search_once, service_once, value_once}
 use Rattle.mc_cli.specs.Args.{number}
-use Rattle.mc_cli.specs.Asked.{Asked}
-use Rattle.mc_cli.specs.Asked as asked
-use Rattle.mc_cli.specs.Asking.{AsksFor, HasFault, IsAskedBy, IsAskedWith, IsFaultOf, IsShown, Says, name_of}
+use Rattle.mc_cli.specs.Asking.{AsksFor, HasFault, IsAskedBy, IsAskedWith, IsFaultOf, IsLike, IsShown, Says, name_of}
 use Rattle.mc_cli.specs.Line.{line_command, line_faults, line_value}
+use Rattle.mc_cli.specs.declared.question.Question.TheVariants as question
 use Rattle.mc_cli.specs.declared.request.LineFault.{LineFault}
 use Rattle.mc_cli.specs.declared.request.LineFault.TheVariants as line_fault
+use Rattle.mc_cli.specs.declared.request.Request.{Request}
+use Rattle.mc_cli.specs.declared.request.Request.TheVariants as request
 
 -- of two things that are asked for, each has the name of the subcommand
 one_name : {command : Option Text} {one other : Text} → command ≡ Some one → command ≡ Some other → other ≡ one
 one_name is also = ap (λ (o : Option Text). unwrap_or o []) (sym also ∙ is)
 
 -- the values of options ask a subcommand for one thing
-with_once : (value : Text → Option Text) (one other : Asked) → name_of other ≡ name_of one → IsAskedWith value one
-    → IsAskedWith value other → one ≡ other
-with_once value (asked.Judge how) other named is also =
+with_once : (value : Text → Option Text) (one other : Request) → name_of other ≡ name_of one → IsAskedWith value one
+    → IsAskedWith value other → IsLike one other
+with_once value (request.Question (question.Judge how)) other named is also =
     let found = names.is_judge other named in
-    rw found.1 (ap asked.Judge (search_once value how found.0 is (rw found.1 at also)))
-with_once value (asked.Check why) other named is also =
+    rw found.1 (ap (λ h. request.Question (question.Judge h)) (search_once value how found.0 is (rw found.1 at also)))
+with_once value (request.Question (question.Check why)) other named is also =
     let found = names.is_check other named in
-    rw found.1 (ap asked.Check (is ∙ sym (rw found.1 at also)))
-with_once value (asked.Asm why) other named is also =
+    rw found.1 (ap (λ b. request.Question (question.Check b)) (is ∙ sym (rw found.1 at also)))
+with_once value (request.Question (question.Asm why)) other named is also =
     let found = names.is_asm other named in
-    rw found.1 (ap asked.Asm (is ∙ sym (rw found.1 at also)))
-with_once value (asked.Drive how) other named is also =
+    rw found.1 (ap (λ b. request.Question (question.Asm b)) (is ∙ sym (rw found.1 at also)))
+with_once value (request.Question (question.Drive how)) other named is also =
     let found = names.is_drive other named in
-    rw found.1 (ap asked.Drive (search_once value how found.0 is (rw found.1 at also)))
-with_once value (asked.Draw how) other named is also =
+    rw found.1 (ap (λ h. request.Question (question.Drive h)) (search_once value how found.0 is (rw found.1 at also)))
+with_once value (request.Question (question.Draw how)) other named is also =
     let found = names.is_draw other named in
-    rw found.1 (ap asked.Draw (draw_once value how found.0 is (rw found.1 at also)))
-with_once value (asked.Run how) other named (args, is, of_args) also =
+    rw found.1 (ap (λ h. request.Question (question.Draw h)) (draw_once value how found.0 is (rw found.1 at also)))
+with_once value (request.Run args) other named is also =
     let found = names.is_run other named in
     let more = rw found.1 at also in
-    rw found.1 (ap asked.Run (sym of_args ∙ (search_once value args.how more.0.how is.how more.1.how ∙ more.2)))
-with_once value (asked.Generate seed job) other named is also =
+    (found.0, found.1, search_once value args.how found.0.how is.how more.how)
+with_once value (request.Generate seed job) other named is also =
     let found = names.is_generate other named in
     let are = rw found.2 at also in
-    rw found.2 (ap (λ n. asked.Generate n job) (value_once (number MAX_64) _ _ seed found.0 is.seed are.seed)
-    ∙ ap (asked.Generate found.0) (value_once (number MAX_64) _ _ job found.1 is.job are.job))
-with_once value (asked.Serve service) other named is also =
+    rw found.2 (ap (λ n. request.Generate n job) (value_once (number MAX_64) _ _ seed found.0 is.seed are.seed)
+    ∙ ap (request.Generate found.0) (value_once (number MAX_64) _ _ job found.1 is.job are.job))
+with_once value (request.Serve service) other named is also =
     let found = names.is_serve other named in
-    rw found.1 (ap asked.Serve (service_once value service found.0 is (rw found.1 at also)))
-with_once value (asked.Campaign plan) other named (args, is, of_args) also =
+    rw found.1 (ap request.Serve (service_once value service found.0 is (rw found.1 at also)))
+with_once value (request.Campaign args) other named is also =
     let found = names.is_campaign other named in
     let more = rw found.1 at also in
-    rw found.1 (ap asked.Campaign (sym of_args ∙ (plan_once value args.plan more.0.plan is.plan more.1.plan ∙ more.2)))
-with_once value asked.Selftest other named is also = sym (names.is_selftest other named)
+    (found.0, found.1, plan_once value args.plan found.0.plan is.plan more.plan)
+with_once value request.Selftest other named is also = sym (names.is_selftest other named)
 
-pub asks_once : (words : List (List ℕ)) (one other : Asked) → AsksFor words one → AsksFor words other → one ≡ other
+pub asks_once : (words : List (List ℕ)) (one other : Request) → AsksFor words one → AsksFor words other → IsLike one other
 asks_once words one other is also =
     with_once (line_value words) one other (one_name is.1.0 also.1.0) is.1.1 also.1.1
 
@@ -75,7 +76,7 @@ fault_by_clap words found fault among said =
 
 -- and one that the program finds: the subcommand that the words name asks for nothing with its options
 pub fault_of_values : (words : List (List ℕ)) (fault : LineFault) → line_faults words ≡ []
-    → ((wanted : Asked) → IsAskedBy (line_command words) (line_value words) wanted → ⊥) → Says kind.ValueValidation fault
+    → ((wanted : Request) → IsAskedBy (line_command words) (line_value words) wanted → ⊥) → Says kind.ValueValidation fault
     → IsFaultOf words fault
 fault_of_values words fault clear none said =
     faulty words kind.ValueValidation fault (record { faulty = λ wanted asks. none wanted asks.1; which = inr (clear, is_told) }) said

@@ -1,5 +1,5 @@
 -- What the values of a subcommand's options say.
-use Rattle.std.specs.Prelude.{◌≡◌, ◌+◌, ◌-◌, ◌≤◌, ◌^◌, ◌||◌, ℕ, true, false, nat_lt, Option, Some, None, is_some, List, codes, option_map}
+use Rattle.std.specs.Prelude.{◌≡◌, ◌+◌, ◌-◌, ◌≤◌, ◌^◌, ◌&&◌, ◌||◌, ℕ, Bool, true, false, nat_lt, Option, Some, None, is_some, List, codes, option_map}
 use Rattle.std.specs.Prelude.{if◌then◌else◌}
 use Rattle.clap.specs.Words.{Text}
 use Rattle.mc_protocol.specs.Decimals.{MAX_64}
@@ -10,7 +10,9 @@ use Rattle.mc_settings.specs.declared.meeting.Meeting.TheVariants as meeting
 use Rattle.mc_cli.specs.Kinds.{IsValue, MayBeValue}
 use Rattle.mc_cli.specs.Line.{is_set}
 use Rattle.mc_cli.specs.declared.args.{CampaignArgs.CampaignArgs, Plan.Plan, Repeat.Repeat, RunArgs.RunArgs, Search.Search}
-use Rattle.mc_cli.specs.declared.args.{DrawArgs.DrawArgs, ServeArgs.ServeArgs, Until.Until}
+use Rattle.mc_cli.specs.declared.args.{CheckArgs.CheckArgs, ConvertArgs.ConvertArgs, DrawArgs.DrawArgs, JudgeArgs.JudgeArgs}
+use Rattle.mc_cli.specs.declared.args.{Notation.Notation, ServeArgs.ServeArgs, Until.Until}
+use Rattle.mc_cli.specs.declared.args.Notation.TheVariants as notation
 use Rattle.mc_cli.specs.declared.rows.Kind.{Kind}
 use Rattle.mc_cli.specs.declared.rows.Kind.TheVariants as kind
 
@@ -29,6 +31,29 @@ count greatest = kind.Number 1 greatest
 pub record IsSearch (value : Text → Option Text) (how : Search) : Type 0 where
   pub limit : IsValue (number 1000000000) (Some 1000000) (value (codes "limit")) how.limit
   pub why : how.why ≡ is_set (value (codes "why"))
+
+-- the values of the options of `judge` say how a history is judged; a job is one of what a campaign printed
+pub record IsJudge (value : Text → Option Text) (args : JudgeArgs) : Type 0 where
+  pub how : IsSearch value args.how
+  pub json : args.json ≡ is_set (value (codes "json"))
+  pub run : args.run ≡ (is_set (value (codes "run")) || is_some args.job)
+  pub job : MayBeValue (number MAX_64) (value (codes "job")) args.job
+
+pub record IsCheck (value : Text → Option Text) (args : CheckArgs) : Type 0 where
+  pub why : args.why ≡ is_set (value (codes "why"))
+  pub json : args.json ≡ is_set (value (codes "json"))
+
+abbrev pub notation_word : Notation → List ℕ
+notation_word notation.Json = codes "json"
+notation_word notation.Edn = codes "edn"
+
+-- the notation that a word names
+abbrev pub IsNotation : Option (List ℕ) → Notation → Type 0
+IsNotation word wanted = word ≡ Some (notation_word wanted)
+
+pub record IsConvert (value : Text → Option Text) (args : ConvertArgs) : Type 0 where
+  pub to : IsNotation (value (codes "to")) args.to
+  pub job : MayBeValue (number MAX_64) (value (codes "job")) args.job
 
 -- the values of the options of `draw` say how a history is drawn
 pub record IsDraw (value : Text → Option Text) (how : DrawArgs) : Type 0 where
@@ -83,12 +108,13 @@ pub record IsRunArgs (value : Text → Option Text) (args : RunArgs) : Type 0 wh
   pub how : IsSearch value args.how
   pub meeting : IsMeeting (value (codes "meet")) args.meeting
   pub name : MayBeName (value (codes "name")) args.name
-  pub timeout : MayBeValue kind.Seconds (value (codes "timeout")) (option_map (λ time. time.milliseconds) args.timeout)
-  pub wait : MayBeValue kind.Seconds (value (codes "wait")) (option_map (λ time. time.milliseconds) args.wait)
+  pub timeout : MayBeValue kind.Time (value (codes "timeout")) (option_map (λ time. time.milliseconds) args.timeout)
+  pub wait : MayBeValue kind.Time (value (codes "wait")) (option_map (λ time. time.milliseconds) args.wait)
   pub repeat : IsRepeat value args.repeat
   pub reconnect : args.reconnect ≡ is_set (value (codes "reconnect"))
   pub quiet : args.quiet ≡ is_set (value (codes "quiet"))
   pub stats : args.stats ≡ is_set (value (codes "stats"))
+  pub json : args.json ≡ is_set (value (codes "json"))
   pub spread : IsValue (number 10000) (Some (default_spread args.repeat)) (value (codes "spread")) args.spread
 
 -- the values of the options of `campaign` say until when it runs in blocks, if they name a time or a number of unexplained jobs; a time
@@ -108,9 +134,18 @@ abbrev pub AreJobs : Option (List ℕ) → Option (List ℕ) → ℕ → ℕ →
 AreJobs None word first jobs = IsValue (count GREATEST_JOBS) (Some 100) word jobs
 AreJobs (Some time) word first jobs = jobs ≡ jobs_from first
 
+-- whether a seed is drawn, for which the line names none
+abbrev pub IsRandomSeed : (Text → Option Text) → Bool → Type 0
+IsRandomSeed value random = (random ≡ is_set (value (codes "random-seed"))) × (random ≡ true → value (codes "seed") ≡ None)
+
+-- two of these are set
+abbrev pub are_two : Bool → Bool → Bool → Bool
+are_two brief json junit = (brief && (json || junit)) || (json && junit)
+
 -- the values of the options of `campaign` name these jobs, the last of which has a number of 64 bits
 pub record IsPlan (value : Text → Option Text) (plan : Plan) : Type 0 where
   pub seed : IsValue (number MAX_64) (Some 1) (value (codes "seed")) plan.seed
+  pub random_seed : IsRandomSeed value plan.random_seed
   pub first : IsValue (number MAX_64) (Some 0) (value (codes "from")) plan.first
   pub until : IsUntil value plan.until
   pub jobs : AreJobs (value (codes "for")) (value (codes "jobs")) plan.first plan.jobs
@@ -119,6 +154,9 @@ pub record IsPlan (value : Text → Option Text) (plan : Plan) : Type 0 where
   pub tries : IsValue (count 1000) (Some 1) (value (codes "tries")) plan.tries
   pub last : plan.first + plan.jobs ≤ 2 ^ 64
   pub brief : plan.brief ≡ is_set (value (codes "brief"))
+  pub json : plan.json ≡ is_set (value (codes "json"))
+  pub junit : plan.junit ≡ is_set (value (codes "junit"))
+  pub one_form : are_two plan.brief plan.json plan.junit ≡ false
   pub show : plan.show ≡ is_set (value (codes "show"))
   pub why : plan.why ≡ is_set (value (codes "why"))
 
@@ -126,11 +164,13 @@ pub record IsPlan (value : Text → Option Text) (plan : Plan) : Type 0 where
 -- beside `--show`
 pub record IsCampaignArgs (value : Text → Option Text) (args : CampaignArgs) : Type 0 where
   pub server : value (codes "target") ≡ Some args.server.now
+  pub a : option_map (λ server. server.now) args.a ≡ value (codes "a")
+  pub b : option_map (λ server. server.now) args.b ≡ value (codes "b")
   pub plan : IsPlan value args.plan
   pub meeting : IsMeeting (value (codes "meet")) args.meeting
   pub name : MayBeName (value (codes "name")) args.name
-  pub timeout : MayBeValue kind.Seconds (value (codes "timeout")) (option_map (λ time. time.milliseconds) args.timeout)
-  pub wait : MayBeValue kind.Seconds (value (codes "wait")) (option_map (λ time. time.milliseconds) args.wait)
+  pub timeout : MayBeValue kind.Time (value (codes "timeout")) (option_map (λ time. time.milliseconds) args.timeout)
+  pub wait : MayBeValue kind.Time (value (codes "wait")) (option_map (λ time. time.milliseconds) args.wait)
   pub quiet : args.quiet ≡ is_set (value (codes "quiet"))
   pub stats : args.stats ≡ is_set (value (codes "stats"))
   pub spread : IsValue (number 10000) (Some 64) (value (codes "spread")) args.spread

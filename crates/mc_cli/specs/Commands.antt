@@ -31,13 +31,8 @@ rule_of_row row = rule_by row.place row.kind row.name.now
 abbrev pub app_with : Text → List Rule → App
 app_with name rules = fold with_rule (new_app name) rules
 
--- of `judge` and `drive`
 abbrev pub judge_rules : List Rule
-judge_rules = valued (codes "limit") ∷ switch (codes "why") ∷ []
-
--- of `check` and `asm`
-abbrev pub refused_rules : List Rule
-refused_rules = switch (codes "why") ∷ []
+judge_rules = valued (codes "limit") ∷ switch (codes "why") ∷ switch (codes "run") ∷ valued (codes "job") ∷ switch (codes "json") ∷ []
 
 abbrev pub draw_rules : List Rule
 draw_rules = switch (codes "text") ∷ switch (codes "lines") ∷ valued (codes "job") ∷ valued (codes "limit") ∷ []
@@ -47,13 +42,14 @@ run_rules =
     argument (codes "target") ∷ valued (codes "limit") ∷ switch (codes "why") ∷ valued (codes "meet") ∷
     valued (codes "a") ∷ valued (codes "b") ∷ valued (codes "name") ∷ valued (codes "timeout") ∷
     valued (codes "wait") ∷ valued (codes "times") ∷ valued (codes "for") ∷ switch (codes "keep-going") ∷
-    switch (codes "reconnect") ∷ switch (codes "quiet") ∷ valued (codes "spread") ∷ switch (codes "stats") ∷ []
+    switch (codes "reconnect") ∷ switch (codes "quiet") ∷ valued (codes "spread") ∷ switch (codes "stats") ∷ switch (codes "json") ∷ []
 
 abbrev pub campaign_rules : List Rule
 campaign_rules =
-    argument (codes "target") ∷ valued (codes "seed") ∷ valued (codes "from") ∷ valued (codes "jobs") ∷
-    valued (codes "workers") ∷ valued (codes "limit") ∷ valued (codes "meet") ∷ valued (codes "name") ∷
-    valued (codes "timeout") ∷ valued (codes "wait") ∷ switch (codes "brief") ∷ switch (codes "show") ∷
+    argument (codes "target") ∷ valued (codes "seed") ∷ switch (codes "random-seed") ∷ valued (codes "from") ∷
+    valued (codes "jobs") ∷ valued (codes "workers") ∷ valued (codes "limit") ∷ valued (codes "meet") ∷
+    valued (codes "a") ∷ valued (codes "b") ∷ valued (codes "name") ∷ valued (codes "timeout") ∷
+    valued (codes "wait") ∷ switch (codes "brief") ∷ switch (codes "json") ∷ switch (codes "junit") ∷ switch (codes "show") ∷
     switch (codes "why") ∷ valued (codes "tries") ∷ switch (codes "quiet") ∷ valued (codes "spread") ∷
     switch (codes "stats") ∷ valued (codes "for") ∷ valued (codes "stop-after") ∷ []
 
@@ -64,23 +60,23 @@ bare_app = record {
   subs = [];
 }
 
--- the program with one subcommand more
-abbrev pub and_with : App → Text → List Rule → App
-and_with app name rules = with_subcommand app (app_with name rules).top
+-- the program with these subcommands more, each with its options
+abbrev pub and_with : App → List (Text × List Rule) → App
+and_with app subcommands = fold (λ whole sub. with_subcommand whole (app_with sub.0 sub.1).top) app subcommands
 
 -- with those that answer to an input, and need no server
 abbrev pub reading_app : App
-reading_app = and_with (and_with (and_with (and_with (and_with bare_app (codes "judge") judge_rules) (codes "check") refused_rules)
-    (codes "asm") refused_rules) (codes "drive") judge_rules) (codes "draw") draw_rules
+reading_app = and_with bare_app ((codes "judge", judge_rules) ∷ (codes "check", switch (codes "why") ∷ switch (codes "json") ∷ []) ∷
+    (codes "asm", switch (codes "why") ∷ []) ∷ (codes "drive", valued (codes "limit") ∷ switch (codes "why") ∷ []) ∷
+    (codes "draw", draw_rules) ∷ (codes "convert", valued (codes "to") ∷ valued (codes "job") ∷ []) ∷ [])
 
 -- with all that ask for something
 abbrev pub asking_app : App
-asking_app = and_with (and_with (and_with (and_with (and_with reading_app (codes "run") run_rules)
-    (codes "generate") (valued (codes "seed") ∷ valued (codes "job") ∷ []))
-    (codes "serve") (argument (codes "port") ∷ valued (codes "connections") ∷ switch (codes "racy") ∷ []))
-    (codes "campaign") campaign_rules) (codes "selftest") []
+asking_app = and_with reading_app ((codes "run", run_rules) ∷ (codes "generate", valued (codes "seed") ∷ valued (codes "job") ∷ []) ∷
+    (codes "serve", argument (codes "port") ∷ valued (codes "connections") ∷ switch (codes "racy") ∷ []) ∷
+    (codes "campaign", campaign_rules) ∷ (codes "selftest", []) ∷ [])
 
 -- with the topics of help, which are subcommands that ask for nothing
 abbrev pub program_app : App
-program_app = and_with (and_with (and_with (and_with (and_with (and_with asking_app (codes "formats") []) (codes "history") [])
-    (codes "image") []) (codes "script") []) (codes "steps") []) (codes "all") []
+program_app = and_with asking_app ((codes "formats", []) ∷ (codes "history", []) ∷ (codes "image", []) ∷ (codes "script", []) ∷
+    (codes "steps", []) ∷ (codes "all", []) ∷ [])

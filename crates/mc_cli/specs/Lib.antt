@@ -1,5 +1,4 @@
 pub mod Args
-pub mod Asked
 pub mod Asking
 pub mod Commands
 pub mod Kinds

@@ -1,7 +1,7 @@
 -- What clap finds in the words of a line.
 use Rattle.std.specs.Prelude.{Option, List, ℕ, Bool, false, None, Some, codes, option_and_then, option_map, unwrap_or}
 use Rattle.std.specs.Str.{bytes_eq}
-use Rattle.clap.specs.Words.{Kinds, Row, Text, fault_of, first_of, subcommand_of}
+use Rattle.clap.specs.Words.{Kinds, Text, fault_of, first_of, subcommand_of}
 use Rattle.mc_protocol.specs.declared.actor.Actor.{Actor}
 use Rattle.mc_protocol.specs.declared.actor.Actor.TheVariants as actor
 use Rattle.mc_cli.specs.Commands.{program_app}
@@ -10,20 +10,13 @@ use Rattle.mc_cli.specs.Commands.{program_app}
 unfoldable pub line_faults : List (List ℕ) → Kinds
 line_faults words = fault_of program_app words
 
--- the name of a subcommand that was found, and the first value of an option or an argument of it
-abbrev pub given_name : Option (Text × List Row) → Option Text
-given_name entered = option_map (λ found. found.0) entered
-
-abbrev pub given_value : Option (Text × List Row) → Text → Option Text
-given_value entered name = option_and_then (λ found. first_of name found.1) entered
-
 -- the name of the subcommand that clap finds in the words
 unfoldable pub line_command : List (List ℕ) → Option Text
-line_command words = given_name (subcommand_of program_app words)
+line_command words = option_map (λ found. found.0) (subcommand_of program_app words)
 
--- the word that clap finds in the words as the value of this option or argument
+-- the word that clap finds in the words as the first value of this option or argument
 unfoldable pub line_value : List (List ℕ) → Text → Option Text
-line_value words name = given_value (subcommand_of program_app words) name
+line_value words name = option_and_then (λ found. first_of name found.1) (subcommand_of program_app words)
 
 -- whether a switch is there, by the word that clap has as its value
 abbrev pub is_set : Option (List ℕ) → Bool

@@ -5,6 +5,7 @@ ghost use Rattle.mc_cli.specs.Line.{section_server};
 
 use mc_protocol::Actor;
 use mc_settings::{Meeting, Namespace};
+use std::fmt::{Display, Error, Formatter, Write};
 use std::time::Duration;
 
 /// The most jobs that a line may name.
@@ -21,6 +22,44 @@ pub struct Search {
     /// Whether the answer says why nothing explains a history, and which word of a refused text is at fault. Each search for it takes
     /// at most `limit` turns.
     pub why: bool,
+}
+
+/// How a history is judged.
+#[derive(Clone, Copy, Debug, Drop, PartialEq, Eq)]
+pub struct JudgeArgs {
+    /// How an explanation is searched for.
+    pub how: Search,
+    /// Whether the answer is JSON.
+    pub json: bool,
+    /// Whether the history is read from what `run` or `campaign` printed; so it is if a job is named.
+    pub run: bool,
+    /// The number of the campaign's job whose history is judged, if it isn't the first one.
+    pub job: Option<u64>,
+}
+
+/// How a script or an image is checked.
+#[derive(Clone, Copy, Debug, Drop, PartialEq, Eq)]
+pub struct CheckArgs {
+    /// Whether the answer shows the line for which a script is refused.
+    pub why: bool,
+    /// Whether the answer is JSON.
+    pub json: bool,
+}
+
+/// Another notation of histories, in which other programs read them.
+#[derive(Clone, Copy, Debug, Drop, PartialEq, Eq)]
+pub enum Notation {
+    Json,
+    /// What Jepsen's programs read.
+    Edn,
+}
+
+/// How a history is converted.
+#[derive(Clone, Copy, Debug, Drop, PartialEq, Eq)]
+pub struct ConvertArgs {
+    pub to: Notation,
+    /// The number of the campaign's job whose history is converted, if it isn't the first one.
+    pub job: Option<u64>,
 }
 
 /// How a history is drawn.
@@ -54,12 +93,24 @@ impl Seconds<'_> {
     }
 }
 
+// As a message says it.
+impl Display for Seconds<'_> {
+    fn fmt<W: Write>(&self, f: &mut Formatter<W>) -> Result<(), Error> {
+        let word = self.word;
+        if word.ends_with(|unit: char| unit.is_ascii_lowercase()) {
+            write!(f, "{word}")
+        } else {
+            write!(f, "{word} s")
+        }
+    }
+}
+
 /// How often a script is run. One of the two bounds is there.
 #[derive(Clone, Copy, Debug, Drop, PartialEq, Eq)]
 pub struct Repeat {
     /// The most runs, 1 to 1,000,000, if there is such a number.
     pub times: Option<u64>,
-    /// For how many seconds runs begin, 1 to 86,400, if there is such a time.
+    /// For how many milliseconds runs begin, 1 to 86,400,000, if there is such a time.
     pub time: Option<u64>,
     /// Whether there is a next run after one whose status isn't 0.
     pub keep_going: bool,
@@ -92,6 +143,8 @@ pub struct RunArgs<'a> {
     pub quiet: bool,
     /// Whether standard error says at the end how requests were answered.
     pub stats: bool,
+    /// Whether the output is JSON.
+    pub json: bool,
     /// The maximum delay of a branch after the branches met, in microseconds; 0 disables it.
     pub spread: u16,
 }
@@ -116,6 +169,7 @@ impl<'a> RunArgs<'a> {
             reconnect: false,
             quiet: false,
             stats: false,
+            json: false,
             spread: 0,
         }
     }
@@ -146,7 +200,7 @@ pub struct ServeArgs {
 /// Until when a campaign begins blocks of jobs. One of the two bounds is there.
 #[derive(Clone, Copy, Debug, Drop, PartialEq, Eq)]
 pub struct Until {
-    /// For how many seconds, 1 to 86,400, if there is such a time.
+    /// For how many milliseconds, 1 to 86,400,000, if there is such a time.
     pub time: Option<u64>,
     /// Until as many jobs are unexplained, 1 to 10,000, if there is such a number.
     pub unexplained: Option<u64>,
@@ -157,6 +211,8 @@ pub struct Until {
 pub struct Plan {
     /// What the scripts of the jobs are made of, beside the jobs' numbers.
     pub seed: u64,
+    /// Whether a seed is drawn in place of that one, and said.
+    pub random_seed: bool,
     /// The number of the first job.
     pub first: u64,
     /// How many jobs there are; with `until`, at most.
@@ -165,8 +221,12 @@ pub struct Plan {
     pub workers: u32,
     /// The search for an explanation of one takes at most this many turns.
     pub limit: u64,
-    /// Whether the report has no lines of jobs with which nothing was wrong.
+    /// Whether the report has no lines of jobs with which nothing was wrong. Of `brief`, `json` and `junit` one is set at most.
     pub brief: bool,
+    /// Whether the report is JSON.
+    pub json: bool,
+    /// Whether the report is JUnit's XML.
+    pub junit: bool,
     /// Whether the histories of unexplained jobs follow.
     pub show: bool,
     /// Whether each of them comes with why nothing explains it. Each search for that takes at most `limit` turns.
@@ -182,6 +242,10 @@ pub struct Plan {
 pub struct CampaignArgs<'a> {
     /// The server, as HOST:PORT.
     pub server: &'a str,
+    /// A's server, if it isn't P's.
+    pub a: Option<&'a str>,
+    /// B's server, if it isn't P's.
+    pub b: Option<&'a str>,
     pub plan: Plan,
     /// How the branches of each job meet.
     pub meeting: Meeting,

@@ -6,12 +6,10 @@ ghost use Rattle.mc_cli.specs.Kinds as spec;
 use crate::rows::Kind;
 use mc_protocol::read_decimal;
 
-/// The most seconds of a time.
-const GREATEST_SECONDS: u64 = 86_400;
+/// The most milliseconds of a time.
+const GREATEST_TIME: u64 = 86_400_000;
 
-const GREATEST_MILLISECONDS: u64 = 86_400_000;
-
-/// The number that the word says as a value of this kind: its own, or the milliseconds or the seconds of a time.
+/// The number that the word says as a value of this kind: its own, or the milliseconds of a time.
 pub fn number_in(kind: Kind, word: &[u8]) -> Option<u64>
     ensures { MatchOption result ((n : ℕ) → spec.reads kind word.now n → ⊥) (spec.reads kind word.now) }
 {
@@ -20,27 +18,57 @@ pub fn number_in(kind: Kind, word: &[u8]) -> Option<u64>
             let number = read_decimal(greatest, word).ok()?;
             if number >= least { Some(number) } else { None }
         }
-        Kind::Seconds => milliseconds_in(word),
-        Kind::Time => seconds_in(word),
-        Kind::Meeting | Kind::Name | Kind::Address | Kind::Switch => None,
+        Kind::Time => time_in(word),
+        Kind::Meeting | Kind::Notation | Kind::Name | Kind::Address | Kind::Switch => None,
     }
 }
 
-// The milliseconds of the time that the word is, if it is one.
-#[tactic(auto, unfolding(crate::specs::Kinds::milliseconds_in))]
-fn milliseconds_in(word: &[u8]) -> Option<u64>
-    ensures { result ≡ spec.milliseconds_in word.now }
+// The milliseconds of the time that the word is, if it is one: those of its number and its unit, or of plain seconds.
+#[tactic(auto, unfolding(crate::specs::Kinds::time_in))]
+fn time_in(word: &[u8]) -> Option<u64>
+    ensures { result ≡ spec.time_in word.now }
+{
+    match unit_place(word) {
+        Some(place) => {
+            let number = read_decimal(GREATEST_TIME, &word[..place]).ok()?;
+            if_time(number * unit_in(&word[place..])?)
+        }
+        None => seconds_in(word),
+    }
+}
+
+// Where the unit stands, which begins with the first letter.
+fn unit_place(word: &[u8]) -> Option<usize>
+    ensures place { result ≡ position spec.is_small_letter word.now }
+    ensures within { IfSome result (λ place. place < length word.now) }
+{
+    word.iter().position(|byte| b'a' <= *byte && *byte <= b'z')
+}
+
+// How many milliseconds the unit has.
+fn unit_in(name: &[u8]) -> Option<u64>
+    ensures unit { result ≡ spec.unit_in name.now }
+    ensures small { IfSome result (λ unit. unit ≤ 3600000) }
+{
+    match name {
+        b"ms" => Some(1),
+        b"s" => Some(1000),
+        b"m" => Some(60_000),
+        b"h" => Some(3_600_000),
+        _ => None,
+    }
+}
+
+// The milliseconds of the seconds that the word is, if it is a decimal, perhaps with a point and one to three places.
+fn seconds_in(word: &[u8]) -> Option<u64>
+    ensures { result ≡ spec.seconds_in word.now }
 {
     match point_of(word) {
         Some(point) => {
-            let seconds = read_decimal(GREATEST_SECONDS, &word[..point]).ok()?;
-            let thousandths = thousandths_in(&word[point + 1..])?;
-            if_within(GREATEST_MILLISECONDS, seconds * 1000 + thousandths)
+            let seconds = read_decimal(GREATEST_TIME, &word[..point]).ok()?;
+            if_time(seconds * 1000 + thousandths_in(&word[point + 1..])?)
         }
-        None => {
-            let seconds = read_decimal(GREATEST_SECONDS, word).ok()?;
-            if_within(GREATEST_MILLISECONDS, seconds * 1000)
-        }
+        None => if_time(read_decimal(GREATEST_TIME, word).ok()? * 1000),
     }
 }
 
@@ -66,35 +94,12 @@ fn thousandths_in(places: &[u8]) -> Option<u64>
     Some(read_decimal(999, places).ok()? * unit)
 }
 
-// The seconds of the time that the word is, with its unit, if it is one.
-#[tactic(auto, unfolding(crate::specs::Kinds::time_in))]
-fn seconds_in(word: &[u8]) -> Option<u64>
-    ensures { result ≡ spec.time_in word.now }
+// The number, if a time may have so many milliseconds.
+fn if_time(milliseconds: u64) -> Option<u64>
+    ensures { result ≡ spec.if_time milliseconds }
 {
-    let last = word.len().checked_sub(1)?;
-    let number = read_decimal(GREATEST_SECONDS, &word[..last]).ok()?;
-    if_within(GREATEST_SECONDS, in_unit(number, word[last])?)
-}
-
-// This many seconds, minutes or hours in seconds.
-fn in_unit(number: u64, unit: u8) -> Option<u64>
-    requires { number ≤ spec.GREATEST_SECONDS }
-    ensures { result ≡ spec.in_unit number unit }
-{
-    match unit {
-        b's' => Some(number),
-        b'm' => Some(number * 60),
-        b'h' => Some(number * 3600),
-        _ => None,
-    }
-}
-
-// The number, if it is at least 1 and at most the greatest.
-fn if_within(greatest: u64, number: u64) -> Option<u64>
-    ensures { result ≡ spec.if_within greatest number }
-{
-    if (1..=greatest).contains(&number) {
-        Some(number)
+    if (1..=GREATEST_TIME).contains(&milliseconds) {
+        Some(milliseconds)
     } else {
         None
     }

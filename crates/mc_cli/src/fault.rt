@@ -84,9 +84,9 @@ impl Display for Kind {
     fn fmt<W: Write>(&self, f: &mut Formatter<W>) -> Result<(), Error> {
         match self {
             Kind::Number(least, greatest) => write!(f, "a number from {least} to {greatest}"),
-            Kind::Seconds => write!(f, "0.001 to 86400, with at most 3 places"),
-            Kind::Time => write!(f, "1s to 86400s, 1m to 1440m or 1h to 24h"),
+            Kind::Time => write!(f, "a time up to 24h, as 500ms, 2s, 10m, 2h or 0.5"),
             Kind::Meeting => write!(f, "drawn, each, first or never"),
+            Kind::Notation => write!(f, "json or edn"),
             Kind::Name => write!(f, "1 to {NAMESPACE_BYTES_LIMIT} of a to z, 0 to 9 and -"),
             Kind::Address => write!(f, "HOST:PORT"),
             Kind::Switch => write!(f, "no value"),

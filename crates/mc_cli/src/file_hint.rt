@@ -31,6 +31,7 @@ fn input_usage(line: &[String]) -> Option<&'static str> {
     match line.get(1)?.as_str() {
         "judge" => Some("mcrace judge"),
         "draw" => Some("mcrace draw"),
+        "convert" => Some("mcrace convert --to json"),
         "check" => Some("mcrace check"),
         "asm" => Some("mcrace asm"),
         "drive" => Some("mcrace drive"),

@@ -3,6 +3,7 @@
 mod asm;
 mod campaign;
 mod check;
+mod convert;
 mod draw;
 mod drive;
 mod formats;
@@ -19,6 +20,7 @@ mod steps;
 pub use asm::ASM;
 pub use campaign::CAMPAIGN;
 pub use check::CHECK;
+pub use convert::CONVERT;
 pub use draw::DRAW;
 pub use drive::DRIVE;
 pub use formats::FORMATS;
@@ -75,5 +77,6 @@ Topics:
 
 /// The names of the subcommands, in the order of their help.
 pub const NAMES: &[&str] = &[
-    "judge", "check", "asm", "drive", "run", "generate", "serve", "campaign", "selftest",
+    "judge", "check", "asm", "drive", "draw", "convert", "run", "generate", "serve", "campaign",
+    "selftest",
 ];

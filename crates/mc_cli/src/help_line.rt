@@ -26,8 +26,8 @@ impl Row {
                     None => format!(in alloc; "{help}, {range}"),
                 }
             }
-            Kind::Seconds => format!(in alloc; "{help}, 0.001 to 86400"),
-            Kind::Time => format!(in alloc; "{help}: 90s, 10m or 2h, at most 24h"),
+            Kind::Time => format!(in alloc; "{help}: 500ms, 2s, 10m or 2h"),
+            Kind::Notation => format!(in alloc; "{help}: {}", self.kind),
             Kind::Meeting => format!(in alloc; "{help}: {} [default: drawn]", self.kind),
             Kind::Name | Kind::Address | Kind::Switch => format!(in alloc; "{help}"),
         }

@@ -21,8 +21,8 @@ mod subcommand;
 mod value;
 
 pub use args::{
-    CampaignArgs, DrawArgs, GREATEST_JOBS, GREATEST_WORKERS, Plan, Repeat, RunArgs, Search,
-    Seconds, ServeArgs, Until, has_last,
+    CampaignArgs, CheckArgs, ConvertArgs, DrawArgs, GREATEST_JOBS, GREATEST_WORKERS, JudgeArgs,
+    Notation, Plan, Repeat, RunArgs, Search, Seconds, ServeArgs, Until, has_last,
 };
 pub use question::Question;
 pub use request::{LineFault, Request, long_key_text, read_request};

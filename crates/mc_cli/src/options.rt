@@ -39,13 +39,49 @@ pub const LINES: Row = Row {
     help: "Show the lines of the input, with --text",
 };
 
-pub const JOB_TO_DRAW: Row = Row {
+pub const SHOWN_JOB: Row = Row {
     name: "job",
     value: "N",
     kind: Kind::Number(0, u64::MAX),
     default: None,
     place: Place::Daily,
-    help: "Draw the history of this job of a campaign",
+    help: "Take the history of this job of a campaign",
+};
+
+pub const TO: Row = Row {
+    name: "to",
+    value: "NOTATION",
+    kind: Kind::Notation,
+    default: None,
+    place: Place::Daily,
+    help: "Write it in this notation",
+};
+
+pub const RUN: Row = Row {
+    name: "run",
+    value: "",
+    kind: Kind::Switch,
+    default: None,
+    place: Place::Daily,
+    help: "Pass over what run or campaign printed before it",
+};
+
+pub const JSON: Row = Row {
+    name: "json",
+    value: "",
+    kind: Kind::Switch,
+    default: None,
+    place: Place::Daily,
+    help: "Answer in JSON",
+};
+
+pub const JUNIT: Row = Row {
+    name: "junit",
+    value: "",
+    kind: Kind::Switch,
+    default: None,
+    place: Place::Rare,
+    help: "Write the report as JUnit's XML",
 };
 
 pub const WHY: Row = Row {
@@ -104,8 +140,8 @@ pub const NAME: Row = Row {
 
 pub const TIMEOUT: Row = Row {
     name: "timeout",
-    value: "SECONDS",
-    kind: Kind::Seconds,
+    value: "TIME",
+    kind: Kind::Time,
     default: None,
     place: Place::Daily,
     help: "Limit of a connect, a read or a write",
@@ -113,8 +149,8 @@ pub const TIMEOUT: Row = Row {
 
 pub const WAIT: Row = Row {
     name: "wait",
-    value: "SECONDS",
-    kind: Kind::Seconds,
+    value: "TIME",
+    kind: Kind::Time,
     default: None,
     place: Place::Daily,
     help: "Try this long to connect",
@@ -190,6 +226,15 @@ pub const SEED: Row = Row {
     default: Some(1),
     place: Place::Daily,
     help: "The seed of the scripts",
+};
+
+pub const RANDOM_SEED: Row = Row {
+    name: "random-seed",
+    value: "",
+    kind: Kind::Switch,
+    default: None,
+    place: Place::Rare,
+    help: "Draw a seed, and say it",
 };
 
 pub const JOB: Row = Row {

@@ -2,10 +2,12 @@
 ghost use Rattle.std.specs.Prelude.{◌≡◌, ◌≤◌, ℕ, Option, codes, IfErr, IfOk};
 ghost use Rattle.clap.specs.Words.{first_value, found_of};
 ghost use Rattle.mc_cli.specs.Args as spec;
-ghost use Rattle.mc_cli.specs.Args.{IsDraw, IsJob, IsRepeat, IsRunArgs, IsSearch, IsService};
+ghost use Rattle.mc_cli.specs.Args.{IsCheck, IsConvert, IsDraw, IsJob, IsJudge, IsRepeat, IsRunArgs, IsSearch, IsService};
 ghost use Rattle.mc_cli.specs.Kinds.{IsValue};
 
-use crate::args::{DrawArgs, Repeat, RunArgs, Search, ServeArgs};
+use crate::args::{
+    CheckArgs, ConvertArgs, DrawArgs, JudgeArgs, Repeat, RunArgs, Search, ServeArgs,
+};
 use crate::fault::OptionFault;
 use crate::rows::Row;
 use crate::{options as rows, value};
@@ -25,13 +27,48 @@ pub fn read_search<'a>(options: &ArgMatches<'a>) -> Result<Search, OptionFault<'
     })
 }
 
+/// The judgement that `judge` asks for.
+pub fn read_judge<'a>(options: &ArgMatches<'a>) -> Result<JudgeArgs, OptionFault<'a>>
+    ensures args { IfOk result (IsJudge (first_value (found_of options.now))) }
+    ensures none { IfErr result (λ _. (args : JudgeArgs) → IsJudge (first_value (found_of options.now)) args → ⊥) }
+{
+    let how = read_search(options)?;
+    let job = value::optional(options, &rows::SHOWN_JOB)?;
+    Ok(JudgeArgs {
+        how,
+        json: value::is_set(options, &rows::JSON),
+        run: value::is_set(options, &rows::RUN) || job.is_some(),
+        job,
+    })
+}
+
+/// The check that `check` asks for.
+pub fn read_check(options: &ArgMatches) -> CheckArgs
+    ensures { IsCheck (first_value (found_of options.now)) result }
+{
+    CheckArgs {
+        why: value::is_set(options, &rows::REFUSED),
+        json: value::is_set(options, &rows::JSON),
+    }
+}
+
+/// The notation that `convert` asks for.
+pub fn read_convert<'a>(options: &ArgMatches<'a>) -> Result<ConvertArgs, OptionFault<'a>>
+    ensures args { IfOk result (IsConvert (first_value (found_of options.now))) }
+    ensures none { IfErr result (λ _. (args : ConvertArgs) → IsConvert (first_value (found_of options.now)) args → ⊥) }
+{
+    let to = value::notation(options, &rows::TO)?;
+    let job = value::optional(options, &rows::SHOWN_JOB)?;
+    Ok(ConvertArgs { to, job })
+}
+
 /// The picture that `draw` asks for.
 pub fn read_draw<'a>(options: &ArgMatches<'a>) -> Result<DrawArgs, OptionFault<'a>>
     ensures how { IfOk result (IsDraw (first_value (found_of options.now))) }
     ensures none { IfErr result (λ _. (how : DrawArgs) → IsDraw (first_value (found_of options.now)) how → ⊥) }
 {
     let limit = value::number(options, &rows::LIMIT)?;
-    let job = value::optional(options, &rows::JOB_TO_DRAW)?;
+    let job = value::optional(options, &rows::SHOWN_JOB)?;
     Ok(DrawArgs {
         text: value::is_set(options, &rows::TEXT),
         lines: value::is_set(options, &rows::LINES),
@@ -90,6 +127,7 @@ pub fn read_run<'a>(options: &ArgMatches<'a>) -> Result<RunArgs<'a>, OptionFault
         reconnect: value::is_set(options, &rows::RECONNECT),
         quiet: value::is_set(options, &rows::QUIET),
         stats: value::is_set(options, &rows::STATS),
+        json: value::is_set(options, &rows::JSON),
         spread,
     })
 }

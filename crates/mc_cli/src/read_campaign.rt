@@ -1,10 +1,10 @@
 //! What the values of the options of `campaign` ask for.
-ghost use Rattle.std.specs.Prelude.{◌≡◌, ◌+◌, ◌≤◌, ◌^◌, ◌↔◌, ℕ, Option, codes, true, IfErr, IfOk};
+ghost use Rattle.std.specs.Prelude.{◌≡◌, ◌+◌, ◌≤◌, ◌^◌, ◌↔◌, ℕ, Bool, Option, codes, true, IfErr, IfOk};
 ghost use Rattle.std.specs.Option.{option_copied};
 ghost use Rattle.clap.specs.Words.{first_value, found_of};
 ghost use Rattle.mc_settings.specs.JobKeys.{NameFits};
 ghost use Rattle.mc_cli.specs.Args as spec;
-ghost use Rattle.mc_cli.specs.Args.{AreJobs, IsCampaignArgs, IsPlan, IsUntil};
+ghost use Rattle.mc_cli.specs.Args.{AreJobs, IsCampaignArgs, IsPlan, IsRandomSeed, IsUntil};
 
 use crate::args::{CampaignArgs, Plan, Until, has_last};
 use crate::fault::OptionFault;
@@ -33,6 +33,8 @@ pub fn read_campaign<'a>(options: &ArgMatches<'a>) -> Result<CampaignArgs<'a>, O
     let wait = value::seconds(options, &rows::WAIT)?;
     Ok(CampaignArgs {
         server,
+        a: options.get_str(rows::SERVER_OF_A.name),
+        b: options.get_str(rows::SERVER_OF_B.name),
         plan,
         meeting,
         name,
@@ -50,6 +52,7 @@ fn read_plan<'a>(options: &ArgMatches<'a>) -> Result<Plan, OptionFault<'a>>
     ensures none { IfErr result (λ _. (plan : Plan) → IsPlan (first_value (found_of options.now)) plan → ⊥) }
 {
     let seed = value::number(options, &rows::SEED)?;
+    let random_seed = read_random_seed(options)?;
     let first = value::number(options, &rows::FROM)?;
     let until = read_until(options)?;
     let jobs = read_jobs(options, first)?;
@@ -59,18 +62,48 @@ fn read_plan<'a>(options: &ArgMatches<'a>) -> Result<Plan, OptionFault<'a>>
     if !has_last(first, jobs) {
         return Err(OptionFault::LastJob { first, jobs });
     }
+    let brief = value::is_set(options, &rows::BRIEF);
+    let json = value::is_set(options, &rows::JSON);
+    let junit = value::is_set(options, &rows::JUNIT);
+    if are_two(brief, json, junit) {
+        return Err(OptionFault::Together(
+            "of --brief, --json and --junit only one can stand there",
+        ));
+    }
     Ok(Plan {
         seed,
+        random_seed,
         first,
         jobs,
         workers: workers as u32,
         limit,
-        brief: value::is_set(options, &rows::BRIEF),
+        brief,
+        json,
+        junit,
         show: value::is_set(options, &rows::SHOW),
         why: value::is_set(options, &rows::WHY_OF_SHOWN),
         tries,
         until,
     })
+}
+
+// Whether two of these are set.
+fn are_two(brief: bool, json: bool, junit: bool) -> bool
+    ensures { result ≡ spec.are_two brief json junit }
+{
+    brief && (json || junit) || json && junit
+}
+
+// Whether a seed is drawn, for which the line names none.
+fn read_random_seed<'a>(options: &ArgMatches<'a>) -> Result<bool, OptionFault<'a>>
+    ensures random { IfOk result (IsRandomSeed (first_value (found_of options.now))) }
+    ensures none { IfErr result (λ _. (random : Bool) → IsRandomSeed (first_value (found_of options.now)) random → ⊥) }
+{
+    let is_random = value::is_set(options, &rows::RANDOM_SEED);
+    if is_random && options.get_str(rows::SEED.name).is_some() {
+        return Err(OptionFault::Together("--random-seed and --seed can't stand together"));
+    }
+    Ok(is_random)
 }
 
 // Until when the campaign runs in blocks, if it does.

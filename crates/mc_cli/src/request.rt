@@ -1,16 +1,16 @@
 //! What a line asks for: it is read here, once.
 ghost use Rattle.std.specs.Prelude.{◌≡◌, map, string_bytes, IfErr, IfOk, Some};
 ghost use Rattle.clap.specs.Words.{first_value, found_of, kind_of};
-ghost use Rattle.mc_cli.specs.Asked.{Asked};
-ghost use Rattle.mc_cli.specs.Asking.{AsksFor, Describes, IsAskedBy, IsFaultOf, Says, asked_by};
-ghost use Rattle.mc_cli.specs.Line.{line_value};
+ghost use Rattle.mc_cli.specs.Asking.{AsksFor, IsAskedBy, IsFaultOf, IsLike, Says};
 
 use crate::args::{CampaignArgs, RunArgs, ServeArgs};
 use crate::fault::{OptionFault, long_key_message};
 use crate::file_hint::error_text;
 use crate::help_line::help_text;
 use crate::question::Question;
-use crate::read::{read_draw, read_job, read_run, read_search, read_service};
+use crate::read::{
+    read_check, read_convert, read_draw, read_job, read_judge, read_run, read_search, read_service,
+};
 use crate::read_campaign::read_campaign;
 use crate::subcommand::{program, usage_fault};
 use crate::{options as rows, value};
@@ -64,10 +64,8 @@ impl From<AllocError> for LineFault {
 ///
 /// The line calls for help or for the version, or has a fault; or memory ran out, and then nothing is known of the line.
 pub fn read_request(alloc: Global, line: &[String]) -> Result<Request<'_>, LineFault>
-    ensures asked { IfOk result (λ request. AsksFor (map string_bytes line.now) (asked_by request)) }
-    ensures only { IfOk result (λ request.
-        (wanted : Asked) → AsksFor (map string_bytes line.now) wanted → asked_by request ≡ wanted) }
-    ensures described { IfOk result (Describes (line_value (map string_bytes line.now))) }
+    ensures asked { IfOk result (AsksFor (map string_bytes line.now)) }
+    ensures only { IfOk result (λ request. (wanted : Request) → AsksFor (map string_bytes line.now) wanted → IsLike request wanted) }
     ensures fault { IfErr result (IsFaultOf (map string_bytes line.now)) }
 {
     let matches = match program(alloc)?.try_get_matches_from(line) {
@@ -85,16 +83,16 @@ pub fn read_request(alloc: Global, line: &[String]) -> Result<Request<'_>, LineF
 
 // What the subcommand of this name asks for with its options.
 fn read_options<'a>(name: &str, options: &ArgMatches<'a>) -> Result<Request<'a>, OptionFault<'a>>
-    ensures asked { IfOk result (λ request. IsAskedBy (Some name.now) (first_value (found_of options.now)) (asked_by request)) }
-    ensures described { IfOk result (Describes (first_value (found_of options.now))) }
-    ensures none { IfErr result (λ _. (wanted : Asked) → IsAskedBy (Some name.now) (first_value (found_of options.now)) wanted → ⊥) }
+    ensures asked { IfOk result (IsAskedBy (Some name.now) (first_value (found_of options.now))) }
+    ensures none { IfErr result (λ _. (wanted : Request) → IsAskedBy (Some name.now) (first_value (found_of options.now)) wanted → ⊥) }
 {
     match name {
-        "judge" => Ok(Request::Question(Question::Judge(read_search(options)?))),
-        "check" => Ok(Request::Question(Question::Check(value::is_set(options, &rows::REFUSED)))),
+        "judge" => Ok(Request::Question(Question::Judge(read_judge(options)?))),
+        "check" => Ok(Request::Question(Question::Check(read_check(options)))),
         "asm" => Ok(Request::Question(Question::Asm(value::is_set(options, &rows::REFUSED)))),
         "drive" => Ok(Request::Question(Question::Drive(read_search(options)?))),
         "draw" => Ok(Request::Question(Question::Draw(read_draw(options)?))),
+        "convert" => Ok(Request::Question(Question::Convert(read_convert(options)?))),
         "run" => Ok(Request::Run(read_run(options)?)),
         "generate" => {
             let (seed, job) = read_job(options)?;

@@ -5,12 +5,12 @@
 pub enum Kind {
     /// A decimal from the first of these numbers to the second.
     Number(u64, u64),
-    /// 0.001 to 86400 seconds, with at most three places.
-    Seconds,
-    /// Up to 24 hours, in seconds, minutes or hours, as `90s`, `10m` or `2h`.
+    /// 1 millisecond to 24 hours, as `500ms`, `2s`, `10m` or `2h`, or in seconds with at most three places, as `0.5`.
     Time,
     /// A word that says how the branches meet.
     Meeting,
+    /// A word that names a notation.
+    Notation,
     /// A name that keys may be put under.
     Name,
     /// A server, as HOST:PORT.

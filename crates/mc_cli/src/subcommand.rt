@@ -5,8 +5,8 @@ ghost use Rattle.mc_cli.specs.Commands as spec;
 ghost use Rattle.mc_cli.specs.Commands.{rule_of_row};
 
 use crate::help::{
-    ASM, CAMPAIGN, CHECK, DRAW, DRIVE, FORMATS, GENERATE, HISTORY, Help, IMAGE, JUDGE, RUN, SCRIPT,
-    SELFTEST, SERVE, SHORT_STATUSES, STATUSES, STEPS,
+    ASM, CAMPAIGN, CHECK, CONVERT, DRAW, DRIVE, FORMATS, GENERATE, HISTORY, Help, IMAGE, JUDGE,
+    RUN, SCRIPT, SELFTEST, SERVE, SHORT_STATUSES, STATUSES, STEPS,
 };
 use crate::options as rows;
 use crate::rows::{Kind, Place, Row};
@@ -18,11 +18,23 @@ const ABOUT: &str = "Tests servers that speak memcached's text protocol";
 
 const VERSION: &str = "0.1.0";
 
-const JUDGE_ROWS: &[Row] = &[rows::LIMIT, rows::WHY];
+const JUDGE_ROWS: &[Row] = &[
+    rows::LIMIT,
+    rows::WHY,
+    rows::RUN,
+    rows::SHOWN_JOB,
+    rows::JSON,
+];
 
-const REFUSED_ROWS: &[Row] = &[rows::REFUSED];
+const CHECK_ROWS: &[Row] = &[rows::REFUSED, rows::JSON];
 
-const DRAW_ROWS: &[Row] = &[rows::TEXT, rows::LINES, rows::JOB_TO_DRAW, rows::LIMIT];
+const DRIVE_ROWS: &[Row] = &[rows::LIMIT, rows::WHY];
+
+const ASM_ROWS: &[Row] = &[rows::REFUSED];
+
+const DRAW_ROWS: &[Row] = &[rows::TEXT, rows::LINES, rows::SHOWN_JOB, rows::LIMIT];
+
+const CONVERT_ROWS: &[Row] = &[rows::TO, rows::SHOWN_JOB];
 
 const RUN_ROWS: &[Row] = &[
     rows::TARGET,
@@ -41,6 +53,7 @@ const RUN_ROWS: &[Row] = &[
     rows::QUIET,
     rows::SPREAD,
     rows::STATS,
+    rows::JSON,
 ];
 
 const GENERATE_ROWS: &[Row] = &[rows::SEED, rows::JOB];
@@ -50,15 +63,20 @@ const SERVE_ROWS: &[Row] = &[rows::PORT, rows::CONNECTIONS, rows::RACY];
 const CAMPAIGN_ROWS: &[Row] = &[
     rows::TARGET,
     rows::SEED,
+    rows::RANDOM_SEED,
     rows::FROM,
     rows::JOBS,
     rows::WORKERS,
     rows::LIMIT,
     rows::MEET,
+    rows::SERVER_OF_A,
+    rows::SERVER_OF_B,
     rows::NAME,
     rows::TIMEOUT,
     rows::WAIT,
     rows::BRIEF,
+    rows::JSON,
+    rows::JUNIT,
     rows::SHOW,
     rows::WHY_OF_SHOWN,
     rows::TRIES,
@@ -104,10 +122,11 @@ fn reading_program<'a>(alloc: Global) -> Result<Command<'a>, AllocError>
 {
     bare_program(alloc)
         .subcommand(command_of(alloc, &JUDGE, JUDGE_ROWS)?)?
-        .subcommand(command_of(alloc, &CHECK, REFUSED_ROWS)?)?
-        .subcommand(command_of(alloc, &ASM, REFUSED_ROWS)?)?
-        .subcommand(command_of(alloc, &DRIVE, JUDGE_ROWS)?)?
-        .subcommand(command_of(alloc, &DRAW, DRAW_ROWS)?)
+        .subcommand(command_of(alloc, &CHECK, CHECK_ROWS)?)?
+        .subcommand(command_of(alloc, &ASM, ASM_ROWS)?)?
+        .subcommand(command_of(alloc, &DRIVE, DRIVE_ROWS)?)?
+        .subcommand(command_of(alloc, &DRAW, DRAW_ROWS)?)?
+        .subcommand(command_of(alloc, &CONVERT, CONVERT_ROWS)?)
 }
 
 // The program without its subcommands.
@@ -176,10 +195,11 @@ impl Row {
 fn parts_of(name: &str) -> Option<(&'static Help, &'static [Row])> {
     match name {
         "judge" => Some((&JUDGE, JUDGE_ROWS)),
-        "check" => Some((&CHECK, REFUSED_ROWS)),
-        "asm" => Some((&ASM, REFUSED_ROWS)),
-        "drive" => Some((&DRIVE, JUDGE_ROWS)),
+        "check" => Some((&CHECK, CHECK_ROWS)),
+        "asm" => Some((&ASM, ASM_ROWS)),
+        "drive" => Some((&DRIVE, DRIVE_ROWS)),
         "draw" => Some((&DRAW, DRAW_ROWS)),
+        "convert" => Some((&CONVERT, CONVERT_ROWS)),
         "run" => Some((&RUN, RUN_ROWS)),
         "generate" => Some((&GENERATE, GENERATE_ROWS)),
         "serve" => Some((&SERVE, SERVE_ROWS)),

@@ -2,11 +2,11 @@
 ghost use Rattle.std.specs.Prelude.{◌≡◌, ℕ, List, Option, Some, IfErr, IfOk, option_map};
 ghost use Rattle.clap.specs.Words.{first_value, found_of};
 ghost use Rattle.mc_settings.specs.declared.meeting.Meeting.{Meeting};
-ghost use Rattle.mc_cli.specs.Args.{IsMeeting, MayBeName};
+ghost use Rattle.mc_cli.specs.Args.{IsMeeting, IsNotation, MayBeName};
 ghost use Rattle.mc_cli.specs.Kinds.{IsValue, MayBeValue};
 ghost use Rattle.mc_cli.specs.Line as line;
 
-use crate::args::Seconds;
+use crate::args::{Notation, Seconds};
 use crate::decimal::number_in;
 use crate::fault::OptionFault;
 use crate::rows::Row;
@@ -105,6 +105,26 @@ pub fn meeting<'a>(options: &ArgMatches<'a>, row: &Row) -> Result<Meeting, Optio
         "each" => Ok(Meeting::Each),
         "first" => Ok(Meeting::First),
         "never" => Ok(Meeting::Never),
+        _ => Err(OptionFault::Value(*row, word)),
+    }
+}
+
+/// The notation that the option names.
+///
+/// # Errors
+///
+/// The word names none, or the option is missing.
+pub fn notation<'a>(options: &ArgMatches<'a>, row: &Row) -> Result<Notation, OptionFault<'a>>
+    ensures value { IfOk result (IsNotation (first_value (found_of options.now) row.now.name.now)) }
+    ensures none { IfErr result (λ _. (wanted : Notation)
+        → IsNotation (first_value (found_of options.now) row.now.name.now) wanted → ⊥) }
+{
+    let Some(word) = options.get_str(row.name) else {
+        return Err(OptionFault::Missing(*row));
+    };
+    match word {
+        "json" => Ok(Notation::Json),
+        "edn" => Ok(Notation::Edn),
         _ => Err(OptionFault::Value(*row, word)),
     }
 }

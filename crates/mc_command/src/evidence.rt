@@ -68,15 +68,14 @@ fn late_text<S: Stream>(
     let Some(Sent { request, .. }) = sent.last() else {
         return Ok(None);
     };
-    let word = time.word;
     let asked = asked_text(alloc, request)?;
     let came = shown_part(&lane.got()[lane.taken()..]);
     let text = match lane.fault() {
-        Some(Fault::WriteFailed) => format!(in alloc; "\"{asked}\" wasn't sent within {word} s")?,
-        _ if came.is_empty() => format!(in alloc; "no reply to \"{asked}\" within {word} s")?,
+        Some(Fault::WriteFailed) => format!(in alloc; "\"{asked}\" wasn't sent within {time}")?,
+        _ if came.is_empty() => format!(in alloc; "no reply to \"{asked}\" within {time}")?,
         _ => {
             let came = came.escape_ascii();
-            format!(in alloc; "no more than \"{came}\" to \"{asked}\" within {word} s")?
+            format!(in alloc; "no more than \"{came}\" to \"{asked}\" within {time}")?
         }
     };
     Ok(Some(text))

@@ -209,7 +209,7 @@ pub fn is_late<R: Clock>(rt: &R, begun: &io::Result<Instant>, time: Option<u64>)
     };
     match begun {
         Ok(begun) => match begun.elapsed(rt) {
-            Ok(passed) => passed >= Duration::from_secs(time),
+            Ok(passed) => passed >= Duration::from_millis(time),
             Err(_) => true,
         },
         Err(_) => true,

@@ -5,7 +5,8 @@ use mc_answers::{
     Reader, Status, Writer, answer_question, command, explain_fault, unread_line, write_generated,
 };
 use mc_cli::{
-    DrawArgs, Question, Repeat, Request, RunArgs, Search, Seconds, ServeArgs, read_request,
+    CheckArgs, ConvertArgs, DrawArgs, JudgeArgs, Notation, Question, Repeat, Request, RunArgs,
+    Search, Seconds, ServeArgs, read_request,
 };
 use mc_settings::Meeting;
 use std::alloc::{AllocError, Global};
@@ -16,6 +17,23 @@ use std::test::Fail;
 const SEARCH: Search = Search {
     limit: 7,
     why: true,
+};
+
+const JUDGED: JudgeArgs = JudgeArgs {
+    how: SEARCH,
+    json: false,
+    run: false,
+    job: None,
+};
+
+const CHECKED: CheckArgs = CheckArgs {
+    why: false,
+    json: false,
+};
+
+const CONVERTED: ConvertArgs = ConvertArgs {
+    to: Notation::Edn,
+    job: Some(31),
 };
 
 const DRAWN: DrawArgs = DrawArgs {
@@ -45,12 +63,12 @@ enum Asked {
 static LINES: &[(&[&str], Option<Asked>, Option<&str>)] = &[
     (
         &["mcrace", "judge", "--limit", "7", "--why"],
-        Some(Asked::Question(Question::Judge(SEARCH))),
+        Some(Asked::Question(Question::Judge(JUDGED))),
         Some("a history"),
     ),
     (
         &["mcrace", "check"],
-        Some(Asked::Question(Question::Check(false))),
+        Some(Asked::Question(Question::Check(CHECKED))),
         Some("a script or an image"),
     ),
     (
@@ -66,6 +84,11 @@ static LINES: &[(&[&str], Option<Asked>, Option<&str>)] = &[
     (
         &["mcrace", "draw", "--text", "--job", "31", "--limit", "7"],
         Some(Asked::Question(Question::Draw(DRAWN))),
+        Some("a history"),
+    ),
+    (
+        &["mcrace", "convert", "--to", "edn", "--job", "31"],
+        Some(Asked::Question(Question::Convert(CONVERTED))),
         Some("a history"),
     ),
     (
@@ -181,7 +204,7 @@ fn questions_are_answered(rt: HostRuntime) {
     let mut output = Vec::new(alloc);
     let ended = answer_question(
         alloc,
-        Question::Check(false),
+        Question::Check(CHECKED),
         &mut Reader::new(SCRIPT.as_bytes()),
         &mut Writer::new(&mut output),
     );

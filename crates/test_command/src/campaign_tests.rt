@@ -24,7 +24,7 @@ fn campaign_needs_a_server(rt: HostRuntime) {
 #[test]
 fn campaign_in_blocks_needs_a_server(rt: HostRuntime) {
     let until = Until {
-        time: Some(1),
+        time: Some(1_000),
         unexplained: Some(1),
     };
     assert_eq!(rt;
@@ -49,13 +49,18 @@ where
 {
     let target = CampaignArgs {
         server: "127.0.0.1:0",
+        a: None,
+        b: None,
         plan: Plan {
             seed: 1,
+            random_seed: false,
             first: 0,
             jobs,
             workers: 2,
             limit: 1_000,
             brief: false,
+            json: false,
+            junit: false,
             show: false,
             why: false,
             tries: 1,
@@ -78,11 +83,14 @@ where
 
 const DEFAULT: Plan = Plan {
     seed: 1,
+    random_seed: false,
     first: 0,
     jobs: 100,
     workers: 4,
     limit: 1_000_000,
     brief: false,
+    json: false,
+    junit: false,
     show: false,
     why: false,
     tries: 1,
@@ -170,7 +178,7 @@ static LINES: &[(&[&str], Option<Plan>)] = &[
         Some(Plan {
             jobs: u64::MAX,
             until: Some(Until {
-                time: Some(600),
+                time: Some(600_000),
                 unexplained: None,
             }),
             ..DEFAULT
@@ -191,7 +199,7 @@ static LINES: &[(&[&str], Option<Plan>)] = &[
             first: u64::MAX - 1,
             jobs: 2,
             until: Some(Until {
-                time: Some(86_400),
+                time: Some(86_400_000),
                 unexplained: Some(10_000),
             }),
             ..DEFAULT

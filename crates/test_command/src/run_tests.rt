@@ -77,7 +77,7 @@ fn each_run_of_several_needs_a_server(rt: HostRuntime) {
     );
     let until_the_first = Repeat {
         times: None,
-        time: Some(60),
+        time: Some(60_000),
         keep_going: false,
     };
     assert_eq!(rt;

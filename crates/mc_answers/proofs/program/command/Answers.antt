@@ -2,27 +2,26 @@ use Rattle.std.proofs.Common.{ap, inl, inr, refl, ◌∙◌}
 use Rattle.mc_answers.proofs.LineFaults.{asking_lacks_memory, fault_is}
 use Rattle.mc_answers.proofs.Questions.{same_question}
 use Rattle.mc_answers.proofs.Right.{out_of_memory_by}
-use Rattle.mc_cli.specs.Asked as asked
-use Rattle.mc_cli.specs.Asking.{asked_in}
+use Rattle.mc_cli.specs.declared.request.Request.TheVariants as request
 use Rattle.mc_answers.specs.Answers.{Does}
 use Rattle.mc_answers.specs.Statuses.{status_number}
 use Rattle.mc_answers.proofs.program.command.Goals as goal
 
 pub returns-in-Ok-Question-clause-answered : goal.returns-in-Ok-Question-clause-answered
 returns-in-Ok-Question-clause-answered g c question asks input_old input_new output_old output_new =
-    let asked_is = rw c.in-Ok-Question.field-0-is at (c.in-Ok-Question.ensures.only (asked_in question) asks) in
+    let asked_is = rw c.in-Ok-Question.field-0-is at (c.in-Ok-Question.ensures.only (request.Question question) asks) in
     let one = same_question c.in-Ok-Question.question question asked_is in
     (_, c.number.ensures, rw one at (c.answer_question.ensures.answered input_old input_new output_old output_new))
 
 pub returns-in-Err-clause-answered : goal.returns-in-Err-clause-answered
 returns-in-Err-clause-answered g c question asks input_old input_new output_old output_new =
-    let memory = asking_lacks_memory _ (asked_in question) _ asks c.in-Err.ensures.fault in
+    let memory = asking_lacks_memory _ (request.Question question) _ asks c.in-Err.ensures.fault in
     let written = c.explain_fault.ensures.memory memory output_old output_new in
     (_, c.number-in-Err.ensures, out_of_memory_by (Does question) _ _ _ _ written.0 written.1)
 
 pub returns-in-Err-clause-generated : goal.returns-in-Err-clause-generated
 returns-in-Err-clause-generated g c seed job asks output_old output_new =
-    let memory = asking_lacks_memory _ (asked.Generate seed job) _ asks c.in-Err.ensures.fault in
+    let memory = asking_lacks_memory _ (request.Generate seed job) _ asks c.in-Err.ensures.fault in
     let written = c.explain_fault.ensures.memory memory output_old output_new in
     (_, c.number-in-Err.ensures, record { output = _; right = inr (refl, written.1); written = written.0 })
 

@@ -2,8 +2,8 @@ use Rattle.std.proofs.Common.{◌∙◌, map, string_bytes, sym, subst, Some, in
 use Rattle.std.proofs.Math.Path.{fun_ext}
 use Rattle.mc_cli.proofs.Asks.{asks_once, fault_by_clap, fault_of_values}
 use Rattle.mc_cli.proofs.Line.{command_is, line_faults-is, program_is_simple, value_is}
-use Rattle.mc_cli.specs.Asked.{Asked}
-use Rattle.mc_cli.specs.Asking.{Describes, IsAskedBy, asked_by}
+use Rattle.mc_cli.specs.Asking.{IsAskedBy}
+use Rattle.mc_cli.specs.declared.request.Request.{Request}
 use Rattle.mc_cli.proofs.request.read_request.Goals as goal
 
 pub returns-in-Err-clause-fault : goal.returns-in-Err-clause-fault
@@ -24,18 +24,12 @@ returns-in-Ok-read_options-clause-asked c =
     let command = command_is _ words _ program matches _ c.in-Some.ensures.name in
     let same = fun_ext (λ name. sym (value_is _ words _ program matches _ c.in-Some.ensures.rows name)) in (
       clear,
-      rw command (subst (λ value. IsAskedBy (Some c.in-Some.name.now) value (asked_by c.in-Ok-read_options.request)) same
+      rw command (subst (λ value. IsAskedBy (Some c.in-Some.name.now) value c.in-Ok-read_options.request) same
           c.in-Ok-read_options.ensures.asked),
     )
 
 pub returns-in-Ok-read_options-clause-only : goal.returns-in-Ok-read_options-clause-only
 returns-in-Ok-read_options-clause-only c wanted asks = asks_once _ _ wanted (returns-in-Ok-read_options-clause-asked c) asks
-
-pub returns-in-Ok-read_options-clause-described : goal.returns-in-Ok-read_options-clause-described
-returns-in-Ok-read_options-clause-described c =
-    let words = map string_bytes c.args.line.now in
-    let same = fun_ext (λ name. sym (value_is _ words _ c.in_ok-program.ensures c.in-Ok.ensures.matches _ c.in-Some.ensures.rows name)) in
-    subst (λ value. Describes value c.in-Ok-read_options.request) same c.in-Ok-read_options.ensures.described
 
 pub returns-in-Some-clause-fault : goal.returns-in-Some-clause-fault
 returns-in-Some-clause-fault c =
@@ -46,5 +40,5 @@ returns-in-Some-clause-fault c =
     let command = command_is _ words _ program matches _ c.in-Some.ensures.name in
     let same = fun_ext (λ name. sym (value_is _ words _ program matches _ c.in-Some.ensures.rows name)) in
     fault_of_values words c.option_fault.result clear
-    (rw command (subst (λ value. (wanted : Asked) → IsAskedBy (Some c.in-Some.name.now) value wanted → ⊥) same
+    (rw command (subst (λ value. (wanted : Request) → IsAskedBy (Some c.in-Some.name.now) value wanted → ⊥) same
     c.in-Err-read_options.ensures.none)) c.option_fault.ensures
