@@ -5,17 +5,30 @@ ghost use Rattle.mc_answers.specs.CheckAnswers as answers;
 ghost use Rattle.mc_answers.specs.Refusing.{Gives};
 
 use crate::answer::Answer;
+use crate::in_json::in_json;
 use crate::loading::{load, sound_code};
 use crate::refusal::{Unanswered, refuse};
 use crate::status::Status;
+use mc_cli::CheckArgs;
 use mc_code::Code;
 use mc_hints::Refused;
 use mc_protocol::{Actor, Sections};
 use mc_verify::{Checked, Cost};
 use std::alloc::{AllocError, Global};
 
-/// Reads the code of a script or of an image, and answers the greatest costs of its sections if it is sound.
-pub fn check(alloc: Global, why: bool, input: &[u8]) -> Result<Answer, Unanswered>
+/// Checks as the line asks for it: in words, or in JSON, which has the hint too.
+pub fn check_as_asked(alloc: Global, args: CheckArgs, input: &[u8]) -> Result<Answer, Unanswered>
+    ensures { Gives (answers.ChecksAs args input.now) result }
+{
+    if args.json {
+        in_json(alloc, check(alloc, true, input))
+    } else {
+        check(alloc, args.why, input)
+    }
+}
+
+// Reads the code of a script or of an image, and answers the greatest costs of its sections if it is sound.
+fn check(alloc: Global, why: bool, input: &[u8]) -> Result<Answer, Unanswered>
     ensures { Gives (answers.Checks why input.now) result }
 {
     match load(alloc, input)? {

@@ -10,9 +10,11 @@
 mod answer;
 mod asm;
 mod check;
+mod convert;
 mod draw;
 mod drive;
 mod generate;
+mod in_json;
 mod input;
 mod judge;
 mod loading;

@@ -87,12 +87,7 @@ static ROWS: [Row; 8] = [
          \"why\":{\"line\":9,\"undecided\":true,\"start\":[],\"order\":[],\"answers\":[]},\
          \"history\":{\"version\":2,\"sections\":[\"P\",\"A\",\"B\"],\"notes\":[]}}\n",
     ),
-    (
-        "job 7\nhistory 2\nend\n",
-        Form::Edn,
-        Some(7),
-        "",
-    ),
+    ("job 7\nhistory 2\nend\n", Form::Edn, Some(7), ""),
 ];
 
 // The index of the first row that is converted otherwise.

@@ -1,0 +1,7 @@
+-- What is answered in JSON.
+use Rattle.std.specs.Prelude.{ℕ, Bool, true, false, List}
+use Rattle.mc_answers.specs.declared.status.Status.{Status}
+
+-- JSON may have any bytes; the status with it is that of some text which is right
+abbrev pub InJson : (List ℕ → Status → Type 0) → List ℕ → Status → Type 0
+InJson right_for output ended = (text : List ℕ) × right_for text ended
