@@ -5,7 +5,7 @@ ghost use Rattle.mc_answers.specs.CheckAnswers as answers;
 ghost use Rattle.mc_answers.specs.Refusing.{Gives};
 
 use crate::answer::Answer;
-use crate::in_json::in_json;
+use crate::in_json::found_in_json;
 use crate::loading::{load, sound_code};
 use crate::refusal::{Unanswered, refuse};
 use crate::status::Status;
@@ -21,7 +21,7 @@ pub fn check_as_asked(alloc: Global, args: CheckArgs, input: &[u8]) -> Result<An
     ensures { Gives (answers.ChecksAs args input.now) result }
 {
     if args.json {
-        in_json(alloc, check(alloc, true, input))
+        found_in_json(alloc, check(alloc, true, input))
     } else {
         check(alloc, args.why, input)
     }

@@ -6,7 +6,7 @@ ghost use Rattle.mc_answers.specs.JudgeAnswers as answers;
 ghost use Rattle.mc_answers.specs.Refusing.{Gives, IfRefused, IsRefusal};
 
 use crate::answer::Answer;
-use crate::in_json::in_json;
+use crate::in_json::found_in_json;
 use crate::outcome::{verdict_status, verdict_text};
 use crate::refusal::{Unanswered, refuse};
 use crate::status::Status;
@@ -26,7 +26,7 @@ pub fn judge_as_asked(alloc: Global, args: JudgeArgs, text: &[u8]) -> Result<Ans
 {
     let answer = judge_in(alloc, args, text);
     if args.json {
-        in_json(alloc, answer)
+        found_in_json(alloc, answer)
     } else {
         answer
     }

@@ -6,23 +6,14 @@ use mc_model::History;
 use mc_protocol::{OutOfMemory, Separator, append_all, is_word, read_decimal, words_in};
 use std::alloc::Global;
 
-/// A section of the history: a process of the operations.
+// A section of the history: a process of the operations.
 #[derive(Clone, Copy, Drop)]
 struct Process<'a> {
-    name: &'static str,
-    number: &'static str,
+    // The name of the section.
+    name: u8,
+    number: usize,
     // The line of its request that has no reply yet.
     open: Option<&'a [u8]>,
-}
-
-impl Process<'_> {
-    fn new(name: &'static str, number: &'static str) -> Self {
-        Process {
-            name,
-            number,
-            open: None,
-        }
-    }
 }
 
 /// Appends a line for each note of a history that keeps them, and then one for each request without a reply.
@@ -33,22 +24,24 @@ pub fn append_operations(
 ) -> Result<(), OutOfMemory> {
     let mut text = Vec::new(alloc);
     print_history(history, &mut text)?;
+    let mut processes = Vec::new(alloc);
+    'names: for (number, name) in [b'P', b'A', b'B'].iter().enumerate() {
+        processes.push(Process {
+            name: *name,
+            number,
+            open: None,
+        })?;
+    }
     let mut count: usize = 0;
-    let mut processes = [
-        Process::new("P", "0"),
-        Process::new("A", "1"),
-        Process::new("B", "2"),
-    ];
     'lines: for line in lines_in(alloc, text.as_slice())? {
-        if let Some(process) = processes
-            .iter_mut()
-            .find(|one| line.starts_with(one.name.as_bytes()))
-        {
-            append_note(alloc, out, count, process, line)?;
-            count = count.saturating_add(1);
+        'processes: for process in processes.iter_mut() {
+            if line.first().copied() == Some(process.name) {
+                append_note(alloc, out, count, process, line)?;
+                count = count.saturating_add(1);
+            }
         }
     }
-    'processes: for process in &processes {
+    'open: for process in &processes {
         if let Some(begin) = process.open {
             append_operation(alloc, out, count, process.number, "info", begin, b"")?;
             count = count.saturating_add(1);
@@ -82,7 +75,7 @@ fn append_operation(
     alloc: Global,
     out: &mut Vec<u8>,
     index: usize,
-    process: &str,
+    process: usize,
     kind: &str,
     begin: &[u8],
     reply: &[u8],
