@@ -63,6 +63,13 @@ class Typed(TerminalTest):
         told = f"mcrace: reading {what} from the terminal; Ctrl-D ends it\n{told}"
         self.assertEqual((output[: len(begin)], faults, ended), (begin, told, status))
 
+    def test_no_port(self):
+        """That an address has no port is said before a script is typed in vain."""
+        output, faults, ended = self.type("run 127.0.0.1", COUNTER)
+        told = "mcrace: 127.0.0.1: write HOST:PORT\n"
+        reading = "mcrace: reading a script from the terminal; Ctrl-D ends it\n"
+        self.assertEqual((output, faults, ended), (b"no connection P\n", told + reading + told, 4))
+
     @rows((row[0], *row) for row in TYPED)
     def test_terminal_for_the_output_alone(self, line, text, _, what, told, status):
         with self.at_terminal(line, "stdout") as (process, _):

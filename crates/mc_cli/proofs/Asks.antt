@@ -5,7 +5,7 @@ use Rattle.clap.specs.declared.error.kind.ErrorKind.{ErrorKind}
 use Rattle.clap.specs.declared.error.kind.ErrorKind.TheVariants as kind
 use Rattle.mc_protocol.specs.Decimals.{MAX_64}
 use Rattle.mc_cli.proofs.Names as names
-use Rattle.mc_cli.proofs.Once.{draw_once, plan_once, search_once, service_once, value_once}
+use Rattle.mc_cli.proofs.Once.{check_once, convert_once, draw_once, judge_once, plan_once, search_once, service_once, value_once}
 use Rattle.mc_cli.specs.Args.{number}
 use Rattle.mc_cli.specs.Asking.{AsksFor, HasFault, IsAskedBy, IsAskedWith, IsFaultOf, IsLike, IsShown, Says, name_of}
 use Rattle.mc_cli.specs.Line.{line_command, line_faults, line_value}
@@ -22,12 +22,12 @@ one_name is also = ap (λ (o : Option Text). unwrap_or o []) (sym also ∙ is)
 -- the values of options ask a subcommand for one thing
 with_once : (value : Text → Option Text) (one other : Request) → name_of other ≡ name_of one → IsAskedWith value one
     → IsAskedWith value other → IsLike one other
-with_once value (request.Question (question.Judge how)) other named is also =
+with_once value (request.Question (question.Judge args)) other named is also =
     let found = names.is_judge other named in
-    rw found.1 (ap (λ h. request.Question (question.Judge h)) (search_once value how found.0 is (rw found.1 at also)))
-with_once value (request.Question (question.Check why)) other named is also =
+    rw found.1 (ap (λ a. request.Question (question.Judge a)) (judge_once value args found.0 is (rw found.1 at also)))
+with_once value (request.Question (question.Check args)) other named is also =
     let found = names.is_check other named in
-    rw found.1 (ap (λ b. request.Question (question.Check b)) (is ∙ sym (rw found.1 at also)))
+    rw found.1 (ap (λ a. request.Question (question.Check a)) (check_once value args found.0 is (rw found.1 at also)))
 with_once value (request.Question (question.Asm why)) other named is also =
     let found = names.is_asm other named in
     rw found.1 (ap (λ b. request.Question (question.Asm b)) (is ∙ sym (rw found.1 at also)))
@@ -37,6 +37,9 @@ with_once value (request.Question (question.Drive how)) other named is also =
 with_once value (request.Question (question.Draw how)) other named is also =
     let found = names.is_draw other named in
     rw found.1 (ap (λ h. request.Question (question.Draw h)) (draw_once value how found.0 is (rw found.1 at also)))
+with_once value (request.Question (question.Convert args)) other named is also =
+    let found = names.is_convert other named in
+    rw found.1 (ap (λ a. request.Question (question.Convert a)) (convert_once value args found.0 is (rw found.1 at also)))
 with_once value (request.Run args) other named is also =
     let found = names.is_run other named in
     let more = rw found.1 at also in

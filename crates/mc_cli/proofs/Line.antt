@@ -9,6 +9,13 @@ use Rattle.clap.proofs.WalkLemmas.{first_value-rows}
 use Rattle.mc_cli.specs.Commands.{program_app}
 use Rattle.mc_cli.specs.Line.{line_command, line_faults, line_value}
 
+-- the name of a subcommand that was found, and the first value of an option or an argument of it
+abbrev given_name : Option (Text × List Row) → Option Text
+given_name entered = option_map (λ found. found.0) entered
+
+abbrev given_value : Option (Text × List Row) → Text → Option Text
+given_value entered name = option_and_then (λ found. first_of name found.1) entered
+
 -- the faults of the command that the program makes
 pub line_faults-is : (app : App) (words : List (List ℕ)) → app ≡ program_app
     → fault_of app words ≡ line_faults words
@@ -25,24 +32,35 @@ subcommand-is : (app : App) (words : List (List ℕ)) (m : ArgMatches) → app �
 unfolding clap_on_literals
 subcommand-is app words m is found = (found (ap is_simple is)).1 ∙ ap (λ (a : App). subcommand_of a words) is
 
--- the name and the first value of what was found
-value_in : (entered : Option (Text × List Row)) (rows : List Row) (name : Text) → Some rows ≡ option_map (λ found. found.1) entered
-    → option_and_then (λ found. first_of name found.1) entered ≡ first_of name rows
-value_in None rows name is = absurd (cc)
-value_in (Some found) rows name is = ap (λ o. option_and_then (first_of name) o) (sym is)
+line_command-is : (app : App) (words : List (List ℕ)) (m : ArgMatches) → app ≡ program_app → HasMatchesOf app words m
+    → given_name (subcommand_rows_of m) ≡ line_command words
+unfolding line_command
+line_command-is app words m is found = ap given_name (subcommand-is app words m is found)
 
-name_in : {X : Type 0} (rows : X → Text × List Row) (o : Option X) → option_map (λ found. found.0) (option_map rows o) ≡ option_map (λ x. (rows x).0) o
-name_in rows None = refl
-name_in rows (Some x) = refl
+line_value-is : (app : App) (words : List (List ℕ)) (m : ArgMatches) → app ≡ program_app → HasMatchesOf app words m
+    → (name : Text) → given_value (subcommand_rows_of m) name ≡ line_value words name
+unfolding line_value
+line_value-is app words m is found name = ap (λ entered. given_value entered name) (subcommand-is app words m is found)
+
+-- the name and a value among what was found for a subcommand
+name_of : {X : Type 0} (rows : X → Text × List Row) (o : Option X) → given_name (option_map rows o) ≡ option_map (λ x. (rows x).0) o
+name_of rows None = refl
+name_of rows (Some x) = refl
+
+name_of_rows : (m : ArgMatches) → given_name (subcommand_rows_of m) ≡ subcommand_name_of m
+name_of_rows m = name_of _ _
+
+value_of_rows : (entered : Option (Text × List Row)) (rows : List Row) (name : Text) → Some rows ≡ option_map (λ found. found.1) entered
+    → given_value entered name ≡ first_of name rows
+value_of_rows None rows name is = absurd (cc)
+value_of_rows (Some found) rows name is = ap (λ o. option_and_then (first_of name) o) (sym is)
 
 -- what the line names, by the subcommand that a parse answers
 module _ (app : App) (words : List (List ℕ)) (m : ArgMatches) (is : app ≡ program_app) (found : HasMatchesOf app words m) where
   pub command_is : (name : Text) → Some name ≡ subcommand_name_of m → line_command words ≡ Some name
-  unfolding line_command
-  command_is name named = ap (option_map (λ found. found.0)) (sym (subcommand-is app words m is found)) ∙ (name_in _ _ ∙ sym named)
+  command_is name named = sym (line_command-is app words m is found) ∙ (name_of_rows m ∙ sym named)
 
   pub value_is : (options : ArgMatches) → Some (rows_of (found_of options)) ≡ option_map (λ (p : Text × List Row). p.1) (subcommand_rows_of m)
       → (name : Text) → line_value words name ≡ first_value (found_of options) name
-  unfolding line_value
-  value_is options rows name = ap (option_and_then (λ found. first_of name found.1)) (sym (subcommand-is app words m is found))
-      ∙ (value_in (subcommand_rows_of m) _ name rows ∙ sym (first_value-rows (found_of options) name))
+  value_is options rows name = sym (line_value-is app words m is found name)
+      ∙ (value_of_rows (subcommand_rows_of m) _ name rows ∙ sym (first_value-rows (found_of options) name))

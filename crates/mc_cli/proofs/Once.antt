@@ -1,11 +1,18 @@
 -- The words of a line say one thing at most.
-use Rattle.std.proofs.Common.{◌≡◌, ◌∙◌, ◌||◌, ◌+◌, ◌≤◌, ◌^◌, refl, ap, ap₂, sym, true, ℕ, List, Option, Some, None, codes, is_some, unwrap_or}
+use Rattle.std.proofs.Common.{◌≡◌, ◌∙◌, ◌||◌, ◌+◌, ◌≤◌, ◌^◌, refl, ap, ap₂, sym, true, ℕ, List, [], Option, Some, None, codes, is_some, length, unwrap_or}
 use Rattle.std.proofs.lemmas.Bool.{false≢true}
 use Rattle.clap.specs.Words.{Text}
 use Rattle.mc_protocol.specs.Decimals.{MAX_64}
-use Rattle.mc_cli.specs.Args.{AreJobs, GREATEST_JOBS, IsDraw, IsPlan, IsRepeat, IsSearch, IsService, IsUntil, MayBeName, count, jobs_from, number}
+use Rattle.mc_cli.specs.Args.{AreJobs, GREATEST_JOBS, IsCheck, IsConvert, IsDraw, IsJudge, IsPlan, IsRepeat, IsSearch, IsService, IsUntil}
+use Rattle.mc_cli.specs.Args.{MayBeName, count, jobs_from, notation_word, number}
 use Rattle.mc_cli.specs.Kinds.{IsValue, MayBeValue, reads}
+use Rattle.mc_cli.specs.Line.{is_set}
+use Rattle.mc_cli.specs.declared.args.CheckArgs.{CheckArgs}
+use Rattle.mc_cli.specs.declared.args.ConvertArgs.{ConvertArgs}
 use Rattle.mc_cli.specs.declared.args.DrawArgs.{DrawArgs}
+use Rattle.mc_cli.specs.declared.args.JudgeArgs.{JudgeArgs}
+use Rattle.mc_cli.specs.declared.args.Notation.{Notation}
+use Rattle.mc_cli.specs.declared.args.Notation.TheVariants as notation
 use Rattle.mc_cli.specs.declared.args.Plan.{Plan}
 use Rattle.mc_cli.specs.declared.args.Repeat.{Repeat}
 use Rattle.mc_cli.specs.declared.args.Search.{Search}
@@ -19,9 +26,9 @@ same one other is = ap (λ (o : Option ℕ). unwrap_or o 0) is
 
 read_once : (k : Kind) (word : List ℕ) (one other : ℕ) → reads k word one → reads k word other → one ≡ other
 read_once (kind.Number least greatest) word one other is also = sym is.0.value ∙ also.0.value
-read_once kind.Seconds word one other is also = same one other (sym is ∙ also)
 read_once kind.Time word one other is also = same one other (sym is ∙ also)
 read_once kind.Meeting word one other is also = absurd is
+read_once kind.Notation word one other is also = absurd is
 read_once kind.Name word one other is also = absurd is
 read_once kind.Address word one other is also = absurd is
 read_once kind.Switch word one other is also = absurd is
@@ -49,6 +56,30 @@ pub search_once : (value : Text → Option Text) (one other : Search) → IsSear
 search_once value one other is also =
     ap (λ n. record { limit = n; why = one.why }) (value_once (number 1000000000) _ _ one.limit other.limit is.limit also.limit)
     ∙ ap (λ b. record { limit = other.limit; why = b }) (is.why ∙ sym also.why)
+
+pub judge_once : (value : Text → Option Text) (one other : JudgeArgs) → IsJudge value one → IsJudge value other → one ≡ other
+judge_once value one other is also =
+    let job = maybe_once (number MAX_64) _ one.job other.job is.job also.job in
+    let run = is.run ∙ (ap (λ j. is_set (value (codes "run")) || is_some j) job ∙ sym also.run) in
+    ap (λ h. record one { how = h }) (search_once value one.how other.how is.how also.how)
+    ∙ (ap (λ b. record other { json = b; run = one.run; job = one.job }) (is.json ∙ sym also.json)
+    ∙ (ap (λ b. record other { run = b; job = one.job }) run ∙ ap (λ n. record other { job = n }) job))
+
+pub check_once : (value : Text → Option Text) (one other : CheckArgs) → IsCheck value one → IsCheck value other → one ≡ other
+check_once value one other is also =
+    ap (λ b. record one { why = b }) (is.why ∙ sym also.why) ∙ ap (λ b. record other { json = b }) (is.json ∙ sym also.json)
+
+notation_once : (one other : Notation) → notation_word one ≡ notation_word other → one ≡ other
+notation_once notation.Json notation.Json is = refl
+notation_once notation.Edn notation.Edn is = refl
+notation_once notation.Json notation.Edn is = absurd (cc (ap length is))
+notation_once notation.Edn notation.Json is = absurd (cc (ap length is))
+
+pub convert_once : (value : Text → Option Text) (one other : ConvertArgs) → IsConvert value one → IsConvert value other → one ≡ other
+convert_once value one other is also =
+    let to = notation_once one.to other.to (ap (λ (o : Option Text). unwrap_or o []) (sym is.to ∙ also.to)) in
+    ap (λ n. record one { to = n }) to
+    ∙ ap (λ n. record other { job = n }) (maybe_once (number MAX_64) _ one.job other.job is.job also.job)
 
 pub draw_once : (value : Text → Option Text) (one other : DrawArgs) → IsDraw value one → IsDraw value other → one ≡ other
 draw_once value one other is also =
@@ -98,20 +129,35 @@ plan_once value one other is also =
     let jobs = jobs_once _ _ one.first other.first one.jobs other.jobs first is.jobs also.jobs in
     let workers = value_once (count 16) _ _ one.workers other.workers is.workers also.workers in
     let limit = value_once (number 1000000000) _ _ one.limit other.limit is.limit also.limit in
-    let brief = is.brief ∙ sym also.brief in
+    let random = is.random_seed.0 ∙ sym also.random_seed.0 in
+    let brief = is.forms.0 ∙ sym also.forms.0 in
+    let json = is.forms.1 ∙ sym also.forms.1 in
+    let junit = is.forms.2 ∙ sym also.forms.2 in
     let show = is.show ∙ sym also.show in
     let why = is.why ∙ sym also.why in
     let tries = value_once (count 1000) _ _ one.tries other.tries is.tries also.tries in
     let until = until_once value one.until other.until is.until also.until in
     ap (λ n. record one { seed = n }) seed
-    ∙ (ap (λ n. record one { seed = other.seed; first = n }) first
-    ∙ (ap (λ n. record one { seed = other.seed; first = other.first; jobs = n }) jobs
-    ∙ (ap (λ n. record one { seed = other.seed; first = other.first; jobs = other.jobs; workers = n }) workers
-    ∙ (ap (λ n. record one { seed = other.seed; first = other.first; jobs = other.jobs; workers = other.workers; limit = n }) limit
-    ∙ (ap (λ b. record other { brief = b; show = one.show; why = one.why; tries = one.tries; until = one.until }) brief
+    ∙ (ap (λ b. record one { seed = other.seed; random_seed = b }) random
+    ∙ (ap (λ n. record one { seed = other.seed; random_seed = other.random_seed; first = n }) first
+    ∙ (ap (λ n. record one { seed = other.seed; random_seed = other.random_seed; first = other.first; jobs = n }) jobs
+    ∙ (ap (λ n. record one { seed = other.seed; random_seed = other.random_seed; first = other.first; jobs = other.jobs; workers = n }) workers
+    ∙ (ap (λ n. record other {
+      limit = n;
+      brief = one.brief;
+      json = one.json;
+      junit = one.junit;
+      show = one.show;
+      why = one.why;
+      tries = one.tries;
+      until = one.until;
+    }) limit
+    ∙ (ap (λ b. record other { brief = b; json = one.json; junit = one.junit; show = one.show; why = one.why; tries = one.tries; until = one.until }) brief
+    ∙ (ap (λ b. record other { json = b; junit = one.junit; show = one.show; why = one.why; tries = one.tries; until = one.until }) json
+    ∙ (ap (λ b. record other { junit = b; show = one.show; why = one.why; tries = one.tries; until = one.until }) junit
     ∙ (ap (λ b. record other { show = b; why = one.why; tries = one.tries; until = one.until }) show
     ∙ (ap (λ b. record other { why = b; tries = one.tries; until = one.until }) why
-    ∙ (ap (λ n. record other { tries = n; until = one.until }) tries ∙ ap (λ u. record other { until = u }) until))))))))
+    ∙ (ap (λ n. record other { tries = n; until = one.until }) tries ∙ ap (λ u. record other { until = u }) until)))))))))))
 
 -- ---- values that are refused
 

@@ -1,6 +1,6 @@
 -- What the values of a subcommand's options say.
-use Rattle.std.specs.Prelude.{◌≡◌, ◌+◌, ◌-◌, ◌≤◌, ◌^◌, ◌&&◌, ◌||◌, ℕ, Bool, true, false, nat_lt, Option, Some, None, is_some, List, codes, option_map}
-use Rattle.std.specs.Prelude.{if◌then◌else◌}
+use Rattle.std.specs.Prelude.{◌≡◌, ◌+◌, ◌-◌, ◌≤◌, ◌^◌, ◌&&◌, ◌||◌, ℕ, Bool, true, false, nat_lt, Option, Some, None, is_some, List}
+use Rattle.std.specs.Prelude.{codes, option_map, if◌then◌else◌}
 use Rattle.clap.specs.Words.{Text}
 use Rattle.mc_protocol.specs.Decimals.{MAX_64}
 use Rattle.mc_settings.specs.JobKeys.{NameFits}
@@ -47,12 +47,8 @@ abbrev pub notation_word : Notation → List ℕ
 notation_word notation.Json = codes "json"
 notation_word notation.Edn = codes "edn"
 
--- the notation that a word names
-abbrev pub IsNotation : Option (List ℕ) → Notation → Type 0
-IsNotation word wanted = word ≡ Some (notation_word wanted)
-
 pub record IsConvert (value : Text → Option Text) (args : ConvertArgs) : Type 0 where
-  pub to : IsNotation (value (codes "to")) args.to
+  pub to : value (codes "to") ≡ Some (notation_word args.to)
   pub job : MayBeValue (number MAX_64) (value (codes "job")) args.job
 
 -- the values of the options of `draw` say how a history is drawn
@@ -95,12 +91,7 @@ IsRepeat value (Some repeat) = MayBeValue (count 1000000) (value (codes "times")
     × MayBeValue kind.Time (value (codes "for")) repeat.time × ((is_some repeat.times || is_some repeat.time) ≡ true)
     × (repeat.keep_going ≡ is_set (value (codes "keep-going")))
 
--- the microseconds of `--spread` if the line names none: a script that is run repeatedly is run as the jobs of a campaign are
-abbrev pub default_spread : Option Repeat → ℕ
-default_spread None = 0
-default_spread (Some repeat) = 64
-
--- the values of the options of `run` say this
+-- the values of the options of `run` say this; a script that is run repeatedly is run as the jobs of a campaign are
 pub record IsRunArgs (value : Text → Option Text) (args : RunArgs) : Type 0 where
   pub server : value (codes "target") ≡ Some args.server.now
   pub a : option_map (λ server. server.now) args.a ≡ value (codes "a")
@@ -115,7 +106,7 @@ pub record IsRunArgs (value : Text → Option Text) (args : RunArgs) : Type 0 wh
   pub quiet : args.quiet ≡ is_set (value (codes "quiet"))
   pub stats : args.stats ≡ is_set (value (codes "stats"))
   pub json : args.json ≡ is_set (value (codes "json"))
-  pub spread : IsValue (number 10000) (Some (default_spread args.repeat)) (value (codes "spread")) args.spread
+  pub spread : IsValue (number 10000) (Some (if is_some args.repeat then 64 else 0)) (value (codes "spread")) args.spread
 
 -- the values of the options of `campaign` say until when it runs in blocks, if they name a time or a number of unexplained jobs; a time
 -- doesn't stand beside a number of jobs
@@ -138,9 +129,10 @@ AreJobs (Some time) word first jobs = jobs ≡ jobs_from first
 abbrev pub IsRandomSeed : (Text → Option Text) → Bool → Type 0
 IsRandomSeed value random = (random ≡ is_set (value (codes "random-seed"))) × (random ≡ true → value (codes "seed") ≡ None)
 
--- two of these are set
-abbrev pub are_two : Bool → Bool → Bool → Bool
-are_two brief json junit = (brief && (json || junit)) || (json && junit)
+-- whether a report is brief, JSON or JUnit's XML: one of these at most
+abbrev pub AreForms : (Text → Option Text) → Bool → Bool → Bool → Type 0
+AreForms value brief json junit = (brief ≡ is_set (value (codes "brief"))) × (json ≡ is_set (value (codes "json")))
+    × (junit ≡ is_set (value (codes "junit"))) × (((brief && (json || junit)) || (json && junit)) ≡ false)
 
 -- the values of the options of `campaign` name these jobs, the last of which has a number of 64 bits
 pub record IsPlan (value : Text → Option Text) (plan : Plan) : Type 0 where
@@ -153,10 +145,7 @@ pub record IsPlan (value : Text → Option Text) (plan : Plan) : Type 0 where
   pub limit : IsValue (number 1000000000) (Some 1000000) (value (codes "limit")) plan.limit
   pub tries : IsValue (count 1000) (Some 1) (value (codes "tries")) plan.tries
   pub last : plan.first + plan.jobs ≤ 2 ^ 64
-  pub brief : plan.brief ≡ is_set (value (codes "brief"))
-  pub json : plan.json ≡ is_set (value (codes "json"))
-  pub junit : plan.junit ≡ is_set (value (codes "junit"))
-  pub one_form : are_two plan.brief plan.json plan.junit ≡ false
+  pub forms : AreForms value plan.brief plan.json plan.junit
   pub show : plan.show ≡ is_set (value (codes "show"))
   pub why : plan.why ≡ is_set (value (codes "why"))
 

@@ -19,6 +19,8 @@ pub enum OptionFault<'a> {
     LastJob { first: u64, jobs: u64 },
     /// Under the name, the keys of this job are too long.
     LongKey(Namespace<'a>, u64),
+    /// Under the name, keys are too long of a job to which a campaign with `--for` may come.
+    LongName(Namespace<'a>),
     /// The subcommand is a topic of help; or there is none, which clap finds first.
     NoSubcommand,
 }
@@ -44,6 +46,10 @@ impl OptionFault<'_> {
                 let key = format!(in alloc; "r{job}-0")?;
                 long_key_message(alloc, name, key.as_bytes())
             }
+            OptionFault::LongName(name) => format!(in alloc;
+                "invalid value '{}' for '--name <NAME>': with --for a name has at most 16 bytes",
+                name.as_slice().escape_ascii()
+            ),
             OptionFault::NoSubcommand => format!(in alloc;
                 "a subcommand is required; 'mcrace help TOPIC' shows a topic"
             ),

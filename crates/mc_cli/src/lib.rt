@@ -8,9 +8,9 @@
 mod args;
 mod decimal;
 mod fault;
-mod file_hint;
 mod help;
 mod help_line;
+mod hints;
 mod options;
 mod question;
 mod read;

@@ -144,7 +144,7 @@ pub const TIMEOUT: Row = Row {
     kind: Kind::Time,
     default: None,
     place: Place::Daily,
-    help: "Limit of a connect, a read or a write",
+    help: "Limit of a connect, read or write",
 };
 
 pub const WAIT: Row = Row {

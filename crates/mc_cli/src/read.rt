@@ -1,5 +1,5 @@
 //! What the values of each subcommand's options ask for.
-ghost use Rattle.std.specs.Prelude.{◌≡◌, ◌≤◌, ℕ, Option, codes, IfErr, IfOk};
+ghost use Rattle.std.specs.Prelude.{◌≡◌, ◌≤◌, ℕ, Option, codes, is_some, IfErr, IfOk, if◌then◌else◌};
 ghost use Rattle.clap.specs.Words.{first_value, found_of};
 ghost use Rattle.mc_cli.specs.Args as spec;
 ghost use Rattle.mc_cli.specs.Args.{IsCheck, IsConvert, IsDraw, IsJob, IsJudge, IsRepeat, IsRunArgs, IsSearch, IsService};
@@ -155,7 +155,7 @@ fn read_repeat<'a>(options: &ArgMatches<'a>) -> Result<Option<Repeat>, OptionFau
 
 // The microseconds of `--spread` if the line of `run` names none.
 fn default_spread(repeat: Option<Repeat>) -> u64
-    ensures { result ≡ spec.default_spread repeat }
+    ensures { result ≡ (if is_some repeat then 64 else 0) }
 {
     match repeat {
         Some(_) => DEFAULT_SPREAD,

@@ -4,7 +4,7 @@ ghost use Rattle.std.specs.Option.{option_copied};
 ghost use Rattle.clap.specs.Words.{first_value, found_of};
 ghost use Rattle.mc_settings.specs.JobKeys.{NameFits};
 ghost use Rattle.mc_cli.specs.Args as spec;
-ghost use Rattle.mc_cli.specs.Args.{AreJobs, IsCampaignArgs, IsPlan, IsRandomSeed, IsUntil};
+ghost use Rattle.mc_cli.specs.Args.{AreForms, AreJobs, IsCampaignArgs, IsPlan, IsRandomSeed, IsUntil};
 
 use crate::args::{CampaignArgs, Plan, Until, has_last};
 use crate::fault::OptionFault;
@@ -22,7 +22,8 @@ pub fn read_campaign<'a>(options: &ArgMatches<'a>) -> Result<CampaignArgs<'a>, O
     let plan = read_plan(options)?;
     let name = value::name(options, &rows::NAME)?;
     if !name_fits(&name, plan.first, plan.jobs) {
-        return Err(long_key(name, plan.first, plan.jobs));
+        let in_time = options.get_str(rows::FOR_OF_CAMPAIGN.name).is_some();
+        return Err(long_key(name, plan.first, plan.jobs, in_time));
     }
     if plan.why && !plan.show {
         return Err(OptionFault::Together("--why needs --show"));
@@ -54,6 +55,7 @@ fn read_plan<'a>(options: &ArgMatches<'a>) -> Result<Plan, OptionFault<'a>>
     let seed = value::number(options, &rows::SEED)?;
     let random_seed = read_random_seed(options)?;
     let first = value::number(options, &rows::FROM)?;
+    let (brief, json, junit) = read_forms(options)?;
     let until = read_until(options)?;
     let jobs = read_jobs(options, first)?;
     let workers = value::number(options, &rows::WORKERS)?;
@@ -61,14 +63,6 @@ fn read_plan<'a>(options: &ArgMatches<'a>) -> Result<Plan, OptionFault<'a>>
     let tries = value::number(options, &rows::TRIES)?;
     if !has_last(first, jobs) {
         return Err(OptionFault::LastJob { first, jobs });
-    }
-    let brief = value::is_set(options, &rows::BRIEF);
-    let json = value::is_set(options, &rows::JSON);
-    let junit = value::is_set(options, &rows::JUNIT);
-    if are_two(brief, json, junit) {
-        return Err(OptionFault::Together(
-            "of --brief, --json and --junit only one can stand there",
-        ));
     }
     Ok(Plan {
         seed,
@@ -87,13 +81,6 @@ fn read_plan<'a>(options: &ArgMatches<'a>) -> Result<Plan, OptionFault<'a>>
     })
 }
 
-// Whether two of these are set.
-fn are_two(brief: bool, json: bool, junit: bool) -> bool
-    ensures { result ≡ spec.are_two brief json junit }
-{
-    brief && (json || junit) || json && junit
-}
-
 // Whether a seed is drawn, for which the line names none.
 fn read_random_seed<'a>(options: &ArgMatches<'a>) -> Result<bool, OptionFault<'a>>
     ensures random { IfOk result (IsRandomSeed (first_value (found_of options.now))) }
@@ -104,6 +91,23 @@ fn read_random_seed<'a>(options: &ArgMatches<'a>) -> Result<bool, OptionFault<'a
         return Err(OptionFault::Together("--random-seed and --seed can't stand together"));
     }
     Ok(is_random)
+}
+
+// Whether the report is brief, JSON or JUnit's XML.
+fn read_forms<'a>(options: &ArgMatches<'a>) -> Result<(bool, bool, bool), OptionFault<'a>>
+    ensures forms { IfOk result (λ forms. AreForms (first_value (found_of options.now)) forms.0 forms.1 forms.2) }
+    ensures none { IfErr result (λ _. (brief json junit : Bool)
+        → AreForms (first_value (found_of options.now)) brief json junit → ⊥) }
+{
+    let brief = value::is_set(options, &rows::BRIEF);
+    let json = value::is_set(options, &rows::JSON);
+    let junit = value::is_set(options, &rows::JUNIT);
+    if brief && (json || junit) || json && junit {
+        return Err(OptionFault::Together(
+            "only one of --brief, --json and --junit can stand there",
+        ));
+    }
+    Ok((brief, json, junit))
 }
 
 // Until when the campaign runs in blocks, if it does.
@@ -153,11 +157,12 @@ fn name_fits(name: &Option<Namespace<'_>>, first: u64, jobs: u64) -> bool
     }
 }
 
-// The fault of a name under which the keys of the last of these jobs are too long.
-fn long_key(name: Option<Namespace<'_>>, first: u64, jobs: u64) -> OptionFault<'_>
+// The fault of a name under which the keys of the last of these jobs are too long; `in_time` says whether `--for` ends them.
+fn long_key(name: Option<Namespace<'_>>, first: u64, jobs: u64, in_time: bool) -> OptionFault<'_>
     requires { first + jobs ≤ 2 ^ 64 }
 {
     match name {
+        Some(name) if in_time => OptionFault::LongName(name),
         Some(name) => OptionFault::LongKey(name, first + jobs.saturating_sub(1)),
         None => OptionFault::Missing(rows::NAME),
     }

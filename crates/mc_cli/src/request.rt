@@ -5,8 +5,8 @@ ghost use Rattle.mc_cli.specs.Asking.{AsksFor, IsAskedBy, IsFaultOf, IsLike, Say
 
 use crate::args::{CampaignArgs, RunArgs, ServeArgs};
 use crate::fault::{OptionFault, long_key_message};
-use crate::file_hint::error_text;
 use crate::help_line::help_text;
+use crate::hints::error_text;
 use crate::question::Question;
 use crate::read::{
     read_check, read_convert, read_draw, read_job, read_judge, read_run, read_search, read_service,

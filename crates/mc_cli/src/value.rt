@@ -2,7 +2,7 @@
 ghost use Rattle.std.specs.Prelude.{◌≡◌, ℕ, List, Option, Some, IfErr, IfOk, option_map};
 ghost use Rattle.clap.specs.Words.{first_value, found_of};
 ghost use Rattle.mc_settings.specs.declared.meeting.Meeting.{Meeting};
-ghost use Rattle.mc_cli.specs.Args.{IsMeeting, IsNotation, MayBeName};
+ghost use Rattle.mc_cli.specs.Args.{IsMeeting, MayBeName, notation_word};
 ghost use Rattle.mc_cli.specs.Kinds.{IsValue, MayBeValue};
 ghost use Rattle.mc_cli.specs.Line as line;
 
@@ -115,9 +115,9 @@ pub fn meeting<'a>(options: &ArgMatches<'a>, row: &Row) -> Result<Meeting, Optio
 ///
 /// The word names none, or the option is missing.
 pub fn notation<'a>(options: &ArgMatches<'a>, row: &Row) -> Result<Notation, OptionFault<'a>>
-    ensures value { IfOk result (IsNotation (first_value (found_of options.now) row.now.name.now)) }
+    ensures value { IfOk result (λ wanted. first_value (found_of options.now) row.now.name.now ≡ Some (notation_word wanted)) }
     ensures none { IfErr result (λ _. (wanted : Notation)
-        → IsNotation (first_value (found_of options.now) row.now.name.now) wanted → ⊥) }
+        → first_value (found_of options.now) row.now.name.now ≡ Some (notation_word wanted) → ⊥) }
 {
     let Some(word) = options.get_str(row.name) else {
         return Err(OptionFault::Missing(*row));
@@ -125,7 +125,7 @@ pub fn notation<'a>(options: &ArgMatches<'a>, row: &Row) -> Result<Notation, Opt
     match word {
         "json" => Ok(Notation::Json),
         "edn" => Ok(Notation::Edn),
-        _ => Err(OptionFault::Value(*row, word)),
+        other => Err(OptionFault::Value(*row, other)),
     }
 }
 

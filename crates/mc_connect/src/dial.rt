@@ -88,8 +88,8 @@ fn connect_first<R: Net<Stream = TcpStream>>(
     Err(last)
 }
 
-// After the last colon stand digits alone. std's reader of numbers takes a sign too.
-fn has_port(server: &str) -> bool {
+/// Whether digits alone stand after the last colon of what is to be HOST:PORT. std's reader of numbers takes a sign too.
+pub fn has_port(server: &str) -> bool {
     match server.rsplit_once(':') {
         Some((_, port)) => !port.is_empty() && port.bytes().all(|byte| byte.is_ascii_digit()),
         None => false,

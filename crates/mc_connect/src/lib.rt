@@ -20,6 +20,7 @@ mod tcp_network;
 mod timed_stream;
 
 pub use descriptors::{HeldDescriptors, STANDARD_INPUT, STANDARD_OUTPUT};
+pub use dial::has_port;
 pub use dialer::Dialer;
 pub use failures::Unreached;
 pub use kept::Kept;

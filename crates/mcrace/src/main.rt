@@ -20,7 +20,7 @@ use mc_command::{
     servers_of,
 };
 use mc_connect::{
-    HeldDescriptors, STANDARD_INPUT, STANDARD_OUTPUT, TcpNetwork, Unconnected, Unreached,
+    HeldDescriptors, STANDARD_INPUT, STANDARD_OUTPUT, TcpNetwork, Unconnected, Unreached, has_port,
 };
 use std::alloc::Global;
 use std::io::{Eprint, ErrorKind, IsTerminal};
@@ -105,6 +105,7 @@ where
         }
         Request::Generate(seed, job) => write_generated(alloc, seed, job, output).number(),
         Request::Run(target) => {
+            tell_portless(rt, terminal, &target);
             tell_reading(rt, terminal, "a script");
             play(rt, alloc, &target, columns, input, output)
         }
@@ -140,6 +141,23 @@ fn tell_reading<R: Eprint>(rt: &R, terminal: Terminal, name: &str) {
     if terminal.is_input {
         // There is nowhere else to say that this could not be said.
         let _ = eprintln!(rt; "mcrace: reading {name} from the terminal; Ctrl-D ends it");
+    }
+}
+
+// Says on standard error which servers have no port, before a person types a script in vain.
+fn tell_portless<R: Eprint>(rt: &R, terminal: Terminal, target: &RunArgs<'_>) {
+    if !terminal.is_input {
+        return;
+    }
+    for server in [Some(target.server), target.a, target.b] {
+        if let Some(server) = server
+            && !has_port(server)
+        {
+            let error = io::Error::from(ErrorKind::InvalidInput);
+            let unreached = Unreached { server, error };
+            // There is nowhere else to say that this could not be said.
+            let _ = eprintln!(rt; "mcrace: {unreached}");
+        }
     }
 }
 

@@ -5,8 +5,8 @@ use mc_answers::{
     Reader, Status, Writer, answer_question, command, explain_fault, unread_line, write_generated,
 };
 use mc_cli::{
-    CheckArgs, ConvertArgs, DrawArgs, JudgeArgs, Notation, Question, Repeat, Request, RunArgs,
-    Search, Seconds, ServeArgs, read_request,
+    CheckArgs, ConvertArgs, DrawArgs, JudgeArgs, LineFault, Notation, Question, Repeat, Request,
+    RunArgs, Search, Seconds, ServeArgs, read_request,
 };
 use mc_settings::Meeting;
 use std::alloc::{AllocError, Global};
@@ -141,6 +141,27 @@ fn input_of(request: &Request<'_>) -> Option<&'static str> {
         Request::Question(question) => Some(question.input_name()),
         _ => None,
     }
+}
+
+// What is said of an option of other subcommands. Clap knows a similar one of `run`, which isn't named.
+const OTHER_OPTION: &str = "error: unexpected argument '--seed' found
+
+Usage: mcrace run HOST:PORT [OPTIONS] < FILE
+
+For more information, try '--help'.
+
+mcrace: --seed is an option of generate, campaign
+";
+
+#[test]
+fn options_of_other_subcommands_are_named(rt: HostRuntime) -> Result<(), Fail> {
+    let line = line_of(rt.alloc(), &["mcrace", "run", "host:1", "--seed", "5"])?;
+    let said = match read_request(rt.alloc(), line.as_slice()) {
+        Err(LineFault::Wrong(text)) => text.as_str() == OTHER_OPTION,
+        _ => false,
+    };
+    assert!(rt; said);
+    Ok(())
 }
 
 #[test]

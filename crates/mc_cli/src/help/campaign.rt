@@ -10,11 +10,11 @@ and reports for each whether one cache can have given every reply.
 
 Each job runs the script that `mcrace generate` prints for the seed and the
 job's number. `mcrace run --help` describes how a script runs, what its verdict
-means, and what `--meet`, `--name`, `--timeout`, `--wait` and `--spread` do. As
-many jobs run at once as there are workers, each over three connections of its
-own. When a job has ended, mcrace sends `quit` on those that are still open and
-gives the server 10 ms to close them, so that this side doesn't run out of
-ports.
+means, how times are written, and what `--a`, `--b`, `--meet`, `--name`,
+`--timeout`, `--wait` and `--spread` do. As many jobs run at once as there are
+workers, each over three connections of its own. When a job has ended, mcrace
+sends `quit` on those that are still open and gives the server 10 ms to close
+them, so that this side doesn't run out of ports.
 
 No two jobs share a key. But they use the keys rJOB-0 and rJOB-1, which nobody
 else may use at that time: give each campaign a server of its own, or a name.
@@ -48,6 +48,11 @@ If no thread can be made for a worker, the report is `not run` alone.
 server of its own, can share a campaign: the lines of `--from 100 --jobs 100`
 are those of the jobs 100 to 199 of a longer one. `--brief` leaves out the
 lines of jobs that are explained with all sections done; the totals count them.
+`--json` writes the report as JSON, `--junit` as JUnit's XML; only one of these
+three can stand there.
+
+The same seed gives the same scripts. `--random-seed` draws a seed, and standard
+error says which; it can't stand beside `--seed`.
 
 `--for` runs the campaign for a time instead of a number of jobs. `--stop-after
 N` ends it when N jobs are unexplained. mcrace looks at both before each block

@@ -3,7 +3,7 @@ use crate::help::Help;
 
 pub const CHECK: Help = Help {
     name: "check",
-    usage: "mcrace check [--why] < FILE",
+    usage: "mcrace check [--why] [--json] < FILE",
     about: "Checks the script or the image on standard input",
     long_about: "Checks the script or the image on standard input: whether it keeps its flags,
 its variables and its budgets, whatever the server replies and whichever of A
@@ -77,6 +77,8 @@ replies to P. Before one of a branch, P's come first, until P has ended, and
 then the branch's; for the kinds 8 and 9 those of the other branch may stand
 among these. After them the section comes to the place without a reply, and
 meets the fault there. `end` alone means that no reply comes before the fault.
+
+`--json` answers in JSON.
 
 With `--why` the refusal of a script is followed by the input's line, with a
 caret under the word or the step at fault and what is wrong with it; and the

@@ -3,7 +3,7 @@ use crate::help::Help;
 
 pub const JUDGE: Help = Help {
     name: "judge",
-    usage: "mcrace judge [--limit N] [--why] < FILE",
+    usage: "mcrace judge [OPTIONS] < FILE",
     about: "Judges the history on standard input",
     long_about: "Judges the history on standard input: whether one cache can have given every
 reply in it, that is, whether it is linearizable (`history 2`) or sequentially
@@ -30,6 +30,15 @@ confirmed`.
 
 A turn tries one request at one place of the order. The search remembers its
 dead ends in up to 256 MiB; beyond that it may need more turns.
+
+`--run` passes over what `run` or `campaign` printed before the history, and
+takes the first history. `--job N` takes that of job N, of what `campaign
+--show` printed:
+
+  mcrace run HOST:PORT < FILE | mcrace judge --run
+  mcrace campaign HOST:PORT --show | mcrace judge --job 31
+
+`--json` answers in JSON.
 
 With `--why`, `unexplained` is followed by the first line that no order can
 explain, an order for everything before it, and what a correct cache answers

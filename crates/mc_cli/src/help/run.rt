@@ -27,7 +27,8 @@ one cluster, or a primary and its replica. P runs against the first address.
 `--timeout` is the longest that a connect, a read or a write may take; a section
 whose read takes longer fails with ReadFailed. `--wait` is how long P tries
 again to connect. Without `--timeout` a run waits for the server as long as it
-takes; Ctrl-C ends it.
+takes; Ctrl-C ends it. A time is up to 24 hours, as `500ms`, `2s`, `10m` or
+`2h`, or in seconds with at most three places, as `0.5`.
 
 A race only shows when requests overlap, so A and B may wait for each other
 before they send. `--meet` says when:
@@ -143,6 +144,8 @@ and the bytes received, at most 200, and what is wrong with them. Surplus bytes
 after the last reply are shown too:
 
   mcrace: A: to \"incr a 1\" came \"6\\n\": the line ends without CR
+
+With `--json`, the output is JSON.
 
 If a section gets no connection, this is all of the output, and standard error
 says why:

@@ -9,4 +9,5 @@ returns c =
     let with_check = added c.in_ok-subcommand-2.ensures with_judge c.in_ok-command_of-2.ensures refl in
     let with_asm = added c.in_ok-subcommand-3.ensures with_check c.in_ok-command_of-3.ensures refl in
     let with_drive = added c.in_ok-subcommand-4.ensures with_asm c.in_ok-command_of-4.ensures refl in
-    IfOk-weaker c.subcommand-5.result _ _ (λ command adds. added adds with_drive c.in_ok-command_of-5.ensures refl) c.subcommand-5.ensures
+    let with_draw = added c.in_ok-subcommand-5.ensures with_drive c.in_ok-command_of-5.ensures refl in
+    IfOk-weaker c.subcommand-6.result _ _ (λ command adds. added adds with_draw c.in_ok-command_of-6.ensures refl) c.subcommand-6.ensures
