@@ -10,7 +10,7 @@ use Rattle.mc_explain.specs.Verdicts.{IsStated, IsTrueOf, IsWithin}
 use Rattle.mc_explain.specs.declared.verdict.Verdict.{Verdict}
 use Rattle.mc_convert.specs.Excerpts.{StandsIn}
 use Rattle.mc_hints.specs.Refusals.{history_refusal}
-use Rattle.mc_answers.specs.InJson.{InJson}
+use Rattle.mc_answers.specs.InJson.{AnswersIn}
 use Rattle.mc_answers.specs.Refusing.{IsRefusal}
 use Rattle.mc_answers.specs.Verdicts.{verdict_status, verdict_text}
 use Rattle.mc_answers.specs.WhyAnswers.{IsWhy, line_in_text}
@@ -58,11 +58,6 @@ pub record JudgesPart (how : Search) (text output : List ℕ) (ended : Status) :
 abbrev pub JudgesIn : Bool → Search → List ℕ → List ℕ → Status → Type 0
 JudgesIn false how text = Judges how text
 JudgesIn true how text = JudgesPart how text
-
--- in words, or in JSON
-abbrev pub AnswersIn : Bool → (List ℕ → Status → Type 0) → List ℕ → Status → Type 0
-AnswersIn false right_for = right_for
-AnswersIn true right_for = InJson right_for
 
 -- as the line asks for it
 abbrev pub JudgesAs : JudgeArgs → List ℕ → List ℕ → Status → Type 0

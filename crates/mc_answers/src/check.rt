@@ -1,7 +1,8 @@
 //! What `check` answers to an input.
-ghost use Rattle.std.specs.Prelude.{◌≡◌, IfOk, string_bytes};
+ghost use Rattle.std.specs.Prelude.{◌≡◌, IfOk, string_bytes, true};
 ghost use Rattle.mc_verify.specs.Checked.{IsChecked};
 ghost use Rattle.mc_answers.specs.CheckAnswers as answers;
+ghost use Rattle.mc_answers.specs.InJson.{InJson};
 ghost use Rattle.mc_answers.specs.Refusing.{Gives};
 
 use crate::answer::Answer;
@@ -20,11 +21,24 @@ use std::alloc::{AllocError, Global};
 pub fn check_as_asked(alloc: Global, args: CheckArgs, input: &[u8]) -> Result<Answer, Unanswered>
     ensures { Gives (answers.ChecksAs args input.now) result }
 {
-    if args.json {
-        found_in_json(alloc, check(alloc, true, input))
+    check_in(alloc, args.json, args.why, input)
+}
+
+fn check_in(alloc: Global, json: bool, why: bool, input: &[u8]) -> Result<Answer, Unanswered>
+    ensures { Gives (answers.ChecksIn json why input.now) result }
+{
+    if json {
+        check_in_json(alloc, input)
     } else {
-        check(alloc, args.why, input)
+        check(alloc, why, input)
     }
+}
+
+fn check_in_json(alloc: Global, input: &[u8]) -> Result<Answer, Unanswered>
+    ensures { Gives (InJson (answers.Checks true input.now)) result }
+{
+    let found = check(alloc, true, input);
+    found_in_json(alloc, found)
 }
 
 // Reads the code of a script or of an image, and answers the greatest costs of its sections if it is sound.

@@ -1,6 +1,6 @@
 //! An answer in JSON.
 ghost use Rattle.std.specs.Prelude.{◌≡◌, ℕ, List, IfOk};
-ghost use Rattle.mc_answers.specs.InJson.{InJson};
+ghost use Rattle.mc_answers.specs.InJson.{AnswersIn, InJson};
 ghost use Rattle.mc_answers.specs.Refusing.{Gives};
 
 use crate::answer::Answer;
@@ -28,5 +28,20 @@ pub fn found_in_json(alloc: Global, found: Result<Answer, Unanswered>) -> Result
             Err(Unanswered::Refused(report_json(alloc, text.as_slice())?))
         }
         Err(Unanswered::OutOfMemory) => Err(Unanswered::OutOfMemory),
+    }
+}
+
+/// What was found, in words or in JSON.
+pub fn found_in(
+    alloc: Global,
+    json: bool,
+    found: Result<Answer, Unanswered>,
+) -> Result<Answer, Unanswered>
+    ensures { (right_for : List ℕ → Status → Type 0) → Gives right_for found → Gives (AnswersIn json right_for) result }
+{
+    if json {
+        found_in_json(alloc, found)
+    } else {
+        found
     }
 }

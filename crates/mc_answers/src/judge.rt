@@ -6,7 +6,7 @@ ghost use Rattle.mc_answers.specs.JudgeAnswers as answers;
 ghost use Rattle.mc_answers.specs.Refusing.{Gives, IfRefused, IsRefusal};
 
 use crate::answer::Answer;
-use crate::in_json::found_in_json;
+use crate::in_json::found_in;
 use crate::outcome::{verdict_status, verdict_text};
 use crate::refusal::{Unanswered, refuse};
 use crate::status::Status;
@@ -24,31 +24,39 @@ use std::alloc::{AllocError, Global};
 pub fn judge_as_asked(alloc: Global, args: JudgeArgs, text: &[u8]) -> Result<Answer, Unanswered>
     ensures { Gives (answers.JudgesAs args text.now) result }
 {
-    let answer = judge_in(alloc, args, text);
-    if args.json {
-        found_in_json(alloc, answer)
-    } else {
-        answer
-    }
+    let found = judge_in(alloc, args.run, args.job, args.how, text);
+    found_in(alloc, args.json, found)
 }
 
-fn judge_in(alloc: Global, args: JudgeArgs, text: &[u8]) -> Result<Answer, Unanswered>
-    ensures { Gives (answers.JudgesIn args.run args.how text.now) result }
+// Judges the text, or a part of it.
+fn judge_in(
+    alloc: Global,
+    is_part: bool,
+    job: Option<u64>,
+    how: Search,
+    text: &[u8],
+) -> Result<Answer, Unanswered>
+    ensures { Gives (answers.JudgesIn is_part how text.now) result }
 {
-    if args.run {
-        judge_part(alloc, args, text)
+    if is_part {
+        judge_part(alloc, job, how, text)
     } else {
-        judge(alloc, args.how, text)
+        judge(alloc, how, text)
     }
 }
 
 // Judges a part of the text, whose lines keep their numbers.
-fn judge_part(alloc: Global, args: JudgeArgs, text: &[u8]) -> Result<Answer, Unanswered>
-    ensures { Gives (answers.JudgesPart args.how text.now) result }
+fn judge_part(
+    alloc: Global,
+    job: Option<u64>,
+    how: Search,
+    text: &[u8],
+) -> Result<Answer, Unanswered>
+    ensures { Gives (answers.JudgesPart how text.now) result }
 {
-    let part = find_history(text, args.job);
+    let part = find_history(text, job);
     let lines = part.after_blank_lines(alloc)?;
-    judge(alloc, args.how, lines.as_slice())
+    judge(alloc, how, lines.as_slice())
 }
 
 // Reads a history, and confirms its explanation, or searches for one.
