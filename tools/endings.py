@@ -62,6 +62,7 @@ def forms_with(hint, why):
                   (f"{NO_HISTORY}{hint}|{TOO_LONG}", 3)],
         "draw": [(r"(?:confirmed|explained|unexplained|undecided): [ -~\n]*|<svg .*</svg>\n", 0),
                  (f"{NO_HISTORY}|{TOO_LONG}", 3)],
+        "convert": [(r"(?:\{[ -~]*\}\n)*", 0), (f"{NO_HISTORY}|refused edn\n|{TOO_LONG}", 3)],
         "check": [(r"accepted\nP \d+ \d+\nA \d+ \d+\nB \d+ \d+\n", 0),
                   (f"{no_code}|{NO_IMAGE}", 3)],
         "asm": [(r"MCR[12].*", 0), (f"{NO_SCRIPT}{hint}|{TOO_LARGE}{hint}|{TOO_LONG}", 3)],

@@ -1,12 +1,13 @@
 -- What is answered to a text, whatever it is asked.
-use Rattle.std.specs.Prelude.{◌≡◌, ◌⊎◌, ℕ, ◌<◌, ◌≤◌, Bool, true, false, Option, Some, None, List, [], length, codes}
+use Rattle.std.specs.Prelude.{◌≡◌, ◌⊎◌, ℕ, ◌<◌, ◌≤◌, Bool, true, false, Option, Some, None, List, length, codes}
 use Rattle.mc_cli.specs.declared.question.Question.{Question}
 use Rattle.mc_cli.specs.declared.question.Question.TheVariants as question
 use Rattle.mc_answers.specs.AsmAnswers.{Assembles}
-use Rattle.mc_answers.specs.CheckAnswers.{Checks}
+use Rattle.mc_answers.specs.CheckAnswers.{ChecksAs}
+use Rattle.mc_answers.specs.ConvertAnswers.{Converts}
 use Rattle.mc_answers.specs.DrawAnswers.{Draws}
 use Rattle.mc_answers.specs.DriveAnswers.{Drives}
-use Rattle.mc_answers.specs.JudgeAnswers.{Judges}
+use Rattle.mc_answers.specs.JudgeAnswers.{JudgesAs}
 use Rattle.mc_answers.specs.Streams.{Grows, TakesAtMost}
 use Rattle.mc_answers.specs.Writing.{out_of_memory_text}
 use Rattle.mc_answers.specs.declared.status.Status.{Status}
@@ -18,12 +19,12 @@ INPUT_LIMIT = 1048576
 
 -- the question is answered about the text: these bytes may be written, and this is the exit status with them
 abbrev pub Does : Question → List ℕ → List ℕ → Status → Type 0
-Does (question.Judge args) text output ended = Judges args.how text output ended
-Does (question.Check args) text output ended = Checks args.why text output ended
+Does (question.Judge args) text output ended = JudgesAs args text output ended
+Does (question.Check args) text output ended = ChecksAs args text output ended
 Does (question.Asm why) text output ended = Assembles why text output ended
 Does (question.Drive how) text output ended = Drives how.why text output ended
 Does (question.Draw how) text output ended = Draws output ended
-Does (question.Convert args) text output ended = (output ≡ []) × (ended ≡ status.NoAnswer)
+Does (question.Convert args) text output ended = Converts output ended
 
 abbrev pub too_long_text : List ℕ
 too_long_text = codes "refused input too long\n"

@@ -1,5 +1,6 @@
 -- What `check` answers to an input.
-use Rattle.std.specs.Prelude.{◌≡◌, ◌⊎◌, ℕ, Bool, List, ◌++◌, Ok, Err, codes, decimal}
+use Rattle.std.specs.Prelude.{◌≡◌, ◌⊎◌, ℕ, Bool, true, false, List, ◌++◌, Ok, Err, codes, decimal}
+use Rattle.mc_cli.specs.declared.args.CheckArgs.{CheckArgs}
 use Rattle.mc_protocol.specs.Words.{actor_word}
 use Rattle.mc_protocol.specs.declared.actor.Actor.{Actor}
 use Rattle.mc_protocol.specs.declared.actor.Actor.TheVariants as actor
@@ -7,6 +8,7 @@ use Rattle.mc_protocol.specs.declared.sections.Sections.{Sections}
 use Rattle.mc_code.specs.Code.{Code}
 use Rattle.mc_flow.specs.declared.cost.Cost.{Cost}
 use Rattle.mc_verify.specs.Checked.{IsChecked}
+use Rattle.mc_answers.specs.InJson.{InJson}
 use Rattle.mc_answers.specs.Loading.{Loads, SaysNoCode, SaysUnsound}
 use Rattle.mc_answers.specs.declared.status.Status.{Status}
 use Rattle.mc_answers.specs.declared.status.Status.TheVariants as status
@@ -32,3 +34,11 @@ abbrev pub Checks : Bool → List ℕ → List ℕ → Status → Type 0
 Checks why input output ended =
     ((code : Code) × Loads input (Ok code) × ChecksCode why code output ended)
     ⊎ (SaysNoCode (λ fault. Loads input (Err fault)) why output × (ended ≡ status.Refused))
+
+-- as the line asks for it: in words, or in JSON, which has the hint that `why` asks for
+abbrev pub ChecksIn : Bool → Bool → List ℕ → List ℕ → Status → Type 0
+ChecksIn false why input = Checks why input
+ChecksIn true why input = InJson (Checks true input)
+
+abbrev pub ChecksAs : CheckArgs → List ℕ → List ℕ → Status → Type 0
+ChecksAs args input = ChecksIn args.json args.why input

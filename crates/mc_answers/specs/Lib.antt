@@ -2,10 +2,12 @@ pub mod Answers
 pub mod AsmAnswers
 pub mod CheckAnswers
 pub mod Command
+pub mod ConvertAnswers
 pub mod DrawAnswers
 pub mod DriveAnswers
 pub mod Endings
 pub mod GenerateAnswers
+pub mod InJson
 pub mod Input
 pub mod JudgeAnswers
 pub mod Loading

@@ -4,10 +4,11 @@ ghost use Rattle.mc_answers.specs.Answers.{Does};
 ghost use Rattle.mc_answers.specs.Refusing.{Gives};
 
 use crate::asm::assemble;
-use crate::check::check;
+use crate::check::check_as_asked;
+use crate::convert::convert;
 use crate::draw::draw;
 use crate::drive::drive;
-use crate::judge::judge;
+use crate::judge::judge_as_asked;
 use crate::refusal::Unanswered;
 use crate::status::Status;
 use mc_cli::Question;
@@ -38,14 +39,11 @@ fn give(alloc: Global, question: Question, text: &[u8]) -> Result<Answer, Unansw
     ensures { Gives (Does question text.now) result }
 {
     match question {
-        Question::Judge(args) => judge(alloc, args.how, text),
-        Question::Check(args) => check(alloc, args.why, text),
+        Question::Judge(args) => judge_as_asked(alloc, args, text),
+        Question::Check(args) => check_as_asked(alloc, args, text),
         Question::Asm(why) => assemble(alloc, why, text),
         Question::Drive(how) => drive(alloc, how, text),
         Question::Draw(how) => draw(alloc, how, text),
-        Question::Convert(_) => Ok(Answer {
-            output: Vec::new(alloc),
-            status: Status::NoAnswer,
-        }),
+        Question::Convert(args) => convert(alloc, args, text),
     }
 }

@@ -1,21 +1,48 @@
 //! What `check` answers to an input.
-ghost use Rattle.std.specs.Prelude.{◌≡◌, IfOk, string_bytes};
+ghost use Rattle.std.specs.Prelude.{◌≡◌, IfOk, string_bytes, true};
 ghost use Rattle.mc_verify.specs.Checked.{IsChecked};
 ghost use Rattle.mc_answers.specs.CheckAnswers as answers;
+ghost use Rattle.mc_answers.specs.InJson.{InJson};
 ghost use Rattle.mc_answers.specs.Refusing.{Gives};
 
 use crate::answer::Answer;
+use crate::in_json::found_in_json;
 use crate::loading::{load, sound_code};
 use crate::refusal::{Unanswered, refuse};
 use crate::status::Status;
+use mc_cli::CheckArgs;
 use mc_code::Code;
 use mc_hints::Refused;
 use mc_protocol::{Actor, Sections};
 use mc_verify::{Checked, Cost};
 use std::alloc::{AllocError, Global};
 
-/// Reads the code of a script or of an image, and answers the greatest costs of its sections if it is sound.
-pub fn check(alloc: Global, why: bool, input: &[u8]) -> Result<Answer, Unanswered>
+/// Checks as the line asks for it: in words, or in JSON, which has the hint too.
+pub fn check_as_asked(alloc: Global, args: CheckArgs, input: &[u8]) -> Result<Answer, Unanswered>
+    ensures { Gives (answers.ChecksAs args input.now) result }
+{
+    check_in(alloc, args.json, args.why, input)
+}
+
+fn check_in(alloc: Global, json: bool, why: bool, input: &[u8]) -> Result<Answer, Unanswered>
+    ensures { Gives (answers.ChecksIn json why input.now) result }
+{
+    if json {
+        check_in_json(alloc, input)
+    } else {
+        check(alloc, why, input)
+    }
+}
+
+fn check_in_json(alloc: Global, input: &[u8]) -> Result<Answer, Unanswered>
+    ensures { Gives (InJson (answers.Checks true input.now)) result }
+{
+    let found = check(alloc, true, input);
+    found_in_json(alloc, found)
+}
+
+// Reads the code of a script or of an image, and answers the greatest costs of its sections if it is sound.
+fn check(alloc: Global, why: bool, input: &[u8]) -> Result<Answer, Unanswered>
     ensures { Gives (answers.Checks why input.now) result }
 {
     match load(alloc, input)? {

@@ -6,20 +6,61 @@ ghost use Rattle.mc_answers.specs.JudgeAnswers as answers;
 ghost use Rattle.mc_answers.specs.Refusing.{Gives, IfRefused, IsRefusal};
 
 use crate::answer::Answer;
+use crate::in_json::found_in;
 use crate::outcome::{verdict_status, verdict_text};
 use crate::refusal::{Unanswered, refuse};
 use crate::status::Status;
 use crate::why::{Counted, why_text};
 use mc_claims::confirms;
-use mc_cli::Search;
+use mc_cli::{JudgeArgs, Search};
+use mc_convert::find_history;
 use mc_hints::Refused;
 use mc_history::{Explanation, HistoryFault, parse_history};
 use mc_model::History;
 use mc_protocol::fault_of_input;
 use std::alloc::{AllocError, Global};
 
-/// Reads a history, and confirms its explanation, or searches for one.
-pub fn judge(alloc: Global, how: Search, text: &[u8]) -> Result<Answer, Unanswered>
+/// Judges as the line asks for it: the text, or the first history in what was printed or that of a job; in words or in JSON.
+pub fn judge_as_asked(alloc: Global, args: JudgeArgs, text: &[u8]) -> Result<Answer, Unanswered>
+    ensures { Gives (answers.JudgesAs args text.now) result }
+{
+    let found = judge_in(alloc, args.run, args.job, args.how, text);
+    found_in(alloc, args.json, found)
+}
+
+// Judges the text, or a part of it.
+fn judge_in(
+    alloc: Global,
+    is_part: bool,
+    job: Option<u64>,
+    how: Search,
+    text: &[u8],
+) -> Result<Answer, Unanswered>
+    ensures { Gives (answers.JudgesIn is_part how text.now) result }
+{
+    if is_part {
+        judge_part(alloc, job, how, text)
+    } else {
+        judge(alloc, how, text)
+    }
+}
+
+// Judges a part of the text, whose lines keep their numbers.
+fn judge_part(
+    alloc: Global,
+    job: Option<u64>,
+    how: Search,
+    text: &[u8],
+) -> Result<Answer, Unanswered>
+    ensures { Gives (answers.JudgesPart how text.now) result }
+{
+    let part = find_history(text, job);
+    let lines = part.after_blank_lines(alloc)?;
+    judge(alloc, how, lines.as_slice())
+}
+
+// Reads a history, and confirms its explanation, or searches for one.
+fn judge(alloc: Global, how: Search, text: &[u8]) -> Result<Answer, Unanswered>
     ensures { Gives (answers.Judges how text.now) result }
 {
     match parse_history(alloc, text) {

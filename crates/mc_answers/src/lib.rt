@@ -10,9 +10,11 @@
 mod answer;
 mod asm;
 mod check;
+mod convert;
 mod draw;
 mod drive;
 mod generate;
+mod in_json;
 mod input;
 mod judge;
 mod loading;
@@ -27,6 +29,7 @@ mod writing;
 
 pub use answer::Answer;
 pub use generate::write_generated;
+pub use in_json::in_json;
 pub use input::{InputFault, read_text};
 pub use loading::{load_sound, sound_code, verify_code};
 pub use outcome::{endings_text, run_status, status_of_run, verdict_text};

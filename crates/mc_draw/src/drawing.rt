@@ -1,14 +1,12 @@
 //! The picture of a history in a text.
-ghost use Rattle.std.specs.Prelude.{◌≢◌};
 
-use crate::excerpt::{Excerpt, find_history};
 use crate::known::{Known, find_out};
 use crate::picture::picture_of;
 use crate::svg::append_svg;
 use crate::text::append_text;
+use mc_convert::{Excerpt, find_history};
 use mc_explain::{HistoryFault, parse_history};
-use mc_history::TextFault;
-use mc_model::{History, HistoryKind};
+use mc_model::History;
 use mc_protocol::{OutOfMemory, fault_of_input};
 use std::alloc::Global;
 
@@ -57,7 +55,7 @@ pub fn draw(
         }
         Err(fault) => {
             fault_of_input(fault.kind)?;
-            Ok(Drawing::Refused(counted_from(fault, excerpt.lines_before)))
+            Ok(Drawing::Refused(excerpt.fault_in_whole(fault)))
         }
     }
 }
@@ -78,15 +76,4 @@ fn draw_known(
         Form::Text { lines } => append_text(&mut out, &picture, lines)?,
     }
     Ok(out)
-}
-
-// The fault in the whole text, of which this many lines stand before the part that has it.
-fn counted_from(fault: HistoryFault, lines_before: u32) -> HistoryFault
-    requires { fault.kind ≢ HistoryKind.OutOfMemory }
-{
-    TextFault {
-        kind: fault.kind,
-        line: fault.line.saturating_add(lines_before),
-        misread: fault.misread,
-    }
 }

@@ -7,8 +7,6 @@
 
 mod bars;
 mod drawing;
-mod escape;
-mod excerpt;
 mod known;
 mod overlaps;
 mod picture;

@@ -1,8 +1,8 @@
 //! What a picture shows of a history, whichever form it has.
 
-use crate::excerpt::Excerpt;
 use crate::known::Known;
 use crate::rows::{Row, SECTIONS, lane_of, row_at, rows_of};
+use mc_convert::Excerpt;
 use mc_explain::{Explanation, Move};
 use mc_model::{Choice, History};
 use mc_protocol::{Bytes, OutOfMemory, Reply};

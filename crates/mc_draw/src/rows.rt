@@ -1,6 +1,6 @@
 //! The requests of a history in the order in which they began.
 
-use crate::excerpt::Excerpt;
+use mc_convert::Excerpt;
 use mc_model::{History, Note};
 use mc_protocol::{Actor, Lines, OutOfMemory, Reply, Request, Separator};
 use std::alloc::Global;

@@ -1,10 +1,10 @@
 //! The bars, the marks and the lines of text of a picture as SVG.
 
 use crate::bars::Bar;
-use crate::escape::escaped;
 use crate::picture::Picture;
 use crate::rows::Row;
 use crate::words::{answer_text, request_text};
+use mc_convert::escaped;
 use mc_protocol::OutOfMemory;
 use std::alloc::Global;
 

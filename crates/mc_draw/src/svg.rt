@@ -1,7 +1,6 @@
 //! A picture as SVG.
 
 use crate::bars::{Bar, bars_of};
-use crate::escape::escaped;
 use crate::picture::Picture;
 use crate::rows::SECTIONS;
 use crate::sentences::{headline, legend_of, remarks_of, start_text};
@@ -9,6 +8,7 @@ use crate::shapes::{BAR, LINE, append_bar, append_captions, append_line, append_
 use crate::style::STYLE;
 use crate::text::append_text;
 use crate::times::{LEFT, marks_of, place_bars};
+use mc_convert::escaped;
 use mc_protocol::OutOfMemory;
 use std::alloc::Global;
 

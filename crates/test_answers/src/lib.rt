@@ -3,6 +3,8 @@
 #![tactic(auto)]
 
 #[cfg(test)]
+mod convert_tests;
+#[cfg(test)]
 mod driven;
 #[cfg(test)]
 mod invocation_tests;

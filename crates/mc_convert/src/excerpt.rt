@@ -1,6 +1,12 @@
 //! The part of a text that is a history: what `run` or a report prints before and behind it is left out.
+ghost use Rattle.std.specs.Prelude.{◌≡◌, ◌≢◌, ◌++◌, ℕ, List, IfOk, replicate};
+ghost use Rattle.mc_convert.specs.Excerpts.{StandsIn};
 
 use itoa::Buffer;
+use mc_history::{HistoryFault, TextFault};
+use mc_model::HistoryKind;
+use mc_protocol::OutOfMemory;
+use std::alloc::Global;
 
 /// A part of a text, from the beginning of one of its lines on.
 #[derive(Clone, Copy, Debug, Drop)]
@@ -10,9 +16,33 @@ pub struct Excerpt<'a> {
     pub lines_before: u32,
 }
 
+impl Excerpt<'_> {
+    /// A text of this part alone, in which its lines have the numbers that they have in the whole text: blank lines stand before it.
+    pub fn after_blank_lines(self, alloc: Global) -> Result<Vec<u8>, OutOfMemory>
+        ensures { IfOk result (λ text. text.items ≡ replicate self.entry.lines_before 10 ++ self.entry.text.now) }
+    {
+        let mut text = vec![in alloc; b'\n'; self.lines_before as usize]?;
+        text.extend_from_slice(self.text)?;
+        Ok(text)
+    }
+
+    /// A fault that was found in this part, with its line in the whole text.
+    pub fn fault_in_whole(self, fault: HistoryFault) -> HistoryFault
+        requires { fault.kind ≢ HistoryKind.OutOfMemory }
+    {
+        TextFault {
+            kind: fault.kind,
+            line: fault.line.saturating_add(self.lines_before),
+            misread: fault.misread,
+        }
+    }
+}
+
 /// The first history of the text, with its line `end`; with `job` the first one after the line `job N` of this number. A text with no
 /// such history is answered whole, or for want of the job what stands behind its last line.
-pub fn find_history<'a>(text: &'a [u8], job: Option<u64>) -> Excerpt<'a> {
+pub fn find_history<'a>(text: &'a [u8], job: Option<u64>) -> Excerpt<'a>
+    ensures { StandsIn text.now result.text.now }
+{
     let whole = Excerpt {
         text,
         lines_before: 0,
@@ -40,6 +70,7 @@ fn is_header(line: &[u8]) -> bool {
 // The text from the first line on that is such a one; what stands behind its last line if none is.
 fn from_line<'a, F: Fn(&[u8]) -> bool>(excerpt: Excerpt<'a>, is_such: F) -> Excerpt<'a>
     requires { F.IsAlwaysCallable is_such }
+    ensures { (front : List ℕ) × (excerpt.entry.text.now ≡ front ++ result.text.now) }
 {
     let mut start: usize = 0;
     let mut lines_before = excerpt.lines_before;
@@ -56,7 +87,9 @@ fn from_line<'a, F: Fn(&[u8]) -> bool>(excerpt: Excerpt<'a>, is_such: F) -> Exce
 }
 
 // The text with its first line `end`, and without what stands behind it.
-fn up_to_end<'a>(excerpt: Excerpt<'a>) -> Excerpt<'a> {
+fn up_to_end<'a>(excerpt: Excerpt<'a>) -> Excerpt<'a>
+    ensures { (rest : List ℕ) × (excerpt.entry.text.now ≡ result.text.now ++ rest) }
+{
     let mut end: usize = 0;
     'lines: for line in excerpt.text.split(|byte| *byte == b'\n') {
         end = end.saturating_add(line.len()).saturating_add(1);
@@ -68,8 +101,8 @@ fn up_to_end<'a>(excerpt: Excerpt<'a>) -> Excerpt<'a> {
     Excerpt { text, ..excerpt }
 }
 
-// Whether the line has these words and no others. A CR at its end is dropped.
-fn has_words(line: &[u8], wanted: &[&[u8]]) -> bool {
+/// Whether the line has these words and no others. A CR at its end is dropped.
+pub fn has_words(line: &[u8], wanted: &[&[u8]]) -> bool {
     let line = match line {
         [front @ .., b'\r'] => front,
         _ => line,

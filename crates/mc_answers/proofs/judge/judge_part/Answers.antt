@@ -1,0 +1,7 @@
+use Rattle.mc_answers.proofs.Refused.{Gives-weaker}
+use Rattle.mc_answers.proofs.judge.judge_part.Goals as goal
+
+pub returns : goal.returns
+returns c = Gives-weaker _ _
+    (λ output ended is. record { part = _; lines = _; stands = c.find_history.ensures; judged = rw c.after_blank_lines.ensures at is })
+    c.judge.result c.judge.ensures
