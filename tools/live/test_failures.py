@@ -26,7 +26,8 @@ TOLD = {
 # to each.
 COUNTED = [answers(b"NOT_FOUND\r\n", b"STORED\r\n"), answers(b"6\r\n"), answers(b"7\r\n")]
 # Job 0 of seed 1 has two keys.
-DRAWN = [answers(*2 * [b"NOT_FOUND\r\n"], *2 * [b"STORED\r\n"]), answers(b"END\r\n"), []]
+HIT = b"VALUE r0-0 0 2\r\n37\r\nEND\r\n"
+DRAWN = [answers(*2 * [b"NOT_FOUND\r\n"], *2 * [b"STORED\r\n"]), answers(HIT), []]
 ASKED = ["delete a", "incr a 1", "incr a 1"], [b"NOT_F", b"6", b"7"]
 JOB_ASKED = ["delete r0-0", "get r0-0", r"set r0-1 0 0 1\r\n6"], [b"NOT_F", b"EN", b"STO"]
 COMMANDS = {

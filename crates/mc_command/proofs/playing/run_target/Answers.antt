@@ -1,15 +1,5 @@
 use Rattle.mc_answers.proofs.Right.{answer_written, fault_written}
-use Rattle.mc_command.specs.RepeatAnswers.{Runs}
+use Rattle.std.proofs.Common.{inl}
+use Rattle.mc_command.specs.RepeatAnswers.{AnswersFor, Runs}
+use Rattle.mc_command.proofs.RunTexts.{code_written}
 use Rattle.mc_command.proofs.playing.run_target.Goals as goal
-
-pub returns-in-Ok : goal.returns-in-Ok
-returns-in-Ok g c =
-    answer_written _ _ _ _ (Runs c.args.target.now.repeat c.args.target.now.how.why c.args.target.now.name) _ _ _ _
-    c.in-Ok.answer.output.items c.in-Ok.answer.status _
-    c.in-Ok.ensures.right c.in-Ok.ensures.fails c.in-Ok.ensures.taken
-    (rw c.as_slice.ensures.value at c.write_text-status.ensures.written) c.write_text-status.ensures.broken
-
-pub returns-in-Err : goal.returns-in-Err
-returns-in-Err g c =
-    fault_written _ _ _ _ (Runs c.args.target.now.repeat c.args.target.now.how.why c.args.target.now.name) _ _ _ _ c.in-Err.fault _
-    c.in-Err.ensures.fails c.in-Err.ensures.taken c.write_fault.ensures.broken c.write_fault.ensures.memory c.write_fault.ensures.status
