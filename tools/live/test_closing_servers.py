@@ -14,7 +14,8 @@ from .program import ALL_DONE, COUNTER, rows, run
 
 # After so many seconds a late server acts, and so many runs there are of each kind.
 LATE, RUNS, KEPT_RUNS = 0.004, 400, 60
-TOTALS = re.compile(rf"runs {RUNS} explained (\d+) unexplained 0 other 0 overlapped \d+ failed (\d+)")
+TOTALS = re.compile(rf"runs {RUNS} explained (\d+) unexplained 0 other 0 overlapped \d+ "
+                    r"failed (\d+)")
 # A job whose only number is A's, so that the run is unexplained if that is wrong.
 JOB = 2
 

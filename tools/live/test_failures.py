@@ -1,5 +1,5 @@
-"""What standard error says of a section that fails: its request, what came, and why no reply did. Five
-servers fail P, A or B at their first request, by `run`, `run --times` and `campaign`."""
+"""What standard error says of a section that fails: its request, what came, and why no reply did.
+Five servers fail P, A or B at their first request, by `run`, `run --times` and `campaign`."""
 
 import itertools
 
@@ -22,10 +22,10 @@ TOLD = {
     "hang": 'no reply to "{asked}" within 0.5 s',
     "garbage": r'to "{asked}" came "WHAT?\x01\xff\r\n": it is no reply to this request',
 }
-# By command: the words, what P, A and B are answered, their first requests, and the front of a reply
-# to each.
+# By command: the words, what P, A and B are answered, their first requests, and the front of a
+# reply to each.
 COUNTED = [answers(b"NOT_FOUND\r\n", b"STORED\r\n"), answers(b"6\r\n"), answers(b"7\r\n")]
-# Job 0 of seed 1 has two keys.
+# In job 0 of seed 1 P sets two keys, and A reads the first.
 HIT = b"VALUE r0-0 0 2\r\n37\r\nEND\r\n"
 DRAWN = [answers(*2 * [b"NOT_FOUND\r\n"], *2 * [b"STORED\r\n"]), answers(HIT), []]
 ASKED = ["delete a", "incr a 1", "incr a 1"], [b"NOT_F", b"6", b"7"]

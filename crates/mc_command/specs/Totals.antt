@@ -27,12 +27,13 @@ has_failure found = is_failed found.p || (is_failed found.a || is_failed found.b
 abbrev pub failed_or : Bool → RunClass → RunClass
 failed_or failed other = if failed then class.Failed else other
 
--- unexplained if no order explains the run; else failed, if a section failed; else explained, if an order explains it
+-- unexplained if no order explains a run; else failed, if a section of it failed; else explained, if an order explains it
 abbrev pub class_by : Bool → Verdict → RunClass
 class_by failed (verdict.Explained claim) = failed_or failed class.Explained
 class_by failed verdict.Unexplained = class.Unexplained
 class_by failed verdict.Undecided = failed_or failed class.Other
 
+-- what a run counts as, by its verdict and by how its sections ended
 abbrev pub class_of : Played → RunClass
 class_of (played.Ended held h found told) = class_by (has_failure held.endings) found
 class_of (played.NoConnection section) = class.Other

@@ -51,7 +51,7 @@ fn section_text<S: Stream, C: Connection>(
     match (lane.fault(), sent.last()) {
         (None, Some(Sent { reply: Some(_), .. })) => {
             let mut all = Vec::from_slice(alloc, &lane.got()[lane.taken()..])?;
-            all.extend_from_slice(Waiting::on(alloc, stream)?.bytes.as_slice())?;
+            all.extend_from_slice(Waiting::on(alloc, stream).bytes.as_slice())?;
             if all.is_empty() {
                 return Ok(None);
             }

@@ -19,9 +19,9 @@ use std::sync::Wait;
 use std::thread::Threads;
 use std::time::Instant;
 
-/// Runs the code as often as `repeat` says. It writes which run is handed out, that run, and the totals of all, and answers its status, with
-/// what standard error is to say of it. With `repeat.keep_going` a run whose status isn't 0 is written as soon as it has ended, and the
-/// totals once all have.
+/// Runs the code as often as `repeat` says. It writes which run is handed out, that run, and the totals of all, and answers its status,
+/// with what standard error is to say of it. With `repeat.keep_going` a run whose status isn't 0 is written as soon as it has ended, and
+/// the totals once all have.
 pub fn write_runs<R: Threads + Wait + Clock + Sync, N: Network, T: RunObserver, O: Sink>(
     rt: &R,
     alloc: Global,

@@ -54,9 +54,7 @@ impl<C: Connection> Kept<C> {
         stream: C,
         section: Actor,
     ) -> Result<C, Unconnected> {
-        let Ok(waiting) = Waiting::on(self.alloc, &stream) else {
-            return network.reconnect(section);
-        };
+        let waiting = Waiting::on(self.alloc, &stream);
         if waiting.is_idle() {
             return Ok(stream);
         }

@@ -5,7 +5,7 @@ ghost use Rattle.mc_protocol.specs.Sections.{section_of};
 use crate::call_errors::CallError;
 use crate::network::Connection;
 use mc_protocol::{Actor, Sections};
-use std::alloc::{AllocError, Global};
+use std::alloc::Global;
 use std::io;
 use std::io::{ErrorKind, Read, Write};
 use std::net::TcpStream;
@@ -175,38 +175,41 @@ pub struct Waiting {
 }
 
 impl Waiting {
-    /// What is there of the connection now, without waiting for any. A read of it waits afterwards.
-    pub fn on<C: Connection>(alloc: Global, stream: &C) -> Result<Waiting, AllocError> {
+    /// What is there of the connection now, without waiting for any. A read of it waits afterwards. Where memory runs out, bytes are lost,
+    /// and the connection counts as closed.
+    pub fn on<C: Connection>(alloc: Global, stream: &C) -> Waiting {
         let mut waiting = Waiting {
             bytes: Vec::new(alloc),
             is_open: false,
         };
         if stream.set_nonblocking(true).is_err() {
-            return Ok(waiting);
+            return waiting;
         }
-        let taken = waiting.take(stream);
+        waiting.take(stream);
         // A connection of which a read doesn't wait serves no more.
         if stream.set_nonblocking(false).is_err() {
             waiting.is_open = false;
         }
-        taken?;
-        Ok(waiting)
+        waiting
     }
 
     // Takes what is there, where a read doesn't wait.
-    fn take<C: Connection>(&mut self, stream: &C) -> Result<(), AllocError> {
+    fn take<C: Connection>(&mut self, stream: &C) {
         let mut piece = [0; PIECE];
         'reads: for _ in 0..MOST_READS {
             match stream.receive(&mut piece) {
-                Ok(count) if count > 0 => self.bytes.extend_from_slice(&piece[..count])?,
-                Ok(_) => return Ok(()),
+                Ok(count) if count > 0 => {
+                    if self.bytes.extend_from_slice(&piece[..count]).is_err() {
+                        return;
+                    }
+                }
+                Ok(_) => return,
                 Err(error) => {
                     self.is_open = error.kind() == ErrorKind::WouldBlock;
-                    return Ok(());
+                    return;
                 }
             }
         }
-        Ok(())
     }
 
     /// Whether the server holds the connection open, and nothing has come.

@@ -1,5 +1,26 @@
-use Rattle.mc_answers.proofs.Right.{answer_written, fault_written}
 use Rattle.std.proofs.Common.{inl}
+use Rattle.mc_answers.proofs.Right.{answer_written, fault_written}
 use Rattle.mc_command.specs.RepeatAnswers.{AnswersFor, Runs}
 use Rattle.mc_command.proofs.RunTexts.{code_written}
 use Rattle.mc_command.proofs.playing.run_target.Goals as goal
+
+pub returns-in-Ok-in-Ok : goal.returns-in-Ok-in-Ok
+returns-in-Ok-in-Ok g c =
+    let target = c.args.target.now in
+    let read = c.in-Ok.ensures.code in
+    code_written _ _ _ _ (Runs target.repeat target.how.why target.name)
+    (AnswersFor target.repeat target.how.why c.in-Ok-in-Ok.checked.code) _ _ _ _ read.0 _ read.1 read.2
+    (λ out end right. inl (c.in-Ok-in-Ok.checked.code, read.3, right))
+    c.in-Ok.ensures.fails c.in-Ok.ensures.taken c.write_code.ensures
+
+pub returns-in-Ok-in-Err : goal.returns-in-Ok-in-Err
+returns-in-Ok-in-Err g c =
+    answer_written _ _ _ _ (Runs c.args.target.now.repeat c.args.target.now.how.why c.args.target.now.name) _ _ _ _
+    c.in-Ok-in-Err.answer.output.items c.in-Ok-in-Err.answer.status _
+    c.in-Ok.ensures.unplayed c.in-Ok.ensures.fails c.in-Ok.ensures.taken
+    (rw c.as_slice.ensures.value at c.write_text-status.ensures.written) c.write_text-status.ensures.broken
+
+pub returns-in-Err : goal.returns-in-Err
+returns-in-Err g c =
+    fault_written _ _ _ _ (Runs c.args.target.now.repeat c.args.target.now.how.why c.args.target.now.name) _ _ _ _ c.in-Err.fault _
+    c.in-Err.ensures.fails c.in-Err.ensures.taken c.write_fault.ensures.broken c.write_fault.ensures.memory c.write_fault.ensures.status

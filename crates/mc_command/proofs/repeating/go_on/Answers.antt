@@ -45,11 +45,16 @@ runs-preserved g c =
     (λ succeeded. absurd (false≢true (sym failed ∙ succeeded))) in
     let kept = c.with-runs.ensures.same failed in
     record {
-      so_far = (all ++ run ∷ [], next, λ settled. settled_none (settled_before all run settled), λ most is some.
-          let limit : c.unwrap_or-most.result ≡ most =
-          c.unwrap_or-most.ensures ∙ ap (λ (o : Option ℕ). unwrap_or o (2 ^ 64 - 1)) is in
-          let long = length-append all (run ∷ []) in
-          omega (arith, count, limit, below, long));
+      so_far = (
+        all ++ run ∷ [],
+        next,
+        λ settled. settled_none (settled_before all run settled),
+        λ most is some.
+            let limit : c.unwrap_or-most.result ≡ most =
+            c.unwrap_or-most.ensures ∙ ap (λ (o : Option ℕ). unwrap_or o (2 ^ 64 - 1)) is in
+            let long = length-append all (run ∷ []) in
+            omega (arith, count, limit, below, long),
+      );
       count = ap (λ (t : Totals). t.runs) next.totals ∙ (length-append all (run ∷ []) ∙ ap (λ n. n + 1) count);
       number = kept.0 ∙ c.runs.invariant.number;
       played = kept.1 ∙ c.runs.invariant.played;
@@ -78,9 +83,9 @@ returns g c =
     comes_on c.args.repeat c.args.target.now.how.why c.args.checked.now.code c.runs.runs c.args.first
     all so c.runs.invariant.number c.runs.invariant.played c.requires.keeps_going c.runs.invariant.so_far.3
     (λ none most is some.
-        let limit : c.unwrap_or-most.result ≡ most =
-        c.unwrap_or-most.ensures ∙ ap (λ (o : Option ℕ). unwrap_or o (2 ^ 64 - 1)) is in
-        let count = sym (ap (λ (t : Totals). t.runs) so.totals) ∙ c.runs.invariant.count in
-        let most_runs = c.runs.invariant.so_far.3 most is some in
-        let over = c.runs-test.false in
-        inl (omega (arith, count, limit, most_runs, over)))
+    let limit : c.unwrap_or-most.result ≡ most =
+    c.unwrap_or-most.ensures ∙ ap (λ (o : Option ℕ). unwrap_or o (2 ^ 64 - 1)) is in
+    let count = sym (ap (λ (t : Totals). t.runs) so.totals) ∙ c.runs.invariant.count in
+    let most_runs = c.runs.invariant.so_far.3 most is some in
+    let over = c.runs-test.false in
+    inl (omega (arith, count, limit, most_runs, over)))
