@@ -1,5 +1,5 @@
 -- One run more: which is handed out.
-use Rattle.std.proofs.Common.{◌≡◌, ◌⊎◌, ◌∙◌, ◌&&◌, ℕ, Bool, true, false, not, List, [], ◌∷◌, ◌++◌, length, ap, inl, inr, refl, sym, Some}
+use Rattle.std.proofs.Common.{◌≡◌, ◌∙◌, ℕ, Bool, true, false, not, List, [], ◌∷◌, ◌++◌, length, ap, refl, sym, Some}
 use Rattle.std.specs.List.{All}
 use Rattle.std.proofs.lemmas.Bool.{false≢true}
 use Rattle.std.proofs.lemmas.List.{append_assoc, length-append}
@@ -64,16 +64,3 @@ failed_by false failed is told = refl
 pub succeeded_by : (succeeded failed : Bool) → failed ≡ not succeeded → failed ≡ false → succeeded ≡ true
 succeeded_by true failed is told = refl
 succeeded_by false failed is told = absurd (false≢true (sym told ∙ is))
-
-pub on_by : (succeeded failed keep_going result : Bool) → failed ≡ not succeeded → result ≡ (failed && keep_going) → result ≡ true
-    → (keep_going ≡ true) × (succeeded ≡ false)
-on_by true failed true result is both told = absurd (false≢true (sym (both ∙ ap (λ f. f && true) is) ∙ told))
-on_by true failed false result is both told = absurd (false≢true (sym (both ∙ ap (λ f. f && false) is) ∙ told))
-on_by false failed true result is both told = (refl, refl)
-on_by false failed false result is both told = absurd (false≢true (sym (both ∙ ap (λ f. f && false) is) ∙ told))
-
-pub over_by : (succeeded failed keep_going result : Bool) → failed ≡ not succeeded → result ≡ (failed && keep_going) → result ≡ false
-    → (keep_going ≡ false) ⊎ (succeeded ≡ true)
-over_by true failed keep_going result is both told = inr refl
-over_by false failed false result is both told = inl refl
-over_by false failed true result is both told = absurd (false≢true (sym told ∙ (both ∙ ap (λ f. f && true) is)))

@@ -68,9 +68,13 @@ totals_of runs = record {
   failed = count_by (counts_as class.Failed) runs;
 }
 
+abbrev pub classes_text : Totals → List ℕ
+classes_text totals =
+    codes "explained " ++ (decimal totals.explained ++ (codes " unexplained " ++ (decimal totals.unexplained
+    ++ (codes " other " ++ decimal totals.other))))
+
 abbrev pub totals_line : Totals → List ℕ
 totals_line totals =
-    codes "runs " ++ (decimal totals.runs ++ (codes " explained " ++ (decimal totals.explained
-    ++ (codes " unexplained " ++ (decimal totals.unexplained ++ (codes " other " ++ (decimal totals.other
+    codes "runs " ++ (decimal totals.runs ++ (codes " " ++ (classes_text totals
     ++ (codes " overlapped " ++ (decimal totals.overlapped
-    ++ (codes " failed " ++ (decimal totals.failed ++ codes "\n")))))))))))
+    ++ (codes " failed " ++ (decimal totals.failed ++ codes "\n")))))))

@@ -75,17 +75,27 @@ impl Totals {
     pub fn line(self, alloc: Global) -> Result<String, AllocError>
         ensures { IfOk result (λ line. string_bytes line ≡ spec.totals_line self) }
     {
+        let classes = self.classes(alloc)?;
         let Totals {
             runs,
+            overlapped,
+            failed,
+            ..
+        } = self;
+        format!(in alloc; "runs {runs} {classes} overlapped {overlapped} failed {failed}\n")
+    }
+
+    // How many runs have a verdict, and which.
+    fn classes(self, alloc: Global) -> Result<String, AllocError>
+        ensures { IfOk result (λ text. string_bytes text ≡ spec.classes_text self) }
+    {
+        let Totals {
             explained,
             unexplained,
             other,
-            overlapped,
-            failed,
+            ..
         } = self;
-        format!(in alloc;
-            "runs {runs} explained {explained} unexplained {unexplained} other {other} overlapped {overlapped} failed {failed}\n"
-        )
+        format!(in alloc; "explained {explained} unexplained {unexplained} other {other}")
     }
 }
 

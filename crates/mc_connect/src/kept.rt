@@ -79,7 +79,8 @@ impl<C: Connection> Kept<C> {
 
     /// Gives the connections back, if there are any.
     pub fn quit<N: Network<Connection = C>>(self, network: &mut N) {
-        if let Some(streams) = self.streams {
+        let Kept { streams, .. } = self;
+        if let Some(streams) = streams {
             network.quit(streams);
         }
     }

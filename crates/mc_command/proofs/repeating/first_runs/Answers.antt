@@ -1,4 +1,5 @@
-use Rattle.std.proofs.Common.{◌≡◌, ◌+◌, ◌<◌, ◌-◌, ◌^◌, ◌∙◌, ◌∷◌, [], ◌++◌, length, ap, inl, inr, sym, arith}
+use Rattle.std.proofs.Common.{◌≡◌, ◌+◌, ◌<◌, ◌-◌, ◌^◌, ◌∙◌, ◌∷◌, [], ◌++◌, Option, ℕ, length, ap, inl, inr, sym, arith}
+use Rattle.core.specs.Option.{unwrap_or}
 use Rattle.std.proofs.lemmas.List.{length-append}
 use Rattle.mc_command.specs.RepeatAnswers.{succeeds}
 use Rattle.mc_command.specs.declared.totals.Totals.{Totals}
@@ -34,4 +35,20 @@ runs-preserved g c =
       count = ap (λ (t : Totals). t.runs) next.totals ∙ (length-append all (run ∷ []) ∙ ap (λ n. n + 1) count);
       last = c.with-runs.ensures.last
           (succeeded_by (succeeds c.runs.runs.played) _ c.has_failed.ensures c.if-has_failed.false);
+    }
+
+pub returns-then-has_failed : goal.returns-then-has_failed
+returns-then-has_failed g c =
+    let so = c.runs.invariant.so_far.1 in
+    record {
+      all = c.runs.invariant.so_far.0;
+      so_far = so;
+      last = c.runs.invariant.last;
+      few = λ most is some.
+          let count = sym (ap (λ (t : Totals). t.runs) so.totals) ∙ c.runs.invariant.count in
+          let limit : c.unwrap_or-most.result ≡ most =
+          c.unwrap_or-most.ensures ∙ ap (λ (o : Option ℕ). unwrap_or o (2 ^ 64 - 1)) is in
+          let below = c.runs-test.true in
+          omega (arith, count, limit, below);
+      goes_on = λ none most is some. inr (failed_by (succeeds c.runs.runs.played) _ c.has_failed.ensures c.if-has_failed.true);
     }

@@ -9,8 +9,8 @@ invariant-runs g l = record {
   so_far : (all : List Played) × IsSoFar l.target.how.why l.checked.code all l.runs × (AreSettled all → l.renaming.under ≡ None)
       × ((most : ℕ) → l.repeat.times ≡ Some most → 0 < most → length all ≤ most);
   count : l.runs.totals.runs ≡ l.done;
-  number : l.runs.number ≡ l.first.number;
-  played : l.runs.played ≡ l.first.played;
+  number : l.runs.number ≡ l.fn.first.number;
+  played : l.runs.played ≡ l.fn.first.played;
   failed : succeeds l.runs.played ≡ false;
   under : IfSome l.renaming.under (λ under. IsUnderSome l.checked.code under.code);
 }

@@ -1,10 +1,12 @@
 use Rattle.std.proofs.Common.{◌∙◌, inl, inr, sym}
-use Rattle.std.proofs.lemmas.Bool.{not-true}
-use Rattle.mc_command.proofs.MoreRuns.{on_by, over_by}
+use Rattle.std.proofs.lemmas.Bool.{not-false, not-true}
 use Rattle.mc_command.proofs.repeating.Runs.may_go_on.Goals as goal
 
-pub returns-clause-on : goal.returns-clause-on
-returns-clause-on c is = on_by _ _ _ _ c.has_failed.ensures c.ensures is
+pub returns-then-has_failed-clause-on : goal.returns-then-has_failed-clause-on
+returns-then-has_failed-clause-on c is = (is, not-true _ (sym c.has_failed.ensures ∙ c.if-has_failed.true))
 
-pub returns-clause-over : goal.returns-clause-over
-returns-clause-over c is = over_by _ _ _ _ c.has_failed.ensures c.ensures is
+pub returns-then-has_failed-clause-over : goal.returns-then-has_failed-clause-over
+returns-then-has_failed-clause-over c is = inl is
+
+pub returns-else-has_failed-clause-over : goal.returns-else-has_failed-clause-over
+returns-else-has_failed-clause-over c is = inr (not-false _ (sym c.has_failed.ensures ∙ c.if-has_failed.false))
