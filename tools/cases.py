@@ -41,7 +41,9 @@ class Case:
     status: int | None = None
     # The lines `<!` and `>!`, by which reading and writing are to fail too.
     fails: set = field(default_factory=set)
-    # What a server does on each connection; runs of that by name; those to do, and connections.
+    # At a server, the output after its history; what it does on each connection; runs of that by
+    # name; those to do, and connections.
+    rest: bytes = b""
     talk: dict = field(default_factory=dict)
     named: dict = field(default_factory=dict)
     runs: list = field(default_factory=list)
@@ -66,6 +68,8 @@ class Case:
             self.fails.add(line)
         elif mark in ("@P", "@A", "@B"):
             self.talk[mark[1]] = text
+        elif mark == "@>":
+            self.rest += bytes_of(f"> {text}")
         elif mark == "@=":
             self.named[text] = dict(self.talk)
         elif mark == "@:":

@@ -1,26 +1,24 @@
-//! What the program says of a run beside its answer: what came in the place of a reply, what didn't come in time, and what came after the
+//! What the program says of a run beside its answer: how a section failed, with what it had asked and what came, and what came after the
 //! last reply.
 use mc_cli::Seconds;
-use mc_connect::{Connection, Connections};
+use mc_connect::{Connection, Connections, Waiting};
 use mc_lane::{Lane, Stream};
 use mc_model::{History, Sent};
 use mc_protocol::{Actor, Fault, Request, render_request};
 use mc_reader::{ReadFault, ReplyReader, Shape};
 use mc_run::Lanes;
 use std::alloc::{AllocError, Global};
+use std::io;
+use std::io::ErrorKind;
 
 // At most this many bytes of a request, and of what came, are shown.
 const MOST_SHOWN: usize = 200;
 
-// Bytes that nobody asked for are read at most this many times.
-const MOST_READS: usize = 64;
+// What the system's own text of an error ends with, before its number.
+const NUMBER: &str = " (os error ";
 
-// At most this many of them are read at once.
-const PIECE: usize = 4096;
-
-/// A remark on each section that failed by what it received, or by what it didn't receive within the time, with what it had asked and what
-/// came; and for each that has all its replies and received more, or for which more is there at once. What isn't printable ASCII is
-/// escaped.
+/// A remark on each section that failed, with what it had asked and what came; and on each that has all its replies and received more, or
+/// for which more is there at once. What isn't printable ASCII is escaped.
 pub fn evidence_of<S: Stream, C: Connection>(
     alloc: Global,
     history: &History,
@@ -32,53 +30,13 @@ pub fn evidence_of<S: Stream, C: Connection>(
     for section in [Actor::P, Actor::A, Actor::B] {
         let sent = history.sent(section);
         let lane = lanes.get(section);
-        let late = if connections.is_late(section) {
-            timeout
-        } else {
-            None
-        };
-        if let Some(said) = section_text(alloc, sent, lane, connections.stream(section), late)? {
+        let stream = connections.stream(section);
+        let error = connections.error(section);
+        if let Some(said) = section_text(alloc, sent, lane, stream, error, timeout)? {
             remarks.push(format!(in alloc; "{}: {said}", section.word())?)?;
         }
     }
     Ok(remarks)
-}
-
-/// What the program says of a section that failed, if it says anything: where a read or a write took longer than `late`, what didn't come
-/// within that time, or wasn't sent; else what it received that is no reply to its last request, or a line that reports an error.
-pub fn failure_text<S: Stream>(
-    alloc: Global,
-    sent: &[Sent],
-    lane: &Lane<S>,
-    late: Option<Seconds<'_>>,
-) -> Result<Option<String>, AllocError> {
-    match late {
-        Some(time) => late_text(alloc, sent, lane, time),
-        None => wrong_text(alloc, sent, lane),
-    }
-}
-
-// What the program says of a section whose last read or write took too long.
-fn late_text<S: Stream>(
-    alloc: Global,
-    sent: &[Sent],
-    lane: &Lane<S>,
-    time: Seconds<'_>,
-) -> Result<Option<String>, AllocError> {
-    let Some(Sent { request, .. }) = sent.last() else {
-        return Ok(None);
-    };
-    let asked = asked_text(alloc, request)?;
-    let came = shown_part(&lane.got()[lane.taken()..]);
-    let text = match lane.fault() {
-        Some(Fault::WriteFailed) => format!(in alloc; "\"{asked}\" wasn't sent within {time}")?,
-        _ if came.is_empty() => format!(in alloc; "no reply to \"{asked}\" within {time}")?,
-        _ => {
-            let came = came.escape_ascii();
-            format!(in alloc; "no more than \"{came}\" to \"{asked}\" within {time}")?
-        }
-    };
-    Ok(Some(text))
 }
 
 // What the program says of a section: how it failed, or what came after its last reply.
@@ -87,63 +45,115 @@ fn section_text<S: Stream, C: Connection>(
     sent: &[Sent],
     lane: &Lane<S>,
     stream: &C,
-    late: Option<Seconds<'_>>,
+    error: Option<io::Error>,
+    timeout: Option<Seconds<'_>>,
 ) -> Result<Option<String>, AllocError> {
-    match (late, lane.fault(), sent.last()) {
-        (None, None, Some(Sent { reply: Some(_), .. })) => {
+    match (lane.fault(), sent.last()) {
+        (None, Some(Sent { reply: Some(_), .. })) => {
             let mut all = Vec::from_slice(alloc, &lane.got()[lane.taken()..])?;
-            take_waiting(stream, &mut all)?;
+            all.extend_from_slice(Waiting::on(alloc, stream).bytes.as_slice())?;
             if all.is_empty() {
                 return Ok(None);
             }
             Ok(Some(surplus_text(alloc, &all)?))
         }
-        _ => failure_text(alloc, sent, lane, late),
+        _ => failure_text(alloc, sent, lane, error, timeout),
     }
 }
 
-// What the program says of a section that received what is no reply to its last request, or a line that reports an error; or nothing.
-fn wrong_text<S: Stream>(
+/// A remark on each section on whose connection more came, once its run was over.
+pub fn later_evidence(alloc: Global, came: &[(Actor, Vec<u8>)]) -> Result<Vec<String>, AllocError> {
+    let mut remarks = Vec::new(alloc);
+    for (section, bytes) in came {
+        let said = surplus_text(alloc, bytes.as_slice())?;
+        remarks.push(format!(in alloc; "{}: {said}", section.word())?)?;
+    }
+    Ok(remarks)
+}
+
+/// What the program says of a section that failed: what it had asked, what came, and why no more did. `error` is why a call of its
+/// connection failed, and `timeout` the longest that one might take. Of a section that has all its replies it says what came after the
+/// last one, and else nothing.
+pub fn failure_text<S: Stream>(
     alloc: Global,
     sent: &[Sent],
     lane: &Lane<S>,
+    error: Option<io::Error>,
+    timeout: Option<Seconds<'_>>,
 ) -> Result<Option<String>, AllocError> {
-    let more = &lane.got()[lane.taken()..];
-    match (lane.fault(), sent.last()) {
-        (
-            Some(Fault::BadReply | Fault::ErrorLine),
-            Some(
-                Sent {
-                    request,
-                    reply: None,
-                },
-            ),
-        ) => Ok(Some(wrong_reply_text(alloc, request, more)?)),
-        _ => Ok(None),
-    }
+    let came = &lane.got()[lane.taken()..];
+    let request = match sent.last() {
+        Some(
+            Sent {
+                request,
+                reply: None,
+            },
+        ) => request,
+        Some(Sent { reply: Some(_), .. }) if lane.fault().is_none() && !came.is_empty() => {
+            return Ok(Some(surplus_text(alloc, came)?));
+        }
+        _ => return Ok(None),
+    };
+    let text = match lane.fault() {
+        Some(Fault::WriteFailed) => {
+            let asked = asked_text(alloc, request)?;
+            let why = error_text(alloc, error, timeout)?;
+            format!(in alloc; "\"{asked}\" wasn't sent{why}")?
+        }
+        Some(Fault::ReadFailed) => {
+            let why = error_text(alloc, error, timeout)?;
+            no_reply_text(alloc, request, came, why.as_str())?
+        }
+        Some(Fault::Ended) => {
+            no_reply_text(alloc, request, came, ": the server closed the connection")?
+        }
+        Some(Fault::TooMuch) => {
+            let why = "the connection has brought 262,144 bytes, the most that it may";
+            came_text(alloc, request, came, Some(why))?
+        }
+        Some(Fault::BadReply | Fault::ErrorLine) => {
+            came_text(alloc, request, came, reason(alloc, request, came))?
+        }
+        Some(Fault::Closed | Fault::Memory) | None => return Ok(None),
+    };
+    Ok(Some(text))
 }
 
-// Appends the bytes that have come over the connection, without waiting for any.
-fn take_waiting<C: Connection>(stream: &C, bytes: &mut Vec<u8>) -> Result<(), AllocError> {
-    if stream.set_nonblocking(true).is_err() {
-        return Ok(());
-    }
-    let taken = read_waiting(stream, bytes);
-    // Where this fails, no read of the connection waits any more.
-    let _ = stream.set_nonblocking(false);
-    taken
-}
-
-// Appends the bytes that are there, where a read doesn't wait.
-fn read_waiting<C: Connection>(stream: &C, bytes: &mut Vec<u8>) -> Result<(), AllocError> {
-    let mut piece = [0; PIECE];
-    for _ in 0..MOST_READS {
-        match stream.receive(&mut piece) {
-            Ok(count) if count > 0 => bytes.extend_from_slice(&piece[..count])?,
-            _ => return Ok(()),
+// Why a call failed, after what didn't come: within which time, or the system's reason, if it gave one.
+fn error_text(
+    alloc: Global,
+    error: Option<io::Error>,
+    timeout: Option<Seconds<'_>>,
+) -> Result<String, AllocError> {
+    match (error, timeout) {
+        (None, _) => Ok(String::new(alloc)),
+        (Some(error), Some(time)) if error.kind() == ErrorKind::WouldBlock => {
+            format!(in alloc; " within {time}")
+        }
+        (Some(error), _) => {
+            let whole = format!(in alloc; "{error}")?;
+            let reason = whole
+                .as_str()
+                .rsplit_once(NUMBER)
+                .map_or(whole.as_str(), |(text, _)| text);
+            format!(in alloc; ": {reason}")
         }
     }
-    Ok(())
+}
+
+// To a request came no reply, or a part of one.
+fn no_reply_text(
+    alloc: Global,
+    request: &Request,
+    came: &[u8],
+    why: &str,
+) -> Result<String, AllocError> {
+    let asked = asked_text(alloc, request)?;
+    if came.is_empty() {
+        return format!(in alloc; "no reply to \"{asked}\"{why}");
+    }
+    let shown = shown_part(came).escape_ascii();
+    format!(in alloc; "no more than \"{shown}\" to \"{asked}\"{why}")
 }
 
 // The text of a request, without its end.
@@ -155,12 +165,17 @@ fn asked_text(alloc: Global, request: &Request) -> Result<String, AllocError> {
     format!(in alloc; "{asked}")
 }
 
-// To a request came what is no reply to it.
-fn wrong_reply_text(alloc: Global, request: &Request, came: &[u8]) -> Result<String, AllocError> {
+// What came to a request, and why that is no reply to it, if it isn't seen.
+fn came_text(
+    alloc: Global,
+    request: &Request,
+    came: &[u8],
+    why: Option<&str>,
+) -> Result<String, AllocError> {
     let asked = asked_text(alloc, request)?;
     let shown = shown_part(came).escape_ascii();
-    match reason(alloc, request, came) {
-        Some(reason) => format!(in alloc; "to \"{asked}\" came \"{shown}\": {reason}"),
+    match why {
+        Some(why) => format!(in alloc; "to \"{asked}\" came \"{shown}\": {why}"),
         None => format!(in alloc; "to \"{asked}\" came \"{shown}\""),
     }
 }

@@ -9,16 +9,16 @@ use mc_connect::Dialer;
 use mc_lane::Stream;
 use mc_protocol::{Actor, Sections};
 use std::alloc::Global;
+use std::io;
 use std::io::Eprint;
 use std::rt::Clock;
 use std::sync::Wait;
 
-// At most this many unexplained jobs are written to standard error, and this many times what came in the place of a reply,
-// or that none came in time.
+// At most this many unexplained jobs are written to standard error, and this many sections that failed.
 const MOST_SHOWN: u32 = 10;
 
-/// Says on standard error which jobs are unexplained, as soon as they are, and how to print their scripts; what came in the place of
-/// replies, or didn't come in time; and on a terminal how far the campaign is. It counts, too, how the jobs' requests were answered.
+/// Says on standard error which jobs are unexplained, as soon as they are, and how to print their scripts; how sections failed; and on a
+/// terminal how far the campaign is. It counts, too, how the jobs' requests were answered.
 #[derive(Drop)]
 pub struct Teller<'a, R> {
     rt: &'a R,
@@ -36,8 +36,8 @@ pub struct Teller<'a, R> {
 
 impl<'a, R: Eprint + Clock + Wait> Teller<'a, R> {
     /// What says which jobs of a campaign are unexplained; how far the campaign is, in a line of `columns` columns, if there are any; and
-    /// with each report which of its jobs had no connection, as `dialer` has them. Where a call of a job's connection took longer than
-    /// `target.timeout`, it has that too.
+    /// with each report which of its jobs had no connection, as `dialer` has them. It has, too, why a call
+    /// of a job's connection failed.
     pub fn new(
         rt: &'a R,
         alloc: Global,
@@ -102,14 +102,14 @@ impl<'a, R: Eprint + Clock + Wait> Teller<'a, R> {
 }
 
 impl<'a, R: Eprint + Clock + Wait> Teller<'a, R> {
-    // Says what came in the place of a reply in a section of the job, or what didn't come in time where one of its calls was late. Where
-    // there is no memory for it, it isn't said.
+    // Says how a section of the job failed, if it did; `error` is why a call of its connection failed. Where there is no memory for it,
+    // it isn't said.
     fn tell_failure<S: Stream>(
         &mut self,
         job: u64,
         outcome: &JobOutcome<S>,
         section: Actor,
-        is_late: bool,
+        error: Option<io::Error>,
     ) {
         let JobOutcome::Ran { run, history, .. } = outcome else {
             return;
@@ -119,8 +119,7 @@ impl<'a, R: Eprint + Clock + Wait> Teller<'a, R> {
         }
         let sent = history.sent(section);
         let lane = run.lanes.get(section);
-        let late = if is_late { self.timeout } else { None };
-        if let Ok(Some(text)) = failure_text(self.alloc, sent, lane, late) {
+        if let Ok(Some(text)) = failure_text(self.alloc, sent, lane, error, self.timeout) {
             self.shown_failures += 1;
             let lead = self.lead;
             let section = section.word();
@@ -137,7 +136,7 @@ impl<'a, S: Stream, R: Eprint + Clock + Wait> Watcher<S> for Teller<'a, R> {
             self.shown_jobs += 1;
             self.tell(job);
         }
-        let Sections { p, a, b } = self.dialer.take_late(job);
+        let Sections { p, a, b } = self.dialer.take_errors(job);
         self.tell_failure(job, outcome, Actor::P, p);
         self.tell_failure(job, outcome, Actor::A, a);
         self.tell_failure(job, outcome, Actor::B, b);

@@ -1,8 +1,8 @@
 //! What connects the jobs of a campaign to its server.
+use crate::call_errors::CallErrors;
 use crate::closing::Closing;
 use crate::dial::{connect, dial};
 use crate::failures::Failures;
-use crate::late_calls::LateCalls;
 use crate::servers::Servers;
 use crate::socket::JobSocket;
 use mc_protocol::{Actor, Sections};
@@ -16,7 +16,7 @@ use std::time::Duration;
 
 /// Connects the sections of all jobs to one server, from any thread. The server's name is looked up until one of its addresses takes
 /// a connection; from then on all connections go to that one. The server is asked to close those of a job that has ended, and does so
-/// while another one runs. It knows which jobs had no connection, and which calls took too long.
+/// while another one runs. It knows which jobs had no connection, and why calls failed.
 #[derive(Drop)]
 pub struct Dialer<'a, R> {
     rt: &'a R,
@@ -25,7 +25,7 @@ pub struct Dialer<'a, R> {
     // The connections of the job that has ended last.
     closing: Mutex<Option<Closing>>,
     failures: Failures<'a, R>,
-    late_calls: LateCalls<'a, R>,
+    call_errors: CallErrors<'a, R>,
 }
 
 impl<'a, R> Dialer<'a, R>
@@ -49,7 +49,7 @@ where
             address: Mutex::new(None),
             closing: Mutex::new(None),
             failures: Failures::new(rt, alloc, server, lead),
-            late_calls: LateCalls::new(rt, alloc),
+            call_errors: CallErrors::new(rt, alloc),
         }
     }
 
@@ -96,13 +96,9 @@ where
         }
     }
 
-    // The connection of a job's section. Where its calls have no limit, or there is no memory, it isn't noted that one took too long.
+    // The connection of a job's section. If there is no memory, it isn't noted why a call of it failed.
     fn watched(&self, job: u64, section: Actor, stream: TcpStream) -> JobSocket {
-        let is_late = match self.servers.timeout {
-            Some(_) => self.late_calls.add(job, section).ok(),
-            None => None,
-        };
-        JobSocket::new(stream, is_late)
+        JobSocket::new(stream, self.call_errors.add(job, section).ok())
     }
 
     // The address that took the first connection, if one has.
@@ -124,9 +120,10 @@ where
 }
 
 impl<'a, R: Wait + Eprint> Dialer<'a, R> {
-    /// Whether a call of each section took longer than it may, of a job that has ended. Its connections aren't known any more.
-    pub fn take_late(&self, job: u64) -> Sections<bool> {
-        self.late_calls.take(job)
+    /// Why a call of each section failed, if one did, of a job that has ended. Its connections aren't known any more. The kind is
+    /// `WouldBlock` if the call took longer than it may.
+    pub fn take_errors(&self, job: u64) -> Sections<Option<io::Error>> {
+        self.call_errors.take(job)
     }
 
     /// Writes to standard error, for each range of jobs in a row that had no connection, which they are, and why; and forgets them.

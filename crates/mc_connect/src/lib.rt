@@ -1,18 +1,18 @@
 //! Connections to the servers that are tested: how they are made, kept and closed, within which times they are read and written, and
-//! what is known of those that failed or took too long.
+//! why those that failed did.
 //!
 //! Below it stands `mc_protocol`, for the sections. The crate above uses a [`Network`] for runs, one after another, and a [`Dialer`] for
 //! jobs, from any thread. The one contract is that of a [`Connection`]: a read fills no more than the piece that it is given, and a write
 //! takes no more than the bytes that it is given. Nothing is said of what comes.
 #![tactic(auto)]
 
+mod call_errors;
 mod closing;
 mod descriptors;
 mod dial;
 mod dialer;
 mod failures;
 mod kept;
-mod late_calls;
 mod network;
 mod servers;
 mod socket;
@@ -26,5 +26,5 @@ pub use failures::Unreached;
 pub use kept::Kept;
 pub use network::{Connection, Network, Unconnected};
 pub use servers::Servers;
-pub use socket::{Connections, JobSocket, Socket};
+pub use socket::{Connections, JobSocket, Socket, Waiting};
 pub use tcp_network::TcpNetwork;

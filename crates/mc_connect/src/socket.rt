@@ -1,7 +1,8 @@
-//! Connections that tell whether a read or a write took longer than it may.
+//! Connections that note why a read or a write failed.
 ghost use Rattle.std.specs.Prelude.{◌≡◌};
 ghost use Rattle.mc_protocol.specs.Sections.{section_of};
 
+use crate::call_errors::CallError;
 use crate::network::Connection;
 use mc_protocol::{Actor, Sections};
 use std::alloc::Global;
@@ -9,36 +10,44 @@ use std::io;
 use std::io::{ErrorKind, Read, Write};
 use std::net::TcpStream;
 use std::sync::Arc;
-use std::sync::atomic::{AtomicBool, Ordering};
 
 // A call that is interrupted is made this many times at most.
 const MOST_CALLS: u32 = 1_000;
 
-/// The connection of each section, and whether a read or a write of it took longer than it may.
+// Bytes that nobody asked for are read at most this many times.
+const MOST_READS: usize = 64;
+
+// At most this many of them are read at once.
+const PIECE: usize = 4096;
+
+/// The connection of each section, and why a read or a write of it failed.
 #[derive(Debug, Drop)]
 pub struct Connections<C> {
     streams: Sections<C>,
-    late: Sections<AtomicBool>,
+    errors: Sections<CallError>,
 }
 
 impl<C: Connection> Connections<C> {
-    /// Connections on which nothing took too long.
+    /// Connections of which no call has failed.
     pub fn new(streams: Sections<C>) -> Self
         ensures { result.streams ≡ streams }
     {
         Connections {
             streams,
-            late: Sections {
-                p: AtomicBool::new(false),
-                a: AtomicBool::new(false),
-                b: AtomicBool::new(false),
+            errors: Sections {
+                p: CallError::new(),
+                a: CallError::new(),
+                b: CallError::new(),
             },
         }
     }
 
-    /// What reads and writes over the section's connection, and notes that a call took too long.
+    /// What reads and writes over the section's connection, and notes why a call failed.
     pub fn socket(&self, section: Actor) -> Socket<'_, C> {
-        Socket::new(self.streams.get(section), self.late.get(section))
+        Socket {
+            stream: self.streams.get(section),
+            error: self.errors.get(section),
+        }
     }
 
     /// The connection of a section.
@@ -48,9 +57,9 @@ impl<C: Connection> Connections<C> {
         self.streams.get(section)
     }
 
-    /// Whether a read or a write of the section took longer than it may.
-    pub fn is_late(&self, section: Actor) -> bool {
-        self.late.get(section).load(Ordering::SeqCst)
+    /// Why a read or a write of the section failed, if one did. The kind is `WouldBlock` if it took longer than it may.
+    pub fn error(&self, section: Actor) -> Option<io::Error> {
+        self.errors.get(section).get()
     }
 
     /// The connections themselves.
@@ -62,31 +71,24 @@ impl<C: Connection> Connections<C> {
     }
 }
 
-/// A connection of a section, which notes where a read or a write of it took longer than it may.
+/// A connection of a section, which notes why a read or a write of it failed.
 #[derive(Debug, Drop)]
 pub struct Socket<'a, C> {
     stream: &'a C,
-    is_late: &'a AtomicBool,
-}
-
-impl<'a, C> Socket<'a, C> {
-    /// What reads and writes over the connection, and notes in `is_late` that a call took too long.
-    pub(crate) fn new(stream: &'a C, is_late: &'a AtomicBool) -> Self {
-        Socket { stream, is_late }
-    }
+    error: &'a CallError,
 }
 
 /// The same of a section of a campaign's job: it owns the connection, and what it notes outlives it.
 #[derive(Drop)]
 pub struct JobSocket {
     stream: TcpStream,
-    is_late: Option<Arc<AtomicBool, Global>>,
+    error: Option<Arc<CallError, Global>>,
 }
 
 impl JobSocket {
-    /// What reads and writes over the connection, and notes in `is_late`, if it is there, that a call took too long.
-    pub(crate) fn new(stream: TcpStream, is_late: Option<Arc<AtomicBool, Global>>) -> Self {
-        JobSocket { stream, is_late }
+    /// What reads and writes over the connection, and notes in `error`, if it is there, why a call failed.
+    pub(crate) fn new(stream: TcpStream, error: Option<Arc<CallError, Global>>) -> Self {
+        JobSocket { stream, error }
     }
 
     /// The connection.
@@ -96,17 +98,9 @@ impl JobSocket {
     }
 
     fn note(&self, error: &io::Error) {
-        if let Some(is_late) = &self.is_late {
-            note(error, is_late);
+        if let Some(noted) = &self.error {
+            noted.note(error);
         }
-    }
-}
-
-// Notes whether the error is the one of a call that took longer than it may. TimedOut is none: by it the system reports a connection that
-// it has given up, however long that took.
-fn note(error: &io::Error, is_late: &AtomicBool) {
-    if error.kind() == ErrorKind::WouldBlock {
-        is_late.store(true, Ordering::SeqCst);
     }
 }
 
@@ -114,7 +108,7 @@ impl<'a, C: Connection> Read for Socket<'a, C> {
     fn read(&mut self, buffer: &mut [u8]) -> io::Result<usize> {
         let result = self.stream.receive(buffer);
         if let Err(error) = &result {
-            note(error, self.is_late);
+            self.error.note(error);
         }
         result
     }
@@ -124,7 +118,7 @@ impl<'a, C: Connection> Write for Socket<'a, C> {
     fn write(&mut self, bytes: &[u8]) -> io::Result<usize> {
         let result = self.stream.send(bytes);
         if let Err(error) = &result {
-            note(error, self.is_late);
+            self.error.note(error);
         }
         result
     }
@@ -171,17 +165,55 @@ impl Write for JobSocket {
     }
 }
 
-/// Whether the server holds the connection open, and nothing has come on it that wasn't read. A read of it waits afterwards.
-pub fn is_idle<C: Connection>(stream: &C) -> bool {
-    if stream.set_nonblocking(true).is_err() {
-        return false;
+/// What is there of a connection that isn't read.
+#[derive(Debug, Drop)]
+pub struct Waiting {
+    /// The bytes that have come.
+    pub bytes: Vec<u8>,
+    /// Whether the server holds the connection open, as far as that is seen after them.
+    pub is_open: bool,
+}
+
+impl Waiting {
+    /// What is there of the connection now, without waiting for any. A read of it waits afterwards. Where memory runs out, bytes are lost,
+    /// and the connection counts as closed.
+    pub fn on<C: Connection>(alloc: Global, stream: &C) -> Waiting {
+        let mut waiting = Waiting {
+            bytes: Vec::new(alloc),
+            is_open: false,
+        };
+        if stream.set_nonblocking(true).is_err() {
+            return waiting;
+        }
+        waiting.take(stream);
+        // A connection of which a read doesn't wait serves no more.
+        if stream.set_nonblocking(false).is_err() {
+            waiting.is_open = false;
+        }
+        waiting
     }
-    let found = stream.receive(&mut [0; 1]);
-    if stream.set_nonblocking(false).is_err() {
-        return false;
+
+    // Takes what is there, where a read doesn't wait.
+    fn take<C: Connection>(&mut self, stream: &C) {
+        let mut piece = [0; PIECE];
+        'reads: for _ in 0..MOST_READS {
+            match stream.receive(&mut piece) {
+                Ok(count) if count > 0 => {
+                    if self.bytes.extend_from_slice(&piece[..count]).is_err() {
+                        return;
+                    }
+                }
+                Ok(_) => return,
+                Err(error) => {
+                    self.is_open = error.kind() == ErrorKind::WouldBlock;
+                    return;
+                }
+            }
+        }
     }
-    match found {
-        Ok(_) => false,
-        Err(error) => error.kind() == ErrorKind::WouldBlock,
+
+    /// Whether the server holds the connection open, and nothing has come.
+    pub fn is_idle(&self) -> bool {
+        self.is_open && self.bytes.is_empty()
     }
 }

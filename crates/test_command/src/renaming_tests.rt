@@ -88,11 +88,13 @@ impl RunObserver for Keys {
 
     fn pass_over(&mut self, _number: u64, _remarks: &Remarks) {}
 
+    fn find(&mut self, _remarks: &Remarks) {}
+
     fn stop(&mut self, number: u64) {
         self.stopped = Some(number);
     }
 
-    fn end(&mut self) {}
+    fn give_way(&mut self) {}
 }
 
 #[test]
@@ -100,8 +102,9 @@ fn runs_after_an_unanswered_request_have_new_keys(rt: HostRuntime) {
     let mut observer = Keys::new(rt.alloc());
     let mut network = CannedNetwork::new([TO_P, &[], &[]]);
     let output = run_three(&rt, rt.alloc(), SHORT, &mut network, &mut observer);
+    assert!(rt; output.starts_with(b"run 1 of 3\nP done\nA failed 3 Ended\n"));
     assert!(rt;
-        output.starts_with(b"run 1 of 3\nruns 3 explained 3 unexplained 0 other 0 overlapped 0\n")
+        output.ends_with(b"runs 3 explained 0 unexplained 0 other 0 overlapped 0 failed 3\n")
     );
     let [first, second, third] = observer.keys.as_slice() else {
         return assert!(rt; false);
@@ -120,8 +123,9 @@ fn runs_after_answered_requests_keep_their_keys(rt: HostRuntime) {
     let mut observer = Keys::new(rt.alloc());
     let mut network = CannedNetwork::new([TO_P, ANSWERED, &[]]);
     let output = run_three(&rt, rt.alloc(), SHORT, &mut network, &mut observer);
+    assert!(rt; output.starts_with(b"run 2 of 3\nP done\nA done\n"));
     assert!(rt;
-        output.starts_with(b"run 2 of 3\nruns 3 explained 2 unexplained 1 other 0 overlapped 0\n")
+        output.ends_with(b"runs 3 explained 2 unexplained 1 other 0 overlapped 0 failed 0\n")
     );
     assert_eq!(rt; observer.keys.len(), 3);
     assert!(rt;
@@ -137,8 +141,9 @@ fn runs_end_where_no_new_name_fits(rt: HostRuntime) -> Result<(), Fail> {
     let mut observer = Keys::new(rt.alloc());
     let mut network = CannedNetwork::new([TO_P, &[], &[]]);
     let output = run_three(&rt, rt.alloc(), LONG, &mut network, &mut observer);
+    assert!(rt; output.starts_with(b"run 1 of 3\nP done\nA failed 3 Ended\n"));
     assert!(rt;
-        output.starts_with(b"run 1 of 3\nruns 1 explained 1 unexplained 0 other 0 overlapped 0\n")
+        output.ends_with(b"runs 1 explained 0 unexplained 0 other 0 overlapped 0 failed 1\n")
     );
     assert_eq!(rt; observer.keys.len(), 1);
     assert_eq!(rt; observer.stopped, Some(1));
