@@ -9,3 +9,7 @@ pub mod EachVerb
 pub mod ShownNumbers
 pub mod Seen
 pub mod Simulating
+pub mod Nexts
+pub mod Marked
+pub mod Reaching
+pub mod Doing

@@ -7,14 +7,23 @@
 
 mod confirm;
 mod explanation;
+mod ground;
+mod held;
+mod judging;
 mod keys;
 mod laws;
+mod numbering;
 mod operation;
+mod point;
 mod queues;
+mod search;
 mod standing;
 mod trial;
+mod verdict;
 mod version;
 
 pub use confirm::confirm_timeline;
 pub use explanation::{TimelineExplanation, TimelineMove};
+pub use judging::judge_key;
 pub use laws::hopeless_is_unexplained;
+pub use verdict::TimelineVerdict;
