@@ -10,6 +10,5 @@ pub mod ShownNumbers
 pub mod Seen
 pub mod Simulating
 pub mod Nexts
-pub mod Marked
 pub mod Reaching
-pub mod Doing
+pub mod OneKey

@@ -15,4 +15,3 @@ pub mod Verdicts
 pub mod Trials
 pub mod Searching
 pub mod Finding
-pub mod Numbering

@@ -1,8 +1,8 @@
 //! Verdicts on timelines whose requests have one key.
 use crate::notes::{Line, push_all};
-use mc_linearize::{TimelineVerdict, judge_key};
+use mc_linearize::{TimelineVerdict, has_one_key, judge_key};
 use mc_model::WordsFault;
-use mc_timeline::TimelineBuilder;
+use mc_timeline::{Timeline, TimelineBuilder};
 use std::alloc::Global;
 use std::test::Fail;
 
@@ -86,17 +86,24 @@ fn wrong_rows(alloc: Global) -> Result<usize, WordsFault> {
         let mut builder = TimelineBuilder::new(alloc);
         push_all(alloc, &mut builder, CLEARED)?;
         push_all(alloc, &mut builder, lines)?;
-        let (verdict, _turns) = judge_key(alloc, &builder.finish(), 1_000)?;
-        let is_right = match verdict {
-            TimelineVerdict::Explained(_) => *explained,
-            TimelineVerdict::Unexplained => !*explained,
-            TimelineVerdict::Undecided => false,
-        };
-        if !is_right {
+        if judged(alloc, &builder.finish())? != Some(*explained) {
             wrong += 1;
         }
     }
     Ok(wrong)
+}
+
+/// Whether something explains the timeline, if it has one key and the turns are enough.
+fn judged(alloc: Global, timeline: &Timeline) -> Result<Option<bool>, WordsFault> {
+    if !has_one_key(timeline) {
+        return Ok(None);
+    }
+    let (verdict, _turns) = judge_key(alloc, timeline, 1_000)?;
+    Ok(match verdict {
+        TimelineVerdict::Explained(_) => Some(true),
+        TimelineVerdict::Unexplained => Some(false),
+        TimelineVerdict::Undecided => None,
+    })
 }
 
 static CLEARED: &[Line] = &[(0, true, "delete a"), (0, false, "NOT_FOUND")];
