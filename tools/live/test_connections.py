@@ -7,7 +7,7 @@ import time
 
 from . import servers
 from .program import COUNTER, SECONDS, LiveTest, begun, play, rows, run, three_times
-from .servers import A, B, P, Replying, Scripted, Step
+from .servers import A, B, P, Replying, Scripted, Step, answers
 
 REFUSED = "Connection refused (os error 111)"
 TIMED_OUT = "mcrace: 127.0.0.1:{}: connection timed out\n"
@@ -44,11 +44,29 @@ class NoConnections(LiveTest):
     @rows([("A", "A"), ("B", "B")])
     @three_times
     def test_connect_of_a_branch_is_not_answered(self, section):
-        """A branch's own server is tried once, whatever `--wait` says."""
         with servers.unanswering() as port, Scripted((P, A, B)) as server:
             own = f"--{section.lower()}", f"127.0.0.1:{port}"
-            found = play(server.port, *own, "--timeout", "0.2", "--wait", "50")
+            found = play(server.port, *own, "--timeout", "0.2")
         self.assert_no_connection(section, TIMED_OUT.format(port), found)
+
+    @rows([("A", "a"), ("B", "b")])
+    def test_server_of_a_branch_comes_late(self, section):
+        """Each server is waited for."""
+        # Their requests don't come to one server, so they don't meet there.
+        talks = dict(zip("ab", (answers(b"6\r\n"), answers(b"7\r\n"))))
+        late = talks.pop(section)
+        port, done = servers.free_port(), threading.Event()
+
+        def come_late():
+            time.sleep(0.3)
+            with Scripted((late,), port=port):
+                done.wait(SECONDS)
+
+        threading.Thread(target=come_late, daemon=True).start()
+        with Scripted((P, *talks.values())) as server, self.assert_takes(0.2, 10):
+            found = play(server.port, f"--{section}", f"127.0.0.1:{port}", "--wait", "20")
+        done.set()
+        self.assert_done(found)
 
     def test_server_comes_late(self):
         port, done = servers.free_port(), threading.Event()

@@ -19,7 +19,8 @@ enum Place<'a> {
 }
 
 /// A connection of the section to its server, and the address that took it. For a section that has no server of its own, `address` is
-/// the one that took an earlier connection, if one did: then no other is tried. P is tried again until `servers.wait` is over.
+/// the one that took an earlier connection, if one did: then no other is tried. P and a branch with a server of its own try again until
+/// `servers.wait` is over.
 pub(crate) fn dial<R: Net<Stream = TcpStream> + Clock>(
     rt: &R,
     servers: &Servers<'_>,
@@ -31,8 +32,10 @@ pub(crate) fn dial<R: Net<Stream = TcpStream> + Clock>(
         (None, Some(address)) => Place::At(address),
         (None, None) => Place::Named(servers.server),
     };
-    match (section, servers.wait) {
-        (Actor::P, Some(wait)) => connect_patiently(rt, place, servers.timeout, wait),
+    // A branch that shares P's server connects once P has.
+    let is_patient = section == Actor::P || servers.own(section).is_some();
+    match servers.wait {
+        Some(wait) if is_patient => connect_patiently(rt, place, servers.timeout, wait),
         _ => connect_at(rt, place, servers.timeout),
     }
 }

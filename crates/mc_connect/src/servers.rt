@@ -15,7 +15,7 @@ pub struct Servers<'a> {
     pub b: Option<&'a str>,
     /// The longest that one connect to one address, one read or one write may take, if there is a limit.
     pub timeout: Option<Duration>,
-    /// How long P may try again to connect.
+    /// How long each server may be tried again.
     pub wait: Option<Duration>,
 }
 

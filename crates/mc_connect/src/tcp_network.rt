@@ -32,8 +32,8 @@ impl<'a, R: Net<Stream = TcpStream> + Clock + Sync> Network for TcpNetwork<'a, R
     type Connection = TimedStream<'a, R>;
 
     /// They are connected in the order P, A, B. P looks the server's name up and tries its addresses one after another, and all of this
-    /// again every 50 ms for as long as `wait` of its servers says. A and B connect to the address that took P, but where they have a
-    /// server of their own, whose addresses each of them tries once.
+    /// again every 50 ms for as long as `wait` of its servers says. So does a branch that has a server of its own; any other connects to
+    /// the address that took P.
     fn connect(&mut self) -> Result<Sections<TimedStream<'a, R>>, Unconnected> {
         self.address = None;
         let p = self.reconnect(Actor::P)?;
