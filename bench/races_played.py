@@ -14,7 +14,7 @@ from model import STORES
 ROUND = 100
 # If a get that showed the old value came so long after STORED, in µs, a client can know it.
 CLEARLY = 20
-TOTALS = re.compile(r"runs (\d+) explained \d+ unexplained (\d+) other 0 overlapped \d+")
+TOTALS = re.compile(r"runs (\d+) explained \d+ unexplained (\d+) other 0 overlapped \d+ failed 0")
 
 # A run as the server saw it (race_server.c); `late` is in µs, or nan.
 Visit = collections.namedtuple("Visit", "is_a_first overlapped shown late")
@@ -131,7 +131,7 @@ def repeated(program, *options):
     """`mcrace run --times`; only how often the race was found is known, and not in which runs."""
     def play(port, script, runs):
         output = run_of(program, port, script, "--times", runs, "--keep-going", *options)
-        totals = TOTALS.fullmatch(output[1])
+        totals = TOTALS.fullmatch(output[-1])
         if not totals or int(totals[1]) != runs:
             stop(options, output)
         return [at < int(totals[2]) for at in range(runs)]

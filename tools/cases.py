@@ -44,8 +44,9 @@ class Case:
     status: int | None = None
     # The lines `<!` and `>!`, by which reading and writing are to fail too.
     fails: set = field(default_factory=set)
-    # What a server does on the connections of P, A and B; such runs by name; those that it does,
-    # and how many connections it is to take.
+    # At a server, the output after its history; what the server does on the connections of P, A and
+    # B; such runs by name; those that it does, and how many connections it is to take.
+    rest: bytes = b""
     talk: dict = field(default_factory=dict)
     named: dict = field(default_factory=dict)
     runs: list = field(default_factory=list)
@@ -70,6 +71,8 @@ class Case:
             self.fails.add(line)
         elif mark in ("@P", "@A", "@B"):
             self.talk[mark[1]] = text
+        elif mark == "@>":
+            self.rest += bytes_of(f"> {text}")
         elif mark == "@=":
             self.named[text] = dict(self.talk)
         elif mark == "@:":

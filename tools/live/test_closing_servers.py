@@ -3,6 +3,7 @@ they act a moment later. Nothing that a later run receives may be taken for a fa
 
 import contextlib
 import itertools
+import re
 import socket
 import threading
 import time
@@ -13,6 +14,8 @@ from .program import ALL_DONE, COUNTER, rows, run
 
 # After so many seconds a late server acts, and so many runs there are of each kind.
 LATE, RUNS, KEPT_RUNS = 0.004, 400, 60
+TOTALS = re.compile(rf"runs {RUNS} explained (\d+) unexplained 0 other 0 overlapped \d+ "
+                    r"failed (\d+)")
 # A job whose only number is A's, so that the run is unexplained if that is wrong.
 JOB = 2
 
@@ -109,8 +112,9 @@ class ClosingServers(servers.ServedTest):
         with Late(self.port) as server:
             words = ["run", f"127.0.0.1:{server.port}", "--times", str(RUNS)]
             answer = run([*words, "--keep-going", "--reconnect"], COUNTER)
-        begin = f"runs {RUNS} explained {RUNS} unexplained 0 other 0 "
-        self.assertTrue(answer.text.partition("\n")[2].startswith(begin), answer)
+        found = TOTALS.fullmatch(answer.text.splitlines()[-1])
+        explained, failed = map(int, found.groups()) if found else (0, 0)
+        self.assertEqual((explained + failed, failed), (RUNS, server.lost), answer)
         self.assertGreater(server.lost, RUNS / 4)
 
     def test_shrinking(self):

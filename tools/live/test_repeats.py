@@ -1,10 +1,12 @@
 """What `mcrace run` does with `--times`, `--for`, `--keep-going` and `--stats` at servers that are
 right or racy. Those whose runs differ are in cases/run/runs.cases."""
 
+import itertools
 import re
+import signal
 
 from . import servers
-from .program import COUNTER, LiveTest, judged, rows, run
+from .program import COUNTER, LiveTest, begun, judged, rows, run
 from .servers import A, B, P, Scripted
 
 # How often there are so many runs at a server that is right: the options, and seconds.
@@ -14,8 +16,9 @@ MANY = [
     ("one second, going on", "--for=1s --keep-going --quiet", 1, 4),
 ]
 
-NUMBERS = re.compile(rb"run (\d+)(?: of (\d+))?\nruns (\d+) explained (\d+) unexplained (\d+) "
-                     rb"other (\d+) overlapped (\d+)\n")
+FIRST = re.compile(rb"run (\d+)(?: of (\d+))?\n")
+TOTALS = re.compile(rb"^runs (\d+) explained (\d+) unexplained (\d+) other (\d+) overlapped (\d+) "
+                    rb"failed (\d+)\n", re.M)
 
 
 def runs(port, options, script=COUNTER):
@@ -23,9 +26,9 @@ def runs(port, options, script=COUNTER):
 
 
 def numbers_in(answer):
-    """The seven numbers of the first two lines; 0 for one that isn't there."""
-    found = NUMBERS.match(answer.output)
-    return [int(it or 0) for it in found.groups()] if found else 7 * [0]
+    """The two numbers of the first line, and six of the totals; 0 for one that isn't there."""
+    first, totals = FIRST.match(answer.output), TOTALS.search(answer.output)
+    return [int(it or 0) for it in first.groups() + totals.groups()] if totals else 8 * [0]
 
 
 class ManyRuns(LiveTest):
@@ -41,16 +44,17 @@ class ManyRuns(LiveTest):
 
     def assert_history(self, answer):
         """The history that is written is judged as the run was."""
-        before, begin, history = answer.output.partition(b"history 2\n")
+        output = TOTALS.sub(b"", answer.output)
+        before, begin, history = output.partition(b"history 2\n")
         self.assertTrue(before.decode().endswith(judged(begin + history)), answer)
 
     @rows(MANY)
     def test_right_server(self, options, least, most):
         with servers.serving() as (_, port), self.assert_takes(least, most):
             answer = runs(port, options)
-        number, _, count, explained, unexplained, other, overlapped = numbers_in(answer)
+        number, _, count, explained, unexplained, other, overlapped, failed = numbers_in(answer)
         self.assertEqual((answer.status, answer.faults), (0, ""), answer)
-        self.assertEqual((number, explained, unexplained, other), (count, count, 0, 0), answer)
+        self.assertEqual((number, explained, unexplained, other + failed), (count, count, 0, 0))
         self.assertTrue(0 < overlapped <= count, answer)
         self.assert_history(answer)
 
@@ -58,12 +62,30 @@ class ManyRuns(LiveTest):
         """They end with the first run that is unexplained."""
         with servers.serving("--racy") as (_, port):
             answer = runs(port, "--times 100000")
-        *found, overlapped = numbers_in(answer)
+        *found, overlapped, _ = numbers_in(answer)
         count = found[0]
         self.assertEqual(answer.status, 1, answer)
         self.assertEqual(found, [count, 100_000, count, count - 1, 1, 0], answer)
         self.assertLessEqual(overlapped, count)
         self.assert_history(answer)
+
+
+class Findings(LiveTest):
+    """With `--keep-going`."""
+
+    def test_written_at_once(self):
+        """Runs that are interrupted have written the one that was found, and lack the totals."""
+        with servers.serving("--racy") as (_, port):
+            words = ["run", f"127.0.0.1:{port}", "--for", "1h", "--keep-going"]
+            process = begun(words, COUNTER)
+            with process:
+                lines = list(itertools.takewhile(lambda it: it != b"end\n", process.stdout))
+                self.assertIsNone(process.poll())
+                process.send_signal(signal.SIGINT)
+                rest = process.stdout.read()
+        self.assertRegex(lines[0], rb"\Arun \d+\n\Z")
+        self.assertEqual(lines[1:5], [b"P done\n", b"A done\n", b"B done\n", b"unexplained\n"])
+        self.assertEqual(rest, b"")
 
 
 # Both branches read what isn't there.

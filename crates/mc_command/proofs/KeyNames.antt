@@ -21,12 +21,7 @@ pub own_right : (why : Bool) (written : Code) (under : Option Checked) (code : C
 own_right why written under code run none is right =
     subst (λ c. IsRightFor why c run) (is ∙ ap (λ (o : Option Checked). code_of o written) none) right
 
-pub none_settled : (new old : Option Checked) (unsettled succeeded : Bool)
-    → (new ≡ old) ⊎ ((unsettled ≡ true) × (succeeded ≡ false)) → old ≡ None → unsettled ≡ false → new ≡ None
-none_settled new old unsettled succeeded (inl same) none settled = same ∙ none
-none_settled new old unsettled succeeded (inr both) none settled = absurd (false≢true (sym settled ∙ both.0))
-
-pub none_succeeded : (new old : Option Checked) (unsettled succeeded : Bool)
-    → (new ≡ old) ⊎ ((unsettled ≡ true) × (succeeded ≡ false)) → old ≡ None → succeeded ≡ true → new ≡ None
-none_succeeded new old unsettled succeeded (inl same) none is = same ∙ none
-none_succeeded new old unsettled succeeded (inr both) none is = absurd (false≢true (sym both.1 ∙ is))
+pub none_settled : (new old : Option Checked) (unsettled : Bool) → (new ≡ old) ⊎ (unsettled ≡ true) → old ≡ None → unsettled ≡ false
+    → new ≡ None
+none_settled new old unsettled (inl same) none settled = same ∙ none
+none_settled new old unsettled (inr is) none settled = absurd (false≢true (sym settled ∙ is))

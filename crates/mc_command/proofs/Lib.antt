@@ -7,6 +7,7 @@ pub mod MoreAnswers
 pub mod MoreNotes
 pub mod MoreRuns
 pub mod ReportStatuses
+pub mod RunTexts
 pub mod Shown
 pub mod TallyMore
 pub mod Unplayed

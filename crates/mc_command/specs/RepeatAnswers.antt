@@ -1,6 +1,6 @@
 -- What `run` answers where a script is run repeatedly.
 use Rattle.std.specs.Prelude.{◌≡◌, ◌⊎◌, ℕ, ◌+◌, ◌<◌, ◌≤◌, Bool, true, false, not, ◌&&◌, All, Option, Some, None, List, [], ◌∷◌, ◌++◌}
-use Rattle.std.specs.Prelude.{length, codes, decimal}
+use Rattle.std.specs.Prelude.{length, codes, decimal, if◌then◌else◌}
 use Rattle.mc_protocol.specs.Lines.{Word}
 use Rattle.mc_model.specs.History.{are_answered}
 use Rattle.mc_model.specs.Notes.{History}
@@ -11,7 +11,9 @@ use Rattle.mc_command.specs.Totals.{totals_line, totals_of}
 use Rattle.mc_cli.specs.declared.args.Repeat.{Repeat}
 use Rattle.mc_command.specs.declared.run.Played.{Played}
 use Rattle.mc_command.specs.declared.run.Played.TheVariants as played
+use Rattle.mc_answers.specs.Writing.{out_of_memory_text}
 use Rattle.mc_answers.specs.declared.status.Status.{Status}
+use Rattle.mc_answers.specs.declared.status.Status.TheVariants as status
 use Rattle.mc_command.specs.declared.totals.Totals.{Totals}
 
 -- the run's status is 0
@@ -70,14 +72,32 @@ abbrev pub run_line : Option ℕ → ℕ → List ℕ
 run_line None number = codes "run " ++ (decimal number ++ codes "\n")
 run_line (Some times) number = codes "run " ++ (decimal number ++ (codes " of " ++ (decimal times ++ codes "\n")))
 
--- what is written: which run is handed out, the totals of all runs, and what is written of this one
-abbrev pub repeated_text : Option ℕ → ℕ → Totals → Played → List ℕ
-repeated_text times number totals given = run_line times number ++ (totals_line totals ++ text_of given)
+-- what is written of the run that is handed out
+abbrev pub found_text : Option ℕ → ℕ → Played → List ℕ
+found_text times number given = run_line times number ++ text_of given
+
+-- and with the totals of all runs, which come last where runs go on after it
+abbrev pub repeated_text : Repeat → ℕ → Totals → Played → List ℕ
+repeated_text repeat number totals given = if repeat.keep_going
+    then found_text repeat.times number given ++ totals_line totals
+    else run_line repeat.times number ++ (totals_line totals ++ text_of given)
+
+-- the line of the totals of runs to which the code comes, of which this one is handed out
+abbrev pub AreTotals : Repeat → Bool → Code → ℕ → Played → List ℕ → Type 0
+AreTotals repeat why code number given line = (totals : Totals) × Comes repeat why code number given totals × (line ≡ totals_line totals)
+
+-- a run whose status isn't 0 was written, and memory ran out before the runs after it had ended
+abbrev pub IsCutOff : Repeat → Bool → Code → List ℕ → Status → Type 0
+IsCutOff repeat why code output ended = (number : ℕ) × (given : Played) × IsRightFor why code given
+    × (repeat.keep_going ≡ true) × (succeeds given ≡ false)
+    × (output ≡ found_text repeat.times number given ++ out_of_memory_text) × (ended ≡ status.NoAnswer)
 
 -- for sound code, runs that it comes to are what is written, with the status of the one that is handed out
 abbrev pub RepeatsFor : Repeat → Bool → Code → List ℕ → Status → Type 0
-RepeatsFor repeat why code output ended = (number : ℕ) × (given : Played) × (totals : Totals) × Comes repeat why code number given totals
-    × (output ≡ repeated_text repeat.times number totals given) × (ended ≡ status_of given)
+RepeatsFor repeat why code output ended =
+    ((number : ℕ) × (given : Played) × (totals : Totals) × Comes repeat why code number given totals
+    × (output ≡ repeated_text repeat number totals given) × (ended ≡ status_of given))
+    ⊎ IsCutOff repeat why code output ended
 
 -- for sound code, what is written of one run, or of repeated ones where the line asks for them
 abbrev pub AnswersFor : Option Repeat → Bool → Code → List ℕ → Status → Type 0

@@ -1,7 +1,7 @@
 //! What the program says of a run beside its answer: how a section failed, with what it had asked and what came, and what came after the
 //! last reply.
 use mc_cli::Seconds;
-use mc_connect::{Connection, Connections};
+use mc_connect::{Connection, Connections, Waiting};
 use mc_lane::{Lane, Stream};
 use mc_model::{History, Sent};
 use mc_protocol::{Actor, Fault, Request, render_request};
@@ -13,12 +13,6 @@ use std::io::ErrorKind;
 
 // At most this many bytes of a request, and of what came, are shown.
 const MOST_SHOWN: usize = 200;
-
-// Bytes that nobody asked for are read at most this many times.
-const MOST_READS: usize = 64;
-
-// At most this many of them are read at once.
-const PIECE: usize = 4096;
 
 // What the system's own text of an error ends with, before its number.
 const NUMBER: &str = " (os error ";
@@ -57,7 +51,7 @@ fn section_text<S: Stream, C: Connection>(
     match (lane.fault(), sent.last()) {
         (None, Some(Sent { reply: Some(_), .. })) => {
             let mut all = Vec::from_slice(alloc, &lane.got()[lane.taken()..])?;
-            take_waiting(stream, &mut all)?;
+            all.extend_from_slice(Waiting::on(alloc, stream).bytes.as_slice())?;
             if all.is_empty() {
                 return Ok(None);
             }
@@ -67,9 +61,19 @@ fn section_text<S: Stream, C: Connection>(
     }
 }
 
-/// What the program says of a section whose last request has no reply: what it had asked, what came, and why no more did. `error` is
-/// why a call of its connection failed, and `timeout` the longest that one might take. Nothing is said of a section that failed by
-/// itself, or not at all.
+/// A remark on each section on whose connection more came, once its run was over.
+pub fn later_evidence(alloc: Global, came: &[(Actor, Vec<u8>)]) -> Result<Vec<String>, AllocError> {
+    let mut remarks = Vec::new(alloc);
+    for (section, bytes) in came {
+        let said = surplus_text(alloc, bytes.as_slice())?;
+        remarks.push(format!(in alloc; "{}: {said}", section.word())?)?;
+    }
+    Ok(remarks)
+}
+
+/// What the program says of a section that failed: what it had asked, what came, and why no more did. `error` is why a call of its
+/// connection failed, and `timeout` the longest that one might take. Of a section that has all its replies it says what came after the
+/// last one, and else nothing.
 pub fn failure_text<S: Stream>(
     alloc: Global,
     sent: &[Sent],
@@ -77,16 +81,19 @@ pub fn failure_text<S: Stream>(
     error: Option<io::Error>,
     timeout: Option<Seconds<'_>>,
 ) -> Result<Option<String>, AllocError> {
-    let Some(
-        Sent {
-            request,
-            reply: None,
-        },
-    ) = sent.last()
-    else {
-        return Ok(None);
-    };
     let came = &lane.got()[lane.taken()..];
+    let request = match sent.last() {
+        Some(
+            Sent {
+                request,
+                reply: None,
+            },
+        ) => request,
+        Some(Sent { reply: Some(_), .. }) if lane.fault().is_none() && !came.is_empty() => {
+            return Ok(Some(surplus_text(alloc, came)?));
+        }
+        _ => return Ok(None),
+    };
     let text = match lane.fault() {
         Some(Fault::WriteFailed) => {
             let asked = asked_text(alloc, request)?;
@@ -147,29 +154,6 @@ fn no_reply_text(
     }
     let shown = shown_part(came).escape_ascii();
     format!(in alloc; "no more than \"{shown}\" to \"{asked}\"{why}")
-}
-
-// Appends the bytes that have come over the connection, without waiting for any.
-fn take_waiting<C: Connection>(stream: &C, bytes: &mut Vec<u8>) -> Result<(), AllocError> {
-    if stream.set_nonblocking(true).is_err() {
-        return Ok(());
-    }
-    let taken = read_waiting(stream, bytes);
-    // Where this fails, no read of the connection waits any more.
-    let _ = stream.set_nonblocking(false);
-    taken
-}
-
-// Appends the bytes that are there, where a read doesn't wait.
-fn read_waiting<C: Connection>(stream: &C, bytes: &mut Vec<u8>) -> Result<(), AllocError> {
-    let mut piece = [0; PIECE];
-    for _ in 0..MOST_READS {
-        match stream.receive(&mut piece) {
-            Ok(count) if count > 0 => bytes.extend_from_slice(&piece[..count])?,
-            _ => return Ok(()),
-        }
-    }
-    Ok(())
 }
 
 // The text of a request, without its end.

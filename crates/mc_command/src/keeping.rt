@@ -2,9 +2,10 @@
 ghost use Rattle.std.specs.Prelude.{◌≡◌, IfOk};
 ghost use Rattle.mc_command.specs.RunAnswers as answers;
 
+use crate::evidence::later_evidence;
 use crate::run::{Played, Remarks, no_connection, play_connections, status_of};
 use mc_cli::RunArgs;
-use mc_connect::{Kept, Network, Unconnected};
+use mc_connect::{Connection, Kept, Network, Unconnected};
 use mc_verify::Checked;
 use std::alloc::{AllocError, Global};
 use std::rt::Clock;
@@ -36,6 +37,15 @@ pub fn play_kept<R: Threads + Wait + Clock + Sync, N: Network>(
         network.quit(connections.into_streams());
     }
     Ok((played, remarks))
+}
+
+/// What standard error is to say of the run before the last one: what came on its connections once it was over.
+pub fn later_remarks<C: Connection>(
+    alloc: Global,
+    kept: &mut Kept<C>,
+) -> Result<Remarks, AllocError> {
+    let came = kept.take_came();
+    Ok(Remarks::Evidence(later_evidence(alloc, came.as_slice())?))
 }
 
 // The run is done and explained, and there is nothing to say of what it received.

@@ -1,14 +1,15 @@
 //! The command `run`, over any streams for input and output.
-ghost use Rattle.std.specs.Prelude.{◌≡◌, ℕ, List, None, IfOk};
-ghost use Rattle.mc_answers.specs.Answers.{AnswersRightly, IsAnswerBy, IsWhole};
+ghost use Rattle.std.specs.Prelude.{◌≡◌, ℕ, ◌≤◌, List, length, None, IfOk, IfErr};
+ghost use Rattle.mc_answers.specs.Answers.{AnswersRightly, INPUT_LIMIT, IsAnswerBy, IsWhole};
 ghost use Rattle.mc_answers.specs.Input as input_rule;
 ghost use Rattle.mc_answers.specs.Statuses.{status_number};
 ghost use Rattle.mc_answers.specs.Streams.{TakesAtMost};
+ghost use Rattle.mc_answers.specs.Writing.{WritesRightly};
 ghost use Rattle.mc_command.specs.RepeatAnswers.{AnswersFor, Runs};
 ghost use Rattle.mc_command.specs.RunAnswers as run_answers;
 
-use crate::repeated::answer_of_runs;
-use crate::run::{Played, Remarks, play_code, status_of, text_of};
+use crate::repeated::write_runs;
+use crate::run::{Remarks, play_code, status_of, text_of};
 use crate::run_teller::{RunObserver, Unobserved};
 use crate::servers::servers_of;
 use crate::target_code::{read_target_code, unplayed_answer};
@@ -72,8 +73,9 @@ where
     ensures { AnswersRightly I.left I.has_failed O.written O.has_failed
         (Runs target.now.repeat target.now.how.why target.now.name) input.old input.new output.old output.new result.0 }
 {
-    match read_and_run(rt, alloc, target, network, observer, input) {
-        Ok((answer, remarks)) => {
+    match read_code(alloc, target, input) {
+        Ok(Ok(checked)) => write_code(rt, alloc, target, network, observer, &checked, output),
+        Ok(Err((answer, remarks))) => {
             let status = write_text(answer.output.as_slice(), answer.status, output);
             (status, remarks)
         }
@@ -81,34 +83,74 @@ where
     }
 }
 
-// Reads the input whole, and finds the answer to it.
-fn read_and_run<R, N: Network, T: RunObserver, I: Source>(
-    rt: &R,
+// Reads the input whole, and answers the code that is played; or what is written in place of a run, with what standard error says.
+fn read_code<I: Source>(
     alloc: Global,
     target: &RunArgs<'_>,
-    network: &mut N,
-    observer: &mut T,
     input: &mut I,
-) -> Result<(Answer, Remarks), InputFault>
-where
-    R: Threads + Wait + Clock + Sync,
-    ensures right { IfOk result (λ found. (text : List ℕ) × IsWhole (I.left input.old) text
-        × IsAnswerBy (Runs target.now.repeat target.now.how.why target.now.name) text found.0.output.items found.0.status) }
+) -> Result<Result<Checked, (Answer, Remarks)>, InputFault>
+    ensures code { IfOk result (λ read. IfOk read (λ checked. (text : List ℕ) × IsWhole (I.left input.old) text
+        × (length text ≤ INPUT_LIMIT) × run_answers.SpellsUnder target.now.name text checked.code)) }
+    ensures unplayed { IfOk result (λ read. IfErr read (λ found. (text : List ℕ) × IsWhole (I.left input.old) text
+        × IsAnswerBy (Runs target.now.repeat target.now.how.why target.now.name) text found.0.output.items found.0.status)) }
     ensures fails { input_rule.Fails (I.has_failed input.old) (I.has_failed input.new) result }
     ensures taken { TakesAtMost 1048577 (I.left input.old) (I.left input.new) }
 {
     let text = match read_text(alloc, input)? {
         Ok(text) => text,
-        Err(too_long) => return Ok((too_long, Remarks::None)),
+        Err(too_long) => return Ok(Err((too_long, Remarks::None))),
     };
     match read_target_code(alloc, target, text.as_slice()) {
-        Ok(checked) => Ok(run_code(rt, alloc, target, network, observer, &checked)?),
-        Err(unplayed) => Ok(unplayed_answer(alloc, unplayed)?),
+        Ok(checked) => Ok(Ok(checked)),
+        Err(unplayed) => Ok(Err(unplayed_answer(alloc, unplayed)?)),
     }
 }
 
-// Runs the code as the target says, and answers what is written of the run that is handed out.
-fn run_code<R: Threads + Wait + Clock + Sync, N: Network, T: RunObserver>(
+// Runs the code as the target says, and writes the run that is handed out.
+fn write_code<R: Threads + Wait + Clock + Sync, N: Network, T: RunObserver, O: Sink>(
+    rt: &R,
+    alloc: Global,
+    target: &RunArgs<'_>,
+    network: &mut N,
+    observer: &mut T,
+    checked: &Checked,
+    output: &mut O,
+) -> (Status, Remarks)
+    ensures { WritesRightly O.written O.has_failed (AnswersFor target.now.repeat target.now.how.why checked.now.code)
+        output.old output.new result.0 }
+{
+    match target.repeat {
+        Some(repeat) => write_runs(
+            rt, alloc, target, repeat, network, observer, checked, output,
+        ),
+        None => write_run(rt, alloc, target, network, observer, checked, output),
+    }
+}
+
+// Runs the code once, and writes the run.
+fn write_run<R: Threads + Wait + Clock + Sync, N: Network, T: RunObserver, O: Sink>(
+    rt: &R,
+    alloc: Global,
+    target: &RunArgs<'_>,
+    network: &mut N,
+    observer: &mut T,
+    checked: &Checked,
+    output: &mut O,
+) -> (Status, Remarks)
+    ensures { WritesRightly O.written O.has_failed (run_answers.PlaysFor target.now.how.why checked.now.code)
+        output.old output.new result.0 }
+{
+    match answer_of_run(rt, alloc, target, network, observer, checked) {
+        Ok((answer, remarks)) => {
+            let status = write_text(answer.output.as_slice(), answer.status, output);
+            (status, remarks)
+        }
+        Err(AllocError) => (write_fault(InputFault::OutOfMemory, output), Remarks::None),
+    }
+}
+
+// Runs the code once, and answers what is written of the run.
+fn answer_of_run<R: Threads + Wait + Clock + Sync, N: Network, T: RunObserver>(
     rt: &R,
     alloc: Global,
     target: &RunArgs<'_>,
@@ -116,25 +158,12 @@ fn run_code<R: Threads + Wait + Clock + Sync, N: Network, T: RunObserver>(
     observer: &mut T,
     checked: &Checked,
 ) -> Result<(Answer, Remarks), AllocError>
-    ensures { IfOk result (λ found. AnswersFor target.now.repeat target.now.how.why checked.now.code
+    ensures { IfOk result (λ found. run_answers.PlaysFor target.now.how.why checked.now.code
         found.0.output.items found.0.status) }
 {
-    match target.repeat {
-        Some(repeat) => answer_of_runs(rt, alloc, target, repeat, network, observer, checked),
-        None => {
-            let (played, remarks) = play_code(rt, alloc, target, network, checked)?;
-            observer.add(&played);
-            Ok((answer_of(alloc, &played)?, remarks))
-        }
-    }
-}
-
-// What is written of a run.
-fn answer_of(alloc: Global, played: &Played) -> Result<Answer, AllocError>
-    ensures { IfOk result (λ answer. (answer.output.items ≡ run_answers.text_of played.now)
-        × (answer.status ≡ run_answers.status_of played.now)) }
-{
-    let output = text_of(alloc, played)?;
-    let status = status_of(played);
-    Ok(Answer { output, status })
+    let (played, remarks) = play_code(rt, alloc, target, network, checked)?;
+    observer.add(&played);
+    let output = text_of(alloc, &played)?;
+    let status = status_of(&played);
+    Ok((Answer { output, status }, remarks))
 }

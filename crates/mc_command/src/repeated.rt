@@ -1,22 +1,28 @@
-//! What `run` answers where a script is run repeatedly.
-ghost use Rattle.std.specs.Prelude.{◌≡◌, string_bytes, IfOk};
+//! What `run` writes where a script is run repeatedly.
+ghost use Rattle.std.specs.Prelude.{◌≡◌, Bool, false, true, string_bytes, IfOk};
+ghost use Rattle.mc_code.specs.Code.{Code};
+ghost use Rattle.mc_answers.specs.Writing.{WritesRightly};
 ghost use Rattle.mc_command.specs.RepeatAnswers as answers;
+ghost use Rattle.mc_command.specs.SoFar.{AreFirst};
 
-use crate::repeating::{Runs, repeat_code};
+use crate::repeating::{Runs, first_runs, go_on};
 use crate::run::{Remarks, status_of, text_of};
 use crate::run_teller::RunObserver;
-use mc_answers::Answer;
+use mc_answers::{InputFault, Sink, Status, write_fault, write_text};
 use mc_cli::{Repeat, RunArgs};
-use mc_connect::Network;
+use mc_connect::{Kept, Network};
 use mc_verify::Checked;
 use std::alloc::{AllocError, Global};
+use std::io;
 use std::rt::Clock;
 use std::sync::Wait;
 use std::thread::Threads;
+use std::time::Instant;
 
-/// Runs the code as often as `repeat` says, and answers what is written of the run that is handed out, with what standard error is to
-/// say of it.
-pub fn answer_of_runs<R: Threads + Wait + Clock + Sync, N: Network, T: RunObserver>(
+/// Runs the code as often as `repeat` says. It writes which run is handed out, that run, and the totals of all, and answers its status,
+/// with what standard error is to say of it. With `repeat.keep_going` a run whose status isn't 0 is written as soon as it has ended, and
+/// the totals once all have.
+pub fn write_runs<R: Threads + Wait + Clock + Sync, N: Network, T: RunObserver, O: Sink>(
     rt: &R,
     alloc: Global,
     target: &RunArgs<'_>,
@@ -24,24 +30,158 @@ pub fn answer_of_runs<R: Threads + Wait + Clock + Sync, N: Network, T: RunObserv
     network: &mut N,
     observer: &mut T,
     checked: &Checked,
-) -> Result<(Answer, Remarks), AllocError>
-    ensures { IfOk result (λ found. answers.RepeatsFor repeat target.now.how.why checked.now.code
-        found.0.output.items found.0.status) }
+    output: &mut O,
+) -> (Status, Remarks)
+    ensures { WritesRightly O.written O.has_failed (answers.RepeatsFor repeat target.now.how.why checked.now.code)
+        output.old output.new result.0 }
 {
-    let runs = repeat_code(rt, alloc, target, repeat, checked, network, observer)?;
-    let output = repeated_text(alloc, repeat, &runs)?;
-    let status = status_of(&runs.played);
-    Ok((Answer { output, status }, runs.remarks))
+    let mut kept = Kept::new(alloc);
+    observer.begin(repeat.times);
+    let written = write_over(
+        rt, alloc, target, repeat, checked, network, observer, &mut kept, output,
+    );
+    kept.quit(network);
+    written
 }
 
-// Which run is handed out, the totals of all, and what is written of this one.
+// The same over the connections that are kept.
+fn write_over<R: Threads + Wait + Clock + Sync, N: Network, T: RunObserver, O: Sink>(
+    rt: &R,
+    alloc: Global,
+    target: &RunArgs<'_>,
+    repeat: Repeat,
+    checked: &Checked,
+    network: &mut N,
+    observer: &mut T,
+    kept: &mut Kept<N::Connection>,
+    output: &mut O,
+) -> (Status, Remarks)
+    ensures { WritesRightly O.written O.has_failed (answers.RepeatsFor repeat target.now.how.why checked.now.code)
+        output.old output.new result.0 }
+{
+    let begun = Instant::now(rt);
+    let first = first_runs(
+        rt, alloc, target, repeat, &begun, checked, network, observer, kept,
+    );
+    observer.give_way();
+    let Ok(runs) = first else {
+        return (write_fault(InputFault::OutOfMemory, output), Remarks::None);
+    };
+    if runs.may_go_on(repeat.keep_going) {
+        write_and_go_on(
+            rt, alloc, target, repeat, &begun, checked, network, observer, kept, runs, output,
+        )
+    } else {
+        write_last(alloc, repeat, runs, output)
+    }
+}
+
+// Writes the run that is handed out and the totals, where no run follows.
+fn write_last<O: Sink>(
+    alloc: Global,
+    repeat: Repeat,
+    runs: Runs,
+    output: &mut O,
+) -> (Status, Remarks)
+    ensures { (why : Bool) (code : Code) → answers.Comes repeat why code runs.number runs.played runs.totals
+        → WritesRightly O.written O.has_failed (answers.RepeatsFor repeat why code) output.old output.new result.0 }
+{
+    match repeated_text(alloc, repeat, &runs) {
+        Ok(text) => {
+            let status = write_text(text.as_slice(), status_of(&runs.played), output);
+            (status, runs.remarks)
+        }
+        Err(AllocError) => (write_fault(InputFault::OutOfMemory, output), Remarks::None),
+    }
+}
+
+// Writes the run that is handed out, and the totals once the other runs have ended.
+fn write_and_go_on<R: Threads + Wait + Clock + Sync, N: Network, T: RunObserver, O: Sink>(
+    rt: &R,
+    alloc: Global,
+    target: &RunArgs<'_>,
+    repeat: Repeat,
+    begun: &io::Result<Instant>,
+    checked: &Checked,
+    network: &mut N,
+    observer: &mut T,
+    kept: &mut Kept<N::Connection>,
+    first: Runs,
+    output: &mut O,
+) -> (Status, Remarks)
+    requires first { AreFirst repeat target.now.how.why checked.now.code first }
+    requires failed { answers.succeeds first.played ≡ false }
+    requires keeps_going { repeat.keep_going ≡ true }
+    ensures { WritesRightly O.written O.has_failed (answers.RepeatsFor repeat target.now.how.why checked.now.code)
+        output.old output.new result.0 }
+{
+    let Ok(text) = found_text(alloc, repeat.times, &first) else {
+        return (write_fault(InputFault::OutOfMemory, output), Remarks::None);
+    };
+    let Ok(()) = output.write_all(text.as_slice()) else {
+        return (Status::NoAnswer, first.remarks);
+    };
+    observer.find(&first.remarks);
+    let status = status_of(&first.played);
+    let totals = totals_line(
+        rt, alloc, target, repeat, begun, checked, network, observer, kept, first,
+    );
+    observer.give_way();
+    match totals {
+        Ok(line) => (write_text(line.as_bytes(), status, output), Remarks::None),
+        Err(AllocError) => (write_fault(InputFault::OutOfMemory, output), Remarks::None),
+    }
+}
+
+// Runs the code on, and answers the line of the totals of all runs.
+fn totals_line<R: Threads + Wait + Clock + Sync, N: Network, T: RunObserver>(
+    rt: &R,
+    alloc: Global,
+    target: &RunArgs<'_>,
+    repeat: Repeat,
+    begun: &io::Result<Instant>,
+    checked: &Checked,
+    network: &mut N,
+    observer: &mut T,
+    kept: &mut Kept<N::Connection>,
+    first: Runs,
+) -> Result<String, AllocError>
+    requires first { AreFirst repeat target.now.how.why checked.now.code first }
+    requires failed { answers.succeeds first.played ≡ false }
+    requires keeps_going { repeat.keep_going ≡ true }
+    ensures { IfOk result (λ line. answers.AreTotals repeat target.now.how.why checked.now.code first.number first.played
+        (string_bytes line)) }
+{
+    let totals = go_on(
+        rt, alloc, target, repeat, begun, checked, network, observer, kept, first,
+    )?;
+    totals.line(alloc)
+}
+
+// What is written of the run that is handed out, and of the totals.
 fn repeated_text(alloc: Global, repeat: Repeat, runs: &Runs) -> Result<Vec<u8>, AllocError>
     ensures { IfOk result (λ text. text.items
-        ≡ answers.repeated_text repeat.times runs.now.number runs.now.totals runs.now.played) }
+        ≡ answers.repeated_text repeat runs.now.number runs.now.totals runs.now.played) }
 {
+    let totals = runs.totals.line(alloc)?;
+    if repeat.keep_going {
+        let mut text = found_text(alloc, repeat.times, runs)?;
+        text.extend_from_slice(totals.as_bytes())?;
+        return Ok(text);
+    }
     let played = text_of(alloc, &runs.played)?;
     let mut text = run_line(alloc, repeat.times, runs.number)?.into_bytes();
-    text.extend_from_slice(runs.totals.line(alloc)?.as_bytes())?;
+    text.extend_from_slice(totals.as_bytes())?;
+    text.extend_from_slice(played.as_slice())?;
+    Ok(text)
+}
+
+// What is written of the run that is handed out.
+fn found_text(alloc: Global, times: Option<u64>, runs: &Runs) -> Result<Vec<u8>, AllocError>
+    ensures { IfOk result (λ text. text.items ≡ answers.found_text times runs.now.number runs.now.played) }
+{
+    let played = text_of(alloc, &runs.played)?;
+    let mut text = run_line(alloc, times, runs.number)?.into_bytes();
     text.extend_from_slice(played.as_slice())?;
     Ok(text)
 }

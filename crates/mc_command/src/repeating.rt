@@ -3,10 +3,10 @@ ghost use Rattle.std.specs.Prelude.{◌≡◌, ◌<◌, ◌-◌, ◌^◌, ◌⊎
 ghost use Rattle.mc_code.specs.Code.{Code};
 ghost use Rattle.mc_command.specs.RepeatAnswers as answers;
 ghost use Rattle.mc_command.specs.RunAnswers.{IsRightFor};
-ghost use Rattle.mc_command.specs.SoFar.{IsSoFar};
+ghost use Rattle.mc_command.specs.SoFar.{AreFirst, IsSoFar};
 ghost use Rattle.mc_command.specs.declared.run.Played.{Played};
 
-use crate::keeping::play_kept;
+use crate::keeping::{later_remarks, play_kept};
 use crate::renaming::{Renaming, leaves_request};
 use crate::run::{Played, Remarks, status_of};
 use crate::run_teller::RunObserver;
@@ -59,6 +59,7 @@ impl Runs {
             → (answers.succeeds self.played ≡ true → IsRightFor why code played) → IsSoFar why code (all ++ played ∷ []) result }
         ensures last { answers.succeeds self.played ≡ true → result.number ≡ result.totals.runs }
         ensures first { answers.succeeds result.played ≡ true → answers.succeeds self.played ≡ true }
+        ensures same { answers.succeeds self.played ≡ false → (result.number ≡ self.number) × (result.played ≡ self.played) }
     {
         let totals = self.totals.with(&played);
         let unsettled = leaves_request(&played);
@@ -78,17 +79,6 @@ impl Runs {
         }
     }
 
-    /// Tells of the one of two runs that isn't handed out: the next one, with these remarks, where one has failed, and else the one that
-    /// was last.
-    fn pass_over<O: RunObserver>(&self, next: &Remarks, observer: &mut O) {
-        let (number, remarks) = if self.has_failed() {
-            (self.totals.runs.saturating_add(1), next)
-        } else {
-            (self.number, &self.remarks)
-        };
-        observer.pass_over(number, remarks);
-    }
-
     /// There was a run whose status isn't 0.
     fn has_failed(&self) -> bool
         ensures { result ≡ not (answers.succeeds self.now.played) }
@@ -96,87 +86,90 @@ impl Runs {
         !status_of(&self.played).is_success()
     }
 
-    /// The next run needs other keys.
-    fn needs_name(&self) -> bool
-        ensures { result ≡ true → (self.now.unsettled ≡ true) × (answers.succeeds self.now.played ≡ false) }
+    /// There was one, and others may follow it.
+    pub fn may_go_on(&self, keep_going: bool) -> bool
+        ensures on { result ≡ true → (keep_going ≡ true) × (answers.succeeds self.now.played ≡ false) }
+        ensures over { result ≡ false → (keep_going ≡ false) ⊎ (answers.succeeds self.now.played ≡ true) }
     {
-        self.unsettled && self.has_failed()
-    }
-
-    /// There was one, and none follows it.
-    fn is_over(&self, keep_going: bool) -> bool
-        ensures over { result ≡ true → (keep_going ≡ false) × (answers.succeeds self.now.played ≡ false) }
-        ensures on { result ≡ false → keep_going ≡ false → answers.succeeds self.now.played ≡ true }
-    {
-        self.has_failed() && !keep_going
+        self.has_failed() && keep_going
     }
 }
 
-/// Runs the code until there are as many runs as are wanted, or the time is over, or a run's status isn't 0 and `repeat` doesn't go on
-/// after such a one. A run that has begun is not cut off. Connections serve more than one run, unless the target says otherwise. After a
-/// run that leaves a request on which the server may still act, the code is put under a name that no run had, or no run follows.
-pub fn repeat_code<R: Threads + Wait + Clock + Sync, N: Network, T: RunObserver>(
+/// Runs the code until a run's status isn't 0, or there are as many runs as are wanted, or the time since `begun` is over. A run that
+/// has begun is not cut off. Connections serve more than one run, unless the target says otherwise.
+pub fn first_runs<R: Threads + Wait + Clock + Sync, N: Network, T: RunObserver>(
     rt: &R,
     alloc: Global,
     target: &RunArgs<'_>,
     repeat: Repeat,
-    checked: &Checked,
-    network: &mut N,
-    observer: &mut T,
-) -> Result<Runs, AllocError>
-    ensures { IfOk result (λ runs.
-        answers.Comes repeat target.now.how.why checked.now.code runs.number runs.played runs.totals) }
-{
-    let mut kept = Kept::new();
-    observer.begin(repeat.times);
-    let runs = repeat_over(
-        rt, alloc, target, repeat, checked, network, observer, &mut kept,
-    );
-    observer.end();
-    let runs = runs?;
-    kept.quit(network);
-    Ok(runs)
-}
-
-// The same over the connections that are kept.
-fn repeat_over<R: Threads + Wait + Clock + Sync, N: Network, T: RunObserver>(
-    rt: &R,
-    alloc: Global,
-    target: &RunArgs<'_>,
-    repeat: Repeat,
+    begun: &io::Result<Instant>,
     checked: &Checked,
     network: &mut N,
     observer: &mut T,
     kept: &mut Kept<N::Connection>,
 ) -> Result<Runs, AllocError>
-    ensures { IfOk result (λ runs.
-        answers.Comes repeat target.now.how.why checked.now.code runs.number runs.played runs.totals) }
+    ensures { IfOk result (λ runs. AreFirst repeat target.now.how.why checked.now.code runs) }
 {
-    let begun = Instant::now(rt);
     let most = repeat.times.unwrap_or(u64::MAX);
     let (played, remarks) = play_kept(rt, alloc, target, checked, network, kept)?;
     observer.add(&played);
     let mut runs = Runs::new(played, remarks);
-    let mut renaming = Renaming::new(rt);
     'runs: for done in 1..most {
-        if runs.is_over(repeat.keep_going) {
+        if runs.has_failed() {
             return Ok(runs);
         }
-        if is_late(rt, &begun, repeat.time) {
+        if is_late(rt, begun, repeat.time) {
             return Ok(runs);
+        }
+        let (played, remarks) = play_kept(rt, alloc, target, checked, network, kept)?;
+        observer.add(&played);
+        observer.pass_over(runs.number, &runs.remarks);
+        observer.pass_over(runs.number, &later_remarks(alloc, kept)?);
+        runs = runs.with(played, remarks);
+    }
+    Ok(runs)
+}
+
+/// Runs the code on after a run whose status isn't 0, which stays the one that is handed out, until there are as many runs as are wanted,
+/// or the time since `begun` is over. After a run that leaves a request on which the server may still act, the code is put under a name
+/// that no run had, or no run follows.
+pub fn go_on<R: Threads + Wait + Clock + Sync, N: Network, T: RunObserver>(
+    rt: &R,
+    alloc: Global,
+    target: &RunArgs<'_>,
+    repeat: Repeat,
+    begun: &io::Result<Instant>,
+    checked: &Checked,
+    network: &mut N,
+    observer: &mut T,
+    kept: &mut Kept<N::Connection>,
+    first: Runs,
+) -> Result<Totals, AllocError>
+    requires first { AreFirst repeat target.now.how.why checked.now.code first }
+    requires failed { answers.succeeds first.played ≡ false }
+    requires keeps_going { repeat.keep_going ≡ true }
+    ensures { IfOk result (λ totals. answers.Comes repeat target.now.how.why checked.now.code first.number first.played totals) }
+{
+    let most = repeat.times.unwrap_or(u64::MAX);
+    let mut runs = first;
+    let mut renaming = Renaming::new(rt);
+    'runs: for done in runs.totals.runs..most {
+        if is_late(rt, begun, repeat.time) {
+            return Ok(runs.totals);
         }
         let ready = make_ready(alloc, &runs, checked, &mut renaming)?;
         if !ready {
             observer.stop(runs.totals.runs);
-            return Ok(runs);
+            return Ok(runs.totals);
         }
         let code = renaming.code(checked);
         let (played, remarks) = play_kept(rt, alloc, target, code, network, kept)?;
         observer.add(&played);
-        runs.pass_over(&remarks, observer);
+        observer.pass_over(runs.totals.runs, &later_remarks(alloc, kept)?);
+        observer.pass_over(runs.totals.runs.saturating_add(1), &remarks);
         runs = runs.with(played, remarks);
     }
-    Ok(runs)
+    Ok(runs.totals)
 }
 
 // Puts the code under a new name where the last run asks for that, and answers whether another run may follow.
@@ -189,11 +182,10 @@ fn make_ready(
     requires under { IfSome renaming.old.under (λ under. answers.IsUnderSome checked.now.code under.code) }
     ensures under { IfOk result (λ ready. ready ≡ true
         → IfSome renaming.new.under (λ under. answers.IsUnderSome checked.now.code under.code)) }
-    ensures same { IfOk result (λ ready. ready ≡ true → (renaming.new.under ≡ renaming.old.under)
-        ⊎ ((runs.now.unsettled ≡ true) × (answers.succeeds runs.now.played ≡ false))) }
+    ensures same { IfOk result (λ ready. ready ≡ true → (renaming.new.under ≡ renaming.old.under) ⊎ (runs.now.unsettled ≡ true)) }
     ensures ends { IfOk result (λ ready. ready ≡ false → runs.now.unsettled ≡ true) }
 {
-    if runs.needs_name() {
+    if runs.unsettled {
         renaming.rename(alloc, checked)
     } else {
         Ok(true)

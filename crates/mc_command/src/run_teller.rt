@@ -4,8 +4,9 @@ ghost use Rattle.std.specs.Prelude.{◌≡◌, is_some};
 use crate::progress::{Progress, lead};
 use crate::run::{Played, Remarks};
 use crate::statistics::Statistics;
-use crate::totals::standing_of;
-use mc_campaign::Standing;
+use crate::totals::{RunClass, class_of};
+use mc_cli::RunArgs;
+use mc_connect::{Unconnected, Unreached};
 use std::alloc::Global;
 use std::io::Eprint;
 use std::rt::Clock;
@@ -24,11 +25,14 @@ pub trait RunObserver {
     /// The run with this number isn't handed out, and this was remarked on it.
     fn pass_over(&mut self, number: u64, remarks: &Remarks);
 
+    /// The run that is handed out was written, others follow, and this was remarked on it.
+    fn find(&mut self, remarks: &Remarks);
+
     /// No run follows the one with this number, since the server may still act on a request of it, and no other keys can be had.
     fn stop(&mut self, number: u64);
 
-    /// No run follows, where a script is run repeatedly.
-    fn end(&mut self);
+    /// Something is written to standard output next.
+    fn give_way(&mut self);
 }
 
 /// An observer that does nothing.
@@ -42,17 +46,19 @@ impl RunObserver for Unobserved {
 
     fn pass_over(&mut self, _number: u64, _remarks: &Remarks) {}
 
+    fn find(&mut self, _remarks: &Remarks) {}
+
     fn stop(&mut self, _number: u64) {}
 
-    fn end(&mut self) {}
+    fn give_way(&mut self) {}
 }
 
-/// Says on standard error what was remarked on runs that aren't handed out, and on a terminal how many there were; and counts what they
-/// came to.
+/// Says on standard error what was remarked on runs, and on a terminal how many there were; and counts what they came to.
 #[derive(Drop)]
 pub struct RunTeller<'a, R> {
     rt: &'a R,
     alloc: Global,
+    target: &'a RunArgs<'a>,
     columns: Option<usize>,
     remarks: u32,
     progress: Option<Progress<'a, R>>,
@@ -61,12 +67,12 @@ pub struct RunTeller<'a, R> {
 }
 
 impl<'a, R: Eprint + Clock> RunTeller<'a, R> {
-    /// Of runs that will be. How many there were stands in a line of `columns` columns, if there are any. They are counted where
-    /// `counts` says so.
-    pub fn new(rt: &'a R, alloc: Global, columns: Option<usize>, counts: bool) -> Self
-        ensures { is_some result.statistics ≡ counts }
+    /// Of the target's runs, which will be. How many there were stands in a line of `columns` columns, if there are any. They are counted
+    /// where the target asks for statistics.
+    pub fn new(rt: &'a R, alloc: Global, target: &'a RunArgs<'a>, columns: Option<usize>) -> Self
+        ensures { is_some result.statistics ≡ target.entry.now.stats }
     {
-        let statistics = if counts {
+        let statistics = if target.stats {
             Some(Statistics::new())
         } else {
             None
@@ -74,10 +80,34 @@ impl<'a, R: Eprint + Clock> RunTeller<'a, R> {
         RunTeller {
             rt,
             alloc,
-            columns,
+            target,
+            columns: if target.quiet { None } else { columns },
             remarks: 0,
             progress: None,
             statistics,
+        }
+    }
+
+    /// Says on standard error what was remarked on the run that is handed out.
+    pub fn tell(&self, remarks: &Remarks) {
+        // There is nowhere else to say that one of these could not be said.
+        match remarks {
+            Remarks::None => {}
+            Remarks::NoConnection(Unconnected { section, error }) => {
+                let unreached = Unreached {
+                    server: self.target.server_of(*section),
+                    error: *error,
+                };
+                let _ = eprintln!(self.rt; "mcrace: {unreached}");
+            }
+            Remarks::WrongLine(lines) => {
+                let _ = eprint!(self.rt; "{lines}");
+            }
+            Remarks::Evidence(remarks) => {
+                for remark in remarks {
+                    let _ = eprintln!(self.rt; "mcrace: {remark}");
+                }
+            }
         }
     }
 }
@@ -92,7 +122,7 @@ impl<'a, R: Eprint + Clock> RunObserver for RunTeller<'a, R> {
 
     fn add(&mut self, played: &Played) {
         if let Some(progress) = &mut self.progress {
-            progress.add(standing_of(played) == Standing::Unexplained);
+            progress.add(class_of(played) == RunClass::Unexplained);
         }
         if let Some(statistics) = &mut self.statistics {
             statistics.add_played(played);
@@ -113,6 +143,10 @@ impl<'a, R: Eprint + Clock> RunObserver for RunTeller<'a, R> {
         }
     }
 
+    fn find(&mut self, remarks: &Remarks) {
+        self.tell(remarks);
+    }
+
     fn stop(&mut self, number: u64) {
         let lead = lead(self.columns);
         // There is nowhere else to say that this could not be said.
@@ -121,7 +155,7 @@ impl<'a, R: Eprint + Clock> RunObserver for RunTeller<'a, R> {
         );
     }
 
-    fn end(&mut self) {
+    fn give_way(&mut self) {
         if let Some(progress) = &self.progress {
             progress.clear();
         }

@@ -25,5 +25,5 @@ pub use failures::Unreached;
 pub use kept::Kept;
 pub use network::{Connection, Network, Unconnected};
 pub use servers::Servers;
-pub use socket::{Connections, JobSocket, Socket};
+pub use socket::{Connections, JobSocket, Socket, Waiting};
 pub use tcp_network::TcpNetwork;

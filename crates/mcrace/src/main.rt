@@ -16,12 +16,9 @@ use mc_answers::{
 };
 use mc_cli::{CampaignArgs, Question, Request, RunArgs, ServeArgs, read_request};
 use mc_command::{
-    Remarks, RunTeller, Told, run_campaign_at, run_selftest, run_target, serve_connections,
-    servers_of,
+    RunTeller, Told, run_campaign_at, run_selftest, run_target, serve_connections, servers_of,
 };
-use mc_connect::{
-    HeldDescriptors, STANDARD_INPUT, STANDARD_OUTPUT, TcpNetwork, Unconnected, Unreached,
-};
+use mc_connect::{HeldDescriptors, STANDARD_INPUT, STANDARD_OUTPUT, TcpNetwork};
 use std::alloc::Global;
 use std::io::{Eprint, ErrorKind, IsTerminal};
 use std::net::{Net, TcpListener, TcpStream};
@@ -153,7 +150,7 @@ fn tell_failure<R: Eprint>(rt: &R, stream: &str, error: Option<&io::Error>) {
     }
 }
 
-// Runs the script on the input. Why there is no connection goes to standard error.
+// Runs the script on the input. What is remarked on its runs goes to standard error.
 fn play<R, I: Source, O: Sink>(
     rt: &R,
     alloc: Global,
@@ -168,24 +165,10 @@ where
         × AnswersRightly I.left I.has_failed O.written O.has_failed
         (Runs target.now.repeat target.now.how.why target.now.name) input.old input.new output.old output.new ended }
 {
-    let columns = if target.quiet { None } else { columns };
-    let mut teller = RunTeller::new(rt, alloc, columns, target.stats);
+    let mut teller = RunTeller::new(rt, alloc, target, columns);
     let mut network = TcpNetwork::new(rt, servers_of(target));
     let (status, remarks) = run_target(rt, alloc, target, &mut network, &mut teller, input, output);
-    match remarks {
-        Remarks::None => {}
-        Remarks::NoConnection(Unconnected { section, error }) => {
-            let server = target.server_of(section);
-            let unreached = Unreached { server, error };
-            // There is nowhere else to say that this could not be said.
-            let _ = eprintln!(rt; "mcrace: {unreached}");
-        }
-        Remarks::WrongLine(lines) => {
-            // There is nowhere else to say that this could not be said.
-            let _ = eprint!(rt; "{lines}");
-        }
-        Remarks::Evidence(remarks) => tell_remarks(rt, remarks.as_slice()),
-    }
+    teller.tell(&remarks);
     if let Some(statistics) = &teller.statistics {
         // There is nowhere else to say that this could not be said.
         let _ = eprint!(rt; "{statistics}");
@@ -239,14 +222,6 @@ where
         × WritesRightly O.written O.has_failed Selftests output.old output.new ended }
 {
     run_selftest(rt, alloc, output)
-}
-
-// Says on standard error what was remarked on the sections of a run.
-fn tell_remarks<R: Eprint>(rt: &R, remarks: &[String]) {
-    for remark in remarks {
-        // There is nowhere else to say that this could not be said.
-        let _ = eprintln!(rt; "mcrace: {remark}");
-    }
 }
 
 // The words of the command line, the program's name first.

@@ -70,7 +70,7 @@ static ROWS: [(Answers, &str, Status, &str); 5] = [
          P begin delete a\nP reply NOT_FOUND\nP begin set a 0 =5\nP reply STORED\n\
          A begin incr a 1\nend\n",
         Status::NoAnswer,
-        "",
+        "A: no reply to \"incr a 1\": the server closed the connection",
     ),
 ];
 
@@ -127,41 +127,46 @@ const TO_P_IN_THREE: Answers = &[
     b"STORED\r\n",
 ];
 
-// What is answered to A on each connection, whether the target says that each run is to have new ones, the beginning of what is written
-// of three runs, and how often the sections were connected, one of them was connected anew, and connections were given back. B's connection
-// is always ended before the next run.
-static REPEATS: [(Answers, bool, &str, (u32, u32, u32)); 5] = [
+// What is answered to A on each connection, whether the target says that each run is to have new ones, how what is written of three runs
+// begins and ends, and how often the sections were connected, one of them was connected anew, and connections were given back. B's
+// connection is always ended before the next run.
+static REPEATS: [(Answers, bool, &str, &str, (u32, u32, u32)); 5] = [
     (
         &[b"6\r\n", b"6\r\n", b"6\r\n"],
         false,
-        "run 3 of 3\nruns 3 explained 3 unexplained 0 other 0 overlapped 0\nP done\n",
+        "run 3 of 3\nP done\n",
+        "end\nruns 3 explained 3 unexplained 0 other 0 overlapped 0 failed 0\n",
         (1, 2, 1),
     ),
     // A's is ended too.
     (
         &[b"6\r\n"],
         false,
-        "run 3 of 3\nruns 3 explained 3 unexplained 0 other 0 overlapped 0\nP done\n",
+        "run 3 of 3\nP done\n",
+        "end\nruns 3 explained 3 unexplained 0 other 0 overlapped 0 failed 0\n",
         (1, 4, 1),
     ),
     (
         &[b"6\r\n", b"6\r\n", b"6\r\n"],
         true,
-        "run 3 of 3\nruns 3 explained 3 unexplained 0 other 0 overlapped 0\nP done\n",
+        "run 3 of 3\nP done\n",
+        "end\nruns 3 explained 3 unexplained 0 other 0 overlapped 0 failed 0\n",
         (3, 0, 3),
     ),
     // More came than was asked for, so no connection is kept.
     (
         &[b"6\r\n!"],
         false,
-        "run 3 of 3\nruns 3 explained 3 unexplained 0 other 0 overlapped 0\nP done\n",
+        "run 3 of 3\nP done\n",
+        "end\nruns 3 explained 3 unexplained 0 other 0 overlapped 0 failed 0\n",
         (3, 0, 3),
     ),
     // The second run is unexplained, so the third one has new connections.
     (
         &[b"6\r\n", b"7\r\n"],
         false,
-        "run 2 of 3\nruns 3 explained 2 unexplained 1 other 0 overlapped 0\nP done\n",
+        "run 2 of 3\nP done\n",
+        "end\nruns 3 explained 2 unexplained 1 other 0 overlapped 0 failed 0\n",
         (2, 1, 2),
     ),
 ];
@@ -173,10 +178,11 @@ fn connections_serve_the_next_run(rt: HostRuntime) {
         time: None,
         keep_going: true,
     };
-    for (to_a, reconnect, text, counts) in REPEATS {
+    for (to_a, reconnect, begin, end, counts) in REPEATS {
         let mut network = CannedNetwork::new([TO_P_IN_THREE, to_a, &[]]);
         let ran = run(&rt, rt.alloc(), &mut network, Some(repeat), reconnect);
-        assert!(rt; ran.output.as_slice().starts_with(text.as_bytes()));
+        assert!(rt; ran.output.as_slice().starts_with(begin.as_bytes()));
+        assert!(rt; ran.output.as_slice().ends_with(end.as_bytes()));
         let counted = (network.connected, network.reconnected, network.quit);
         assert_eq!(rt; counted, counts);
     }
@@ -213,7 +219,7 @@ where
         ..RunArgs::at("127.0.0.1:0", how)
     };
     let mut output = Vec::new(alloc);
-    let mut teller = RunTeller::new(rt, alloc, None, target.stats);
+    let mut teller = RunTeller::new(rt, alloc, &target, None);
     let (status, remarks) = run_target(
         rt,
         alloc,

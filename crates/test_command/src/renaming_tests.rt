@@ -42,6 +42,9 @@ end
 // What A is answered where the second run is unexplained.
 const ANSWERED: Answers = &[b"6\r\n", b"7\r\n"];
 
+// And where all are explained.
+const ALIKE: Answers = &[b"6\r\n", b"6\r\n", b"6\r\n"];
+
 // What P is answered.
 const TO_P: Answers = &[
     b"NOT_FOUND\r\n",
@@ -50,12 +53,13 @@ const TO_P: Answers = &[
     b"STORED\r\n",
 ];
 
-// Notes the keys of runs, and after which run none follows.
+// Notes the keys of runs, after which run none follows, and the runs on which something was remarked.
 #[derive(Drop)]
 struct Keys {
     alloc: Global,
     keys: Vec<Vec<u8>>,
     stopped: Option<u64>,
+    remarked: Vec<u64>,
 }
 
 impl Keys {
@@ -64,6 +68,7 @@ impl Keys {
             alloc,
             keys: Vec::new(alloc),
             stopped: None,
+            remarked: Vec::new(alloc),
         }
     }
 
@@ -86,13 +91,22 @@ impl RunObserver for Keys {
         }
     }
 
-    fn pass_over(&mut self, _number: u64, _remarks: &Remarks) {}
+    fn pass_over(&mut self, number: u64, remarks: &Remarks) {
+        if let Remarks::Evidence(all) = remarks
+            && !all.is_empty()
+        {
+            // A number that isn't noted is missed by the test.
+            let _ = self.remarked.push(number);
+        }
+    }
+
+    fn find(&mut self, _remarks: &Remarks) {}
 
     fn stop(&mut self, number: u64) {
         self.stopped = Some(number);
     }
 
-    fn end(&mut self) {}
+    fn give_way(&mut self) {}
 }
 
 #[test]
@@ -100,8 +114,9 @@ fn runs_after_an_unanswered_request_have_new_keys(rt: HostRuntime) {
     let mut observer = Keys::new(rt.alloc());
     let mut network = CannedNetwork::new([TO_P, &[], &[]]);
     let output = run_three(&rt, rt.alloc(), SHORT, &mut network, &mut observer);
+    assert!(rt; output.starts_with(b"run 1 of 3\nP done\nA failed 3 Ended\n"));
     assert!(rt;
-        output.starts_with(b"run 1 of 3\nruns 3 explained 3 unexplained 0 other 0 overlapped 0\n")
+        output.ends_with(b"runs 3 explained 0 unexplained 0 other 0 overlapped 0 failed 3\n")
     );
     let [first, second, third] = observer.keys.as_slice() else {
         return assert!(rt; false);
@@ -120,8 +135,9 @@ fn runs_after_answered_requests_keep_their_keys(rt: HostRuntime) {
     let mut observer = Keys::new(rt.alloc());
     let mut network = CannedNetwork::new([TO_P, ANSWERED, &[]]);
     let output = run_three(&rt, rt.alloc(), SHORT, &mut network, &mut observer);
+    assert!(rt; output.starts_with(b"run 2 of 3\nP done\nA done\n"));
     assert!(rt;
-        output.starts_with(b"run 2 of 3\nruns 3 explained 2 unexplained 1 other 0 overlapped 0\n")
+        output.ends_with(b"runs 3 explained 2 unexplained 1 other 0 overlapped 0 failed 0\n")
     );
     assert_eq!(rt; observer.keys.len(), 3);
     assert!(rt;
@@ -132,13 +148,25 @@ fn runs_after_answered_requests_keep_their_keys(rt: HostRuntime) {
     );
 }
 
+// More comes on A's connection once its first run is over. That is remarked on this run, and the next one has a new connection.
+#[test]
+fn what_comes_after_a_run_is_remarked_on_it(rt: HostRuntime) {
+    let mut observer = Keys::new(rt.alloc());
+    let mut network = CannedNetwork::new([TO_P, ALIKE, &[]]);
+    network.later = b"more";
+    let output = run_three(&rt, rt.alloc(), SHORT, &mut network, &mut observer);
+    assert!(rt; output.is_empty());
+    assert_eq!(rt; observer.remarked.as_slice(), [1].as_slice());
+}
+
 #[test]
 fn runs_end_where_no_new_name_fits(rt: HostRuntime) -> Result<(), Fail> {
     let mut observer = Keys::new(rt.alloc());
     let mut network = CannedNetwork::new([TO_P, &[], &[]]);
     let output = run_three(&rt, rt.alloc(), LONG, &mut network, &mut observer);
+    assert!(rt; output.starts_with(b"run 1 of 3\nP done\nA failed 3 Ended\n"));
     assert!(rt;
-        output.starts_with(b"run 1 of 3\nruns 1 explained 1 unexplained 0 other 0 overlapped 0\n")
+        output.ends_with(b"runs 1 explained 0 unexplained 0 other 0 overlapped 0 failed 1\n")
     );
     assert_eq!(rt; observer.keys.len(), 1);
     assert_eq!(rt; observer.stopped, Some(1));

@@ -73,7 +73,7 @@ fn each_run_of_several_needs_a_server(rt: HostRuntime) {
     };
     assert_eq!(rt;
         repeated(&rt, rt.alloc(), all).as_slice(),
-        b"run 1 of 3\nruns 3 explained 0 unexplained 0 other 3 overlapped 0\nno connection P\n".as_slice()
+        b"run 1 of 3\nno connection P\nruns 3 explained 0 unexplained 0 other 3 overlapped 0 failed 0\n".as_slice()
     );
     let until_the_first = Repeat {
         times: None,
@@ -82,7 +82,7 @@ fn each_run_of_several_needs_a_server(rt: HostRuntime) {
     };
     assert_eq!(rt;
         repeated(&rt, rt.alloc(), until_the_first).as_slice(),
-        b"run 1\nruns 1 explained 0 unexplained 0 other 1 overlapped 0\nno connection P\n".as_slice()
+        b"run 1\nruns 1 explained 0 unexplained 0 other 1 overlapped 0 failed 0\nno connection P\n".as_slice()
     );
 }
 

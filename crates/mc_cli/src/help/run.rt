@@ -25,8 +25,8 @@ requests more, up to 8,192 in all.
 one cluster, or a primary and its replica. P runs against the first address.
 
 `--timeout` is the longest that a connect, a read or a write may take; a section
-whose read takes longer fails with ReadFailed. `--wait` is how long P tries
-again to connect. Without `--timeout` a run waits for the server as long as it
+whose read takes longer fails with ReadFailed. `--wait` is how long each server
+is tried until it takes a connection. Without `--timeout` a run waits for the server as long as it
 takes; Ctrl-C ends it.
 
 A race only shows when requests overlap, so A and B may wait for each other
@@ -48,12 +48,14 @@ not cut off. mcrace stops at the first run whose exit status isn't 0, and
 prints it after two lines; if there is none, it prints the last run:
 
   run 7 of 1000
-  runs 7 explained 6 unexplained 1 other 0 overlapped 5
+  runs 7 explained 5 unexplained 1 other 0 overlapped 5 failed 1
 
 Here the seventh run failed. With `--for` alone the line is `run 7`. In five
-runs a request of A and one of B were outstanding at once; `other` counts runs
-that are undecided or have no verdict. With `--keep-going` all runs are made
-and counted, and the first that failed is printed. A refused script is refused
+runs a request of A and one of B were outstanding at once. Each run counts once:
+as unexplained; else as failed, if a section failed; else as explained; else as
+other, which is undecided or without a verdict. With `--keep-going` all runs are
+made and counted. The first whose exit status isn't 0 is printed at once, and
+the totals at the end. A refused script is refused
 without these lines. On a terminal, standard error shows how many runs there
 were; `--quiet` turns that off. Runs share their connections as long as all
 goes well; `--reconnect` opens new ones for each run: use it to exercise

@@ -1,4 +1,5 @@
-use Rattle.std.proofs.Common.{◌∙◌, ap}
+use Rattle.std.proofs.Common.{◌∙◌, ap, refl, sym}
+use Rattle.std.proofs.lemmas.Bool.{false≢true}
 use Rattle.std.proofs.lemmas.List.Elements.{All-push}
 use Rattle.mc_command.specs.RepeatAnswers.{IsRightUnder, succeeds}
 use Rattle.mc_command.specs.RunAnswers.{IsRightFor}
@@ -38,3 +39,10 @@ returns-then-has_failed-clause-first c succeeded = succeeded
 
 pub returns-clause-first : goal.returns-clause-first
 returns-clause-first c succeeded = succeeded_by (succeeds c.args.self.played) _ c.has_failed.ensures c.if-has_failed.false
+
+pub returns-then-has_failed-clause-same : goal.returns-then-has_failed-clause-same
+returns-then-has_failed-clause-same c failed = (refl, refl)
+
+pub returns-clause-same : goal.returns-clause-same
+returns-clause-same c failed =
+    absurd (false≢true (sym failed ∙ succeeded_by (succeeds c.args.self.played) _ c.has_failed.ensures c.if-has_failed.false))

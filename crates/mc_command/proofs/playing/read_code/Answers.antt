@@ -1,8 +1,8 @@
 use Rattle.std.proofs.Common.{inl, inr}
-use Rattle.mc_command.proofs.playing.read_and_run.Goals as goal
+use Rattle.mc_command.proofs.playing.read_code.Goals as goal
 
-pub returns-clause-right : goal.returns-clause-right
-returns-clause-right g c =
+pub returns-clause-unplayed : goal.returns-clause-unplayed
+returns-clause-unplayed g c =
     let target = c.args.target.now in
     let read = rw c.in-Ok.is at c.in_ok-text.ensures.text in
     let unplayed = rw c.as_slice.ensures.value at c.in-Err-read_target_code.ensures.refused in

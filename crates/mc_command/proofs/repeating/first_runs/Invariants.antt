@@ -1,0 +1,11 @@
+use Rattle.std.proofs.Common.{◌≡◌, List}
+use Rattle.mc_command.specs.SoFar.{IsSoFar}
+use Rattle.mc_command.specs.declared.run.Played.{Played}
+use Rattle.mc_command.proofs.repeating.first_runs.Given as goal
+
+abbrev pub invariant-runs : goal.invariant-runs
+invariant-runs g l = record {
+  so_far : (all : List Played) × IsSoFar l.target.how.why l.checked.code all l.runs;
+  count : l.runs.totals.runs ≡ l.done;
+  last : l.runs.number ≡ l.runs.totals.runs;
+}
