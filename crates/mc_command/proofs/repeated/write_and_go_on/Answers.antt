@@ -1,4 +1,4 @@
-use Rattle.std.proofs.Common.{◌≡◌, ◌∙◌, ◌++◌, ap, inl, inr, refl}
+use Rattle.std.proofs.Common.{◌∙◌, ◌++◌, ap, inl, inr, refl}
 use Rattle.std.specs.Prelude.{string_bytes}
 use Rattle.mc_answers.specs.Writing.{out_of_memory_text}
 use Rattle.mc_command.proofs.BlockTexts.{grows_more}
