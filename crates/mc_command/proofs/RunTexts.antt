@@ -1,5 +1,5 @@
 -- What repeated runs of a script come to, and what is written of them.
-use Rattle.std.proofs.Common.{◌≡◌, ◌⊎◌, ◌∙◌, ◌++◌, ℕ, ◌<◌, ◌≤◌, Bool, true, false, cond, ap, inl, inr, refl, subst, sym, List, length, Option, Some, None}
+use Rattle.std.proofs.Common.{◌≡◌, ◌⊎◌, ◌∙◌, ◌++◌, ℕ, ◌<◌, ◌≤◌, Bool, true, false, cond, ap, inl, inr, subst, sym, List, length, Option, Some, None}
 use Rattle.std.proofs.lemmas.Bool.{false≢true}
 use Rattle.mc_code.specs.Code.{Code}
 use Rattle.mc_answers.specs.Answers.{AnswersRightly, INPUT_LIMIT, IsAnswerBy, IsWhole}

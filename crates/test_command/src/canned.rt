@@ -16,12 +16,17 @@ pub(crate) struct Canned {
     requests: AtomicUsize,
     reads: AtomicUsize,
     is_nonblocking: AtomicBool,
+    // What comes once the connection was looked at after a run.
+    later: &'static [u8],
+    looks: AtomicUsize,
 }
 
 impl Canned {
-    fn new(answers: Answers) -> Self {
+    fn new(answers: Answers, later: &'static [u8]) -> Self {
         Canned {
             answers,
+            later,
+            looks: AtomicUsize::new(0),
             requests: AtomicUsize::new(0),
             reads: AtomicUsize::new(0),
             is_nonblocking: AtomicBool::new(false),
@@ -49,6 +54,10 @@ impl Connection for Canned {
         match self.take_answer() {
             Some(mut answer) => answer.read(buffer),
             None if self.is_nonblocking.load(Ordering::SeqCst) && !self.is_ended() => {
+                let mut later = self.later;
+                if self.looks.fetch_add(1, Ordering::SeqCst) == 1 && !later.is_empty() {
+                    return later.read(buffer);
+                }
                 Err(io::Error::from(ErrorKind::WouldBlock))
             }
             None => Ok(0),
@@ -71,6 +80,8 @@ impl Connection for Canned {
 pub(crate) struct CannedNetwork {
     /// What comes on each connection of P, A and B.
     answers: [Answers; 3],
+    /// What comes on A's connection once it was looked at after a run.
+    pub(crate) later: &'static [u8],
     /// The section that gets no connection.
     unconnected: Option<Actor>,
     /// How often the sections were connected.
@@ -86,6 +97,7 @@ impl CannedNetwork {
     pub(crate) fn new(answers: [Answers; 3]) -> Self {
         CannedNetwork {
             answers,
+            later: b"",
             unconnected: None,
             connected: 0,
             reconnected: 0,
@@ -97,6 +109,7 @@ impl CannedNetwork {
     pub(crate) fn without(section: Actor) -> Self {
         CannedNetwork {
             answers: [&[], &[], &[]],
+            later: b"",
             unconnected: Some(section),
             connected: 0,
             reconnected: 0,
@@ -116,20 +129,20 @@ impl Network for CannedNetwork {
         self.connected = self.connected.saturating_add(1);
         let [p, a, b] = self.answers;
         Ok(Sections {
-            p: Canned::new(p),
-            a: Canned::new(a),
-            b: Canned::new(b),
+            p: Canned::new(p, b""),
+            a: Canned::new(a, self.later),
+            b: Canned::new(b, b""),
         })
     }
 
     fn reconnect(&mut self, section: Actor) -> Result<Canned, Unconnected> {
         self.reconnected = self.reconnected.saturating_add(1);
         let [p, a, b] = self.answers;
-        Ok(Canned::new(match section {
-            Actor::P => p,
-            Actor::A => a,
-            Actor::B => b,
-        }))
+        Ok(match section {
+            Actor::P => Canned::new(p, b""),
+            Actor::A => Canned::new(a, b""),
+            Actor::B => Canned::new(b, b""),
+        })
     }
 
     fn quit(&mut self, _connections: Sections<Canned>) {

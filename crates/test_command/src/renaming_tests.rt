@@ -42,6 +42,9 @@ end
 // What A is answered where the second run is unexplained.
 const ANSWERED: Answers = &[b"6\r\n", b"7\r\n"];
 
+// And where all are explained.
+const ALIKE: Answers = &[b"6\r\n", b"6\r\n", b"6\r\n"];
+
 // What P is answered.
 const TO_P: Answers = &[
     b"NOT_FOUND\r\n",
@@ -50,12 +53,13 @@ const TO_P: Answers = &[
     b"STORED\r\n",
 ];
 
-// Notes the keys of runs, and after which run none follows.
+// Notes the keys of runs, after which run none follows, and the runs on which something was remarked.
 #[derive(Drop)]
 struct Keys {
     alloc: Global,
     keys: Vec<Vec<u8>>,
     stopped: Option<u64>,
+    remarked: Vec<u64>,
 }
 
 impl Keys {
@@ -64,6 +68,7 @@ impl Keys {
             alloc,
             keys: Vec::new(alloc),
             stopped: None,
+            remarked: Vec::new(alloc),
         }
     }
 
@@ -86,7 +91,16 @@ impl RunObserver for Keys {
         }
     }
 
-    fn pass_over(&mut self, _number: u64, _remarks: &Remarks) {}
+    fn pass_over(&mut self, number: u64, remarks: &Remarks) {
+        if let Remarks::Evidence(all) = remarks
+            && !all.is_empty()
+        {
+            // A number that isn't noted is missed by the test.
+            let _ = self.remarked.push(number);
+        }
+    }
+
+    fn find(&mut self, _remarks: &Remarks) {}
 
     fn find(&mut self, _remarks: &Remarks) {}
 
@@ -134,6 +148,17 @@ fn runs_after_answered_requests_keep_their_keys(rt: HostRuntime) {
             .iter()
             .all(|key| key.as_slice() == b"a".as_slice())
     );
+}
+
+// More comes on A's connection once its first run is over. That is remarked on this run, and the next one has a new connection.
+#[test]
+fn what_comes_after_a_run_is_remarked_on_it(rt: HostRuntime) {
+    let mut observer = Keys::new(rt.alloc());
+    let mut network = CannedNetwork::new([TO_P, ALIKE, &[]]);
+    network.later = b"more";
+    let output = run_three(&rt, rt.alloc(), SHORT, &mut network, &mut observer);
+    assert!(rt; output.is_empty());
+    assert_eq!(rt; observer.remarked.as_slice(), [1].as_slice());
 }
 
 #[test]

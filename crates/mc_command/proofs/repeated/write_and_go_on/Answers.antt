@@ -1,4 +1,4 @@
-use Rattle.std.proofs.Common.{◌≡◌, ◌∙◌, ◌++◌, ap, inl, inr, refl}
+use Rattle.std.proofs.Common.{◌∙◌, ◌++◌, ap, inl, inr, refl}
 use Rattle.std.specs.Prelude.{string_bytes}
 use Rattle.mc_answers.specs.Writing.{out_of_memory_text}
 use Rattle.mc_command.proofs.BlockTexts.{grows_more}
@@ -23,7 +23,7 @@ returns-in-Ok-totals g c = record {
               ∙ found_then c.args.repeat c.args.first.number totals.0 c.args.first.played line c.requires.keeps_going totals.2,
           all.1 ∙ c.status_of-status.ensures,
         ));
-        written = grows_more _ _ _ c.in-Ok.text.items line first (rw c.as_bytes.ensures at all.0);
+        written = grows_more _ _ _ c.in-Ok.text.items line first (rw c.as_bytes.ensures.value at all.0);
       };
   broken = λ before after. c.write_text.ensures.broken (c.in-Ok-write_all.ensures.1 ∙ before) after;
 }

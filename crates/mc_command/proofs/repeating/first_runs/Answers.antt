@@ -27,7 +27,6 @@ runs-preserved g c =
     let count = sym (ap (λ (t : Totals). t.runs) so.totals) ∙ c.runs.invariant.count in
     let below = c.runs-test.true in
     let range = c.runs.auto.done-end in
-    let range_too = c.runs.auto.done in
     let short : length all < 2 ^ 64 - 1 = omega (arith, count, below, range) in
     let next = c.with-runs.ensures.so_far why written all so short (inl right) (λ _. right) (λ _. right) in
     record {

@@ -1,9 +1,8 @@
-use Rattle.std.proofs.Common.{◌≡◌, ◌+◌, ◌<◌, ◌≤◌, ◌-◌, ◌^◌, ◌∙◌, ◌∷◌, [], ◌++◌, Option, ℕ, length, ap, inl, inr, refl, sym, arith}
+use Rattle.std.proofs.Common.{◌≡◌, ◌+◌, ◌<◌, ◌-◌, ◌^◌, ◌∙◌, ◌∷◌, [], ◌++◌, Option, ℕ, length, ap, inl, inr, refl, sym, arith}
 use Rattle.core.specs.Option.{unwrap_or}
 use Rattle.std.proofs.lemmas.Bool.{false≢true}
 use Rattle.std.proofs.lemmas.List.{length-append}
 use Rattle.mc_command.specs.RepeatAnswers.{AreSettled, succeeds}
-use Rattle.mc_command.specs.declared.run.Played.{Played}
 use Rattle.mc_command.specs.declared.totals.Totals.{Totals}
 use Rattle.mc_command.proofs.KeyNames.{none_settled, none_under, own_right, right_under}
 use Rattle.mc_command.proofs.MoreRuns.{settled_before}
