@@ -102,8 +102,6 @@ impl RunObserver for Keys {
 
     fn find(&mut self, _remarks: &Remarks) {}
 
-    fn find(&mut self, _remarks: &Remarks) {}
-
     fn stop(&mut self, number: u64) {
         self.stopped = Some(number);
     }
