@@ -1,6 +1,7 @@
 """How the program ends on an input, and whether that is odd: by what it wrote, by its exit status,
 and by what it took. The forms are those of docs/FORMATS.md as regular expressions."""
 
+import contextlib
 import os
 import re
 import signal
@@ -107,7 +108,13 @@ class Runs:
                  (os.POSIX_SPAWN_OPEN, 2, str(self.faults), flags, 0o600)]
         words = [str(self.program), *words]
         child = os.posix_spawn(self.program, words, os.environ, file_actions=files)
-        signal.signal(signal.SIGALRM, lambda *_: os.kill(child, signal.SIGKILL))
+
+        def stop(*_):
+            # it may just have ended
+            with contextlib.suppress(ProcessLookupError):
+                os.kill(child, signal.SIGKILL)
+
+        signal.signal(signal.SIGALRM, stop)
         signal.alarm(PATIENCE)
         _, ended, used = os.wait4(child, 0)
         signal.alarm(0)
