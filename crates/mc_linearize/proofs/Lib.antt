@@ -9,3 +9,6 @@ pub mod EachVerb
 pub mod ShownNumbers
 pub mod Seen
 pub mod Simulating
+pub mod Nexts
+pub mod Reaching
+pub mod OneKey

@@ -10,5 +10,8 @@ pub mod Standing
 pub mod Held
 pub mod Points
 pub mod SearchLaws
+pub mod Verdicts
 -- What private contracts cite.
 pub mod Trials
+pub mod Searching
+pub mod Finding

@@ -5,4 +5,6 @@
 #[cfg(test)]
 mod confirm_tests;
 #[cfg(test)]
+mod judge_tests;
+#[cfg(test)]
 mod notes;
