@@ -3,9 +3,7 @@ use Rattle.std.proofs.Common.{◌≡◌, ◌<◌, ◌≤◌, ◌+◌, ◌⊎◌,
 use Rattle.std.specs.List.{slice_get}
 use Rattle.std.proofs.lemmas.Bool.{cases_lt}
 use Rattle.mc_model.specs.declared.note.Note.TheVariants as note
-use Rattle.mc_timeline.specs.Members.{IsIn}
-use Rattle.mc_timeline.specs.Operations.{Operation}
-use Rattle.mc_timeline.specs.Timelines.{ClientNote, operations_of}
+use Rattle.mc_timeline.specs.Timelines.{ClientNote}
 use Rattle.mc_timeline.proofs.MoreNotes.{begin_note}
 use Rattle.mc_linearize.specs.Verdicts.{HasOneKey, IsOnKey}
 

@@ -8,6 +8,6 @@ pub enum TimelineVerdict {
     Explained(TimelineExplanation),
     /// Nothing explains it.
     Unexplained,
-    /// The search did not come to an end.
+    /// Neither is known.
     Undecided,
 }

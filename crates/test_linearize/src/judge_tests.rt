@@ -79,18 +79,17 @@ static ROWS: &[Row] = &[
     ),
 ];
 
-/// The rows whose verdict isn't that one.
-fn wrong_rows(alloc: Global) -> Result<usize, WordsFault> {
-    let mut wrong = 0;
+/// Whether each row's verdict is that one.
+fn judges_as_expected(alloc: Global) -> Result<bool, WordsFault> {
     for (lines, explained) in ROWS {
         let mut builder = TimelineBuilder::new(alloc);
         push_all(alloc, &mut builder, CLEARED)?;
         push_all(alloc, &mut builder, lines)?;
         if judged(alloc, &builder.finish())? != Some(*explained) {
-            wrong += 1;
+            return Ok(false);
         }
     }
-    Ok(wrong)
+    Ok(true)
 }
 
 /// Whether something explains the timeline, if it has one key and the turns are enough.
@@ -110,6 +109,6 @@ static CLEARED: &[Line] = &[(0, true, "delete a"), (0, false, "NOT_FOUND")];
 
 #[test]
 fn verdicts_of_one_key(rt: HostRuntime) -> Result<(), Fail> {
-    assert!(rt; wrong_rows(rt.alloc())? == 0);
+    assert!(rt; judges_as_expected(rt.alloc())?);
     Ok(())
 }

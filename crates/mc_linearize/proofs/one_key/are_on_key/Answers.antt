@@ -1,4 +1,4 @@
-use Rattle.std.proofs.Common.{◌≡◌, ◌<◌, length, refl, arith}
+use Rattle.std.proofs.Common.{length, refl, arith}
 use Rattle.std.proofs.lemmas.Option.{slice_get_read, slice_get_within}
 use Rattle.mc_linearize.proofs.OneKey.{one_more_on_key}
 use Rattle.mc_linearize.proofs.one_key.are_on_key.Goals as goal
