@@ -7,7 +7,7 @@ use mc_protocol::{OutOfMemory, Separator, append_all, is_word, read_decimal, wor
 use std::alloc::Global;
 
 // A section of the history: a process of the operations.
-#[derive(Clone, Copy, Drop)]
+#[derive(Drop)]
 struct Process<'a> {
     // The name of the section.
     name: u8,
