@@ -31,12 +31,6 @@ rule_of_row row = rule_by row.place row.kind row.name.now
 abbrev pub app_with : Text → List Rule → App
 app_with name rules = fold with_rule (new_app name) rules
 
-abbrev pub judge_rules : List Rule
-judge_rules = valued (codes "limit") ∷ switch (codes "why") ∷ switch (codes "run") ∷ valued (codes "job") ∷ switch (codes "json") ∷ []
-
-abbrev pub draw_rules : List Rule
-draw_rules = switch (codes "text") ∷ switch (codes "lines") ∷ valued (codes "job") ∷ valued (codes "limit") ∷ []
-
 abbrev pub run_rules : List Rule
 run_rules =
     argument (codes "target") ∷ valued (codes "limit") ∷ switch (codes "why") ∷ valued (codes "meet") ∷
@@ -66,9 +60,14 @@ and_with app subcommands = fold (λ whole sub. with_subcommand whole (app_with s
 
 -- with those that answer to an input, and need no server
 abbrev pub reading_app : App
-reading_app = and_with bare_app ((codes "judge", judge_rules) ∷ (codes "check", switch (codes "why") ∷ switch (codes "json") ∷ []) ∷
+reading_app = and_with bare_app ((
+  codes "judge",
+  valued (codes "limit") ∷ switch (codes "why") ∷ switch (codes "run") ∷ valued (codes "job") ∷
+      switch (codes "json") ∷ [],
+) ∷ (codes "check", switch (codes "why") ∷ switch (codes "json") ∷ []) ∷
     (codes "asm", switch (codes "why") ∷ []) ∷ (codes "drive", valued (codes "limit") ∷ switch (codes "why") ∷ []) ∷
-    (codes "draw", draw_rules) ∷ (codes "convert", valued (codes "to") ∷ valued (codes "job") ∷ []) ∷ [])
+    (codes "draw", switch (codes "text") ∷ switch (codes "lines") ∷ valued (codes "job") ∷ valued (codes "limit") ∷ []) ∷
+    (codes "convert", valued (codes "to") ∷ valued (codes "job") ∷ []) ∷ [])
 
 -- with all that ask for something
 abbrev pub asking_app : App

@@ -1,6 +1,6 @@
 -- What a word says as the value of an option, by the kind of value that the option has.
 use Rattle.std.specs.Prelude.{◌≡◌, ◌≤◌, ◌+◌, ◌-◌, ◌*◌, ◌^◌, ◌==◌, ℕ, nat_le, Bool, ◌&&◌, Option, Some, None, Ok, Err, Result, List}
-use Rattle.std.specs.Prelude.{bytes_eq, codes, length, take, drop, if◌then◌else◌}
+use Rattle.std.specs.Prelude.{bytes_eq, codes, length, take, drop, option_and_then, if◌then◌else◌}
 use Rattle.std.specs.List.{position}
 use Rattle.mc_protocol.specs.Decimals.{SpellsNumber, decimal_in}
 use Rattle.mc_protocol.specs.declared.decimal.DecimalFault.{DecimalFault}
@@ -30,32 +30,34 @@ abbrev pub thousandths_in : List ℕ → Option ℕ
 thousandths_in places =
     if nat_le 1 (length places) && nat_le (length places) 3 then scaled places (decimal_in 999 places) else None
 
--- how many milliseconds the unit of this name has
-abbrev pub unit_in : List ℕ → Option ℕ
-unit_in name =
-    if bytes_eq name (codes "ms") then Some 1
-    else if bytes_eq name (codes "s") then Some 1000
-    else if bytes_eq name (codes "m") then Some 60000
-    else if bytes_eq name (codes "h") then Some 3600000 else None
+-- the time of these seconds and these thousandths
+abbrev pub joined_time : Result ℕ DecimalFault → Option ℕ → Option ℕ
+joined_time (Ok seconds) (Some thousandths) = if_time (seconds * 1000 + thousandths)
+joined_time _ _ = None
 
--- the time that is so many of a unit, and so many milliseconds more
-abbrev pub time_of : Result ℕ DecimalFault → Option ℕ → Option ℕ → Option ℕ
-time_of (Ok number) (Some unit) (Some more) = if_time (number * unit + more)
-time_of _ _ _ = None
-
--- the time of the seconds whose point, if there is one, stands here in the word
 abbrev pub seconds_at : List ℕ → Option ℕ → Option ℕ
-seconds_at word None = time_of (decimal_in GREATEST_TIME word) (Some 1000) (Some 0)
-seconds_at word (Some point) =
-    time_of (decimal_in GREATEST_TIME (take point word)) (Some 1000) (thousandths_in (drop (point + 1) word))
+seconds_at word None = joined_time (decimal_in GREATEST_TIME word) (Some 0)
+seconds_at word (Some point) = joined_time (decimal_in GREATEST_TIME (take point word)) (thousandths_in (drop (point + 1) word))
 
--- the time whose unit, if it has one, stands here in the word
+-- the time of the seconds that the word is: a decimal without a sign, or one with a point and one to three places
+unfoldable pub seconds_in : List ℕ → Option ℕ
+seconds_in word = seconds_at word (position is_point word)
+
+-- so many of the unit with this name, in milliseconds
+abbrev pub in_unit : ℕ → List ℕ → Option ℕ
+in_unit number name =
+    if bytes_eq name (codes "ms") then Some number else if bytes_eq name (codes "s") then Some (number * 1000)
+    else if bytes_eq name (codes "m") then Some (number * 60000) else if bytes_eq name (codes "h") then Some (number * 3600000) else None
+
+abbrev pub time_by : Result ℕ DecimalFault → List ℕ → Option ℕ
+time_by (Ok number) name = option_and_then if_time (in_unit number name)
+time_by (Err fault) name = None
+
 abbrev pub time_at : List ℕ → Option ℕ → Option ℕ
-time_at word None = seconds_at word (position is_point word)
-time_at word (Some unit) = time_of (decimal_in GREATEST_TIME (take unit word)) (unit_in (drop unit word)) (Some 0)
+time_at word None = seconds_in word
+time_at word (Some place) = time_by (decimal_in GREATEST_TIME (take place word)) (drop place word)
 
--- the milliseconds of the time that the word is: a decimal without a sign, and a unit after it; or one of seconds, perhaps with a point and
--- one to three places; 0.001 seconds to 24 hours in all
+-- the milliseconds of the time that the word is: seconds, or a decimal without a sign and a unit; 0.001 seconds to 24 hours in all
 unfoldable pub time_in : List ℕ → Option ℕ
 time_in word = time_at word (position is_small_letter word)
 

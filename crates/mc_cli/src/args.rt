@@ -97,7 +97,7 @@ impl Seconds<'_> {
 impl Display for Seconds<'_> {
     fn fmt<W: Write>(&self, f: &mut Formatter<W>) -> Result<(), Error> {
         let word = self.word;
-        if word.ends_with(|unit: char| unit.is_ascii_lowercase()) {
+        if word.bytes().any(|byte| byte.is_ascii_lowercase()) {
             write!(f, "{word}")
         } else {
             write!(f, "{word} s")

@@ -23,7 +23,7 @@ pub fn number_in(kind: Kind, word: &[u8]) -> Option<u64>
     }
 }
 
-// The milliseconds of the time that the word is, if it is one: those of its number and its unit, or of plain seconds.
+// The milliseconds of the time that the word is, if it is one.
 #[tactic(auto, unfolding(crate::specs::Kinds::time_in))]
 fn time_in(word: &[u8]) -> Option<u64>
     ensures { result ≡ spec.time_in word.now }
@@ -31,44 +31,55 @@ fn time_in(word: &[u8]) -> Option<u64>
     match unit_place(word) {
         Some(place) => {
             let number = read_decimal(GREATEST_TIME, &word[..place]).ok()?;
-            if_time(number * unit_in(&word[place..])?)
+            if_time(in_unit(number, &word[place..])?)
         }
         None => seconds_in(word),
     }
 }
 
-// Where the unit stands, which begins with the first letter.
+// Where the unit begins, which has letters alone.
 fn unit_place(word: &[u8]) -> Option<usize>
     ensures place { result ≡ position spec.is_small_letter word.now }
     ensures within { IfSome result (λ place. place < length word.now) }
 {
-    word.iter().position(|byte| b'a' <= *byte && *byte <= b'z')
+    word.iter().position(|byte| is_small_letter(*byte))
 }
 
-// How many milliseconds the unit has.
-fn unit_in(name: &[u8]) -> Option<u64>
-    ensures unit { result ≡ spec.unit_in name.now }
-    ensures small { IfSome result (λ unit. unit ≤ 3600000) }
+fn is_small_letter(byte: u8) -> bool
+    ensures { result ≡ spec.is_small_letter byte }
+{
+    byte.is_ascii_lowercase()
+}
+
+// So many of the unit with this name, in milliseconds.
+fn in_unit(number: u64, name: &[u8]) -> Option<u64>
+    requires { number ≤ spec.GREATEST_TIME }
+    ensures { result ≡ spec.in_unit number name.now }
 {
     match name {
-        b"ms" => Some(1),
-        b"s" => Some(1000),
-        b"m" => Some(60_000),
-        b"h" => Some(3_600_000),
+        b"ms" => Some(number),
+        b"s" => Some(number * 1000),
+        b"m" => Some(number * 60_000),
+        b"h" => Some(number * 3_600_000),
         _ => None,
     }
 }
 
-// The milliseconds of the seconds that the word is, if it is a decimal, perhaps with a point and one to three places.
+// The milliseconds of the seconds that the word is: a decimal, perhaps with a point and one to three places.
+#[tactic(auto, unfolding(crate::specs::Kinds::seconds_in))]
 fn seconds_in(word: &[u8]) -> Option<u64>
     ensures { result ≡ spec.seconds_in word.now }
 {
     match point_of(word) {
         Some(point) => {
             let seconds = read_decimal(GREATEST_TIME, &word[..point]).ok()?;
-            if_time(seconds * 1000 + thousandths_in(&word[point + 1..])?)
+            let thousandths = thousandths_in(&word[point + 1..])?;
+            if_time(seconds * 1000 + thousandths)
         }
-        None => if_time(read_decimal(GREATEST_TIME, word).ok()? * 1000),
+        None => {
+            let seconds = read_decimal(GREATEST_TIME, word).ok()?;
+            if_time(seconds * 1000)
+        }
     }
 }
 

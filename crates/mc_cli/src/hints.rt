@@ -55,17 +55,21 @@ fn option_text(alloc: Global, text: &str, option: &str) -> Result<String, AllocE
         Some((before, tips)) => (before, tips.split_once("\n\n").map_or("", |parts| parts.1)),
         None => text.split_once("\n\n").unwrap_or((text, "")),
     };
-    let mut said = format!(in alloc; "{before}\n\n{after}\nmcrace: --{option} is an option of ")?;
-    let mut separator = "";
+    let names = names_with(alloc, option)?;
+    let names = names.as_str().strip_suffix(", ").unwrap_or("");
+    format!(in alloc; "{before}\n\n{after}\nmcrace: --{option} is an option of {names}\n")
+}
+
+// The names of the subcommands that have the option, each with a comma after it.
+fn names_with(alloc: Global, option: &str) -> Result<String, AllocError> {
+    let mut names = String::new(alloc);
     for name in NAMES {
         if has_option(name, option) {
-            said.push_str(separator)?;
-            said.push_str(name)?;
-            separator = ", ";
+            names.push_str(name)?;
+            names.push_str(", ")?;
         }
     }
-    said.push_str("\n")?;
-    Ok(said)
+    Ok(names)
 }
 
 // How the subcommand that the line names is called, if it reads standard input.

@@ -155,7 +155,8 @@ fn read_repeat<'a>(options: &ArgMatches<'a>) -> Result<Option<Repeat>, OptionFau
 
 // The microseconds of `--spread` if the line of `run` names none.
 fn default_spread(repeat: Option<Repeat>) -> u64
-    ensures { result ≡ (if is_some repeat then 64 else 0) }
+    ensures default { result ≡ (if is_some repeat then 64 else 0) }
+    ensures small { result ≤ 64 }
 {
     match repeat {
         Some(_) => DEFAULT_SPREAD,

@@ -211,9 +211,11 @@ fn parts_of(name: &str) -> Option<(&'static Help, &'static [Row])> {
 
 /// Whether the subcommand with this name has this option.
 pub fn has_option(name: &str, option: &str) -> bool {
-    parts_of(name).is_some_and(|parts| {
-        parts.1.iter().any(|row| row.name == option && !matches!(row.place, Place::Required))
-    })
+    match parts_of(name) {
+        Some((_, rows)) => rows.iter().any(|row| row.name == option
+            && !matches!(row.place, Place::Required)),
+        None => false,
+    }
 }
 
 /// What clap writes of a wrong value of the subcommand with this name: the message and the subcommand's usage.

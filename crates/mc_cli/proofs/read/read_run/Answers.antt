@@ -13,4 +13,4 @@ returns-in_err-spread-clause-none c =
     let p = err_from_is_err_and c.from_residual-in_err-spread.result c.from_residual-in_err-spread.ensures.1 in
     rw (p.1) (λ args is.
     let same = repeat_once (first_value (found_of c.args.options.now)) c.in_ok-repeat.repeat args.repeat c.in_ok-repeat.ensures.repeat is.repeat in
-    c.in_err-spread.ensures.none args.spread (rw (c.default_spread.ensures, same) is.spread))
+    c.in_err-spread.ensures.none args.spread (rw (c.default_spread.ensures.default, same) is.spread))
