@@ -3,8 +3,8 @@ use Rattle.mc_convert.proofs.excerpt.find_history.Goals as goal
 
 pub returns-else-is_empty : goal.returns-else-is_empty
 returns-else-is_empty c =
-    let job = c.from_line_of_job.ensures in
-    let header = c.from_line.ensures in
+    let job = c.from_line_of_job-from_job.ensures in
+    let header = c.from_line-from_header.ensures in
     let history = c.up_to_end.ensures in
     record {
       before = job.0 ++ header.0;
