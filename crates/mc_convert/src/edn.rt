@@ -7,7 +7,7 @@ use mc_protocol::{OutOfMemory, Separator, append_all, is_word, read_decimal, wor
 use std::alloc::Global;
 
 // A section of the history: a process of the operations.
-#[derive(Clone, Copy, Drop)]
+#[derive(Drop)]
 struct Process<'a> {
     // The name of the section.
     name: u8,
@@ -24,6 +24,11 @@ pub fn append_operations(
 ) -> Result<(), OutOfMemory> {
     let mut text = Vec::new(alloc);
     print_history(history, &mut text)?;
+    append_text(alloc, out, text.as_slice())
+}
+
+// The same of the history's text. The requests without a reply are lent from it.
+fn append_text(alloc: Global, out: &mut Vec<u8>, text: &[u8]) -> Result<(), OutOfMemory> {
     let mut processes = Vec::new(alloc);
     'names: for (number, name) in [b'P', b'A', b'B'].iter().enumerate() {
         processes.push(Process {
@@ -33,7 +38,7 @@ pub fn append_operations(
         })?;
     }
     let mut count: usize = 0;
-    'lines: for line in lines_in(alloc, text.as_slice())? {
+    'lines: for line in lines_in(alloc, text)? {
         'processes: for process in processes.iter_mut() {
             if line.first().copied() == Some(process.name) {
                 append_note(alloc, out, count, process, line)?;

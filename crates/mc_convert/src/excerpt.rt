@@ -43,23 +43,35 @@ impl Excerpt<'_> {
 pub fn find_history<'a>(text: &'a [u8], job: Option<u64>) -> Excerpt<'a>
     ensures { StandsIn text.now result.text.now }
 {
-    let whole = Excerpt {
+    let from_job = from_line_of_job(text, job);
+    let from_header = from_line(from_job, is_header);
+    if from_header.text.is_empty() && job.is_none() {
+        whole_of(text)
+    } else {
+        up_to_end(from_header)
+    }
+}
+
+fn whole_of(text: &[u8]) -> Excerpt<'_>
+    ensures { result.text.now ≡ text.now }
+{
+    Excerpt {
         text,
         lines_before: 0,
-    };
-    let from_job = match job {
+    }
+}
+
+// The text from the line `job N` of this number on, or the whole text if no job is asked for.
+fn from_line_of_job<'a>(text: &'a [u8], job: Option<u64>) -> Excerpt<'a>
+    ensures { (front : List ℕ) × (text.now ≡ front ++ result.text.now) }
+{
+    match job {
         Some(number) => {
             let mut digits = Buffer::new();
             let wanted: [&[u8]; 2] = [b"job", digits.format(number).as_bytes()];
-            from_line(whole, |line| has_words(line, &wanted))
+            from_line(whole_of(text), |line| has_words(line, &wanted))
         }
-        None => whole,
-    };
-    let from_header = from_line(from_job, is_header);
-    if from_header.text.is_empty() && job.is_none() {
-        whole
-    } else {
-        up_to_end(from_header)
+        None => whole_of(text),
     }
 }
 
