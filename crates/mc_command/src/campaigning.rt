@@ -11,7 +11,7 @@ ghost use Rattle.mc_answers.specs.Writing.{out_of_memory_text};
 use crate::blocks::answer_in_blocks;
 use crate::job_connector::JobConnector;
 use crate::progress::lead;
-use crate::servers::duration_of;
+use crate::servers::campaign_servers;
 use crate::showing::{MOST_SHOWN, shown_text};
 use crate::shrinking::shrunk_script;
 use crate::watching::{Teller, tell_start};
@@ -37,7 +37,7 @@ use std::thread::Threads;
 pub const NOT_RUN: &[u8] = b"not run\n";
 
 /// Runs the campaign against the server, and answers the exit status. What is known of its jobs before there is a report goes to
-/// standard error, and how far it is, in a line of this many columns, if there is one. It waits for the server.
+/// standard error, and how far it is, in a line of this many columns, if there is one. It waits for the servers.
 pub fn run_campaign_at<'a, R, O: Sink>(
     rt: &'a R,
     alloc: Global,
@@ -53,14 +53,7 @@ where
 {
     tell_start(rt, target.plan);
     let columns = if target.quiet { None } else { columns };
-    let dialer = Dialer::new(
-        rt,
-        alloc,
-        target.server,
-        duration_of(target.timeout),
-        duration_of(target.wait),
-        lead(columns),
-    );
+    let dialer = Dialer::new(rt, alloc, campaign_servers(target), lead(columns));
     let connector = JobConnector { dialer: &dialer };
     let mut teller = Teller::new(rt, alloc, &*target, columns, &dialer);
     let answer = target_answer(rt, alloc, target, &connector, &mut teller, output);

@@ -38,6 +38,7 @@ mod totals;
 mod watching;
 
 pub use campaigning::{campaign_answer, run_campaign_at};
+pub use meeting::seed_by;
 pub use playing::{run_command, run_target};
 pub use run::{Played, Remarks};
 pub use run_teller::{RunObserver, RunTeller, Unobserved};

@@ -22,8 +22,8 @@ pub fn draw_meet<R: Clock>(rt: &R, meeting: Meeting, spread: u16) -> Meet
     mc_campaign::draw_meet(&mut generator, meeting, spread)
 }
 
-// The nanoseconds since 1970, by one call of the clock.
-fn seed_by<R: Clock>(rt: &R) -> u64 {
+/// A seed: the nanoseconds since 1970, by one call of the clock; or a fixed one, if it gives none.
+pub fn seed_by<R: Clock>(rt: &R) -> u64 {
     match rt.since_1970() {
         Ok(time) => u64::try_from(time.as_nanos()).unwrap_or(FIXED_SEED),
         Err(_) => FIXED_SEED,

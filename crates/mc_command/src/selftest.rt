@@ -12,7 +12,7 @@ use crate::target_code::read_target_code;
 use mc_answers::{Sink, Status, write_text};
 use mc_campaign::{Campaign, Unwatched, report_status, run_jobs};
 use mc_cli::{RunArgs, Search, Seconds};
-use mc_connect::{Dialer, TcpNetwork};
+use mc_connect::{Dialer, Servers, TcpNetwork};
 use mc_explain::Verdict;
 use mc_run::FreeGate;
 use mc_server::{Caller, Racy, Shared, listen};
@@ -178,7 +178,7 @@ where
     ensures { result ≡ true → answers.IsHonestSeen }
 {
     let timeout = Some(TIMEOUT.duration());
-    let dialer = Dialer::new(rt, alloc, server, timeout, None, "");
+    let dialer = Dialer::new(rt, alloc, Servers::one(server, timeout, None), "");
     match run_jobs(
         rt,
         alloc,

@@ -1,12 +1,25 @@
 //! Which servers a line names, and within which times.
 ghost use Rattle.std.specs.Prelude.{◌≡◌};
 
-use mc_cli::{RunArgs, Seconds};
+use mc_cli::{CampaignArgs, RunArgs, Seconds};
 use mc_connect::Servers;
 use std::time::Duration;
 
 /// The servers of a run, and its times.
 pub fn servers_of<'a>(target: &RunArgs<'a>) -> Servers<'a>
+    ensures { (result.server ≡ target.now.server) × (result.a ≡ target.now.a) × (result.b ≡ target.now.b) }
+{
+    Servers {
+        server: target.server,
+        a: target.a,
+        b: target.b,
+        timeout: duration_of(target.timeout),
+        wait: duration_of(target.wait),
+    }
+}
+
+/// The servers of a campaign's jobs, and its times.
+pub fn campaign_servers<'a>(target: &CampaignArgs<'a>) -> Servers<'a>
     ensures { (result.server ≡ target.now.server) × (result.a ≡ target.now.a) × (result.b ≡ target.now.b) }
 {
     Servers {

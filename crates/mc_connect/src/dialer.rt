@@ -1,8 +1,8 @@
-//! What connects the jobs of a campaign to its server.
+//! What connects the jobs of a campaign to their servers.
 use crate::call_errors::CallErrors;
 use crate::closing::Closing;
 use crate::dial::{connect, dial};
-use crate::failures::Failures;
+use crate::failures::{Failures, Unreached};
 use crate::servers::Servers;
 use crate::socket::JobSocket;
 use mc_protocol::{Actor, Sections};
@@ -12,11 +12,11 @@ use std::io::Eprint;
 use std::net::{Net, SocketAddr, TcpListener, TcpStream};
 use std::rt::Clock;
 use std::sync::{Mutex, Wait};
-use std::time::Duration;
 
-/// Connects the sections of all jobs to one server, from any thread. The server's name is looked up until one of its addresses takes
-/// a connection; from then on all connections go to that one. The server is asked to close those of a job that has ended, and does so
-/// while another one runs. It knows which jobs had no connection, and why calls failed.
+/// Connects the sections of all jobs to their servers, from any thread. The name of P's server is looked up until one of its addresses
+/// takes a connection; from then on all connections to it go to that one. That of a branch's own server is looked up for each job. A
+/// server is asked to close the connections of a job that has ended, and does so while another one runs. The dialer knows which jobs had
+/// no connection, and why calls failed.
 #[derive(Drop)]
 pub struct Dialer<'a, R> {
     rt: &'a R,
@@ -32,23 +32,15 @@ impl<'a, R> Dialer<'a, R>
 where
     R: Net<Listener = TcpListener, Stream = TcpStream> + Clock + Wait + Eprint,
 {
-    /// What connects to `server`, which is HOST:PORT. `timeout` is the longest that one connect to one address, one read or one write may
-    /// take, and `wait` how long P of a job may try again to connect. The first connection that isn't made is written to standard error
-    /// at once, in a line that begins with `lead`.
-    pub fn new(
-        rt: &'a R,
-        alloc: Global,
-        server: &'a str,
-        timeout: Option<Duration>,
-        wait: Option<Duration>,
-        lead: &'static str,
-    ) -> Self {
+    /// What connects to these servers. Of each server and reason, the first connection that isn't made is written to standard error at
+    /// once, in a line that begins with `lead`.
+    pub fn new(rt: &'a R, alloc: Global, servers: Servers<'a>, lead: &'static str) -> Self {
         Dialer {
             rt,
-            servers: Servers::one(server, timeout, wait),
+            servers,
             address: Mutex::new(None),
             closing: Mutex::new(None),
-            failures: Failures::new(rt, alloc, server, lead),
+            failures: Failures::new(rt, alloc, lead),
             call_errors: CallErrors::new(rt, alloc),
         }
     }
@@ -66,7 +58,8 @@ where
         match self.dial(section) {
             Ok(stream) => Some(self.watched(job, section, stream)),
             Err(error) => {
-                self.failures.add(job, error);
+                let server = self.servers.own(section).unwrap_or(self.servers.server);
+                self.failures.add(job, Unreached { server, error });
                 None
             }
         }
@@ -88,6 +81,9 @@ where
 
     fn dial(&self, section: Actor) -> io::Result<TcpStream> {
         let (stream, address) = dial(self.rt, &self.servers, section, self.address())?;
+        if self.servers.own(section).is_some() {
+            return Ok(stream);
+        }
         let first = self.first_address(address);
         if first == address {
             Ok(stream)

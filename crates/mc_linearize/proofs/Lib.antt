@@ -11,4 +11,3 @@ pub mod Seen
 pub mod Simulating
 pub mod Nexts
 pub mod Reaching
-pub mod OneKey

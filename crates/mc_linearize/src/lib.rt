@@ -2,7 +2,7 @@
 //!
 //! Below it stands `mc_timeline`, which says what a timeline is and when it has an explanation. The crate above uses two contracts:
 //! `confirm_timeline` is true exactly if the explanation explains the timeline (`specs/Claims.antt`); and `judge_key` is right, if
-//! it says of a timeline on one key that an explanation explains it, or that none does (`specs/Verdicts.antt`).
+//! it says of the requests on a key that an explanation explains them, or that none does (`specs/Verdicts.antt`).
 #![tactic(auto)]
 
 mod confirm;
@@ -13,7 +13,6 @@ mod judging;
 mod keys;
 mod laws;
 mod numbering;
-mod one_key;
 mod operation;
 mod point;
 mod queues;
@@ -27,5 +26,4 @@ pub use confirm::confirm_timeline;
 pub use explanation::{TimelineExplanation, TimelineMove};
 pub use judging::judge_key;
 pub use laws::hopeless_is_unexplained;
-pub use one_key::has_one_key;
 pub use verdict::TimelineVerdict;

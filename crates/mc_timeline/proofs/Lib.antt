@@ -18,3 +18,4 @@ pub mod Replied
 pub mod TimelineOrder
 pub mod RestrictedRules
 pub mod PrintedNotes
+pub mod RestrictedNotes

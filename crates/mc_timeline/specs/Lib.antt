@@ -15,6 +15,7 @@ pub mod TimelineText
 pub mod Laws
 pub mod Walks
 pub mod Queues
+pub mod Restrictions
 -- What private contracts cite.
 pub mod RuleState
 pub mod PrintedNotes

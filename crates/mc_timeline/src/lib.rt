@@ -11,6 +11,7 @@ mod key_state;
 mod laws;
 mod limits;
 mod print;
+mod restriction;
 mod timeline;
 mod words;
 
@@ -22,4 +23,5 @@ pub use laws::{
 };
 pub use limits::{CLIENTS_LIMIT, OPERATIONS_LIMIT, TIMELINE_KEYS_LIMIT};
 pub use print::print_timeline;
+pub use restriction::restrict;
 pub use timeline::Timeline;

@@ -1,6 +1,8 @@
 //! Tests servers that speak memcached's text protocol.
 #![tactic(auto)]
 
+mod forms;
+
 ghost use Rattle.std.specs.Prelude.{◌≡◌, false, true};
 ghost use Rattle.mc_answers.specs.Answers.{AnswersRightly, Does};
 ghost use Rattle.mc_answers.specs.Statuses.{status_number};
@@ -10,13 +12,15 @@ ghost use Rattle.mc_command.specs.RepeatAnswers.{Runs};
 ghost use Rattle.mc_command.specs.SelftestAnswers.{Selftests};
 ghost use Rattle.mc_command.specs.ServeAnswers.{Serves};
 
+use crate::forms::{Form, write_in};
 use mc_answers::{
     Reader, Sink, Source, Status, Writer, answer_question, explain_fault, unread_line,
     write_generated,
 };
 use mc_cli::{CampaignArgs, Question, Request, RunArgs, ServeArgs, read_request};
 use mc_command::{
-    RunTeller, Told, run_campaign_at, run_selftest, run_target, serve_connections, servers_of,
+    RunTeller, Told, run_campaign_at, run_selftest, run_target, seed_by, serve_connections,
+    servers_of,
 };
 use mc_connect::{
     HeldDescriptors, STANDARD_INPUT, STANDARD_OUTPUT, TcpNetwork, Unreached, has_port,
@@ -106,10 +110,13 @@ where
         Request::Run(target) => {
             tell_portless(rt, terminal, &target);
             tell_reading(rt, terminal, "a script");
+            if target.json {
+                return play_in_json(rt, alloc, &target, columns, input, output);
+            }
             play(rt, alloc, &target, columns, input, output)
         }
         Request::Serve(service) => host(rt, alloc, service, output),
-        Request::Campaign(target) => report(rt, alloc, &target, columns, output),
+        Request::Campaign(target) => campaign(rt, alloc, target, columns, output),
         Request::Selftest => test(rt, alloc, output),
     }
 }
@@ -196,6 +203,26 @@ where
     status.number()
 }
 
+// Runs the script on the input, and writes in JSON what that comes to.
+fn play_in_json<R, I: Source, O: Sink>(
+    rt: &R,
+    alloc: Global,
+    target: &RunArgs<'_>,
+    columns: Option<usize>,
+    input: &mut I,
+    output: &mut O,
+) -> u8
+where
+    R: Net<Stream = TcpStream> + Threads + Wait + Clock + Sync + Eprint,
+{
+    let mut text = Vec::new(alloc);
+    let mut sink = Writer::new(&mut text);
+    let status = play(rt, alloc, target, columns, input, &mut sink);
+    let is_whole = sink.error().is_none();
+    let text = is_whole.then_some(text.as_slice());
+    write_in(alloc, Form::Run, text, status, output)
+}
+
 // Serves connections. Why there is no listener, or what came of the connections where some were refused, goes to standard error.
 fn host<R, O: Sink>(rt: &R, alloc: Global, service: ServeArgs, output: &mut O) -> u8
 where
@@ -216,7 +243,34 @@ where
     ended.number()
 }
 
-// Runs the jobs of a campaign.
+// Runs the jobs of a campaign, and reports them in the form that is asked for, by a seed that is drawn if that is asked for.
+fn campaign<R, O: Sink>(
+    rt: &R,
+    alloc: Global,
+    mut target: CampaignArgs<'_>,
+    columns: Option<usize>,
+    output: &mut O,
+) -> u8
+where
+    R: Net<Listener = TcpListener, Stream = TcpStream> + Threads + Wait + Clock + Sync + Eprint,
+{
+    if target.plan.random_seed {
+        target.plan.seed = seed_by(rt);
+    }
+    // A form has the histories of unexplained jobs.
+    target.plan.show = target.plan.show || target.plan.json || target.plan.junit;
+    let Some(form) = Form::of_campaign(&target) else {
+        return report(rt, alloc, &target, columns, output);
+    };
+    let mut text = Vec::new(alloc);
+    let mut sink = Writer::new(&mut text);
+    let status = report(rt, alloc, &target, columns, &mut sink);
+    let is_whole = sink.error().is_none();
+    let text = is_whole.then_some(text.as_slice());
+    write_in(alloc, form, text, status, output)
+}
+
+// Reports the jobs of a campaign as text.
 fn report<R, O: Sink>(
     rt: &R,
     alloc: Global,

@@ -1,7 +1,8 @@
 //! Verdicts on timelines whose requests have one key.
 use crate::notes::{Line, push_all};
-use mc_linearize::{TimelineVerdict, has_one_key, judge_key};
+use mc_linearize::{TimelineVerdict, judge_key};
 use mc_model::WordsFault;
+use mc_protocol::Bytes;
 use mc_timeline::{Timeline, TimelineBuilder};
 use std::alloc::Global;
 use std::test::Fail;
@@ -92,12 +93,10 @@ fn judges_as_expected(alloc: Global) -> Result<bool, WordsFault> {
     Ok(true)
 }
 
-/// Whether something explains the timeline, if it has one key and the turns are enough.
+/// Whether something explains the requests on `a`, if the turns are enough.
 fn judged(alloc: Global, timeline: &Timeline) -> Result<Option<bool>, WordsFault> {
-    if !has_one_key(timeline) {
-        return Ok(None);
-    }
-    let (verdict, _turns) = judge_key(alloc, timeline, 1_000)?;
+    let key = Bytes::new(Vec::from_slice(alloc, b"a")?);
+    let (verdict, _turns) = judge_key(alloc, timeline, &key, 1_000)?;
     Ok(match verdict {
         TimelineVerdict::Explained(_) => Some(true),
         TimelineVerdict::Unexplained => Some(false),

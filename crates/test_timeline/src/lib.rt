@@ -8,3 +8,5 @@ mod builder_tests;
 mod notes;
 #[cfg(test)]
 mod print_tests;
+#[cfg(test)]
+mod restrict_tests;
