@@ -2,7 +2,7 @@
 use crate::call_errors::CallErrors;
 use crate::closing::Closing;
 use crate::dial::{connect, dial};
-use crate::failures::{Failures, Unreached};
+use crate::failures::Failures;
 use crate::servers::Servers;
 use crate::socket::JobSocket;
 use mc_protocol::{Actor, Sections};
@@ -40,7 +40,7 @@ where
             servers,
             address: Mutex::new(None),
             closing: Mutex::new(None),
-            failures: Failures::new(rt, alloc, lead),
+            failures: Failures::new(rt, alloc, servers, lead),
             call_errors: CallErrors::new(rt, alloc),
         }
     }
@@ -58,8 +58,7 @@ where
         match self.dial(section) {
             Ok(stream) => Some(self.watched(job, section, stream)),
             Err(error) => {
-                let server = self.servers.own(section).unwrap_or(self.servers.server);
-                self.failures.add(job, Unreached { server, error });
+                self.failures.add(job, section, error);
                 None
             }
         }

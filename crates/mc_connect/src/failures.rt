@@ -1,4 +1,6 @@
 //! Connections of a campaign that were not made, and what standard error says of them.
+use crate::servers::Servers;
+use mc_protocol::Actor;
 use std::alloc::Global;
 use std::fmt::{Display, Error, Formatter, Write};
 use std::io::{Eprint, ErrorKind};
@@ -10,47 +12,67 @@ use std::{io, mem};
 pub(crate) struct Failures<'a, R> {
     rt: &'a R,
     alloc: Global,
+    servers: Servers<'a>,
     lead: &'static str,
-    list: Mutex<Vec<Failure<'a>>>,
+    list: Mutex<Vec<Failure>>,
 }
 
 /// Jobs in a row, of which each had no connection, and why the first of them had none.
 #[derive(Clone, Copy, Drop)]
-struct Failure<'a> {
+struct Failure {
     first: u64,
     last: u64,
-    why: Unreached<'a>,
+    // The section that had none.
+    section: Actor,
+    error: io::Error,
 }
 
 impl<'a, R: Wait + Eprint> Failures<'a, R> {
     /// None so far. Each line written while the campaign runs begins with `lead`.
-    pub(crate) fn new(rt: &'a R, alloc: Global, lead: &'static str) -> Self {
+    pub(crate) fn new(rt: &'a R, alloc: Global, servers: Servers<'a>, lead: &'static str) -> Self {
         Failures {
             rt,
             alloc,
+            servers,
             lead,
             list: Mutex::new(Vec::new(alloc)),
         }
     }
 
     /// A job had no connection. Where there is no memory to note it, the ranges that are written at the end leave it out.
-    pub(crate) fn add(&self, job: u64, why: Unreached<'a>) {
-        if self.note(job, why) {
+    pub(crate) fn add(&self, job: u64, section: Actor, error: io::Error) {
+        let failure = Failure {
+            first: job,
+            last: job,
+            section,
+            error,
+        };
+        if self.note(failure) {
+            let unreached = self.unreached(&failure);
             // There is nowhere else to say that this could not be said.
-            let _ = eprintln!(self.rt; "{}mcrace: {why}", self.lead);
+            let _ = eprintln!(self.rt; "{}mcrace: {unreached}", self.lead);
         }
     }
 
     // Notes the failure, and answers whether it is the first of its server and reason.
-    fn note(&self, job: u64, why: Unreached<'a>) -> bool {
+    fn note(&self, failure: Failure) -> bool {
         let mut list = self.list.lock(self.rt);
-        let is_first = !list.iter().any(|failure| failure.why.is_like(&why));
-        let _ = list.push(Failure {
-            first: job,
-            last: job,
-            why,
-        });
+        let is_first = !list.iter().any(|other| self.are_alike(other, &failure));
+        let _ = list.push(failure);
         is_first
+    }
+
+    fn unreached(&self, failure: &Failure) -> Unreached<'a> {
+        Unreached {
+            server: self.servers.of(failure.section),
+            error: failure.error,
+        }
+    }
+
+    // Both are of one server, and for reasons of one kind.
+    fn are_alike(&self, one: &Failure, other: &Failure) -> bool {
+        one.error.kind() == other.error.kind()
+            && self.servers.of(one.section) == self.servers.of(other.section)
     }
 
     /// Writes to standard error, for each range of jobs in a row that had no connection, which they are, and why; and forgets them.
@@ -59,48 +81,47 @@ impl<'a, R: Wait + Eprint> Failures<'a, R> {
         if list.sort_by_key(|failure| failure.first).is_err() {
             return;
         }
-        let mut range: Option<Failure<'_>> = None;
+        let mut range: Option<Failure> = None;
         'failures: for failure in list.as_slice() {
             range = match range {
-                Some(before) if before.goes_on_with(failure) => Some(Failure {
+                Some(before) if self.go_on(&before, failure) => Some(Failure {
                     last: failure.last,
                     ..before
                 }),
                 Some(before) => {
-                    tell_range(self.rt, &before);
+                    self.tell_range(&before);
                     Some(*failure)
                 }
                 None => Some(*failure),
             };
         }
         if let Some(last) = range {
-            tell_range(self.rt, &last);
+            self.tell_range(&last);
         }
     }
 
     // Those that were noted, which are forgotten with it.
-    fn take(&self) -> Vec<Failure<'a>> {
+    fn take(&self) -> Vec<Failure> {
         let mut list = self.list.lock(self.rt);
         mem::replace(&mut *list, Vec::new(self.alloc))
     }
-}
 
-impl Failure<'_> {
     // The other one is of the next job, or of the same, at the same server and for the same reason.
-    fn goes_on_with(&self, other: &Failure<'_>) -> bool {
-        other.first <= self.last.saturating_add(1) && self.why.is_like(&other.why)
+    fn go_on(&self, before: &Failure, other: &Failure) -> bool {
+        other.first <= before.last.saturating_add(1) && self.are_alike(before, other)
     }
-}
 
-// Says on standard error which jobs in a row had no connection, and why.
-fn tell_range<R: Eprint>(rt: &R, range: &Failure<'_>) {
-    let Failure { first, last, why } = *range;
-    // There is nowhere else to say that this could not be said.
-    let _ = if first == last {
-        eprintln!(rt; "mcrace: {why} (job {first})")
-    } else {
-        eprintln!(rt; "mcrace: {why} (jobs {first} to {last})")
-    };
+    // Says on standard error which jobs in a row had no connection, and why.
+    fn tell_range(&self, range: &Failure) {
+        let Failure { first, last, .. } = *range;
+        let unreached = self.unreached(range);
+        // There is nowhere else to say that this could not be said.
+        let _ = if first == last {
+            eprintln!(self.rt; "mcrace: {unreached} (job {first})")
+        } else {
+            eprintln!(self.rt; "mcrace: {unreached} (jobs {first} to {last})")
+        };
+    }
 }
 
 /// A server to which there is no connection, and why.
@@ -109,13 +130,6 @@ pub struct Unreached<'a> {
     /// What was to be HOST:PORT.
     pub server: &'a str,
     pub error: io::Error,
-}
-
-impl Unreached<'_> {
-    // Whether both are of one server, and for reasons of one kind.
-    fn is_like(&self, other: &Unreached<'_>) -> bool {
-        self.error.kind() == other.error.kind() && self.server == other.server
-    }
 }
 
 impl<'a> Display for Unreached<'a> {

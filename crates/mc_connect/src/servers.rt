@@ -33,6 +33,11 @@ impl<'a> Servers<'a> {
         }
     }
 
+    // The server of the section.
+    pub(crate) fn of(&self, section: Actor) -> &'a str {
+        self.own(section).unwrap_or(self.server)
+    }
+
     // The server that the section has for itself.
     pub(crate) fn own(&self, section: Actor) -> Option<&'a str> {
         match section {
