@@ -1,4 +1,5 @@
 pub mod Driven
+pub mod Forms
 pub mod Fronts
 pub mod LineFaults
 pub mod Maxima

@@ -2,11 +2,12 @@
 ghost use Rattle.std.specs.Prelude.{◌≢◌, IfOk};
 ghost use Rattle.mc_hints.specs.Refusals.{history_refusal};
 ghost use Rattle.mc_model.specs.declared.rules.HistoryKind.TheVariants as kind;
+ghost use Rattle.mc_answers.specs.InJson.{AnswersIn, InJson};
 ghost use Rattle.mc_answers.specs.JudgeAnswers as answers;
 ghost use Rattle.mc_answers.specs.Refusing.{Gives, IfRefused, IsRefusal};
 
 use crate::answer::Answer;
-use crate::in_json::found_in;
+use crate::in_json::found_in_json;
 use crate::outcome::{verdict_status, verdict_text};
 use crate::refusal::{Unanswered, refuse};
 use crate::status::Status;
@@ -24,8 +25,37 @@ use std::alloc::{AllocError, Global};
 pub fn judge_as_asked(alloc: Global, args: JudgeArgs, text: &[u8]) -> Result<Answer, Unanswered>
     ensures { Gives (answers.JudgesAs args text.now) result }
 {
-    let found = judge_in(alloc, args.run, args.job, args.how, text);
-    found_in(alloc, args.json, found)
+    judge_as(alloc, args.json, args.run, args.job, args.how, text)
+}
+
+fn judge_as(
+    alloc: Global,
+    json: bool,
+    is_part: bool,
+    job: Option<u64>,
+    how: Search,
+    text: &[u8],
+) -> Result<Answer, Unanswered>
+    ensures { Gives (AnswersIn json (answers.JudgesIn is_part how text.now)) result }
+{
+    if json {
+        judge_in_json(alloc, is_part, job, how, text)
+    } else {
+        judge_in(alloc, is_part, job, how, text)
+    }
+}
+
+fn judge_in_json(
+    alloc: Global,
+    is_part: bool,
+    job: Option<u64>,
+    how: Search,
+    text: &[u8],
+) -> Result<Answer, Unanswered>
+    ensures { Gives (InJson (answers.JudgesIn is_part how text.now)) result }
+{
+    let found = judge_in(alloc, is_part, job, how, text);
+    found_in_json(alloc, found)
 }
 
 // Judges the text, or a part of it.

@@ -29,7 +29,6 @@ mod writing;
 
 pub use answer::Answer;
 pub use generate::write_generated;
-pub use in_json::in_json;
 pub use input::{InputFault, read_text};
 pub use loading::{load_sound, sound_code, verify_code};
 pub use outcome::{endings_text, run_status, status_of_run, verdict_text};
