@@ -22,13 +22,11 @@ pub fn servers_of<'a>(target: &RunArgs<'a>) -> Servers<'a>
 pub fn campaign_servers<'a>(target: &CampaignArgs<'a>) -> Servers<'a>
     ensures { (result.server ≡ target.now.server) × (result.a ≡ target.now.a) × (result.b ≡ target.now.b) }
 {
-    Servers {
-        server: target.server,
-        a: target.a,
-        b: target.b,
-        timeout: duration_of(target.timeout),
-        wait: duration_of(target.wait),
-    }
+    let (timeout, wait) = (duration_of(target.timeout), duration_of(target.wait));
+    let mut servers = Servers::one(target.server, timeout, wait);
+    servers.a = target.a;
+    servers.b = target.b;
+    servers
 }
 
 /// The time, if there is one.
