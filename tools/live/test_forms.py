@@ -8,7 +8,8 @@ import xml.etree.ElementTree
 
 import cases
 
-from .program import PROGRAM, SECONDS
+from . import servers
+from .program import COUNTER, PROGRAM, SECONDS, run
 
 # An operation of EDN: its values are a string, numbers, keywords and strings.
 VALUE = r'(?:"(?:[ !#-\[\]-~]|\\["\\])*"|\d+N?|:[A-Z_]+)'
@@ -80,3 +81,37 @@ class Forms(unittest.TestCase):
                 self.assertEqual(len(lines), len(history["notes"]))
                 for line in found.splitlines():
                     self.assertRegex(line, OPERATION)
+
+
+class FormsOfRuns(servers.LiveTest):
+    """What is written of runs and of campaigns, at `mcrace serve --racy`."""
+
+    def setUp(self):
+        self.address = f"127.0.0.1:{self.enter(servers.serving('--racy'))[1]}"
+
+    def test_run(self):
+        ran = run(["run", self.address, "--times", "100000", "--why", "--json"], COUNTER)
+        read = json.loads(ran.output)
+        self.assertEqual((ran.status, read["verdict"]), (1, "unexplained"))
+        self.assertEqual((read["totals"]["unexplained"], read["run"]), (1, read["totals"]["runs"]))
+        self.assertEqual(read["why"]["reply"]["word"], "NUMBER")
+        self.assertEqual(read["history"]["sections"], ["P", "A", "B"])
+
+    def test_refused_script(self):
+        ran = run(["run", self.address, "--json"], b"script 3\n")
+        self.assertEqual((ran.status, json.loads(ran.output)["refused"]["line"]), (3, 1))
+
+    def test_campaign(self):
+        """With a seed that is drawn, which standard error and the last line say."""
+        ran = run(["campaign", self.address, "--jobs", "50", "--json", "--random-seed"])
+        *jobs, totals = map(json.loads, ran.output.splitlines())
+        self.assertEqual((totals["jobs"], totals["totals"]["jobs"]), ("50", 50))
+        self.assertIn(f"mcrace: seed {totals['seed']}, jobs 0 to 49", ran.faults)
+        self.assertEqual(len(jobs), totals["totals"]["unexplained"])
+        self.assertTrue(all(it["history"]["notes"] for it in jobs))
+
+    def test_junit(self):
+        ran = run(["campaign", self.address, "--jobs", "150", "--junit"])
+        suite = xml.etree.ElementTree.fromstring(ran.output)
+        self.assertEqual((len(suite), suite.get("tests"), suite.get("errors")), (2, "2", "0"))
+        self.assertEqual(ran.status, int(suite.get("failures") != "0"))
