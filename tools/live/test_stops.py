@@ -13,6 +13,7 @@ SLOW = ([*SLOWLY, b"NOT_FOUND\r\n", *answers(b"STORED\r\n")], A, B)
 ONCE, TWICE, LONG = [(0.2, 0.3)], [(0.1, 0.2), (0.3, 0.4)], [(0.2, 1.5)]
 REPLIES = [("once", "30", ONCE), ("twice", "30", TWICE),
            ("for longer than the limit, and the reply is there", "1", LONG)]
+FAILED = "mcrace: 1 of 1 jobs had a failed section: 1"
 
 
 class Stops(LiveTest):
@@ -44,7 +45,8 @@ class Stops(LiveTest):
         with Replying([*SLOWLY, b"ERROR\r\n"], [], []) as server:
             status, output, told = self.stopped("campaign", server, limit, stops)
         self.assertEqual((status, output.splitlines()[0]), (4, "0 explained P ErrorLine"))
-        self.assertEqual(told[1:], [r'mcrace: job 0: P: to "delete r0-0" came "ERROR\r\n"'])
+        wanted = [r'mcrace: job 0: P: to "delete r0-0" came "ERROR\r\n"', f"{FAILED} ErrorLine"]
+        self.assertEqual(told[1:], wanted)
 
     # What is left of the limit is waited for, but a worker's call begins anew with all of it.
     @rows([("run", "run", 1, 1.3, "P failed 2 ReadFailed", 'P: no reply to "delete a"'),
@@ -55,4 +57,6 @@ class Stops(LiveTest):
         with Replying([Step.READ], [], []) as server, self.assert_takes(least, most):
             status, output, faults = self.stopped(command, server, "1", ONCE)
         self.assertEqual((status, output.splitlines()[0]), (4, first))
-        self.assertEqual(faults[command == "campaign" :], [f"mcrace: {told} within 1 s"])
+        wanted = [f"mcrace: {told} within 1 s"]
+        wanted += [f"{FAILED} ReadFailed"] if command == "campaign" else []
+        self.assertEqual(faults[command == "campaign" :], wanted)
