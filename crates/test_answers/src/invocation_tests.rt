@@ -156,12 +156,19 @@ mcrace: --seed is an option of generate, campaign
 #[test]
 fn options_of_other_subcommands_are_named(rt: HostRuntime) -> Result<(), Fail> {
     let line = line_of(rt.alloc(), &["mcrace", "run", "host:1", "--seed", "5"])?;
-    let said = match read_request(rt.alloc(), line.as_slice()) {
-        Err(LineFault::Wrong(text)) => text.as_str() == OTHER_OPTION,
-        _ => false,
-    };
-    assert!(rt; said);
+    assert!(rt; is_other_option_named(rt.alloc(), line.as_slice()));
     Ok(())
+}
+
+fn is_other_option_named(alloc: Global, line: &[String]) -> bool {
+    let fault = match read_request(alloc, line) {
+        Ok(_) => return false,
+        Err(fault) => fault,
+    };
+    match &fault {
+        LineFault::Wrong(text) => text.as_str() == OTHER_OPTION,
+        _ => false,
+    }
 }
 
 #[test]
