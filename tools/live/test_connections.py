@@ -52,7 +52,7 @@ class NoConnections(LiveTest):
     @rows([("A", "a"), ("B", "b")])
     def test_server_of_a_branch_comes_late(self, section):
         """Each server is waited for."""
-        # Their requests don't come to one server, so they don't meet there.
+        # Of two servers nobody knows which one answers first, so either verdict may come.
         talks = dict(zip("ab", (answers(b"6\r\n"), answers(b"7\r\n"))))
         late = talks.pop(section)
         port, done = servers.free_port(), threading.Event()
@@ -66,7 +66,7 @@ class NoConnections(LiveTest):
         with Scripted((P, *talks.values())) as server, self.assert_takes(0.2, 10):
             found = play(server.port, f"--{section}", f"127.0.0.1:{port}", "--wait", "20")
         done.set()
-        self.assert_done(found)
+        self.assert_done(found, int(found.verdict == "unexplained\n"))
 
     def test_server_comes_late(self):
         port, done = servers.free_port(), threading.Event()
