@@ -145,7 +145,7 @@ def test_may_end(_, ended):
     return ended[0] == 0 or ended[0] in (101, -6) and bool(SAYS_SO.search(ended[2].decode()))
 
 
-def run_may_end(whole, ended):
+def repeated_may_end(whole, ended):
     """With `--keep-going` the first run that fails is written before the totals are known. The C
     library has several reasons why it can't look up a name; want of memory is none of them."""
     if ended[:2] == whole[:2] and all(b": failed to lookup " in it for it in (whole[2], ended[2])):
@@ -157,7 +157,7 @@ def run_may_end(whole, ended):
 
 # How the commands may end that do more than to read and answer.
 MAY_END = {
-    "campaign": campaign_may_end, "run": run_may_end, "selftest": selftest_may_end,
+    "campaign": campaign_may_end, "run": repeated_may_end, "selftest": selftest_may_end,
     "serve": serve_may_end,
 }
 
