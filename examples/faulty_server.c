@@ -7,12 +7,17 @@
 // delay it waits so long before it looks.
 //
 //   lost-increment lost-decrement  two commands act on one number (a decrement undoes an incr)
-//   lost-append                    two appends act on one body
+//   lost-append lost-prepend       two commands act on one body
 //   cas-two-winners                a cas number wins twice
 //   add-twice delete-twice         a key is added, or an item deleted, twice
+//   replace-after-delete           a replace stores though the item was deleted meanwhile
+//   touch-undoes                   a touch writes back the item that it looked at
+//   torn-gets                      a gets shows the body it looked at with a later cas unique
+//   add-over-set                   an add stores over a set that came meanwhile, and over no other
 //   stale-get                      a set over an item is answered before it takes effect
-//   torn-body                      a set over an item first writes half of the new body
+//   torn-body torn-flags           a set over an item first writes half of the body, or the flags
 //   lost-flags                     an append stores the flags of its own line, in no race
+//   number-again                   cas uniques of a new item begin again at 1, in no race
 //   increment-again                an incr acts once more if another connection wrote meanwhile
 //
 // It listens on this port of 127.0.0.1, or on a free one, which it prints. It serves 64 connections
@@ -34,16 +39,18 @@
 enum { MOST_RUNS = 100000, MOST_KEYS = 1 << 20, THREADS = 64 };
 enum { LONGEST = 4096, KEY = 64, BODY = 256 };
 // The commands, those that store a body first.
-enum { SET, ADD, CAS, APPEND, INCR, DECR, DELETE, GET, GETS, COMMANDS };
+enum { SET, ADD, REPLACE, CAS, APPEND, PREPEND, INCR, DECR, DELETE, TOUCH, GET, GETS, COMMANDS };
 
-static const char *const VERBS[COMMANDS] = {"set",  "add",    "cas", "append", "incr",
-                                            "decr", "delete", "get", "gets"};
+static const char *const VERBS[COMMANDS] = {"set",  "add",  "replace", "cas",   "append", "prepend",
+                                            "incr", "decr", "delete",  "touch", "get",    "gets"};
 
+// An item, and the verb that stored it last.
 struct item {
   char body[BODY];
   bool there;
   unsigned flags;
   uint64_t version;
+  int verb;
 };
 
 // A request; `verb` is COMMANDS if it is none of them.
@@ -78,15 +85,18 @@ struct talk {
   char text[LONGEST + 1];
 };
 
-// The bugs without a command that races, after those with one.
-enum { STALE = 6, TORN, FLAGS, AGAIN, NONE };
+// The bugs that aren't the window alone, after those that are.
+enum { OVER = 10, STALE, TORN, TORN_FLAGS, FLAGS, NUMBER, AGAIN, NONE };
 
 // The bugs, and the commands that race by them, if any does.
 static const struct { const char *name; int verb; } BUGS[] = {
-    {"lost-increment", INCR},   {"lost-decrement", DECR}, {"lost-append", APPEND},
-    {"cas-two-winners", CAS},   {"add-twice", ADD},       {"delete-twice", DELETE},
+    {"lost-increment", INCR}, {"lost-decrement", DECR}, {"lost-append", APPEND},
+    {"lost-prepend", PREPEND}, {"cas-two-winners", CAS}, {"add-twice", ADD},
+    {"delete-twice", DELETE}, {"replace-after-delete", REPLACE}, {"touch-undoes", TOUCH},
+    {"torn-gets", GETS}, [OVER] = {"add-over-set", ADD},
     [STALE] = {"stale-get", COMMANDS}, [TORN] = {"torn-body", COMMANDS},
-    [FLAGS] = {"lost-flags", COMMANDS}, [AGAIN] = {"increment-again", COMMANDS},
+    [TORN_FLAGS] = {"torn-flags", COMMANDS}, [FLAGS] = {"lost-flags", COMMANDS},
+    [NUMBER] = {"number-again", COMMANDS}, [AGAIN] = {"increment-again", COMMANDS},
     [NONE] = {"none", COMMANDS}};
 
 static int bug = -1;
@@ -125,18 +135,42 @@ static struct item *item_of(const char *key) {
   return found->data;
 }
 
-// The reply of a command that writes nothing, with this item there; null if it writes.
+static bool is_joining(int verb) {
+  return verb == APPEND || verb == PREPEND;
+}
+
+static bool is_number(const char *body) {
+  size_t digits = strspn(body, "0123456789");
+  return digits && digits <= 20 && !body[digits];
+}
+
+// The reply of a command that writes nothing, with this item there; null if it reads or writes.
 static const char *refusal(const struct item *at, const struct request *request) {
   int verb = request->verb;
-  if (verb == ADD ? at->there : verb == APPEND && !at->there)
+  if (verb == ADD ? at->there : (verb == REPLACE || is_joining(verb)) && !at->there)
     return "NOT_STORED\r\n";
-  if (verb >= CAS && verb <= DELETE && !at->there)
+  if (verb >= CAS && verb <= TOUCH && !at->there)
     return "NOT_FOUND\r\n";
   if (verb == CAS && at->version != request->number)
     return "EXISTS\r\n";
-  if (verb <= APPEND && (verb == APPEND ? strlen(at->body) : 0) + request->size >= BODY)
+  if ((verb == INCR || verb == DECR) && !is_number(at->body))
+    return "CLIENT_ERROR cannot increment or decrement non-numeric value\r\n";
+  if (verb <= PREPEND && (is_joining(verb) ? strlen(at->body) : 0) + request->size >= BODY)
     return "SERVER_ERROR object too large for cache\r\n";
   return verb == COMMANDS ? "ERROR\r\n" : 0;
+}
+
+// Puts what a command that stores has brought into the item.
+static void fill(struct item *item, const struct request *request) {
+  char old[BODY] = "";
+  if (request->verb == PREPEND) {
+    strcpy(old, item->body);
+    item->body[0] = 0;
+  } else if (request->verb != APPEND) {
+    *item = (struct item){.there = true, .flags = request->flags};
+  }
+  strncat(item->body, request->body, request->size);
+  strcat(item->body, old);
 }
 
 // Makes the item of what was there, and answers the reply, which may stand in the room.
@@ -146,10 +180,10 @@ static const char *written(struct item *item, const struct request *request, cha
     *item = (struct item){0};
     return "DELETED\r\n";
   }
-  if (request->verb <= APPEND) {
-    if (request->verb != APPEND)
-      *item = (struct item){.there = true, .flags = request->flags};
-    strncat(item->body, request->body, request->size);
+  if (request->verb == TOUCH)
+    return "TOUCHED\r\n";
+  if (request->verb <= PREPEND) {
+    fill(item, request);
     return "STORED\r\n";
   }
   number = request->verb == INCR ? number + by : number - (number < by ? number : by);
@@ -178,30 +212,46 @@ static bool is_changed(const struct item *at) {
   return at->version != version;
 }
 
-// Stores the item of what was there, and answers the reply.
+// Stores the item of what was there, and answers the reply. A touch makes no version.
 static const char *store(struct item *at, struct item item, const struct request *request,
                          char *room) {
   const char *reply = written(&item, request, room);
-  item.version = ++last_version;
+  if (request->verb != TOUCH) {
+    item.version = bug != NUMBER ? ++last_version : at->there ? at->version + 1 : 1;
+    item.verb = request->verb;
+  }
   *at = item;
   return reply;
 }
 
+// A set over an item writes half of it, if sets are torn, and gives others the window.
+static void tear(struct item *at, const struct request *request) {
+  if (request->verb != SET || !at->there || (bug != TORN && bug != TORN_FLAGS))
+    return;
+  if (bug == TORN)
+    memcpy(at->body, request->body, request->size / 2);
+  else
+    at->flags = request->flags;
+  is_changed(at);
+}
+
 // Does what is asked, and answers the reply. The command that races gives others the window between
-// its look at the item and its write, and notes if one wrote.
+// its look at the item and its write, or between two looks, and notes if one wrote.
 static const char *act(const struct request *request, char *room, int *raced) {
   struct item *at = item_of(request->key), item = *at;
-  if (request->verb == GET || request->verb == GETS)
-    return get(at, request, room);
   const char *refused = refusal(at, request), *reply;
   if (refused)
     return refused;
   if (request->verb == BUGS[bug].verb)
     *raced += is_changed(at);
-  if (bug == TORN && request->verb == SET && at->there) {
-    memcpy(at->body, request->body, request->size / 2);
-    is_changed(at);
+  if (request->verb >= GET) {
+    // only in the window of a torn gets another version may have come
+    item.version = at->version;
+    return get(&item, request, room);
   }
+  if (bug == OVER && request->verb == ADD && at->there && at->verb != SET)
+    return "NOT_STORED\r\n";
+  tear(at, request);
   if (bug == FLAGS && request->verb == APPEND)
     item.flags = request->flags;
   reply = store(at, item, request, room);
@@ -225,7 +275,7 @@ static bool understood(const char *text, size_t got, struct request *request) {
   *request = (struct request){.body = text + line, .came = microseconds()};
   if (!end || sscanf(text, "%15s %63s %" SCNu64, verb, request->key, &request->number) < 2)
     return false;
-  if ((request->verb = command_of(verb)) > APPEND)
+  if ((request->verb = command_of(verb)) > PREPEND)
     return true;
   if (sscanf(text, "%*s %*s %u %*s %zu %" SCNu64, &request->flags, &request->size,
              &request->number) < 2 || request->size >= BODY)

@@ -43,6 +43,9 @@ HISTORY = r"history 2\n(?:[PAB] (?:begin|reply) [ -~]+\n)*end\n"
 # What `--why` says after a refusal, in lines for a person, and after `unexplained`.
 HINT = r"(?:[ -~]{1,80}\n)*"
 WHY = r"(?:why\n(?:[ -~]+\n)*?end\n)?"
+# Reports, as text with what stands after the totals, or as lines of JSON.
+JOINED = r"(?:\d+ [ -~]+\n)+jobs [1-9][ -~]*\n(?:.*end\n)?|(?:\{[ -~]*\}\n)+"
+REPORT_FAULT = numbered("Line Mixed Totals Campaign Missing Doubled Unended") + r" line \d+"
 
 
 def status_of_sections(found):
@@ -51,6 +54,13 @@ def status_of_sections(found):
     if found["verdict"] == "unexplained\n" or "failed 4 BadReply" in endings:
         return 1
     return 0 if found["verdict"].startswith("explained") and endings == ["done"] * 3 else 4
+
+
+def status_of_report(found):
+    """The status of a report."""
+    if re.search('unexplained"|^\\d+ unexplained|BadReply', found[0], re.M):
+        return 1
+    return 0 if re.fullmatch(r"(?:\d+ explained\n)*jobs [^\n]*\n|\{[^\n]*\n", found[0]) else 4
 
 
 def forms_with(hint, why):
@@ -64,6 +74,7 @@ def forms_with(hint, why):
         "draw": [(r"(?:confirmed|explained|unexplained|undecided): [ -~\n]*|<svg .*</svg>\n", 0),
                  (f"{NO_HISTORY}|{TOO_LONG}", 3)],
         "convert": [(r"(?:\{[ -~]*\}\n)*", 0), (f"{NO_HISTORY}|refused edn\n|{TOO_LONG}", 3)],
+        "join": [(JOINED, status_of_report), (rf"refused report {REPORT_FAULT}\n|{TOO_LONG}", 3)],
         "check": [(r"accepted\nP \d+ \d+\nA \d+ \d+\nB \d+ \d+\n", 0),
                   (f"{no_code}|{NO_IMAGE}", 3)],
         "asm": [(r"MCR[12].*", 0), (f"{NO_SCRIPT}{hint}|{TOO_LARGE}{hint}|{TOO_LONG}", 3)],

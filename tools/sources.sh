@@ -3,17 +3,35 @@
 # Patterns such as !(NAME) are read only after this.
 shopt -s extglob
 
+# What the program says that it was built from. It's written from the others, so no part of them.
+sources_file=crates/mcrace/src/sources.rt
+
 # Prints one SHA-256 of all that the program is built from: crates.txt, and sources, definitions and
 # proofs but of crates of tests, by names and texts. $1 is the top of the repository.
 source_hash() (
     cd "$1" || exit 1
     LC_ALL=C
     shopt -s globstar nullglob
-    sha256sum crates.txt crates/!(test_*)/@(src|specs|proofs)/**/*.@(rt|antt) | sha256sum | {
+    files=(crates.txt)
+    for file in crates/!(test_*)/@(src|specs|proofs)/**/*.@(rt|antt); do
+        [ "$file" = $sources_file ] || files+=("$file")
+    done
+    sha256sum "${files[@]}" | sha256sum | {
         read -r hash _
         echo "$hash"
     }
 )
+
+# Writes the hash into the source by which the program says it. $1 is the top of the repository.
+write_sources() {
+    cat >"$1/$sources_file" <<END
+//! What the program is built from. \`./mcrace --build\` writes it.
+
+/// The SHA-256 of all sources, definitions and proofs but of this file.
+pub const SOURCES: &[u8] =
+    b"sources $(source_hash "$1")\\n";
+END
+}
 
 # Prints what the kept program was built from, or nothing. $1 is the top of the repository.
 kept_hash() {

@@ -52,7 +52,8 @@ class Release(LiveTest):
         ran = subprocess.run([program, "judge"], input=HISTORY, capture_output=True, check=False)
         self.assertEqual((ran.stdout, ran.returncode), (b"unexplained\n", 1), ran)
 
-    def test_mcrace_tells_what_it_was_built_from(self):
-        words = [ROOT / "mcrace", "--built-from"]
-        told = subprocess.run(words, capture_output=True, check=True).stdout
-        self.assertEqual(told, BUILT_FROM.read_bytes())
+    @rows([("sources", "--built-from", ""), ("version", "--version", "mcrace 0.1.0\n"),
+           ("V", "-V", "mcrace 0.1.0\n")])
+    def test_mcrace_tells_what_it_was_built_from(self, word, before):
+        told = subprocess.run([ROOT / "mcrace", word], capture_output=True, check=True).stdout
+        self.assertEqual(told.decode(), f"{before}sources {shell('source_hash .')}\n")

@@ -110,6 +110,7 @@ class Step(enum.Enum):
 
     READ = "read a request"
     PAUSE = "wait 50 ms"
+    SOON = "wait 1 ms"
     MEET = "wait until another connection of the run comes to this step too"
     END = "end the connection"
     RESET = "end it by a reset"
@@ -200,8 +201,8 @@ class Talking(Listening):
             return bool(read_request(reader))
         if isinstance(step, Request):
             return reader.read(len(step.text)) == step.text
-        if step is Step.PAUSE:
-            time.sleep(0.05)
+        if step in (Step.PAUSE, Step.SOON):
+            time.sleep(0.05 if step is Step.PAUSE else 0.001)
         elif step is Step.MEET:
             meeting.wait(SECONDS)
         elif step is Step.RESET:

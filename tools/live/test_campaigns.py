@@ -1,16 +1,21 @@
 """What `mcrace campaign` reports of servers that are right, wrong, late or gone; and `selftest`."""
 
 import concurrent.futures
+import contextlib
 import pathlib
 import re
+import time
 
 from . import servers
-from .campaigns import MOST_IN_BLOCK, MOST_IN_REPORT, CampaignTest, campaign, steps_of
-from .program import LiveTest, rows, run
-from .servers import Replying, answers
+from .campaigns import MOST_IN_REPORT, CampaignTest, campaign, steps_of
+from .program import LiveTest, rows, run, three_times
+from .servers import Carrying, Listening, Replying, Step, answers, free_port, reset_at_close
 
-# By how many seconds a campaign for a time may end late, since it ends its block.
-LATE = 3
+# By how many seconds a campaign for a time may end late at a quick server, as the machine may.
+LATE = 2
+# So many connects in a row may fail.
+MOST_IN_A_ROW = 64
+GAVE_UP = "mcrace: gave up after 64 connects in a row failed"
 # What /proc/net/tcp calls a connection of which this side was the first to close.
 TIME_WAIT = "06"
 # The verbs whose requests a generated script always sends.
@@ -68,14 +73,32 @@ class Times(servers.ServedTest, CampaignTest):
         self.assertEqual(first, "mcrace: seed 1, jobs from 5 on, 4 workers")
         self.assertEqual(len(told), int(len(found.reports) > 1), told)
         self.assert_reports(found.reports, 5)
-        last = len(found.reports[-1][0])
-        self.assertTrue(last % MOST_IN_BLOCK == 0 or last == MOST_IN_REPORT, last)
+
+    @three_times
+    def test_time_at_a_slow_server(self):
+        """What has begun ends, and no job begins after the time. All jobs are explained."""
+        server = self.enter(Slow(self.port))
+        with self.assert_takes(1, 1 + 2 * SLOW):
+            found = campaign(server.port, "--for 1s --from 7")
+        self.assertEqual((found.status, found.rest, len(found.told)), (0, [], 0), found.faults)
+        self.assert_reports(found.reports, 7)
+
+    @three_times
+    def test_time_at_a_server_that_hangs(self):
+        """Each job takes a second, and four begin within half a second: so do no more."""
+        server = self.enter(Replying([Step.READ]))
+        with self.assert_takes(1, 2):
+            found = campaign(server.port, "--for 500ms --timeout 1s")
+        self.assertEqual(found.jobs, [f"{job} explained P ReadFailed" for job in range(4)])
+        self.assertEqual((found.totals, found.status), ((4, 4, 0, 0), 4))
+        self.assertEqual(found.told[-1], "mcrace: 4 of 4 jobs had a failed section: 4 ReadFailed")
 
     def test_several_reports(self):
-        """Of 10,000 jobs each, with ranges on standard error. Nothing connects, so it is quick."""
-        port = servers.free_port()
-        for seconds in (3, 30):
-            found = campaign(port, f"--for {seconds}s --show")
+        """Of 10,000 jobs each, with ranges on standard error. P's connects end each row of those
+        that fail, so it doesn't give up."""
+        port, other = self.enter(Resetting()).port, free_port()
+        for seconds in (4, 8, 16, 32):
+            found = campaign(port, f"--for {seconds}s --show --a 127.0.0.1:{other}")
             if len(found.reports) > 1:
                 break
         self.assertEqual((found.status, found.rest), (4, []), found.faults[:300])
@@ -94,6 +117,68 @@ class Times(servers.ServedTest, CampaignTest):
         whole = campaign(self.port, "--jobs 150")
         self.assertEqual(campaign(self.port, "--jobs 150 --stop-after 1"), whole)
         self.assertEqual(len(whole.jobs), 150)
+
+
+class Slow(Carrying):
+    """A proxy that carries each request on after some time."""
+
+    def request(self, piece):
+        time.sleep(0.02)
+        return piece
+
+
+class Resetting(Listening):
+    """A server that resets each connection once the client has closed it, so no port is kept."""
+
+    def begin(self, connection):
+        reset_at_close(connection)
+        with contextlib.suppress(OSError), connection:
+            connection.recv(1)
+
+
+# The most seconds that a job takes at a slow server: its sections have 24 requests at most.
+SLOW = 1
+
+
+class NoServers(CampaignTest):
+    """A campaign gives up when 64 connects in a row failed."""
+
+    @rows([("all jobs", "--jobs 1000", 1000), ("in blocks", "--jobs 1000 --stop-after 1", 1000)])
+    def test_rest_of_the_jobs(self, options, jobs):
+        """No other connect is tried: that of each job would take a second."""
+        with servers.unanswering() as port, self.assert_takes(4, 12):
+            found = campaign(port, f"{options} --workers 16 --timeout 1s")
+        self.assertEqual(found.jobs, [f"{job} no connection P" for job in range(jobs)])
+        self.assertEqual((found.totals, found.status), ((jobs, 0, 0, jobs), 4))
+        why = f"mcrace: 127.0.0.1:{port}: connection timed out"
+        self.assertEqual(found.told, [why, GAVE_UP, f"{why} (jobs 0 to {jobs - 1})"])
+
+    def test_for_a_time(self):
+        """No job begins after it gave up, and those that had begun stand in the report."""
+        with self.assert_takes(0, 5):
+            found = campaign(free_port(), "--for 1h")
+        jobs = len(found.jobs)
+        self.assertTrue(MOST_IN_A_ROW <= jobs < MOST_IN_A_ROW + 4, jobs)
+        self.assertEqual(found.jobs, [f"{job} no connection P" for job in range(jobs)])
+        self.assertEqual((found.totals, found.status), ((jobs, 0, 0, jobs), 4))
+        self.assertEqual(found.told.count(GAVE_UP), 1, found.faults)
+
+    def test_server_goes_away(self):
+        """`serve` ends after 30 connections, and later ones are refused."""
+        port = self.enter(servers.serving("--connections", 30)).port
+        found = campaign(port, "--for 1h --workers 1")
+        self.assertEqual(found.jobs[:10], [f"{job} explained" for job in range(10)])
+        late = 0 if "no connection" in found.jobs[10] else 1
+        jobs = range(10 + late, 10 + late + MOST_IN_A_ROW)
+        self.assertEqual(found.jobs[10 + late :], [f"{job} no connection P" for job in jobs])
+        self.assertEqual((found.status, found.told.count(GAVE_UP)), (4, 1), found.faults)
+
+    def test_waits(self):
+        """Each wait for a server is one connect, so it doesn't give up while it waits."""
+        with self.assert_takes(2, 10):
+            found = campaign(free_port(), "--jobs 40 --workers 16 --wait 1s")
+        self.assertEqual(found.jobs, [f"{job} no connection P" for job in range(40)])
+        self.assertNotIn(GAVE_UP, found.told)
 
 
 class WrongServers(CampaignTest):

@@ -5,6 +5,7 @@ import pathlib
 import random
 import subprocess
 import tempfile
+from xml.etree import ElementTree
 
 from .program import PROGRAM, ROOT, LiveTest, judged, run
 from .servers import losing_updates, serving
@@ -46,6 +47,9 @@ class RaceTest(ScriptTest):
         self.assertEqual(told, "two-increments: exit status 0\ncampaign: exit status 0\n")
         self.assertEqual(status, 0)
         self.assertRegex(judged((folder / "two-increments.history").read_bytes()), r"\Aexplained\n")
+        self.assertIn(b"<svg", (folder / "two-increments.svg").read_bytes())
+        suite = ElementTree.parse(folder / "campaign.xml").getroot()
+        self.assertEqual((suite.get("failures"), suite.get("errors")), ("0", "0"))
         self.assertEqual((folder / "campaign.history").read_bytes(), b"")
         self.assertIn("seed 7,", (folder / "campaign.err").read_text())
 
@@ -66,17 +70,27 @@ class RaceTest(ScriptTest):
 
 
 class CampaignPart(ScriptTest):
-    """Parts have the lines of the campaign."""
+    """Parts, joined, are the campaign."""
 
     def test_parts(self):
         # so that no other test has the ports
-        first, reports = 20 * random.randrange(9000), []
-        for at in (first, first + 20):
+        first, reports = 20 * random.randrange(9000), b""
+        for at in (first + 20, first):
             self.assertEqual(self.run_script("campaign-part", 3, 20, self.top, at), (0, ""))
-            reports += (self.top / f"part-{at:08}.out").read_text().splitlines()
+            reports += (self.top / f"part-{at:08}.json").read_bytes()
         with serving() as (_, port):
             jobs = ["--seed", "3", "--from", str(first), "--jobs", "40"]
-            whole = run(["campaign", f"127.0.0.1:{port}", *jobs]).text.splitlines()
-        self.assertEqual(len(whole), 41)
-        self.assertEqual(reports[:20] + reports[21:-1], whole[:-1])
-        self.assertEqual(reports[20], "jobs 20 explained 20 unexplained 0 other 0")
+            whole = run(["campaign", f"127.0.0.1:{port}", *jobs, "--json"])
+        joined = run(["join"], reports)
+        self.assertEqual(joined.output, whole.output)
+        self.assertEqual((joined.status, joined.faults), (0, ""))
+
+    def test_parts_as_text(self):
+        with serving() as (_, port):
+            words = ["campaign", f"127.0.0.1:{port}", "--from"]
+            whole = run([*words, "10", "--jobs", "30"])
+            parts = [run([*words, str(at), "--jobs", "10"]).output for at in (20, 10, 30)]
+        joined = run(["join"], b"".join(parts))
+        self.assertEqual(joined.output, whole.output)
+        self.assertEqual(joined.status, 0)
+        self.assertIn("seed isn't known", joined.faults)

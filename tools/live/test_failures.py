@@ -1,10 +1,11 @@
 """What standard error says of a section that fails: its request, what came, and why no reply did.
-Five servers fail P, A or B at their first request, by `run`, `run --times` and `campaign`."""
+Five servers fail P, A or B at their first request, by `run`, `run --times` and `campaign`. And what
+it says of a section that gets a reply too many."""
 
 import itertools
 
 from .program import COUNTER, LiveTest, rows, run, three_times
-from .servers import Scripted, Step, answers
+from .servers import A, B, P, Scripted, Step, answers
 
 # What a server does with the first request of a section whose reply would begin with these bytes,
 # and what is said of the request.
@@ -56,3 +57,21 @@ class Failures(LiveTest):
         told = TOLD[fault].format(asked=asked[at], half=halves[at].decode())
         self.assertIn(f"{lead}{section}: {told}\n", answer.faults)
         self.assertEqual(answer.status, 1 if fault == "garbage" else 4, answer)
+
+
+# The options of `run` with which only a last look finds what comes later.
+LOOKS = ["", "--times 1", "--times 1 --keep-going"]
+
+
+class LateReplies(LiveTest):
+    """A reply too many comes 1 ms after the last one, in a segment of its own."""
+
+    @rows([(f"{section} {options}", section, options) for options in LOOKS for section in "PAB"])
+    @three_times
+    def test_told(self, section, options):
+        late = [Step.SOON, b"STORED\r\n"]
+        talks = [talk + late if it == section else talk for it, talk in zip("PAB", (P, A, B))]
+        with Scripted(talks) as server:
+            found = run(["run", f"127.0.0.1:{server.port}", *options.split()], COUNTER)
+        told = f'mcrace: {section}: after its last reply came 8 bytes more: "STORED\\r\\n"\n'
+        self.assertEqual((found.faults, found.status), (told, 0), found)

@@ -7,6 +7,7 @@ use Rattle.mc_answers.specs.CheckAnswers.{ChecksAs}
 use Rattle.mc_answers.specs.ConvertAnswers.{Converts}
 use Rattle.mc_answers.specs.DrawAnswers.{Draws}
 use Rattle.mc_answers.specs.DriveAnswers.{Drives}
+use Rattle.mc_answers.specs.JoinAnswers.{Joins}
 use Rattle.mc_answers.specs.JudgeAnswers.{JudgesAs}
 use Rattle.mc_answers.specs.Streams.{Grows, TakesAtMost}
 use Rattle.mc_answers.specs.Writing.{out_of_memory_text}
@@ -25,6 +26,7 @@ Does (question.Asm why) text output ended = Assembles why text output ended
 Does (question.Drive how) text output ended = Drives how.why text output ended
 Does (question.Draw how) text output ended = Draws output ended
 Does (question.Convert args) text output ended = Converts output ended
+Does question.Join text output ended = Joins output ended
 
 abbrev pub too_long_text : List ℕ
 too_long_text = codes "refused input too long\n"

@@ -9,6 +9,7 @@ pub mod Endings
 pub mod GenerateAnswers
 pub mod InJson
 pub mod Input
+pub mod JoinAnswers
 pub mod JudgeAnswers
 pub mod Loading
 pub mod Refusing

@@ -8,6 +8,7 @@ use crate::check::check_as_asked;
 use crate::convert::convert;
 use crate::draw::draw;
 use crate::drive::drive;
+use crate::join::join;
 use crate::judge::judge_as_asked;
 use crate::refusal::Unanswered;
 use crate::status::Status;
@@ -45,5 +46,6 @@ fn give(alloc: Global, question: Question, text: &[u8]) -> Result<Answer, Unansw
         Question::Drive(how) => drive(alloc, how, text),
         Question::Draw(how) => draw(alloc, how, text),
         Question::Convert(args) => convert(alloc, args, text),
+        Question::Join => join(alloc, text),
     }
 }

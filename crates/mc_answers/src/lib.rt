@@ -1,5 +1,5 @@
-//! Answers that the input alone gives: a history judged, a script or an image checked, a script assembled, or led through steps; and the
-//! script of a seed and a job.
+//! Answers that the input alone gives: a history judged, a script or an image checked, a script assembled, or led through steps, reports
+//! joined; and the script of a seed and a job.
 //!
 //! Below it stand the readers of histories, scripts, images and step lists, `mc_explain` and `mc_why`, which judge, `mc_core`, whose
 //! worlds steps lead to, and `mc_generate`. `mc_hints` says why an input is refused, and `mc_cli` what a line asks. The crate above uses
@@ -16,6 +16,7 @@ mod drive;
 mod generate;
 mod in_json;
 mod input;
+mod join;
 mod judge;
 mod loading;
 mod outcome;

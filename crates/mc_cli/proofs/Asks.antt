@@ -40,6 +40,7 @@ with_once value (request.Question (question.Draw how)) other named is also =
 with_once value (request.Question (question.Convert args)) other named is also =
     let found = names.is_convert other named in
     rw found.1 (ap (λ a. request.Question (question.Convert a)) (convert_once value args found.0 is (rw found.1 at also)))
+with_once value (request.Question question.Join) other named is also = sym (names.is_join other named)
 with_once value (request.Run args) other named is also =
     let found = names.is_run other named in
     let more = rw found.1 at also in

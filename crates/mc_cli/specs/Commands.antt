@@ -41,11 +41,10 @@ run_rules =
 abbrev pub campaign_rules : List Rule
 campaign_rules =
     argument (codes "target") ∷ valued (codes "seed") ∷ switch (codes "random-seed") ∷ valued (codes "from") ∷
-    valued (codes "jobs") ∷ valued (codes "workers") ∷ valued (codes "limit") ∷ valued (codes "meet") ∷
-    valued (codes "a") ∷ valued (codes "b") ∷ valued (codes "name") ∷ valued (codes "timeout") ∷
-    valued (codes "wait") ∷ switch (codes "brief") ∷ switch (codes "json") ∷ switch (codes "junit") ∷ switch (codes "show") ∷
-    switch (codes "why") ∷ valued (codes "tries") ∷ switch (codes "quiet") ∷ valued (codes "spread") ∷
-    switch (codes "stats") ∷ valued (codes "for") ∷ valued (codes "stop-after") ∷ []
+    valued (codes "jobs") ∷ valued (codes "workers") ∷ valued (codes "limit") ∷ valued (codes "meet") ∷ valued (codes "a") ∷
+    valued (codes "b") ∷ valued (codes "name") ∷ valued (codes "timeout") ∷ valued (codes "wait") ∷ switch (codes "brief") ∷
+    switch (codes "json") ∷ switch (codes "junit") ∷ switch (codes "show") ∷ switch (codes "why") ∷ valued (codes "tries") ∷
+    switch (codes "quiet") ∷ valued (codes "spread") ∷ switch (codes "stats") ∷ valued (codes "for") ∷ valued (codes "stop-after") ∷ []
 
 -- the program without its subcommands
 abbrev pub bare_app : App
@@ -62,12 +61,11 @@ and_with app subcommands = fold (λ whole sub. with_subcommand whole (app_with s
 abbrev pub reading_app : App
 reading_app = and_with bare_app ((
   codes "judge",
-  valued (codes "limit") ∷ switch (codes "why") ∷ switch (codes "run") ∷ valued (codes "job") ∷
-      switch (codes "json") ∷ [],
+  valued (codes "limit") ∷ switch (codes "why") ∷ switch (codes "run") ∷ valued (codes "job") ∷ switch (codes "json") ∷ [],
 ) ∷ (codes "check", switch (codes "why") ∷ switch (codes "json") ∷ []) ∷
     (codes "asm", switch (codes "why") ∷ []) ∷ (codes "drive", valued (codes "limit") ∷ switch (codes "why") ∷ []) ∷
     (codes "draw", switch (codes "text") ∷ switch (codes "lines") ∷ valued (codes "job") ∷ valued (codes "limit") ∷ []) ∷
-    (codes "convert", valued (codes "to") ∷ valued (codes "job") ∷ []) ∷ [])
+    (codes "convert", valued (codes "to") ∷ valued (codes "job") ∷ []) ∷ (codes "join", []) ∷ [])
 
 -- with all that ask for something
 abbrev pub asking_app : App

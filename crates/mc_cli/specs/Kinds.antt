@@ -11,7 +11,7 @@ use Rattle.mc_cli.specs.declared.rows.Kind.TheVariants as kind
 abbrev pub GREATEST_TIME : ℕ
 GREATEST_TIME = 86400000
 
--- this number, if a time may have so many milliseconds
+-- this number, if it is the milliseconds of a time
 abbrev pub if_time : ℕ → Option ℕ
 if_time n = if nat_le 1 n && nat_le n GREATEST_TIME then Some n else None
 
@@ -43,7 +43,7 @@ seconds_at word (Some point) = joined_time (decimal_in GREATEST_TIME (take point
 unfoldable pub seconds_in : List ℕ → Option ℕ
 seconds_in word = seconds_at word (position is_point word)
 
--- so many of the unit with this name, in milliseconds
+-- this number of the unit with this name, in milliseconds, in milliseconds
 abbrev pub in_unit : ℕ → List ℕ → Option ℕ
 in_unit number name =
     if bytes_eq name (codes "ms") then Some number else if bytes_eq name (codes "s") then Some (number * 1000)

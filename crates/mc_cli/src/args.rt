@@ -133,7 +133,7 @@ pub struct RunArgs<'a> {
     pub name: Option<Namespace<'a>>,
     /// The longest that one connect to one address, one read or one write may take, if there is such a time.
     pub timeout: Option<Seconds<'a>>,
-    /// How long P may try again to connect, if it may.
+    /// How long a connect to each server may be tried again, if it may.
     pub wait: Option<Seconds<'a>>,
     /// How often the script is run, if that isn't once.
     pub repeat: Option<Repeat>,
@@ -253,7 +253,7 @@ pub struct CampaignArgs<'a> {
     pub name: Option<Namespace<'a>>,
     /// The longest that one connect to one address, one read or one write may take, if there is such a time.
     pub timeout: Option<Seconds<'a>>,
-    /// How long P of a job may try again to connect, if it may.
+    /// How long a connect to each server may be tried again, if it may.
     pub wait: Option<Seconds<'a>>,
     /// Whether standard error doesn't say how far the campaign is.
     pub quiet: bool,

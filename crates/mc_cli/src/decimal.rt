@@ -51,7 +51,7 @@ fn is_small_letter(byte: u8) -> bool
     byte.is_ascii_lowercase()
 }
 
-// So many of the unit with this name, in milliseconds.
+// This number of the unit with this name, in milliseconds.
 fn in_unit(number: u64, name: &[u8]) -> Option<u64>
     requires { number ≤ spec.GREATEST_TIME }
     ensures { result ≡ spec.in_unit number name.now }
@@ -105,7 +105,7 @@ fn thousandths_in(places: &[u8]) -> Option<u64>
     Some(read_decimal(999, places).ok()? * unit)
 }
 
-// The number, if a time may have so many milliseconds.
+// The number, if it is the milliseconds of a time.
 fn if_time(milliseconds: u64) -> Option<u64>
     ensures { result ≡ spec.if_time milliseconds }
 {

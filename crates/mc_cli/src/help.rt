@@ -10,6 +10,7 @@ mod formats;
 mod generate;
 mod history;
 mod image;
+mod join;
 mod judge;
 mod run;
 mod script;
@@ -27,6 +28,7 @@ pub use formats::FORMATS;
 pub use generate::GENERATE;
 pub use history::HISTORY;
 pub use image::IMAGE;
+pub use join::JOIN;
 pub use judge::JUDGE;
 pub use run::RUN;
 pub use script::SCRIPT;
@@ -77,6 +79,6 @@ Topics:
 
 /// The names of the subcommands, in the order of their help.
 pub const NAMES: &[&str] = &[
-    "judge", "check", "asm", "drive", "draw", "convert", "run", "generate", "serve", "campaign",
-    "selftest",
+    "judge", "check", "asm", "drive", "draw", "convert", "join", "run", "generate", "serve",
+    "campaign", "selftest",
 ];

@@ -78,6 +78,7 @@ fn input_usage(line: &[String]) -> Option<&'static str> {
         "judge" => Some("mcrace judge"),
         "draw" => Some("mcrace draw"),
         "convert" => Some("mcrace convert --to json"),
+        "join" => Some("mcrace join"),
         "check" => Some("mcrace check"),
         "asm" => Some("mcrace asm"),
         "drive" => Some("mcrace drive"),

@@ -3,362 +3,121 @@
 use crate::args::{GREATEST_JOBS, GREATEST_WORKERS};
 use crate::rows::{Kind, Place, Row};
 
-pub const TARGET: Row = Row {
-    name: "target",
-    value: "HOST:PORT",
-    kind: Kind::Address,
-    default: None,
-    place: Place::Required,
-    help: "Run against the server at this address",
-};
+// An option: its place and name, its value's name, kind and default, and what help says of it. One without a value is a switch.
+macro_rules! row {
+    ($place:ident $name:literal, $help:literal) => {
+        row!($place $name "" Kind::Switch => None, $help)
+    };
+    ($place:ident $name:literal $value:literal $kind:expr, $help:literal) => {
+        row!($place $name $value $kind => None, $help)
+    };
+    ($place:ident $name:literal $value:literal $kind:expr => $default:expr, $help:literal) => {
+        Row {
+            name: $name,
+            value: $value,
+            kind: $kind,
+            default: $default,
+            place: Place::$place,
+            help: $help,
+        }
+    };
+}
 
-pub const LIMIT: Row = Row {
-    name: "limit",
-    value: "N",
-    kind: Kind::Number(0, 1_000_000_000),
-    default: Some(1_000_000),
-    place: Place::Rare,
-    help: "The most turns of a search",
-};
+pub const TARGET: Row =
+    row!(Required "target" "HOST:PORT" Kind::Address, "Run against the server at this address");
 
-pub const TEXT: Row = Row {
-    name: "text",
-    value: "",
-    kind: Kind::Switch,
-    default: None,
-    place: Place::Daily,
-    help: "Draw text for a terminal, not an SVG",
-};
+pub const LIMIT: Row =
+    row!(Rare "limit" "N" Kind::Number(0, 1_000_000_000) => Some(1_000_000), "The most turns of a search");
 
-pub const LINES: Row = Row {
-    name: "lines",
-    value: "",
-    kind: Kind::Switch,
-    default: None,
-    place: Place::Daily,
-    help: "Show the lines of the input, with --text",
-};
+pub const TEXT: Row = row!(Daily "text", "Draw text for a terminal, not an SVG");
 
-pub const SHOWN_JOB: Row = Row {
-    name: "job",
-    value: "N",
-    kind: Kind::Number(0, u64::MAX),
-    default: None,
-    place: Place::Daily,
-    help: "Take the history of this job of a campaign",
-};
+pub const LINES: Row = row!(Daily "lines", "Show the lines of the input, with --text");
 
-pub const TO: Row = Row {
-    name: "to",
-    value: "NOTATION",
-    kind: Kind::Notation,
-    default: None,
-    place: Place::Daily,
-    help: "Write it in this notation",
-};
+pub const SHOWN_JOB: Row =
+    row!(Daily "job" "N" Kind::Number(0, u64::MAX), "Take the history of this job of a campaign");
 
-pub const RUN: Row = Row {
-    name: "run",
-    value: "",
-    kind: Kind::Switch,
-    default: None,
-    place: Place::Daily,
-    help: "Pass over what run or campaign printed before it",
-};
+pub const TO: Row = row!(Daily "to" "NOTATION" Kind::Notation, "Write it in this notation");
 
-pub const JSON: Row = Row {
-    name: "json",
-    value: "",
-    kind: Kind::Switch,
-    default: None,
-    place: Place::Daily,
-    help: "Answer in JSON",
-};
+pub const RUN: Row = row!(Daily "run", "Pass over what run or campaign printed before it");
 
-pub const JUNIT: Row = Row {
-    name: "junit",
-    value: "",
-    kind: Kind::Switch,
-    default: None,
-    place: Place::Rare,
-    help: "Write the report as JUnit's XML",
-};
+pub const JSON: Row = row!(Daily "json", "Answer in JSON");
 
-pub const WHY: Row = Row {
-    name: "why",
-    value: "",
-    kind: Kind::Switch,
-    default: None,
-    place: Place::Daily,
-    help: "Say why it is unexplained, or which word is refused",
-};
+pub const JUNIT: Row = row!(Rare "junit", "Write the report as JUnit's XML");
 
-pub const REFUSED: Row = Row {
-    name: "why",
-    value: "",
-    kind: Kind::Switch,
-    default: None,
-    place: Place::Daily,
-    help: "Show the line for which a script is refused",
-};
+pub const WHY: Row = row!(Daily "why", "Say why it is unexplained, or which word is refused");
 
-pub const MEET: Row = Row {
-    name: "meet",
-    value: "WORD",
-    kind: Kind::Meeting,
-    default: None,
-    place: Place::Rare,
-    help: "When the branches meet",
-};
+pub const REFUSED: Row = row!(Daily "why", "Show the line for which a script is refused");
 
-pub const SERVER_OF_A: Row = Row {
-    name: "a",
-    value: "HOST:PORT",
-    kind: Kind::Address,
-    default: None,
-    place: Place::Rare,
-    help: "A's server, if it is another one",
-};
+pub const MEET: Row = row!(Rare "meet" "WORD" Kind::Meeting, "When the branches meet");
 
-pub const SERVER_OF_B: Row = Row {
-    name: "b",
-    value: "HOST:PORT",
-    kind: Kind::Address,
-    default: None,
-    place: Place::Rare,
-    help: "B's server, if it is another one",
-};
+pub const SERVER_OF_A: Row =
+    row!(Rare "a" "HOST:PORT" Kind::Address, "A's server, if it is another one");
 
-pub const NAME: Row = Row {
-    name: "name",
-    value: "NAME",
-    kind: Kind::Name,
-    default: None,
-    place: Place::Daily,
-    help: "Put NAME and a dash before each key",
-};
+pub const SERVER_OF_B: Row =
+    row!(Rare "b" "HOST:PORT" Kind::Address, "B's server, if it is another one");
 
-pub const TIMEOUT: Row = Row {
-    name: "timeout",
-    value: "TIME",
-    kind: Kind::Time,
-    default: None,
-    place: Place::Daily,
-    help: "Limit of a connect, read or write",
-};
+pub const NAME: Row = row!(Daily "name" "NAME" Kind::Name, "Put NAME and a dash before each key");
 
-pub const WAIT: Row = Row {
-    name: "wait",
-    value: "TIME",
-    kind: Kind::Time,
-    default: None,
-    place: Place::Daily,
-    help: "Try this long to connect",
-};
+pub const TIMEOUT: Row =
+    row!(Daily "timeout" "TIME" Kind::Time, "Limit of a connect, read or write");
 
-pub const TIMES: Row = Row {
-    name: "times",
-    value: "N",
-    kind: Kind::Number(1, 1_000_000),
-    default: None,
-    place: Place::Daily,
-    help: "Run the script up to N times",
-};
+pub const WAIT: Row = row!(Daily "wait" "TIME" Kind::Time, "Try this long to connect");
 
-pub const FOR: Row = Row {
-    name: "for",
-    value: "TIME",
-    kind: Kind::Time,
-    default: None,
-    place: Place::Daily,
-    help: "Repeat it for this long",
-};
+pub const TIMES: Row =
+    row!(Daily "times" "N" Kind::Number(1, 1_000_000), "Run the script up to N times");
 
-pub const KEEP_GOING: Row = Row {
-    name: "keep-going",
-    value: "",
-    kind: Kind::Switch,
-    default: None,
-    place: Place::Daily,
-    help: "Go on after a run that isn't done and explained",
-};
+pub const FOR: Row = row!(Daily "for" "TIME" Kind::Time, "Repeat it for this long");
 
-pub const RECONNECT: Row = Row {
-    name: "reconnect",
-    value: "",
-    kind: Kind::Switch,
-    default: None,
-    place: Place::Rare,
-    help: "Make new connections for each run",
-};
+pub const KEEP_GOING: Row =
+    row!(Daily "keep-going", "Go on after a run that isn't done and explained");
 
-pub const QUIET: Row = Row {
-    name: "quiet",
-    value: "",
-    kind: Kind::Switch,
-    default: None,
-    place: Place::Rare,
-    help: "Show no progress on a terminal",
-};
+pub const RECONNECT: Row = row!(Rare "reconnect", "Make new connections for each run");
 
-pub const SPREAD: Row = Row {
-    name: "spread",
-    value: "MICROS",
-    kind: Kind::Number(0, 10_000),
-    default: None,
-    place: Place::Rare,
-    help: "Maximum delay of a branch [default: 0 or 64]",
-};
+pub const QUIET: Row = row!(Rare "quiet", "Show no progress on a terminal");
 
-pub const STATS: Row = Row {
-    name: "stats",
-    value: "",
-    kind: Kind::Switch,
-    default: None,
-    place: Place::Daily,
-    help: "Say at the end how requests were answered",
-};
+pub const SPREAD: Row =
+    row!(Rare "spread" "MICROS" Kind::Number(0, 10_000), "Maximum delay of a branch [default: 0 or 64]");
 
-pub const SEED: Row = Row {
-    name: "seed",
-    value: "N",
-    kind: Kind::Number(0, u64::MAX),
-    default: Some(1),
-    place: Place::Daily,
-    help: "The seed of the scripts",
-};
+pub const STATS: Row = row!(Daily "stats", "Say at the end how requests were answered");
 
-pub const RANDOM_SEED: Row = Row {
-    name: "random-seed",
-    value: "",
-    kind: Kind::Switch,
-    default: None,
-    place: Place::Rare,
-    help: "Draw a seed, and say it",
-};
+pub const SEED: Row =
+    row!(Daily "seed" "N" Kind::Number(0, u64::MAX) => Some(1), "The seed of the scripts");
 
-pub const JOB: Row = Row {
-    name: "job",
-    value: "N",
-    kind: Kind::Number(0, u64::MAX),
-    default: Some(0),
-    place: Place::Daily,
-    help: "The job",
-};
+pub const RANDOM_SEED: Row = row!(Rare "random-seed", "Draw a seed, and say it");
 
-pub const PORT: Row = Row {
-    name: "port",
-    value: "PORT",
-    kind: Kind::Number(0, 65_535),
-    default: None,
-    place: Place::Required,
-    help: "The port; 0 takes a free one",
-};
+pub const JOB: Row = row!(Daily "job" "N" Kind::Number(0, u64::MAX) => Some(0), "The job");
 
-pub const CONNECTIONS: Row = Row {
-    name: "connections",
-    value: "N",
-    kind: Kind::Number(0, u64::MAX),
-    default: Some(1_000_000),
-    place: Place::Daily,
-    help: "End after N connections",
-};
+pub const PORT: Row =
+    row!(Required "port" "PORT" Kind::Number(0, 65_535), "The port; 0 takes a free one");
 
-pub const RACY: Row = Row {
-    name: "racy",
-    value: "",
-    kind: Kind::Switch,
-    default: None,
-    place: Place::Daily,
-    help: "Have a race in incr",
-};
+pub const CONNECTIONS: Row =
+    row!(Daily "connections" "N" Kind::Number(0, u64::MAX) => Some(1_000_000), "End after N connections");
 
-pub const FROM: Row = Row {
-    name: "from",
-    value: "N",
-    kind: Kind::Number(0, u64::MAX),
-    default: Some(0),
-    place: Place::Rare,
-    help: "The first job's number",
-};
+pub const RACY: Row = row!(Daily "racy", "Have a race in incr");
 
-pub const JOBS: Row = Row {
-    name: "jobs",
-    value: "N",
-    kind: Kind::Number(1, GREATEST_JOBS),
-    default: Some(100),
-    place: Place::Daily,
-    help: "How many jobs",
-};
+pub const FROM: Row =
+    row!(Rare "from" "N" Kind::Number(0, u64::MAX) => Some(0), "The first job's number");
 
-pub const WORKERS: Row = Row {
-    name: "workers",
-    value: "N",
-    kind: Kind::Number(1, GREATEST_WORKERS as u64),
-    default: Some(4),
-    place: Place::Daily,
-    help: "How many jobs run at once",
-};
+pub const JOBS: Row =
+    row!(Daily "jobs" "N" Kind::Number(1, GREATEST_JOBS) => Some(100), "How many jobs");
 
-pub const BRIEF: Row = Row {
-    name: "brief",
-    value: "",
-    kind: Kind::Switch,
-    default: None,
-    place: Place::Rare,
-    help: "Write no lines of jobs with which nothing was wrong",
-};
+pub const WORKERS: Row =
+    row!(Daily "workers" "N" Kind::Number(1, GREATEST_WORKERS as u64) => Some(4), "How many jobs run at once");
 
-pub const SHOW: Row = Row {
-    name: "show",
-    value: "",
-    kind: Kind::Switch,
-    default: None,
-    place: Place::Daily,
-    help: "Write the histories of unexplained jobs, ten at most",
-};
+pub const BRIEF: Row = row!(Rare "brief", "Write no lines of jobs with which nothing was wrong");
 
-pub const WHY_OF_SHOWN: Row = Row {
-    name: "why",
-    value: "",
-    kind: Kind::Switch,
-    default: None,
-    place: Place::Daily,
-    help: "With --show, say why nothing explains each of them",
-};
+pub const SHOW: Row = row!(Daily "show", "Write the histories of unexplained jobs, ten at most");
 
-pub const TRIES: Row = Row {
-    name: "tries",
-    value: "N",
-    kind: Kind::Number(1, 1_000),
-    default: Some(1),
-    place: Place::Rare,
-    help: "Runs of a smaller script",
-};
+pub const WHY_OF_SHOWN: Row =
+    row!(Daily "why", "With --show, say why nothing explains each of them");
 
-pub const SPREAD_OF_CAMPAIGN: Row = Row {
-    name: "spread",
-    value: "MICROS",
-    kind: Kind::Number(0, 10_000),
-    default: Some(64),
-    place: Place::Rare,
-    help: "Maximum delay of a branch",
-};
+pub const TRIES: Row =
+    row!(Rare "tries" "N" Kind::Number(1, 1_000) => Some(1), "Runs of a smaller script");
 
-pub const FOR_OF_CAMPAIGN: Row = Row {
-    name: "for",
-    value: "TIME",
-    kind: Kind::Time,
-    default: None,
-    place: Place::Daily,
-    help: "Start jobs for this long",
-};
+pub const SPREAD_OF_CAMPAIGN: Row =
+    row!(Rare "spread" "MICROS" Kind::Number(0, 10_000) => Some(64), "Maximum delay of a branch");
 
-pub const STOP_AFTER: Row = Row {
-    name: "stop-after",
-    value: "N",
-    kind: Kind::Number(1, 10_000),
-    default: None,
-    place: Place::Rare,
-    help: "Begin no block when N jobs are unexplained",
-};
+pub const FOR_OF_CAMPAIGN: Row = row!(Daily "for" "TIME" Kind::Time, "Start jobs for this long");
+
+pub const STOP_AFTER: Row =
+    row!(Rare "stop-after" "N" Kind::Number(1, 10_000), "Begin no block when N jobs are unexplained");

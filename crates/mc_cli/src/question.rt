@@ -17,6 +17,8 @@ pub enum Question {
     Draw(DrawArgs),
     /// A history in another notation.
     Convert(ConvertArgs),
+    /// The report of a campaign that ran in parts.
+    Join,
 }
 
 impl Question {
@@ -26,6 +28,7 @@ impl Question {
             Question::Judge(_) | Question::Draw(_) | Question::Convert(_) => "a history",
             Question::Check(_) => "a script or an image",
             Question::Asm(_) | Question::Drive(_) => "a script",
+            Question::Join => "reports of a campaign",
         }
     }
 }

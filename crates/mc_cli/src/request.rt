@@ -93,6 +93,7 @@ fn read_options<'a>(name: &str, options: &ArgMatches<'a>) -> Result<Request<'a>,
         "drive" => Ok(Request::Question(Question::Drive(read_search(options)?))),
         "draw" => Ok(Request::Question(Question::Draw(read_draw(options)?))),
         "convert" => Ok(Request::Question(Question::Convert(read_convert(options)?))),
+        "join" => Ok(Request::Question(Question::Join)),
         "run" => Ok(Request::Run(read_run(options)?)),
         "generate" => {
             let (seed, job) = read_job(options)?;

@@ -5,8 +5,8 @@ ghost use Rattle.mc_cli.specs.Commands as spec;
 ghost use Rattle.mc_cli.specs.Commands.{rule_of_row};
 
 use crate::help::{
-    ASM, CAMPAIGN, CHECK, CONVERT, DRAW, DRIVE, FORMATS, GENERATE, HISTORY, Help, IMAGE, JUDGE,
-    RUN, SCRIPT, SELFTEST, SERVE, SHORT_STATUSES, STATUSES, STEPS,
+    ASM, CAMPAIGN, CHECK, CONVERT, DRAW, DRIVE, FORMATS, GENERATE, HISTORY, Help, IMAGE, JOIN,
+    JUDGE, RUN, SCRIPT, SELFTEST, SERVE, SHORT_STATUSES, STATUSES, STEPS,
 };
 use crate::options as rows;
 use crate::rows::{Kind, Place, Row};
@@ -126,7 +126,8 @@ fn reading_program<'a>(alloc: Global) -> Result<Command<'a>, AllocError>
         .subcommand(command_of(alloc, &ASM, ASM_ROWS)?)?
         .subcommand(command_of(alloc, &DRIVE, DRIVE_ROWS)?)?
         .subcommand(command_of(alloc, &DRAW, DRAW_ROWS)?)?
-        .subcommand(command_of(alloc, &CONVERT, CONVERT_ROWS)?)
+        .subcommand(command_of(alloc, &CONVERT, CONVERT_ROWS)?)?
+        .subcommand(command_of(alloc, &JOIN, &[])?)
 }
 
 // The program without its subcommands.
@@ -200,6 +201,7 @@ fn parts_of(name: &str) -> Option<(&'static Help, &'static [Row])> {
         "drive" => Some((&DRIVE, DRIVE_ROWS)),
         "draw" => Some((&DRAW, DRAW_ROWS)),
         "convert" => Some((&CONVERT, CONVERT_ROWS)),
+        "join" => Some((&JOIN, &[])),
         "run" => Some((&RUN, RUN_ROWS)),
         "generate" => Some((&GENERATE, GENERATE_ROWS)),
         "serve" => Some((&SERVE, SERVE_ROWS)),

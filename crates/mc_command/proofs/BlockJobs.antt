@@ -1,14 +1,15 @@
 -- The jobs of blocks and reports, put together.
 use Rattle.std.proofs.Common.{◌≡◌, ◌∙◌, ◌+◌, ◌<◌, ◌≤◌, ◌++◌, ◌∷◌, [], ℕ, zero, suc, ap, ap₂, arith, length, refl, sym}
-use Rattle.std.proofs.Common.{List, Option, Some, None, append_assoc, reverse}
-use Rattle.std.specs.Prelude.{flat_map}
+use Rattle.std.proofs.Common.{List, Option, Some, None, append_assoc, map, min, reverse, take}
+use Rattle.std.specs.Prelude.{All, flat_map}
 use Rattle.std.specs.List.{range_with_len}
-use Rattle.std.proofs.lemmas.List.{append-nil, length-append, length-map, map-append, reverse-append}
+use Rattle.std.proofs.lemmas.List.{append-nil, length-append, length-map, length-take, map-append, reverse-append, take-map}
 use Rattle.std.proofs.lemmas.List.Concat.{flat_map-append}
-use Rattle.std.proofs.lemmas.List.Elements.{All-append, All-cons, All-nil}
+use Rattle.std.proofs.lemmas.List.Elements.{All-append, All-cons, All-nil, All-take}
 use Rattle.std.proofs.lemmas.List.FromFn.{length-range_with_len}
 use Rattle.mc_protocol.specs.Lines.{Word}
 use Rattle.mc_settings.specs.JobKeys.{NameFits}
+use Rattle.mc_campaign.proofs.ShortKeys.{short_keys}
 use Rattle.mc_campaign.specs.Outcomes.{HasShortKeys, IsOutcome}
 use Rattle.mc_campaign.specs.declared.outcome.JobResult.{JobResult}
 use Rattle.mc_command.specs.Blocks.{AreReports, BeginsRightly, MOST_IN_BLOCK, jobs_of, unexplained_of}
@@ -63,10 +64,50 @@ no_results seed name first = record {
   short = λ _. All-nil _;
 }
 
+pub numbers_long : {S : Type 0} (first n : ℕ) (results : List (JobResult S)) → map (λ r. r.job) results ≡ range_with_len first n
+    → length results ≡ n
+numbers_long first n results are = sym (length-map results (λ r. r.job)) ∙ (ap length are ∙ length-range_with_len first n)
+
 pub results_long : {S : Type 0} (seed : ℕ) (name : Option Word) (first n : ℕ) (results : List (JobResult S))
     → AreResults seed name first n results → length results ≡ n
-results_long seed name first n results are =
-    sym (length-map results (λ r. r.job)) ∙ (ap length are.jobs_in_order ∙ length-range_with_len first n)
+results_long seed name first n results are = numbers_long first n results are.jobs_in_order
+
+-- ---- the first results of a block
+
+range_cut : (first n most : ℕ) → take most (range_with_len first n) ≡ range_with_len first (min most n)
+range_cut first n zero =
+    let none : min zero n ≡ zero = omega arith in
+    ap (range_with_len first) (sym none)
+range_cut first zero (suc most) =
+    let none : min (suc most) zero ≡ zero = omega arith in
+    ap (range_with_len first) (sym none)
+range_cut first (suc n) (suc most) =
+    let both : min (suc most) (suc n) ≡ suc (min most n) = omega arith in
+    ap (λ l. first ∷ l) (range_cut (first + 1) n most) ∙ ap (range_with_len first) (sym both)
+
+-- they are the results of as many jobs
+pub results_cut : {S : Type 0} (seed : ℕ) (name : Option Word) (first n most : ℕ) (results : List (JobResult S))
+    → AreResults seed name first n results → AreResults seed name first (length (take most results)) (take most results)
+results_cut seed name first n most results are =
+    let many : length (take most results) ≡ min most n =
+    length-take most results ∙ ap (min most) (results_long seed name first n results are) in
+    let jobs : map (λ r. r.job) (take most results) ≡ range_with_len first (length (take most results)) =
+    sym (take-map (λ r. r.job) most results)
+    ∙ (ap (take most) are.jobs_in_order ∙ (range_cut first n most ∙ ap (range_with_len first) (sym many))) in
+    let outcomes : All (λ r. IsOutcome seed name r.job r.outcome) (take most results) =
+    All-take (λ r. IsOutcome seed name r.job r.outcome) most results are.outcomes in
+    record {
+      jobs_in_order = jobs;
+      outcomes = outcomes;
+      short = short_keys seed name first (length (take most results)) (take most results) jobs outcomes;
+    }
+
+-- there are some, and no more than there were
+pub some_cut : {A : Type 0} (most n : ℕ) (xs : List A) → 0 < most → 0 < n → length xs ≡ n
+    → (0 < length (take most xs)) × (length (take most xs) ≤ n)
+some_cut most n xs most_some some long =
+    let many : length (take most xs) ≡ min most (length xs) = length-take most xs in
+    (omega (arith, many, long, most_some, some), omega (arith, many, long))
 
 -- ---- reports
 

@@ -13,9 +13,9 @@ ghost use Rattle.mc_command.specs.Tallies.{HasGathered, HasReported, HasWritten,
 ghost use Rattle.mc_answers.specs.Writing.{out_of_memory_text};
 ghost use Rattle.mc_answers.specs.declared.status.Status.TheVariants as status;
 
+use crate::block_connector::{BlockConnector, BlockWatcher, GivesUp, first_of, is_over};
 use crate::campaigning::{end_text, not_run, text_of_report};
 use crate::gathered::Gathered;
-use crate::repeating::is_late;
 use crate::tally::Tally;
 use crate::watching::Teller;
 use mc_answers::{Answer, Broken, InputFault, Sink};
@@ -75,7 +75,7 @@ pub fn answer_in_blocks<S, C, R, O>(
 ) -> Result<Answer, InputFault>
 where
     S: Stream + Send,
-    C: Connector<S>,
+    C: Connector<S> + GivesUp,
     R: Threads + Wait + Clock + Sync + Eprint,
     O: Sink,
     ensures answered { IfOk result (λ answer. (O.has_failed output.new ≡ O.has_failed output.old)
@@ -116,7 +116,7 @@ fn run_blocks<S, C, R, O>(
 ) -> Result<Gathered<S>, Stop>
 where
     S: Stream + Send,
-    C: Connector<S>,
+    C: Connector<S> + GivesUp,
     R: Threads + Wait + Clock + Sync + Eprint,
     O: Sink,
     requires workers { target.now.plan.workers ≤ 16 }
@@ -131,12 +131,20 @@ where
 {
     let begun = Instant::now(rt);
     let mut gathered = Gathered::new(alloc);
-    'more: while goes_on(rt, &begun, target.plan, until, gathered.tally) {
+    'more: while goes_on(
+        rt,
+        &begun,
+        target.plan,
+        until,
+        connector.has_given_up(),
+        gathered.tally,
+    ) {
         run_next(
             rt,
             alloc,
             target,
             until,
+            &begun,
             connector,
             teller,
             &mut gathered,
@@ -146,12 +154,13 @@ where
     Ok(gathered)
 }
 
-// Whether a block begins after these jobs. The first one doesn't look at the time.
+// Whether a block begins after these jobs. The first one always does.
 fn goes_on<R: Clock>(
     rt: &R,
     begun: &io::Result<Instant>,
     plan: Plan,
     until: Until,
+    has_given_up: bool,
     tally: Tally,
 ) -> bool
     ensures more { result ≡ true → tally.jobs < plan.jobs }
@@ -161,7 +170,7 @@ fn goes_on<R: Clock>(
     if tally.jobs >= plan.jobs || has_reached(until, tally) {
         return false;
     }
-    tally.jobs == 0 || !is_late(rt, begun, until.time)
+    tally.jobs == 0 || !is_over(rt, begun, until.time, has_given_up)
 }
 
 // As many jobs are unexplained as end the campaign.
@@ -181,6 +190,7 @@ fn run_next<S, C, R, O>(
     alloc: Global,
     target: &CampaignArgs<'_>,
     until: Until,
+    begun: &io::Result<Instant>,
     connector: &C,
     teller: &mut Teller<'_, R>,
     gathered: &mut Gathered<S>,
@@ -188,7 +198,7 @@ fn run_next<S, C, R, O>(
 ) -> Result<(), Stop>
 where
     S: Stream + Send,
-    C: Connector<S>,
+    C: Connector<S> + GivesUp,
     R: Threads + Wait + Clock + Sync + Eprint,
     O: Sink,
     requires workers { target.now.plan.workers ≤ 16 }
@@ -208,7 +218,7 @@ where
         → HasReported S target.now.plan target.now.name earlier (O.written output.new))) }
 {
     make_room(alloc, target.plan.brief, teller, gathered, output)?;
-    run_more(rt, alloc, target, until, connector, teller, gathered)?;
+    run_more(rt, alloc, target, until, begun, connector, teller, gathered)?;
     Ok(())
 }
 
@@ -249,13 +259,14 @@ fn run_more<S, C, R>(
     alloc: Global,
     target: &CampaignArgs<'_>,
     until: Until,
+    begun: &io::Result<Instant>,
     connector: &C,
     teller: &mut Teller<'_, R>,
     gathered: &mut Gathered<S>,
 ) -> Result<(), Stop>
 where
     S: Stream + Send,
-    C: Connector<S>,
+    C: Connector<S> + GivesUp,
     R: Threads + Wait + Clock + Sync + Eprint,
     requires workers { target.now.plan.workers ≤ 16 }
     requires last { target.now.plan.first + target.now.plan.jobs ≤ 2 ^ 64 }
@@ -275,18 +286,22 @@ where
         limit: target.plan.limit,
         why: target.plan.why,
     };
-    match run_block(rt, alloc, target, done, jobs, connector, teller) {
+    match run_block(
+        rt, alloc, target, until, begun, done, jobs, connector, teller,
+    ) {
         Ok(block) => Ok(gathered.add(alloc, target.plan.show, how, block)?),
         Err(CampaignError::NoThread) => Err(Stop::NotRun),
         Err(CampaignError::OutOfMemory) => Err(Stop::OutOfMemory),
     }
 }
 
-// Runs as many jobs as `jobs`, after those that are done.
+// Runs as many jobs as `jobs`, after those that are done; or the first of them, if the others don't begin in time.
 fn run_block<S, C, R>(
     rt: &R,
     alloc: Global,
     target: &CampaignArgs<'_>,
+    until: Until,
+    begun: &io::Result<Instant>,
     done: u64,
     jobs: u64,
     connector: &C,
@@ -294,25 +309,33 @@ fn run_block<S, C, R>(
 ) -> Result<Report<S>, CampaignError>
 where
     S: Stream + Send,
-    C: Connector<S>,
+    C: Connector<S> + GivesUp,
     R: Threads + Wait + Clock + Sync + Eprint,
     requires some { 0 < jobs }
     requires few { jobs ≤ MOST_IN_BLOCK }
     requires last { target.now.plan.first + (done + jobs) ≤ 2 ^ 64 }
     requires workers { target.now.plan.workers ≤ 16 }
-    ensures { IfOk result (λ report. AreResults target.now.plan.seed target.now.name (target.now.plan.first + done) jobs report.results) }
+    ensures some { IfOk result (λ report. 0 < length report.results) }
+    ensures few { IfOk result (λ report. length report.results ≤ jobs) }
+    ensures results { IfOk result (λ report. AreResults target.now.plan.seed target.now.name (target.now.plan.first + done)
+        (length report.results) report.results) }
 {
     let campaign = campaign_of(target, target.plan.first + done, jobs);
+    let block = BlockConnector::new(rt, connector, begun, until.time, campaign.first);
+    let mut watcher = BlockWatcher {
+        watcher: teller,
+        block: &block,
+    };
     let report = run_jobs(
         rt,
         alloc,
         campaign,
         target.plan.workers,
-        connector,
+        &block,
         &FreeGate,
-        teller,
+        &mut watcher,
     )?;
-    Ok(report)
+    Ok(first_of(report, block.most()))
 }
 
 // The campaign of some of the jobs alone.

@@ -8,6 +8,7 @@ ghost use Rattle.mc_answers.specs.Statuses.{status_number};
 ghost use Rattle.mc_answers.specs.Streams.{Grows};
 ghost use Rattle.mc_answers.specs.Writing.{out_of_memory_text};
 
+use crate::block_connector::GivesUp;
 use crate::blocks::answer_in_blocks;
 use crate::job_connector::JobConnector;
 use crate::progress::lead;
@@ -83,7 +84,7 @@ fn target_answer<S, C, R, O>(
 ) -> Result<Answer, InputFault>
 where
     S: Stream + Send,
-    C: Connector<S>,
+    C: Connector<S> + GivesUp,
     R: Threads + Wait + Clock + Sync + Eprint,
     O: Sink,
     ensures answered { IfOk result (λ answer. (O.has_failed output.new ≡ O.has_failed output.old)

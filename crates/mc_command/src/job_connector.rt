@@ -1,4 +1,5 @@
 //! What connects the jobs of a campaign to its server.
+use crate::block_connector::GivesUp;
 use mc_campaign::Connector;
 use mc_connect::{Dialer, JobSocket};
 use mc_lane::Wire;
@@ -30,6 +31,15 @@ where
             a: socket_of(a),
             b: socket_of(b),
         });
+    }
+}
+
+impl<'a, R> GivesUp for JobConnector<'a, R>
+where
+    R: Net<Listener = TcpListener, Stream = TcpStream> + Clock + Wait + Eprint + Sync,
+{
+    fn has_given_up(&self) -> bool {
+        self.dialer.has_given_up()
     }
 }
 

@@ -3,7 +3,7 @@ ghost use Rattle.std.specs.Prelude.{◌≡◌, IfOk};
 ghost use Rattle.mc_command.specs.RunAnswers as answers;
 
 use crate::evidence::later_evidence;
-use crate::run::{Played, Remarks, no_connection, play_connections, status_of};
+use crate::run::{Played, Remarks, no_connection, play_connections, status_of, wait_for_more};
 use mc_cli::RunArgs;
 use mc_connect::{Connection, Kept, Network, Unconnected};
 use mc_verify::Checked;
@@ -46,6 +46,21 @@ pub fn later_remarks<C: Connection>(
 ) -> Result<Remarks, AllocError> {
     let came = kept.take_came();
     Ok(Remarks::Evidence(later_evidence(alloc, came.as_slice())?))
+}
+
+/// What standard error is to say of the last run, if its connections are kept: what came on them within 5 ms once it was over.
+///
+/// # Errors
+///
+/// That memory ran out.
+pub fn last_remarks<R: Clock, C: Connection>(
+    rt: &R,
+    alloc: Global,
+    kept: &mut Kept<C>,
+) -> Result<Remarks, AllocError> {
+    wait_for_more(rt);
+    kept.look_again();
+    later_remarks(alloc, kept)
 }
 
 // The run is done and explained, and there is nothing to say of what it received.

@@ -7,6 +7,7 @@
 //! (`specs/RepeatAnswers.antt`, `specs/Blocks.antt`, `specs/ServeAnswers.antt`, `specs/SelftestAnswers.antt`).
 #![tactic(auto)]
 
+mod block_connector;
 mod blocks;
 mod both_read;
 mod campaigning;

@@ -5,12 +5,14 @@ ghost use Rattle.mc_answers.specs.Writing.{WritesRightly};
 ghost use Rattle.mc_command.specs.RepeatAnswers as answers;
 ghost use Rattle.mc_command.specs.SoFar.{AreFirst};
 
+use crate::keeping::last_remarks;
 use crate::repeating::{Runs, first_runs, go_on};
 use crate::run::{Remarks, status_of, text_of};
 use crate::run_teller::RunObserver;
+use crate::totals::Totals;
 use mc_answers::{InputFault, Sink, Status, write_fault, write_text};
 use mc_cli::{Repeat, RunArgs};
-use mc_connect::{Kept, Network};
+use mc_connect::{Connection, Kept, Network};
 use mc_verify::Checked;
 use std::alloc::{AllocError, Global};
 use std::io;
@@ -72,15 +74,17 @@ fn write_over<R: Threads + Wait + Clock + Sync, N: Network, T: RunObserver, O: S
             rt, alloc, target, repeat, &begun, checked, network, observer, kept, runs, output,
         )
     } else {
-        write_last(alloc, repeat, runs, output)
+        write_last(rt, alloc, repeat, runs, kept, output)
     }
 }
 
 // Writes the run that is handed out and the totals, where no run follows.
-fn write_last<O: Sink>(
+fn write_last<R: Clock, C: Connection, O: Sink>(
+    rt: &R,
     alloc: Global,
     repeat: Repeat,
     runs: Runs,
+    kept: &mut Kept<C>,
     output: &mut O,
 ) -> (Status, Remarks)
     ensures { (why : Bool) (code : Code) → answers.Comes repeat why code runs.number runs.played runs.totals
@@ -89,9 +93,31 @@ fn write_last<O: Sink>(
     match repeated_text(alloc, repeat, &runs) {
         Ok(text) => {
             let status = write_text(text.as_slice(), status_of(&runs.played), output);
-            (status, runs.remarks)
+            (status, with_last_remarks(rt, alloc, runs.remarks, kept))
         }
         Err(AllocError) => (write_fault(InputFault::OutOfMemory, output), Remarks::None),
+    }
+}
+
+// What standard error is to say of the last run, which has these remarks. It has none if its connections are kept.
+fn with_last_remarks<R: Clock, C: Connection>(
+    rt: &R,
+    alloc: Global,
+    remarks: Remarks,
+    kept: &mut Kept<C>,
+) -> Remarks {
+    let Ok(later) = last_remarks(rt, alloc, kept) else {
+        // Without memory for it, it isn't told.
+        return remarks;
+    };
+    if has_evidence(&later) { later } else { remarks }
+}
+
+// Whether there is something to say of what a run received.
+fn has_evidence(remarks: &Remarks) -> bool {
+    match remarks {
+        Remarks::Evidence(all) => !all.is_empty(),
+        Remarks::None | Remarks::NoConnection(_) | Remarks::WrongLine(_) => false,
     }
 }
 
@@ -152,10 +178,48 @@ fn totals_line<R: Threads + Wait + Clock + Sync, N: Network, T: RunObserver>(
     ensures { IfOk result (λ line. answers.AreTotals repeat target.now.how.why checked.now.code first.number first.played
         (string_bytes line)) }
 {
-    let totals = go_on(
+    let totals = go_on_to_last(
         rt, alloc, target, repeat, begun, checked, network, observer, kept, first,
     )?;
     totals.line(alloc)
+}
+
+// Runs the code on, and tells the observer what has come after the last run.
+fn go_on_to_last<R: Threads + Wait + Clock + Sync, N: Network, T: RunObserver>(
+    rt: &R,
+    alloc: Global,
+    target: &RunArgs<'_>,
+    repeat: Repeat,
+    begun: &io::Result<Instant>,
+    checked: &Checked,
+    network: &mut N,
+    observer: &mut T,
+    kept: &mut Kept<N::Connection>,
+    first: Runs,
+) -> Result<Totals, AllocError>
+    requires first { AreFirst repeat target.now.how.why checked.now.code first }
+    requires failed { answers.succeeds first.played ≡ false }
+    requires keeps_going { repeat.keep_going ≡ true }
+    ensures { IfOk result (λ totals. answers.Comes repeat target.now.how.why checked.now.code first.number first.played totals) }
+{
+    let totals = go_on(
+        rt, alloc, target, repeat, begun, checked, network, observer, kept, first,
+    )?;
+    tell_last(rt, alloc, totals.runs, observer, kept)?;
+    Ok(totals)
+}
+
+// Tells the observer of the last run, which has this number, with what has come on its connections since.
+fn tell_last<R: Clock, C: Connection, T: RunObserver>(
+    rt: &R,
+    alloc: Global,
+    number: u64,
+    observer: &mut T,
+    kept: &mut Kept<C>,
+) -> Result<(), AllocError> {
+    let remarks = last_remarks(rt, alloc, kept)?;
+    observer.pass_over(number, &remarks);
+    Ok(())
 }
 
 // What is written of the run that is handed out, and of the totals.

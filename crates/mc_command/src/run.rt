@@ -20,7 +20,11 @@ use std::alloc::{AllocError, Global};
 use std::io;
 use std::rt::Clock;
 use std::sync::Wait;
-use std::thread::Threads;
+use std::thread::{Threads, sleep};
+use std::time::Duration;
+
+// The milliseconds within which something may come after the last reply.
+const FOR_MORE: u64 = 5;
 
 /// What came of a run.
 #[derive(Debug, Drop)]
@@ -101,6 +105,10 @@ pub fn play_connections<R: Threads + Wait + Clock + Sync, C: Connection>(
             } = judged;
             let why = why_text(alloc, how, Counted::Printed, &history, &verdict)?;
             let Run { world, lanes } = run;
+            if target.repeat.is_none() {
+                // No other run finds what comes a little later.
+                wait_for_more(rt);
+            }
             let evidence = evidence_of(alloc, &history, &lanes, connections, target.timeout)?;
             Ok((
                 Played::Ended(world, history, verdict, why),
@@ -110,6 +118,11 @@ pub fn play_connections<R: Threads + Wait + Clock + Sync, C: Connection>(
         Err(RunError::OutOfMemory) => Err(AllocError),
         Err(RunError::BookMismatch | RunError::NoThread) => Ok((Played::NotRun, Remarks::None)),
     }
+}
+
+/// Waits for what a server may send after its last reply, before that is looked for the last time.
+pub fn wait_for_more<R: Clock>(rt: &R) {
+    sleep(rt, Duration::from_millis(FOR_MORE));
 }
 
 /// The text that is written for an answer.

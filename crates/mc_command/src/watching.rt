@@ -6,7 +6,9 @@ use crate::statistics::Statistics;
 use mc_campaign::{JobOutcome, Standing, Watcher};
 use mc_cli::{CampaignArgs, GREATEST_JOBS, Plan, Seconds, Until};
 use mc_connect::Dialer;
+use mc_history::print_history;
 use mc_lane::Stream;
+use mc_model::History;
 use mc_protocol::{Actor, Sections};
 use std::alloc::Global;
 use std::io;
@@ -24,6 +26,8 @@ pub struct Teller<'a, R> {
     rt: &'a R,
     alloc: Global,
     seed: u64,
+    // Whether the history of an unexplained job is written, too.
+    shows: bool,
     shown_jobs: u32,
     shown_failures: u32,
     lead: &'static str,
@@ -50,6 +54,7 @@ impl<'a, R: Eprint + Clock + Wait> Teller<'a, R> {
             rt,
             alloc,
             seed: plan.seed,
+            shows: plan.show && !plan.json && !plan.junit,
             shown_jobs: 0,
             shown_failures: 0,
             lead: lead(columns),
@@ -91,13 +96,27 @@ impl<'a, R: Eprint + Clock + Wait> Teller<'a, R> {
         }
     }
 
-    // Says that a job is unexplained.
-    fn tell(&self, job: u64) {
+    // Says that a job with this history is unexplained.
+    fn tell(&self, job: u64, history: &History) {
         let Teller { lead, seed, .. } = self;
         // There is nowhere else to say that this could not be said.
         let _ = eprintln!(self.rt;
             "{lead}mcrace: job {job} is unexplained; mcrace generate --seed {seed} --job {job}"
         );
+        if self.shows {
+            self.tell_history(history);
+        }
+    }
+
+    // Writes the history before the report has it, so that it isn't lost if the campaign is interrupted; or nothing, where there is no
+    // memory for it.
+    fn tell_history(&self, history: &History) {
+        let mut text = Vec::new(self.alloc);
+        if print_history(history, &mut text).is_ok()
+            && let Ok(text) = str::from_utf8(text.as_slice())
+        {
+            let _ = eprint!(self.rt; "{text}");
+        }
     }
 }
 
@@ -132,9 +151,12 @@ impl<'a, R: Eprint + Clock + Wait> Teller<'a, R> {
 impl<'a, S: Stream, R: Eprint + Clock + Wait> Watcher<S> for Teller<'a, R> {
     fn ended(&mut self, job: u64, outcome: &JobOutcome<S>) {
         let is_unexplained = Standing::of(outcome) == Standing::Unexplained;
-        if is_unexplained && self.shown_jobs < MOST_SHOWN {
+        if let JobOutcome::Ran { history, .. } = outcome
+            && is_unexplained
+            && self.shown_jobs < MOST_SHOWN
+        {
             self.shown_jobs += 1;
-            self.tell(job);
+            self.tell(job, history);
         }
         let Sections { p, a, b } = self.dialer.take_errors(job);
         self.tell_failure(job, outcome, Actor::P, p);

@@ -53,10 +53,22 @@ where
         }
     }
 
-    /// A new connection of a job's section, or nothing where there is none, which is noted.
+    /// Whether it connects no more, as 64 connects in a row failed: of all jobs, in the order in which they ended. All tries of a server
+    /// for which it waits are one connect.
+    pub fn has_given_up(&self) -> bool {
+        self.failures.are_too_many()
+    }
+
+    /// A new connection of a job's section, or nothing where there is none or it has given up, which is noted.
     pub fn connect(&self, job: u64, section: Actor) -> Option<JobSocket> {
+        if self.failures.end_with(job) {
+            return None;
+        }
         match self.dial(section) {
-            Ok(stream) => Some(self.watched(job, section, stream)),
+            Ok(stream) => {
+                self.failures.end_row();
+                Some(self.watched(job, section, stream))
+            }
             Err(error) => {
                 self.failures.add(job, section, error);
                 None

@@ -7,7 +7,11 @@ use std::io::{Eprint, ErrorKind};
 use std::sync::{Mutex, Wait};
 use std::{io, mem};
 
-/// The connections of the jobs of a report that were not made. Of each server and reason, the first is written to standard error at once.
+// When as many connects have failed one after the other, no other is tried.
+const MOST_IN_A_ROW: u32 = 64;
+
+/// The connections of the jobs of a report that were not made. Standard error says at once of each server and reason which is the first,
+/// and when so many connects in a row have failed that no other is tried.
 #[derive(Drop)]
 pub(crate) struct Failures<'a, R> {
     rt: &'a R,
@@ -15,6 +19,15 @@ pub(crate) struct Failures<'a, R> {
     servers: Servers<'a>,
     lead: &'static str,
     list: Mutex<Vec<Failure>>,
+    row: Mutex<Row>,
+}
+
+// The connects that have failed since the last one that didn't.
+#[derive(Clone, Copy, Drop)]
+struct Row {
+    length: u32,
+    // The last of those after which no other is tried.
+    end: Option<Failure>,
 }
 
 /// Jobs in a row, of which each had no connection, and why the first of them had none.
@@ -36,7 +49,35 @@ impl<'a, R: Wait + Eprint> Failures<'a, R> {
             servers,
             lead,
             list: Mutex::new(Vec::new(alloc)),
+            row: Mutex::new(Row {
+                length: 0,
+                end: None,
+            }),
         }
+    }
+
+    /// Whether no connect is tried any more.
+    pub(crate) fn are_too_many(&self) -> bool {
+        self.row.lock(self.rt).end.is_some()
+    }
+
+    /// Whether no connect is tried for this job. Then it is noted to have no connection, for the reason of the last that was.
+    pub(crate) fn end_with(&self, job: u64) -> bool {
+        let Some(end) = self.row.lock(self.rt).end else {
+            return false;
+        };
+        let failure = Failure {
+            first: job,
+            last: job,
+            ..end
+        };
+        let _ = self.list.lock(self.rt).push(failure);
+        true
+    }
+
+    /// A connect didn't fail.
+    pub(crate) fn end_row(&self) {
+        self.row.lock(self.rt).length = 0;
     }
 
     /// A job had no connection. Where there is no memory to note it, the ranges that are written at the end leave it out.
@@ -52,6 +93,23 @@ impl<'a, R: Wait + Eprint> Failures<'a, R> {
             // There is nowhere else to say that this could not be said.
             let _ = eprintln!(self.rt; "{}mcrace: {unreached}", self.lead);
         }
+        if self.is_end(failure) {
+            let _ = eprintln!(self.rt;
+                "{}mcrace: gave up after {MOST_IN_A_ROW} connects in a row failed",
+                self.lead
+            );
+        }
+    }
+
+    // Counts a connect that failed, and answers whether it is the one after which no other is tried.
+    fn is_end(&self, failure: Failure) -> bool {
+        let mut row = self.row.lock(self.rt);
+        row.length = row.length.saturating_add(1);
+        if row.length < MOST_IN_A_ROW || row.end.is_some() {
+            return false;
+        }
+        row.end = Some(failure);
+        true
     }
 
     // Notes the failure, and answers whether it is the first of its server and reason.

@@ -70,6 +70,20 @@ impl<C: Connection> Kept<C> {
         mem::replace(&mut self.came, Vec::new(self.alloc))
     }
 
+    /// Looks at the connections that are kept, as no run follows. What has come on them is found by [`Kept::take_came`].
+    pub fn look_again(&mut self) {
+        let Some(streams) = &self.streams else {
+            return;
+        };
+        for section in [Actor::P, Actor::A, Actor::B] {
+            let waiting = Waiting::on(self.alloc, streams.get(section));
+            if !waiting.bytes.is_empty() {
+                // Without memory for it, it isn't told.
+                let _ = self.came.push((section, waiting.bytes));
+            }
+        }
+    }
+
     /// The next run may use these connections.
     pub fn keep(&mut self, connections: Connections<C>)
         ensures { self.new.streams ≡ Some connections.streams }

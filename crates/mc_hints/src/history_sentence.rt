@@ -2,7 +2,7 @@
 
 use crate::sentence::{END_OF_TEXT, KEY, KEY_BYTE, NO_LENGTH, before_faulty_byte, begins_faultily};
 use crate::spot::Spot;
-use mc_history::Expected;
+use mc_history::{Expected, ExpectedInTimeline};
 use mc_model::ExpectedWord;
 use mc_protocol::{Verb, has_digits_alone, is_word};
 
@@ -49,6 +49,30 @@ pub fn text_at(expected: Expected, spot: &Spot<'_>) -> &'static str {
         Expected::FaultNumber => "expected the number of a fault, 1 to 8",
         Expected::EndAfterFault => "nothing may follow the number of a fault",
         Expected::RoomForStep => "a step list has at most 1000 steps",
+        Expected::InTimeline(expected) => sentence_of_timeline(expected, spot.word()),
+    }
+}
+
+fn sentence_of_timeline(expected: ExpectedInTimeline, word: &[u8]) -> &'static str {
+    match expected {
+        ExpectedInTimeline::Header => "a timeline begins with the line `history 3`",
+        ExpectedInTimeline::NoteOrEnd if is_word(word, b"start") =>
+            "lines with `start` come after the line `explain`",
+        ExpectedInTimeline::NoteOrEnd =>
+            "a line begins with a client's number, 0 to 63, or is `explain` or `end` alone",
+        ExpectedInTimeline::MoveOrEnd =>
+            "a move begins with a client's number, 0 to 63; after the last stands `end` alone",
+        ExpectedInTimeline::Client => "a client's number has no leading zero",
+        ExpectedInTimeline::SmallClient => "clients have the numbers 0 to 63",
+        ExpectedInTimeline::RoomForRequest =>
+            "a timeline has at most 100000 requests, and 1000 keys",
+        ExpectedInTimeline::IdleClient => "the client waits for a reply here",
+        ExpectedInTimeline::AwaitedReply => "the client waits for no reply here",
+        ExpectedInTimeline::OpenedKey =>
+            "a key begins with a delete or a set, and is used from its answer on",
+        ExpectedInTimeline::SeenUnique =>
+            "no reply to a `gets` of the key showed this number before",
+        ExpectedInTimeline::FittingReply => "the client's request can't have this reply",
     }
 }
 

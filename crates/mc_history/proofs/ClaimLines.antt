@@ -5,8 +5,6 @@ use Rattle.std.specs.List.{list_any}
 use Rattle.std.specs.Str.{bytes_eq}
 use Rattle.std.proofs.lemmas.Bool.{false_from_ne_true}
 use Rattle.mc_protocol.specs.Lines.{Word, Words}
-use Rattle.mc_protocol.specs.Names.{is_key}
-use Rattle.mc_protocol.specs.Decimals.{SpellsNumber, MAX_64}
 use Rattle.mc_protocol.specs.Spelling.{SpellEach}
 use Rattle.mc_protocol.proofs.ActorWords.{actor_is_not_end}
 use Rattle.mc_protocol.proofs.FirstItems.{head_is, rest_is}
@@ -43,7 +41,7 @@ new_from_distinct (first ∷ items) item others h =
     ) refl
 
 -- so each item is at a new key
-along_starts : (begun items : Items) → AreDistinct (keys_in (begun ++ items)) → Along starts begun items
+pub along_starts : (begun items : Items) → AreDistinct (keys_in (begun ++ items)) → Along starts begun items
 along_starts begun [] distinct = tt
 along_starts begun (item ∷ items) distinct =
     let moved : AreDistinct (keys_in ((begun ++ item ∷ []) ++ items)) = rw append_assoc distinct in
@@ -119,15 +117,3 @@ one_tail (line ∷ lines) (Some c) (Some d) f g =
     let (items, rest, x, y) = one_series starts_are_readable c d [] lines (starts_of_tail line lines c f) (starts_of_tail line lines d g) in
     let (order, _, m, n) = one_series moves_are_readable c.order d.order [] rest x.2 y.2 in
     ap (λ claim. Some claim) (same_claim c d (x.0 ∙ sym y.0) (m.0 ∙ sym n.0))
-
--- ---- by what the code knows of a line
-
--- a line spells an item by its first word, its key and its number
-pub start_from_parts : (line others : Words) (key : Word) (n : ℕ) → line ≡ codes "start" ∷ others
-    → (first : Word) × (after : Words) × (line ≡ first ∷ key ∷ after) → is_key key ≡ true
-    → (first : Word) × (other : Word) × (number : Word) × (line ≡ first ∷ other ∷ number ∷ []) × SpellsNumber MAX_64 number n
-    → SpellsStart line (key, n)
-start_from_parts line others key n e (first, after, d) fits (one, other, number, f, spelled) =
-    let starts : one ≡ codes "start" = head_is one (codes "start") (other ∷ number ∷ []) others (sym f ∙ e) in
-    let keys : other ≡ key = cc (sym f ∙ d) in
-    (number, f ∙ ap (λ w. w ∷ other ∷ number ∷ []) starts ∙ ap (λ w. codes "start" ∷ w ∷ number ∷ []) keys, fits, spelled)

@@ -1,5 +1,5 @@
--- Lines that each spell an item, one after another, and what follows them. No public contract cites these: they say of
--- the lines that are left of a text what the text's definition says of all.
+-- Lines that each spell an item, one after another, and what follows them. No public contract of this crate cites these: they
+-- say of the lines that are left of a text what the text's definition says of all.
 use Rattle.std.specs.Prelude.{◌⊎◌, List, [], ◌∷◌, ◌++◌}
 use Rattle.mc_protocol.specs.Lines.{Words}
 

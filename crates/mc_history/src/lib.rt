@@ -4,7 +4,8 @@
 //! spells, and what is printed spells what it was printed of. A history's text, with or without an explanation, is defined in
 //! `specs/HistoryText.antt`, what is printed in `specs/PrintedHistory.antt`, and a step list's text in `specs/StepText.antt`. An
 //! explanation is here no more than what it claims; what it explains is said by `mc_claims`, and what a list of events does by
-//! `mc_core`. The proofs take the lemmas on lines from `bstr`.
+//! `mc_core`. Readers and printers of single lines are public: `mc_timeline_text` makes those of timelines from them. The proofs
+//! take the lemmas on lines from `bstr`.
 #![tactic(auto)]
 
 mod event;
@@ -29,11 +30,15 @@ mod text_laws;
 pub use event::Event;
 pub use explanation::{Explanation, Move};
 pub use fault::{HistoryFault, TextFault, TextKind};
-pub use misread::{Expected, Misread};
-pub use print::{print_explanation, print_history};
+pub use lines::{finish, next_due};
+pub use misread::{Expected, ExpectedInTimeline, Misread};
+pub use moves::read_effect;
+pub use notes::read_note;
+pub use print::{marks_text, print_explanation, print_history, print_starts};
 pub use print_laws::{
     printed_claims_are_spelled, printed_histories_are_spelled, spelled_claims_may_be_printed,
 };
+pub use starts::Starts;
 pub use step_laws::texts_spell_one_step_list;
 pub use step_text::{STEP_LIST_LIMIT, parse_steps};
 pub use steps_fault::{StepsFault, StepsKind};

@@ -62,6 +62,35 @@ pub enum Expected {
     EndAfterFault,
     /// At most as many steps as a step list may have.
     RoomForStep,
+    /// What only a timeline's text has.
+    InTimeline(ExpectedInTimeline),
+}
+
+/// What was expected in the place of a word of a timeline's text, if no other text has it.
+#[derive(Clone, Copy, Debug, Drop, PartialEq, Eq)]
+pub enum ExpectedInTimeline {
+    /// The first line, `history 3`.
+    Header,
+    /// A note of a client, or one of the lines `explain` and `end`, which have no other word.
+    NoteOrEnd,
+    /// A move of a client, or the line `end`, which has no other word. Lines with `start` come before the moves.
+    MoveOrEnd,
+    /// The number of a client, as decimal digits without a leading zero.
+    Client,
+    /// The number of a client, at most 63.
+    SmallClient,
+    /// A request for which there is room: a timeline has few enough of them, and few enough keys.
+    RoomForRequest,
+    /// A request of a client that waits for no reply.
+    IdleClient,
+    /// A reply for which the client waits.
+    AwaitedReply,
+    /// A key whose first request was answered; a `delete` or a `set` may be the first.
+    OpenedKey,
+    /// A cas unique that an earlier reply to a `gets` of the key showed.
+    SeenUnique,
+    /// A reply that the client's request may have.
+    FittingReply,
 }
 
 /// A word that isn't what was expected in its place.

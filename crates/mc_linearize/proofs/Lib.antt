@@ -11,3 +11,5 @@ pub mod Seen
 pub mod Simulating
 pub mod Nexts
 pub mod Reaching
+pub mod Finishing
+pub mod ByKeys

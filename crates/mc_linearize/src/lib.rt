@@ -1,14 +1,17 @@
-//! Explanations of timelines: whether one explains a timeline, and the search for one of a timeline on one key.
+//! Explanations of timelines: whether one explains a timeline, and the search for one, key by key.
 //!
-//! Below it stands `mc_timeline`, which says what a timeline is and when it has an explanation. The crate above uses two contracts:
-//! `confirm_timeline` is true exactly if the explanation explains the timeline (`specs/Claims.antt`); and `judge_key` is right, if
-//! it says of the requests on a key that an explanation explains them, or that none does (`specs/Verdicts.antt`).
+//! Below it stands `mc_timeline`, which says what a timeline is and when it has an explanation. The crate above uses three contracts:
+//! `confirm_timeline` is true exactly if the explanation explains the timeline (`specs/Claims.antt`); `judge_key` is right if it
+//! says of the requests on a key that an explanation explains them, or that none does; and so is `judge_timeline` of the whole
+//! timeline (`specs/Verdicts.antt`).
 #![tactic(auto)]
 
 mod confirm;
+mod each_key;
 mod explanation;
 mod ground;
 mod held;
+mod joint;
 mod judging;
 mod keys;
 mod laws;
@@ -23,7 +26,8 @@ mod verdict;
 mod version;
 
 pub use confirm::confirm_timeline;
+pub use each_key::judge_timeline;
 pub use explanation::{TimelineExplanation, TimelineMove};
 pub use judging::judge_key;
 pub use laws::hopeless_is_unexplained;
-pub use verdict::TimelineVerdict;
+pub use verdict::{KeyVerdict, TimelineVerdict};

@@ -7,3 +7,4 @@ pub mod Begun
 pub mod Answers
 pub mod Replayed
 pub mod Turns
+pub mod MoveLines

@@ -1,20 +1,24 @@
 -- What is printed of why nothing explains a history.
-use Rattle.std.specs.Prelude.{ℕ, ◌-◌, nat_lt, if◌then◌else◌, Option, Some, None, List, [], ◌∷◌, ◌++◌, length, codes, decimal, slice_get}
-use Rattle.std.specs.Option.{option_map_or}
+use Rattle.std.specs.Prelude.{ℕ, ◌-◌, nat_lt, Bool, ◌||◌, if◌then◌else◌, Option, Some, None}
+use Rattle.std.specs.Prelude.{List, [], ◌∷◌, ◌++◌, length, codes, decimal, slice_get}
+use Rattle.std.specs.{List.flat_map, Option.option_map_or, Str.bytes_eq}
 use Rattle.mc_protocol.specs.Lines.{Words}
-use Rattle.mc_protocol.specs.Words.{actor_word}
+use Rattle.mc_protocol.specs.Words.{actor_word, verb_word}
 use Rattle.mc_protocol.specs.declared.actor.Actor.{Actor}
 use Rattle.mc_protocol.specs.declared.actor.Actor.TheVariants as actor
 use Rattle.mc_protocol.specs.declared.reply.Reply.{Reply}
-use Rattle.mc_protocol.specs.declared.request.Request.{Request}
+use Rattle.mc_protocol.specs.declared.request.{Request.Request, Verb.Verb}
 use Rattle.mc_protocol.specs.declared.sections.Sections.{Sections}
 use Rattle.mc_model.specs.declared.sent.Sent.{Sent}
 use Rattle.mc_model.specs.Notes.{History, Noted}
 use Rattle.mc_model.specs.Sections.{section_of}
 use Rattle.mc_model.specs.Sections as sent
 use Rattle.mc_model.specs.Words.{join_words, reply_words, request_words}
+use Rattle.mc_history.specs.declared.explanation.Move.{Move}
 use Rattle.mc_history.specs.Claim.{Claim}
-use Rattle.mc_history.specs.PrintedHistory.{claim_text, line_text, note_words, turn_words}
+use Rattle.mc_history.specs.PrintedHistory.{answer_words, line_text, move_words, note_words, start_words, turn_words}
+use Rattle.mc_why.specs.Answers.{next_after}
+use Rattle.mc_why.specs.Cuts.{cut}
 use Rattle.mc_why.specs.declared.answer.Answer.{Answer}
 use Rattle.mc_why.specs.declared.answer.Answer.TheVariants as answer
 use Rattle.mc_why.specs.declared.cause.Finding.{Finding}
@@ -54,19 +58,56 @@ abbrev pub reply_text : List ℕ → Actor → Option Sent → Reply → List �
 reply_text word section None reply = []
 reply_text word section (Some sent) reply = answered_text word section sent.request reply
 
--- what is answered to a section: after `next` to the request that comes next, after `acted` to one that was not answered
+-- that the section's request of this verb has acted, and what a cache answers
+abbrev pub sentence : Actor → Verb → Reply → List ℕ
+sentence section verb reply =
+    codes "  " ++ (actor_word section ++ (codes "'s " ++ (verb_word verb
+    ++ (codes " has acted already, where it stands in this order, and a cache answers " ++ line_text (reply_words reply)))))
+
+abbrev pub acted_text : Actor → Option Sent → Reply → List ℕ
+acted_text section None reply = []
+acted_text section (Some sent) reply = sentence section sent.request.verb reply
+
+-- what is answered to a section: after `next` to the request that comes next, after `acted` to one that was not answered, and then in
+-- words too
 abbrev pub answer_text : sent.Sections → Actor → Option Answer → List ℕ
 answer_text s section None = []
 answer_text s section (Some (answer.Next place reply)) = reply_text (codes "next ") section (slice_get (section_of s section) place) reply
-answer_text s section (Some (answer.Acted place reply)) = reply_text (codes "acted ") section (slice_get (section_of s section) place) reply
+answer_text s section (Some (answer.Acted place reply)) =
+    reply_text (codes "acted ") section (slice_get (section_of s section) place) reply
+    ++ acted_text section (slice_get (section_of s section) place) reply
 
 -- that of P, then of A, then of B
 abbrev pub answers_text : sent.Sections → Sections (Option Answer) → List ℕ
 answers_text s answers = answer_text s actor.P answers.p ++ (answer_text s actor.A answers.a ++ answer_text s actor.B answers.b)
 
--- what explains what stands before the place
-abbrev pub explained_text : Claim → List ℕ
-explained_text claim = codes "explained before\n" ++ claim_text claim
+-- a key that reads as a mark of a move
+abbrev pub is_mark : List ℕ → Bool
+is_mark key = bytes_eq key (codes "pad") || bytes_eq key (codes "refuse")
+
+-- an item at the start, in words too
+abbrev pub start_text : List ℕ × ℕ → List ℕ
+start_text start = join_words (start_words start) ++ (codes "  " ++ (start.0 ++ codes " held an item\n"))
+
+-- what stands beside a move: the request that it lets act, with its reply, if the key reads as no mark
+abbrev pub beside_text : Option Sent → List ℕ
+beside_text None = []
+beside_text (Some sent) =
+    if is_mark sent.request.key then []
+    else codes "  " ++ (join_words (request_words sent.request) ++ (codes " -> " ++ join_words (answer_words sent.reply)))
+
+-- a move after earlier ones, with its request
+abbrev pub move_text : sent.Sections → List Move → Move → List ℕ
+move_text s earlier move = join_words (move_words move) ++ (beside_text (next_after s earlier move.actor) ++ codes "\n")
+
+-- the moves, which come after earlier ones
+abbrev pub order_text : sent.Sections → List Move → List Move → List ℕ
+order_text s earlier [] = []
+order_text s earlier (move ∷ moves) = move_text s earlier move ++ order_text s (earlier ++ move ∷ []) moves
+
+-- what explains the requests of what stands before the place
+abbrev pub explained_text : sent.Sections → Claim → List ℕ
+explained_text s claim = codes "explained before\n" ++ (flat_map start_text claim.start ++ order_text s [] claim.order)
 
 -- what is found where a search was left open
 abbrev pub undecided_text : ℕ → List ℕ
@@ -76,6 +117,6 @@ undecided_text line = codes "why\nundecided at line " ++ (decimal line ++ codes 
 -- what a cache answers there
 abbrev pub why_text : ℕ → History → Finding → List ℕ
 why_text line h (finding.Cause cause) =
-    codes "why\n" ++ (place_text line (words_at h cause.place) ++ (explained_text cause.explanation
+    codes "why\n" ++ (place_text line (words_at h cause.place) ++ (explained_text (cut cause.place h).sections cause.explanation
     ++ (answers_text h.sections cause.answers ++ codes "end\n")))
 why_text line h (finding.Undecided place) = undecided_text line

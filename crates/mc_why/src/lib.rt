@@ -14,6 +14,7 @@ mod cut_laws;
 mod cutting;
 mod locating;
 mod moved;
+mod order;
 mod report;
 mod why;
 

@@ -21,6 +21,8 @@ pub enum Form<'a> {
     Campaign(CampaignArguments<'a>),
     /// The report that CI systems read.
     Junit,
+    /// The text itself.
+    Same,
 }
 
 impl<'a> Form<'a> {
@@ -44,6 +46,7 @@ impl<'a> Form<'a> {
             Form::Run => report_json(alloc, text),
             Form::Campaign(arguments) => campaign_json(alloc, text, Some(arguments)),
             Form::Junit => campaign_junit(alloc, text),
+            Form::Same => Vec::from_slice(alloc, text),
         }
     }
 }

@@ -2,6 +2,7 @@
 #![tactic(auto)]
 
 mod forms;
+mod sources;
 
 ghost use Rattle.std.specs.Prelude.{◌≡◌, false, true};
 ghost use Rattle.mc_answers.specs.Answers.{AnswersRightly, Does};
@@ -13,9 +14,10 @@ ghost use Rattle.mc_command.specs.SelftestAnswers.{Selftests};
 ghost use Rattle.mc_command.specs.ServeAnswers.{Serves};
 
 use crate::forms::{Form, write_in};
+use crate::sources::SOURCES;
 use mc_answers::{
     Reader, Sink, Source, Status, Writer, answer_question, explain_fault, unread_line,
-    write_generated,
+    write_generated, write_text,
 };
 use mc_cli::{CampaignArgs, Question, Request, RunArgs, ServeArgs, read_request};
 use mc_command::{
@@ -63,10 +65,14 @@ fn main(rt: HostRuntime) -> ExitCode {
     let mut output = Writer::new(rt.stdout());
     let mut faults = Writer::new(stderr);
     let status = match line_of(&rt) {
-        Ok(line) => match read_request(rt.alloc(), line.as_slice()) {
-            Ok(request) => perform(&rt, request, terminal, &mut input, &mut output),
-            Err(fault) => explain_fault(&fault, &mut output, &mut faults).number(),
-        },
+        Ok(line) => answer(
+            &rt,
+            line.as_slice(),
+            terminal,
+            &mut input,
+            &mut output,
+            &mut faults,
+        ),
         Err(error) => unread_line(&error, &mut output, &mut faults).number(),
     };
     tell_failure(
@@ -80,6 +86,46 @@ fn main(rt: HostRuntime) -> ExitCode {
         held.reason(STANDARD_OUTPUT, output.error()),
     );
     ExitCode::from(status)
+}
+
+// Answers the line: does what it asks for, or says what the program is.
+fn answer<R, I: Source, O: Sink, F: Sink>(
+    rt: &R,
+    line: &[String],
+    terminal: Terminal,
+    input: &mut I,
+    output: &mut O,
+    faults: &mut F,
+) -> u8
+where
+    R: Net<Listener = TcpListener, Stream = TcpStream>
+        + Threads
+        + Wait
+        + Clock
+        + Sync
+        + Eprint
+        + AllocGlobal,
+{
+    if asks_alone(line, &["--built-from"]) {
+        return write_text(SOURCES, Status::Success, output).number();
+    }
+    match read_request(rt.alloc(), line) {
+        Ok(request) => perform(rt, request, terminal, input, output),
+        Err(fault) => match explain_fault(&fault, output, faults) {
+            Status::Success if asks_alone(line, &["--version", "-V"]) => {
+                write_text(SOURCES, Status::Success, output).number()
+            }
+            other => other.number(),
+        },
+    }
+}
+
+// Whether the line has one of these words behind the program's name, and no other.
+fn asks_alone(line: &[String], words: &[&str]) -> bool {
+    match line {
+        [_, word] => words.iter().any(|it| *it == word.as_str()),
+        _ => false,
+    }
 }
 
 // Does what is asked for, and answers the exit status.
@@ -104,6 +150,9 @@ where
     match request {
         Request::Question(question) => {
             tell_reading(rt, terminal, question.input_name());
+            if question == Question::Join {
+                return join(rt, alloc, input, output);
+            }
             ask(alloc, question, input, output)
         }
         Request::Generate(seed, job) => write_generated(alloc, seed, job, output).number(),
@@ -128,6 +177,23 @@ fn ask<I: Source, O: Sink>(alloc: Global, question: Question, input: &mut I, out
         input.old input.new output.old output.new ended }
 {
     answer_question(alloc, question, input, output).number()
+}
+
+// Joins the reports on the input. Text doesn't say which seed it is of, and standard error says so.
+fn join<R, I: Source, O: Sink>(rt: &R, alloc: Global, input: &mut I, output: &mut O) -> u8
+where
+    R: Eprint,
+{
+    let mut text = Vec::new(alloc);
+    let mut sink = Writer::new(&mut text);
+    let status = ask(alloc, Question::Join, input, &mut sink);
+    let is_whole = sink.error().is_none();
+    if text.first().is_some_and(|byte| byte.is_ascii_digit()) {
+        // There is nowhere else to say that this could not be said.
+        let _ = eprintln!(rt; "mcrace: the reports are text, so their seed isn't known");
+    }
+    let text = is_whole.then_some(text.as_slice());
+    write_in(alloc, Form::Same, text, status, output)
 }
 
 // How many columns the terminal has, by the environment, or 80; or nothing where it can't clear a line.

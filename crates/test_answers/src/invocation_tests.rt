@@ -92,6 +92,11 @@ static LINES: &[(&[&str], Option<Asked>, Option<&str>)] = &[
         Some("a history"),
     ),
     (
+        &["mcrace", "join"],
+        Some(Asked::Question(Question::Join)),
+        Some("reports of a campaign"),
+    ),
+    (
         &["mcrace", "run", "host:1", "--limit=7", "--why"],
         Some(Asked::Run(SEARCH)),
         None,

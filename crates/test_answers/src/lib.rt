@@ -9,6 +9,8 @@ mod driven;
 #[cfg(test)]
 mod invocation_tests;
 #[cfg(test)]
+mod join_tests;
+#[cfg(test)]
 mod limit_tests;
 #[cfg(test)]
 mod status_tests;

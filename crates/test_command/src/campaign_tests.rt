@@ -33,6 +33,48 @@ fn campaign_in_blocks_needs_a_server(rt: HostRuntime) {
     );
 }
 
+// No job begins once the time is over, but the first.
+#[test]
+fn campaign_in_no_time_has_one_job(rt: HostRuntime) {
+    let until = Until {
+        time: Some(0),
+        unexplained: None,
+    };
+    assert_eq!(rt;
+        answer(&rt, rt.alloc(), 100, Some(until)).as_slice(),
+        b"0 no connection P\njobs 1 explained 0 unexplained 0 other 1\n".as_slice()
+    );
+}
+
+// It gives up, and no job begins after that one.
+#[test]
+fn campaign_for_an_hour_ends_after_64_connects(rt: HostRuntime) {
+    let until = Until {
+        time: Some(3_600_000),
+        unexplained: None,
+    };
+    let plan = Plan {
+        workers: 1,
+        until: Some(until),
+        ..DEFAULT
+    };
+    let answer = answer_of(&rt, rt.alloc(), plan);
+    let end = b"63 no connection P\njobs 64 explained 0 unexplained 0 other 64\n";
+    assert!(rt; answer.as_slice().ends_with(end.as_slice()));
+}
+
+// It gives up, and the rest of the jobs stand in the report.
+#[test]
+fn campaign_that_gives_up_has_all_its_jobs(rt: HostRuntime) {
+    let until = Until {
+        time: None,
+        unexplained: Some(1),
+    };
+    let answer = answer(&rt, rt.alloc(), 140, Some(until));
+    let end = b"139 no connection P\njobs 140 explained 0 unexplained 0 other 140\n";
+    assert!(rt; answer.as_slice().ends_with(end.as_slice()));
+}
+
 // More jobs than a line may name.
 #[test]
 fn campaign_has_ten_thousand_jobs_at_most(rt: HostRuntime) {
@@ -47,25 +89,24 @@ fn answer<R>(rt: &R, alloc: Global, jobs: u64, until: Option<Until>) -> Vec<u8>
 where
     R: Net<Listener = TcpListener, Stream = TcpStream> + Threads + Wait + Clock + Sync + Eprint,
 {
+    let plan = Plan {
+        jobs,
+        workers: 2,
+        until,
+        ..DEFAULT
+    };
+    answer_of(rt, alloc, plan)
+}
+
+fn answer_of<R>(rt: &R, alloc: Global, plan: Plan) -> Vec<u8>
+where
+    R: Net<Listener = TcpListener, Stream = TcpStream> + Threads + Wait + Clock + Sync + Eprint,
+{
     let target = CampaignArgs {
         server: "127.0.0.1:0",
         a: None,
         b: None,
-        plan: Plan {
-            seed: 1,
-            random_seed: false,
-            first: 0,
-            jobs,
-            workers: 2,
-            limit: 1_000,
-            brief: false,
-            json: false,
-            junit: false,
-            show: false,
-            why: false,
-            tries: 1,
-            until,
-        },
+        plan,
         meeting: Meeting::Drawn,
         name: None,
         timeout: None,

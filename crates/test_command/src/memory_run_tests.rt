@@ -87,6 +87,24 @@ fn a_run_is_written_as_it_came_out(rt: HostRuntime) {
     }
 }
 
+// More comes on A's connection once the only run of several was looked at.
+#[test]
+fn what_comes_after_the_last_run_is_remarked(rt: HostRuntime) {
+    let repeat = Repeat {
+        times: Some(1),
+        time: None,
+        keep_going: false,
+    };
+    let mut network = CannedNetwork::new([TO_P, &[b"6\r\n", b"6\r\n"], &[]]);
+    network.later = b"more";
+    let ran = run(&rt, rt.alloc(), &mut network, Some(repeat), false);
+    assert_eq!(rt; ran.status, Status::Success);
+    assert_eq!(rt;
+        remark_of(&ran.remarks),
+        "A: after its last reply came 4 bytes more: \"more\""
+    );
+}
+
 #[test]
 fn a_section_without_a_connection_is_named(rt: HostRuntime) -> Result<(), Fail> {
     for section in [Actor::P, Actor::A, Actor::B] {

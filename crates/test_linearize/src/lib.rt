@@ -8,3 +8,7 @@ mod confirm_tests;
 mod judge_tests;
 #[cfg(test)]
 mod notes;
+#[cfg(test)]
+mod rows;
+#[cfg(test)]
+mod timeline_tests;

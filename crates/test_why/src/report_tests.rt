@@ -11,21 +11,23 @@ use std::test::Fail;
 // The text of a history that nothing explains, the limit of each search, the number of the line, and what is printed.
 type Row = (&'static str, u64, u64, &'static str);
 
-static PRINTED: [Row; 9] = [
+static PRINTED: [Row; 10] = [
     // Both delete what is there once. A's reply stands, and after it B finds nothing.
     (
         "history 2\nP begin delete k\nP reply NOT_FOUND\nP begin set k 0 =old\nP reply STORED\nB begin delete k\n\
          A begin delete k\nA reply DELETED\nB reply DELETED\nend\n",
         u64::MAX,
         9,
-        "why\nline 9 B reply DELETED\nexplained before\nP 0\nP 1\nA 0\nnext B delete k answers NOT_FOUND\nend\n",
+        "why\nline 9 B reply DELETED\nexplained before\nP 0  delete k -> NOT_FOUND\nP 1  set k 0 =old -> STORED\n\
+         A 0  delete k -> DELETED\nnext B delete k answers NOT_FOUND\nend\n",
     ),
     // The number of the line is the caller's.
     (
         "history 2\nP begin delete k\nP reply DELETED\nP begin get k\nP reply HIT 7 =%20\nend\n",
         u64::MAX,
         u64::MAX,
-        "why\nline 18446744073709551615 P reply HIT 7 =%20\nexplained before\nstart k 1\nP 0\nnext P get k answers MISS\nend\n",
+        "why\nline 18446744073709551615 P reply HIT 7 =%20\nexplained before\nstart k 1  k held an item\n\
+         P 0  delete k -> DELETED\nnext P get k answers MISS\nend\n",
     ),
     // Either branch may come next: A's stands before B's.
     (
@@ -33,8 +35,8 @@ static PRINTED: [Row; 9] = [
          B reply HIT 0 =7\nend\n",
         u64::MAX,
         7,
-        "why\nline 7 B reply HIT 0 =7\nexplained before\nP 0\nP 1\nnext A incr a 1 answers NUMBER 6\n\
-         next B get a answers HIT 0 =5\nend\n",
+        "why\nline 7 B reply HIT 0 =7\nexplained before\nP 0  delete a -> NOT_FOUND\nP 1  set a 0 =5 -> STORED\n\
+         next A incr a 1 answers NUMBER 6\nnext B get a answers HIT 0 =5\nend\n",
     ),
     // A's request has acted, since B read what it counted.
     (
@@ -42,36 +44,50 @@ static PRINTED: [Row; 9] = [
          B reply HIT 0 =6\nA reply NUMBER 7\nend\n",
         u64::MAX,
         8,
-        "why\nline 8 A reply NUMBER 7\nexplained before\nP 0\nP 1\nA 2\nB 0\nacted A incr a 1 answers NUMBER 6\nend\n",
+        "why\nline 8 A reply NUMBER 7\nexplained before\nP 0  delete a -> NOT_FOUND\nP 1  set a 0 =5 -> STORED\n\
+         A 2  incr a 1 -> ?\nB 0  get a -> HIT 0 =6\nacted A incr a 1 answers NUMBER 6\n  A's incr has acted already, \
+         where it stands in this order, and a cache answers NUMBER 6\nend\n",
     ),
     // Without notes the line is that of the request, with its reply. B's second request stands at the place.
     (
         "history 1\nP delete a -> NOT_FOUND\nA get a -> HIT 0 =1\nB set a 0 =1 -> STORED\nB get a -> MISS\nend\n",
         u64::MAX,
         5,
-        "why\nline 5 B get a -> MISS\nexplained before\nP 0\nB 1\nA 0\nnext B get a answers HIT 0 =1\nend\n",
+        "why\nline 5 B get a -> MISS\nexplained before\nP 0  delete a -> NOT_FOUND\nB 1  set a 0 =1 -> STORED\n\
+         A 0  get a -> HIT 0 =1\nnext B get a answers HIT 0 =1\nend\n",
     ),
     // A's is at the place, which stands before those of B, whatever the text has first.
     (
         "history 1\nP delete a -> NOT_FOUND\nB get a -> ?\nA set a 3 =x -> NOT_STORED\nend\n",
         u64::MAX,
         4,
-        "why\nline 4 A set a 3 =x -> NOT_STORED\nexplained before\nP 0\nnext A set a 3 =x answers STORED\nend\n",
+        "why\nline 4 A set a 3 =x -> NOT_STORED\nexplained before\nP 0  delete a -> NOT_FOUND\n\
+         next A set a 3 =x answers STORED\nend\n",
     ),
     // One of P's.
     (
         "history 1\nP delete a -> NOT_FOUND\nP touch a -> TOUCHED\nend\n",
         u64::MAX,
         3,
-        "why\nline 3 P touch a -> TOUCHED\nexplained before\nP 0\nnext P touch a answers NOT_FOUND\nend\n",
+        "why\nline 3 P touch a -> TOUCHED\nexplained before\nP 0  delete a -> NOT_FOUND\n\
+         next P touch a answers NOT_FOUND\nend\n",
     ),
     // A's request was not answered and has acted, and B's comes next.
     (
         "history 1\nP delete a -> NOT_FOUND\nP set a 0 =5 -> STORED\nA incr a 1 -> ?\nB get a -> HIT 0 =6\nB get a -> HIT 0 =7\nend\n",
         u64::MAX,
         6,
-        "why\nline 6 B get a -> HIT 0 =7\nexplained before\nP 0\nP 1\nA 2\nB 0\nacted A incr a 1 answers NUMBER 6\n\
-         next B get a answers HIT 0 =6\nend\n",
+        "why\nline 6 B get a -> HIT 0 =7\nexplained before\nP 0  delete a -> NOT_FOUND\nP 1  set a 0 =5 -> STORED\n\
+         A 2  incr a 1 -> ?\nB 0  get a -> HIT 0 =6\nacted A incr a 1 answers NUMBER 6\n  A's incr has acted already, \
+         where it stands in this order, and a cache answers NUMBER 6\nnext B get a answers HIT 0 =6\nend\n",
+    ),
+    // A key that reads as a mark of a move isn't shown beside one.
+    (
+        "history 1\nP delete pad -> NOT_FOUND\nP delete refuse -> NOT_FOUND\nP delete a -> DELETED\nP get a -> HIT 0 =\nend\n",
+        u64::MAX,
+        5,
+        "why\nline 5 P get a -> HIT 0 =\nexplained before\nstart a 1  a held an item\nP 0\nP 0\nP 0  delete a -> DELETED\n\
+         next P get a answers MISS\nend\n",
     ),
     // Of three requests the first two are tried first, and one turn isn't enough for them.
     (

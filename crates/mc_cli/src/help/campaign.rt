@@ -54,12 +54,16 @@ three can stand there.
 The same seed gives the same scripts. `--random-seed` draws a seed, and standard
 error says which; it can't stand beside `--seed`.
 
-`--for` runs the campaign for a time instead of a number of jobs. `--stop-after
-N` ends it when N jobs are unexplained. mcrace looks at both before each block
-of at most 64 jobs, and cuts none off. After each 10,000 jobs it writes a
-report. The status is that of all jobs; what follows a report comes once, after
-the last one. With `--for` a name has at most 16 bytes, so that any key is
-short.
+`--for` runs the campaign for a time instead of a number of jobs: no job begins
+after it, and none is cut off. `--stop-after N` ends it when N jobs are
+unexplained; mcrace looks at that before each block of at most 64 jobs. After
+each 10,000 jobs it writes a report. The status is that of all jobs; what
+follows a report comes once, after the last one. With `--for` a name has at
+most 16 bytes, so that any key is short.
+
+If 64 connects in a row fail, mcrace gives up: the rest of the jobs have no
+connection, or with `--for` no further job begins. All tries of a `--wait` are
+one connect.
 
 If a job is unexplained, `shrunk` and a smaller script of the first such job
 follow the totals: mcrace leaves out one step at a time, as long as a run of

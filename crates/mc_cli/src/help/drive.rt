@@ -29,8 +29,8 @@ lines. Here the last reply to B is 8:
   why
   line 24 B reply NUMBER 8
   explained before
-  P 0
-  P 1
+  P 0  delete a -> NOT_FOUND
+  P 1  set a 0 =5 -> STORED
   next A incr a 1 answers NUMBER 6
   next B incr a 1 answers NUMBER 6
   end

@@ -94,18 +94,19 @@ there. Here A and B each delete what P stored:
   why
   line 9 B reply DELETED
   explained before
-  P 0
-  P 1
-  A 0
+  P 0  delete k -> NOT_FOUND
+  P 1  set k 0 =old -> STORED
+  A 0  delete k -> DELETED
   next B delete k answers NOT_FOUND
   end
 
-A line `next` stands for a request that has begun: a cache answers this to it
-after these moves. A line `acted` stands for a request that acts in the order
-and has no reply before line 9. In a `history 1`, P's lines come first, then
-A's and then B's, whatever the order of the input. Each search takes at most as
-many turns as `--limit` says; if one is undecided, `undecided at line 9` and
-`end` are all that follows `why`.
+Each move has its request and reply, or `?`. A line `next` stands for a request
+that has begun: a cache answers this to it after these moves. A line `acted`,
+with a sentence, stands for a request that acts in the order and has no reply
+before line 9. In a `history 1`, P's lines come first, then A's and then B's,
+whatever the order of the input. Each search takes at most as many turns as
+`--limit` says; if one is undecided, `undecided at line 9` and `end` are all
+that follows `why`.
 
 Refusals
 

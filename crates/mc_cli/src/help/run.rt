@@ -132,9 +132,9 @@ it, and what a correct server answers there:
   why
   line 9 B reply NUMBER 6
   explained before
-  P 0
-  P 1
-  A 2
+  P 0  delete a -> NOT_FOUND
+  P 1  set a 0 =5 -> STORED
+  A 2  incr a 1 -> NUMBER 6
   next B incr a 1 answers NUMBER 7
   end
 

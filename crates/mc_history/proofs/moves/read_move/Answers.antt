@@ -1,0 +1,9 @@
+use Rattle.std.proofs.lemmas.Result.{err_from_is_err_and}
+use Rattle.mc_protocol.specs.Words.{actor_word}
+use Rattle.mc_history.proofs.moves.read_move.Goals as goal
+
+pub returns-in_err-number-clause-none : goal.returns-in_err-number-clause-none
+returns-in_err-number-clause-none c =
+    let p = err_from_is_err_and c.from_residual.result c.from_residual.ensures.1 in
+    rw (p.1, p.2) (λ real move spelled.
+    c.in_err-number.ensures.none real (move.number, move.choice) (actor_word move.actor, spelled.0, spelled.1, spelled.2))

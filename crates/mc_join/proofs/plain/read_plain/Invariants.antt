@@ -1,0 +1,6 @@
+use Rattle.std.proofs.Common.{length}
+use Rattle.mc_protocol.specs.Lines.{counted}
+use Rattle.mc_join.proofs.plain.read_plain.Given as goal
+
+abbrev pub decreases-lines : goal.decreases-lines
+decreases-lines l = length (counted l.lines)

@@ -1,0 +1,4 @@
+pub mod ClientLines
+pub mod TailLines
+pub mod TextLines
+pub mod PrintedMoves
