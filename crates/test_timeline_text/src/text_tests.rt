@@ -45,7 +45,10 @@ fn printed_again(
 // Whether the lines are read and printed as they stand, and the explanation is confirmed as told.
 fn is_read(alloc: Global, notes: &str, claim: &str, confirms: bool) -> Result<bool, Fail> {
     let text = format!(in alloc; "history 3\n{notes}explain\n{claim}end\n")?;
-    let Ok((timeline, Some(explanation))) = parse_timeline(alloc, text.as_bytes()) else {
+    let Ok((timeline, explanation)) = parse_timeline(alloc, text.as_bytes()) else {
+        return Ok(false);
+    };
+    let Some(explanation) = explanation else {
         return Ok(false);
     };
     let wanted = format!(in alloc; "history 3\n{notes}end\nexplain\n{claim}")?;
