@@ -153,12 +153,13 @@ class NoServers(CampaignTest):
         why = f"mcrace: 127.0.0.1:{port}: connection timed out"
         self.assertEqual(found.told, [why, GAVE_UP, f"{why} (jobs 0 to {jobs - 1})"])
 
-    def test_for_a_time(self):
+    @rows([("one worker", 1), ("four workers", 4)])
+    def test_for_a_time(self, workers):
         """No job begins after it gave up, and those that had begun stand in the report."""
         with self.assert_takes(0, 5):
-            found = campaign(free_port(), "--for 1h")
+            found = campaign(free_port(), f"--for 1h --workers {workers}")
         jobs = len(found.jobs)
-        self.assertTrue(MOST_IN_A_ROW <= jobs < MOST_IN_A_ROW + 4, jobs)
+        self.assertTrue(MOST_IN_A_ROW <= jobs < MOST_IN_A_ROW + workers, jobs)
         self.assertEqual(found.jobs, [f"{job} no connection P" for job in range(jobs)])
         self.assertEqual((found.totals, found.status), ((jobs, 0, 0, jobs), 4))
         self.assertEqual(found.told.count(GAVE_UP), 1, found.faults)
