@@ -10,6 +10,8 @@ mod canned;
 #[cfg(test)]
 mod failing_run_tests;
 #[cfg(test)]
+mod line_tests;
+#[cfg(test)]
 mod listener_tests;
 #[cfg(test)]
 mod memory_run_tests;
