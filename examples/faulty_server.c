@@ -37,7 +37,7 @@
 #include <stdatomic.h>
 
 enum { MOST_RUNS = 100000, MOST_KEYS = 1 << 20, THREADS = 64 };
-enum { LONGEST = 4096, KEY = 64, BODY = 256 };
+enum { LONGEST = 4096, KEY = 64, BODY = 2048 };
 // The commands, those that store a body first.
 enum { SET, ADD, REPLACE, CAS, APPEND, PREPEND, INCR, DECR, DELETE, TOUCH, GET, GETS, COMMANDS };
 

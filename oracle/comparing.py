@@ -18,9 +18,10 @@ def parser_of(doc, program=None, **more):
     return parser
 
 
-def asked(program, command, text):
+def asked(program, command, text, *more):
     """What a command of the program prints for the text, and its status."""
-    ran = subprocess.run([program, command], input=text, capture_output=True, check=False)
+    words = [program, command, *more]
+    ran = subprocess.run(words, input=text, capture_output=True, check=False)
     return ran.stdout.decode(errors="replace"), ran.returncode
 
 

@@ -6,7 +6,7 @@ import functions
 
 FILE = "tools/memory/calls.txt"
 # What the program does, reads and says: its allocations are refused on each case and example.
-PROGRAM = {"mc_answers", "mc_cli", "mc_command", "mc_hints"}
+PROGRAM = {"mc_answers", "mc_cli", "mc_command", "mc_hints", "mc_suite"}
 # The words of answers that say it: of std, of ended connections, and a count of missing threads.
 WORDS = {"OutOfMemory", "AllocError", "Memory", "Listened"}
 DECLARED = re.compile(r"^pub (?:enum|struct) (\w+)[^;{]*\{(.*?)^\}", re.S | re.M)

@@ -85,6 +85,15 @@ class Races(RacesTest):
         cuts = ["".join([*lines[:count], "end\n"]) for count in (line - 1, line)]
         verdicts = [judged(cut.encode()).split()[0] for cut in cuts]
         self.assertEqual(verdicts, ["explained", "unexplained"], cuts)
+        self.assert_explained(reasons, lines[: line - 1], lines[line - 1].split()[0])
+
+    def assert_explained(self, reasons, before, section):
+        """The replies that are told would be explained after these lines."""
+        told = re.findall(r"^explained would be (.*)$", reasons, flags=re.M)
+        for reply in told:
+            reply = reply.replace("(a new number)", str(2**64 - 1))
+            text = "".join([*before, f"{section} reply {reply}\n", "end\n"])
+            self.assertEqual(judged(text.encode()).split()[0], "explained", text)
 
     def test_reasons(self):
         """It is said of each history that is shown from which line on nothing explains it."""

@@ -1,6 +1,8 @@
 pub mod Driven
 pub mod Forms
 pub mod Fronts
+pub mod Lengths
+pub mod Limits
 pub mod LineFaults
 pub mod Maxima
 pub mod Questions

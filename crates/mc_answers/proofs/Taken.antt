@@ -1,11 +1,6 @@
 -- Lemmas on what was taken and written.
-use Rattle.std.proofs.Common.{refl, ◌∙◌, ℕ, List, [], ◌++◌, Option, Some, None, ap, sym, append_assoc}
+use Rattle.std.proofs.Common.{◌∙◌, ℕ, List, ◌++◌, Option, Some, None, ap, sym, append_assoc}
 use Rattle.mc_answers.specs.Streams.{Loses}
-
--- nothing taken
-pub loses_nothing : (old : Option (List ℕ)) → Loses old old []
-loses_nothing None = tt
-loses_nothing (Some old) = refl
 
 -- what is taken by two calls
 pub loses_more : (old : Option (List ℕ)) (mid : Option (List ℕ)) (new : Option (List ℕ)) (xs : List ℕ) (ys : List ℕ)

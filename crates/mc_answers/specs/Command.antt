@@ -1,5 +1,6 @@
 -- Which lines are answered by the input alone, and which not.
 use Rattle.std.specs.Prelude.{Bool, true, false}
+use Rattle.mc_cli.specs.declared.question.Question.TheVariants as question
 use Rattle.mc_cli.specs.declared.request.Request.{Request}
 use Rattle.mc_cli.specs.declared.request.Request.TheVariants as request
 
@@ -8,10 +9,16 @@ abbrev pub reads_input : Request → Bool
 reads_input (request.Question question) = true
 reads_input _ = false
 
+-- a history is judged, whose text may be longer than another input
+abbrev pub judges : Request → Bool
+judges (request.Question (question.Judge args)) = true
+judges _ = false
+
 -- what is asked for needs a network: lines of `run`, `serve`, `campaign` and `selftest` do
 abbrev pub needs_network : Request → Bool
 needs_network (request.Run args) = true
 needs_network (request.Serve service) = true
 needs_network (request.Campaign args) = true
+needs_network (request.Test args) = true
 needs_network request.Selftest = true
 needs_network _ = false

@@ -1,8 +1,10 @@
 -- What reading the input does. No public contract cites these.
-use Rattle.std.specs.Prelude.{◌≡◌, ℕ, ◌≤◌, Bool, true, Option, Result, MatchResult, List, [], ◌++◌, length}
+use Rattle.std.specs.Prelude.{◌≡◌, ◌⊎◌, ℕ, ◌<◌, ◌≤◌, Bool, true, Option, Result, MatchResult, List, [], ◌++◌, length, take}
+use Rattle.mc_answers.specs.Answers.{INPUT_LIMIT, TIMELINE_LIMIT}
 use Rattle.mc_answers.specs.declared.input.InputFault.{InputFault}
 use Rattle.mc_answers.specs.declared.input.InputFault.TheVariants as fault
 use Rattle.mc_answers.specs.Streams.{Loses}
+use Rattle.mc_answers.specs.TimelineAnswers.{BeginsTimeline}
 
 -- the input has failed where the fault is its
 abbrev pub FailsBy : Bool → Bool → InputFault → Type 0
@@ -17,3 +19,14 @@ abbrev pub TakesPiece : Option (List ℕ) → Option (List ℕ) → List ℕ →
 TakesPiece old new before after most result = MatchResult result
     (λ count. (taken : List ℕ) × (length taken ≡ count) × (count ≤ most) × Loses old new taken × (after ≡ before ++ taken))
     (λ _. (after ≡ before) × Loses old new [])
+
+-- the text grew by what was taken
+abbrev pub Adds : Option (List ℕ) → Option (List ℕ) → List ℕ → List ℕ → Type 0
+Adds old new before after = (taken : List ℕ) × (after ≡ before ++ taken) × Loses old new taken
+
+-- of what is judged: a text that has no more bytes than it may have, and one that has more
+abbrev pub MayBeJudged : List ℕ → Type 0
+MayBeJudged text = (length text ≤ INPUT_LIMIT) ⊎ (BeginsTimeline (take INPUT_LIMIT text) × (length text ≤ TIMELINE_LIMIT))
+
+abbrev pub IsTooLongToJudge : List ℕ → Type 0
+IsTooLongToJudge text = (INPUT_LIMIT < length text) × (BeginsTimeline (take INPUT_LIMIT text) → TIMELINE_LIMIT < length text)

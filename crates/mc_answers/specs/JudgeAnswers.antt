@@ -1,5 +1,5 @@
--- What `judge` answers to a text.
-use Rattle.std.specs.Prelude.{◌≡◌, ◌≢◌, ◌⊎◌, ℕ, Bool, true, false, Option, Some, None, List, ◌++◌, codes, replicate}
+-- What `judge` answers to the text of a history whose clients are P, A and B.
+use Rattle.std.specs.Prelude.{◌≡◌, ◌≢◌, ◌⊎◌, ℕ, Bool, Option, Some, None, List, ◌++◌, codes}
 use Rattle.mc_model.specs.Notes.{History}
 use Rattle.mc_model.specs.declared.rules.HistoryKind.{HistoryKind}
 use Rattle.mc_model.specs.declared.rules.HistoryKind.TheVariants as kind
@@ -8,13 +8,11 @@ use Rattle.mc_history.specs.HistoryText.{SpellsHistory}
 use Rattle.mc_claims.specs.Explains.{Explains}
 use Rattle.mc_explain.specs.Verdicts.{IsStated, IsTrueOf, IsWithin}
 use Rattle.mc_explain.specs.declared.verdict.Verdict.{Verdict}
-use Rattle.mc_convert.specs.Excerpts.{StandsIn}
 use Rattle.mc_hints.specs.Refusals.{history_refusal}
-use Rattle.mc_answers.specs.InJson.{AnswersIn}
 use Rattle.mc_answers.specs.Refusing.{IsRefusal}
 use Rattle.mc_answers.specs.Verdicts.{verdict_status, verdict_text}
 use Rattle.mc_answers.specs.WhyAnswers.{IsWhy, line_in_text}
-use Rattle.mc_cli.specs.declared.args.{JudgeArgs.JudgeArgs, Search.Search}
+use Rattle.mc_cli.specs.declared.args.Search.{Search}
 use Rattle.mc_answers.specs.declared.status.Status.{Status}
 use Rattle.mc_answers.specs.declared.status.Status.TheVariants as status
 
@@ -46,19 +44,3 @@ Judges how text output ended =
     ((h : History) × (claim : Claim) × SpellsHistory text h (Some claim) × Confirms h claim output ended)
     ⊎ (((h : History) × SpellsHistory text h None × JudgesHistory how text h output ended)
     ⊎ (SpellsNone text × SaysNoHistory how.why output × (ended ≡ status.Refused)))
-
--- of what a run or a report has printed, a part is judged, after blank lines in place of the lines before it
-pub record JudgesPart (how : Search) (text output : List ℕ) (ended : Status) : Type 0 where
-  pub part : List ℕ
-  pub lines : ℕ
-  pub stands : StandsIn text part
-  pub judged : Judges how (replicate lines 10 ++ part) output ended
-
--- the whole text is judged, or a part of it
-abbrev pub JudgesIn : Bool → Search → List ℕ → List ℕ → Status → Type 0
-JudgesIn false how text = Judges how text
-JudgesIn true how text = JudgesPart how text
-
--- as the line asks for it
-abbrev pub JudgesAs : JudgeArgs → List ℕ → List ℕ → Status → Type 0
-JudgesAs args text = AnswersIn args.json (JudgesIn args.run args.how text)

@@ -11,11 +11,13 @@ pub mod InJson
 pub mod Input
 pub mod JoinAnswers
 pub mod JudgeAnswers
+pub mod Judging
 pub mod Loading
 pub mod Refusing
 pub mod Statuses
 pub mod StepLines
 pub mod Streams
+pub mod TimelineAnswers
 pub mod Verdicts
 pub mod WhyAnswers
 pub mod Writing

@@ -24,7 +24,7 @@ pub struct Answer {
 
 /// Answers the question about the text. A refusal is an answer too.
 pub fn answer_to(alloc: Global, question: Question, text: &[u8]) -> Result<Answer, AllocError>
-    ensures { IfOk result (λ answer. Does question text.now answer.output.items answer.status) }
+    ensures { IfOk result (λ answer. Does question.entry text.now answer.output.items answer.status) }
 {
     match give(alloc, question, text) {
         Ok(answer) => Ok(answer),
@@ -37,7 +37,7 @@ pub fn answer_to(alloc: Global, question: Question, text: &[u8]) -> Result<Answe
 }
 
 fn give(alloc: Global, question: Question, text: &[u8]) -> Result<Answer, Unanswered>
-    ensures { Gives (Does question text.now) result }
+    ensures { Gives (Does question.entry text.now) result }
 {
     match question {
         Question::Judge(args) => judge_as_asked(alloc, args, text),

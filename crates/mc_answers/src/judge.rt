@@ -2,8 +2,9 @@
 ghost use Rattle.std.specs.Prelude.{◌≢◌, IfOk};
 ghost use Rattle.mc_hints.specs.Refusals.{history_refusal};
 ghost use Rattle.mc_model.specs.declared.rules.HistoryKind.TheVariants as kind;
-ghost use Rattle.mc_answers.specs.InJson.{AnswersIn, InJson};
+ghost use Rattle.mc_answers.specs.InJson.{InJson};
 ghost use Rattle.mc_answers.specs.JudgeAnswers as answers;
+ghost use Rattle.mc_answers.specs.Judging as judging;
 ghost use Rattle.mc_answers.specs.Refusing.{Gives, IfRefused, IsRefusal};
 
 use crate::answer::Answer;
@@ -11,82 +12,101 @@ use crate::in_json::found_in_json;
 use crate::outcome::{verdict_status, verdict_text};
 use crate::refusal::{Unanswered, refuse};
 use crate::status::Status;
+use crate::timeline::{judge_timeline_text, refuse_key};
 use crate::why::{Counted, why_text};
 use mc_claims::confirms;
-use mc_cli::{JudgeArgs, Search};
+use mc_cli::{JudgeArgs, Search, SoughtKey};
 use mc_convert::find_history;
 use mc_hints::Refused;
 use mc_history::{Explanation, HistoryFault, parse_history};
 use mc_model::History;
 use mc_protocol::fault_of_input;
+use mc_timeline_text::begins_timeline;
 use std::alloc::{AllocError, Global};
 
 /// Judges as the line asks for it: the text, or the first history in what was printed or that of a job; in words or in JSON.
 pub fn judge_as_asked(alloc: Global, args: JudgeArgs, text: &[u8]) -> Result<Answer, Unanswered>
-    ensures { Gives (answers.JudgesAs args text.now) result }
+    ensures { Gives (judging.JudgesAs args.entry text.now) result }
 {
-    judge_as(alloc, args.json, args.run, args.job, args.how, text)
+    judge_as(alloc, &args, text)
 }
 
-fn judge_as(
-    alloc: Global,
-    json: bool,
-    is_part: bool,
-    job: Option<u64>,
-    how: Search,
-    text: &[u8],
-) -> Result<Answer, Unanswered>
-    ensures { Gives (AnswersIn json (answers.JudgesIn is_part how text.now)) result }
+fn judge_as(alloc: Global, args: &JudgeArgs<'_>, text: &[u8]) -> Result<Answer, Unanswered>
+    ensures { Gives (judging.JudgesAs args.now text.now) result }
 {
-    if json {
-        judge_in_json(alloc, is_part, job, how, text)
+    if args.json {
+        judge_in_json(alloc, args, text)
     } else {
-        judge_in(alloc, is_part, job, how, text)
+        judge_in(alloc, args, text)
     }
 }
 
-fn judge_in_json(
-    alloc: Global,
-    is_part: bool,
-    job: Option<u64>,
-    how: Search,
-    text: &[u8],
-) -> Result<Answer, Unanswered>
-    ensures { Gives (InJson (answers.JudgesIn is_part how text.now)) result }
+fn judge_in_json(alloc: Global, args: &JudgeArgs<'_>, text: &[u8]) -> Result<Answer, Unanswered>
+    ensures { Gives (InJson (judging.JudgesIn args.now.run args.now text.now)) result }
 {
-    let found = judge_in(alloc, is_part, job, how, text);
+    let found = judge_in(alloc, args, text);
     found_in_json(alloc, found)
 }
 
 // Judges the text, or a part of it.
-fn judge_in(
-    alloc: Global,
-    is_part: bool,
-    job: Option<u64>,
-    how: Search,
-    text: &[u8],
-) -> Result<Answer, Unanswered>
-    ensures { Gives (answers.JudgesIn is_part how text.now) result }
+fn judge_in(alloc: Global, args: &JudgeArgs<'_>, text: &[u8]) -> Result<Answer, Unanswered>
+    ensures { Gives (judging.JudgesIn args.now.run args.now text.now) result }
 {
-    if is_part {
-        judge_part(alloc, job, how, text)
+    if args.run {
+        judge_part(alloc, args, text)
     } else {
-        judge(alloc, how, text)
+        judge_text(alloc, args, text)
     }
 }
 
 // Judges a part of the text, whose lines keep their numbers.
-fn judge_part(
+fn judge_part(alloc: Global, args: &JudgeArgs<'_>, text: &[u8]) -> Result<Answer, Unanswered>
+    ensures { Gives (judging.JudgesPart args.now text.now) result }
+{
+    let part = find_history(text, args.job);
+    let lines = part.after_blank_lines(alloc)?;
+    judge_text(alloc, args, lines.as_slice())
+}
+
+// Judges a timeline, or a history whose clients are P, A and B.
+fn judge_text(alloc: Global, args: &JudgeArgs<'_>, text: &[u8]) -> Result<Answer, Unanswered>
+    ensures { Gives (judging.JudgesText args.now text.now) result }
+{
+    if begins_timeline(alloc, text)? {
+        judge_timeline_text(alloc, args, text)
+    } else {
+        judge_history_text(alloc, args, text)
+    }
+}
+
+// Judges a history, of which no key is judged alone.
+fn judge_history_text(
     alloc: Global,
-    job: Option<u64>,
-    how: Search,
+    args: &JudgeArgs<'_>,
     text: &[u8],
 ) -> Result<Answer, Unanswered>
-    ensures { Gives (answers.JudgesPart how text.now) result }
+    ensures { Gives (judging.JudgesHistoryFor args.now.key args.now.how text.now) result }
 {
-    let part = find_history(text, job);
-    let lines = part.after_blank_lines(alloc)?;
-    judge(alloc, how, lines.as_slice())
+    match &args.key {
+        Some(key) => judge_no_key(alloc, args.how.why, key, text),
+        None => judge(alloc, args.how, text),
+    }
+}
+
+// Reads a history, and refuses the key.
+fn judge_no_key(
+    alloc: Global,
+    why: bool,
+    key: &SoughtKey<'_>,
+    text: &[u8],
+) -> Result<Answer, Unanswered>
+    ensures { Gives (judging.JudgesNoKey why key.now text.now) result }
+{
+    let _history = match parse_history(alloc, text) {
+        Ok(read) => read,
+        Err(fault) => return Err(refuse_history(alloc, why, text, fault)),
+    };
+    Err(refuse_key(alloc, key))
 }
 
 // Reads a history, and confirms its explanation, or searches for one.
@@ -136,7 +156,8 @@ fn find_verdict(
     })
 }
 
-fn refuse_history(alloc: Global, why: bool, text: &[u8], fault: HistoryFault) -> Unanswered
+/// The refusal of a text that is no history, with a hint if `why` asks for one.
+pub fn refuse_history(alloc: Global, why: bool, text: &[u8], fault: HistoryFault) -> Unanswered
     ensures { IfRefused result (λ refusal. (fault.kind ≢ kind.OutOfMemory)
         × IsRefusal why (history_refusal fault.kind fault.line) refusal) }
 {

@@ -25,6 +25,8 @@ mod refusal;
 mod status;
 mod steps;
 mod streams;
+mod timeline;
+mod timeline_why;
 mod why;
 mod writing;
 

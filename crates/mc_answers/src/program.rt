@@ -2,8 +2,8 @@
 ghost use Rattle.std.specs.Prelude.{◌≡◌, ◌≢◌, ◌⊎◌, ℕ, List, String, true, false, map, string_bytes, IfOk};
 ghost use Rattle.std.specs.Global.{Global};
 ghost use Rattle.mc_cli.specs.Asking.{AsksFor, IsFaulty, MayShow, MayTell};
-ghost use Rattle.mc_answers.specs.Answers.{AnswersBy, AnswersRightly, Does, IsAnswerBy, IsWhole, not_utf8_text};
-ghost use Rattle.mc_answers.specs.Command.{needs_network, reads_input};
+ghost use Rattle.mc_answers.specs.Answers.{AnswersBy, AnswersQuestion, IsAnswerTo, IsWhole, most_read, not_utf8_text};
+ghost use Rattle.mc_answers.specs.Command.{judges, needs_network, reads_input};
 ghost use Rattle.mc_answers.specs.GenerateAnswers.{Generates};
 ghost use Rattle.mc_answers.specs.Input as input_rule;
 ghost use Rattle.mc_answers.specs.Statuses.{status_number};
@@ -14,7 +14,7 @@ ghost use Rattle.std.specs.declared.io.ErrorKind.TheVariants as io_kind;
 
 use crate::answer::{Answer, answer_to};
 use crate::generate::write_generated;
-use crate::input::{InputFault, read_text};
+use crate::input::{InputFault, read_asked};
 use crate::status::Status;
 use crate::streams::{Sink, Source};
 use crate::writing::{OUT_OF_MEMORY, write_fault, write_text};
@@ -27,8 +27,10 @@ const NOT_UTF8: &[u8] = b"error: the command line is not UTF-8\n";
 /// Does what the line asks for, and answers the exit status. The line's first word is the program's name. To a line that needs a network
 /// nothing is done: its status is that of no answer.
 ///
-/// At most 1,048,577 bytes of the input are read, and they are read whole before a byte is written. They are read for a question about
-/// them alone. A fault of the line goes to the faults, and help, the version and want of memory go to the output.
+/// At most 1,048,577 bytes of the input are read, or 67,108,865 if a history is judged, and they are read whole before a byte is written.
+/// They are read for a question about them alone. A fault of the line goes to the faults, and help, the version and want of memory go to
+/// the output.
+#[tactic(auto, using(crate::proofs::Limits::takes_nothing))]
 pub fn command<I: Source, O: Sink, F: Sink>(
     alloc: Global,
     line: &[String],
@@ -40,7 +42,7 @@ pub fn command<I: Source, O: Sink, F: Sink>(
         → I.has_failed input.old ≡ false → I.has_failed input.new ≡ false
         → O.has_failed output.old ≡ false → O.has_failed output.new ≡ false
         → (ended : Status) × (result ≡ status_number ended)
-        × AnswersBy (IsAnswerBy (Does question)) (I.left input.old) (O.written output.old) (O.written output.new) ended }
+        × AnswersBy (IsAnswerTo question) (I.left input.old) (O.written output.old) (O.written output.new) ended }
     ensures generated { (seed : ℕ) (job : ℕ) → AsksFor (map string_bytes line.now) (Request.Generate seed job)
         → O.has_failed output.old ≡ false → O.has_failed output.new ≡ false
         → (ended : Status) × (result ≡ status_number ended)
@@ -66,14 +68,18 @@ pub fn command<I: Source, O: Sink, F: Sink>(
         → (result ≡ 4) × (output.new ≡ output.old) }
     ensures broken_output { O.has_failed output.old ≡ false → O.has_failed output.new ≡ true → result ≡ 4 }
     ensures broken_faults { F.has_failed faults.old ≡ false → F.has_failed faults.new ≡ true → result ≡ 4 }
-    ensures taken { TakesAtMost 1048577 (I.left input.old) (I.left input.new) }
+    ensures taken { TakesAtMost 67108865 (I.left input.old) (I.left input.new) }
+    ensures few { (wanted : Request) → AsksFor (map string_bytes line.now) wanted → judges wanted ≡ false
+        → TakesAtMost 1048577 (I.left input.old) (I.left input.new) }
 {
     match read_request(alloc, line) {
         Ok(Request::Question(question)) => answer_question(alloc, question, input, output).number(),
         Ok(Request::Generate(seed, job)) => write_generated(alloc, seed, job, output).number(),
-        Ok(Request::Run(_) | Request::Serve(_) | Request::Campaign(_) | Request::Selftest) => {
-            Status::NoAnswer.number()
-        }
+        Ok(Request::Run(_)) => Status::NoAnswer.number(),
+        Ok(Request::Test(_)) => Status::NoAnswer.number(),
+        Ok(Request::Serve(_)) => Status::NoAnswer.number(),
+        Ok(Request::Campaign(_)) => Status::NoAnswer.number(),
+        Ok(Request::Selftest) => Status::NoAnswer.number(),
         Err(fault) => explain_fault(&fault, output, faults).number(),
     }
 }
@@ -85,7 +91,7 @@ pub fn answer_question<I: Source, O: Sink>(
     input: &mut I,
     output: &mut O,
 ) -> Status
-    ensures { AnswersRightly I.left I.has_failed O.written O.has_failed (Does question)
+    ensures { AnswersQuestion I.left I.has_failed O.written O.has_failed question.entry
         input.old input.new output.old output.new result }
 {
     match read_answer(alloc, question, input) {
@@ -101,11 +107,11 @@ fn read_answer<I: Source>(
     input: &mut I,
 ) -> Result<Answer, InputFault>
     ensures right { IfOk result (λ answer. (text : List ℕ) × IsWhole (I.left input.old) text
-        × IsAnswerBy (Does question) text answer.output.items answer.status) }
+        × IsAnswerTo question.entry text answer.output.items answer.status) }
     ensures fails { input_rule.Fails (I.has_failed input.old) (I.has_failed input.new) result }
-    ensures taken { TakesAtMost 1048577 (I.left input.old) (I.left input.new) }
+    ensures taken { TakesAtMost (most_read question.entry) (I.left input.old) (I.left input.new) }
 {
-    match read_text(alloc, input)? {
+    match read_asked(alloc, &question, input)? {
         Ok(text) => Ok(answer_to(alloc, question, text.as_slice())?),
         Err(too_long) => Ok(too_long),
     }

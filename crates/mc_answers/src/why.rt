@@ -97,8 +97,8 @@ fn line_in(alloc: Global, text: &[u8], history: &History, place: usize) -> Resul
     }
 }
 
-// The number of the line at an index, of the lines of a text that count after its header; 0 where there is none.
-fn line_after_header(alloc: Global, text: &[u8], index: usize) -> Result<u64, AllocError>
+/// The number of the line at an index, of the lines of a text that count after its header; 0 where there is none.
+pub fn line_after_header(alloc: Global, text: &[u8], index: usize) -> Result<u64, AllocError>
     ensures { IfOk result (λ line. line ≡ answers.line_after_header text.now index) }
 {
     let mut lines = Lines::new(text, Separator::Space);

@@ -5,7 +5,7 @@ use Rattle.clap.specs.declared.error.kind.ErrorKind.{ErrorKind}
 use Rattle.clap.specs.declared.error.kind.ErrorKind.TheVariants as kind
 use Rattle.mc_protocol.specs.Decimals.{MAX_64}
 use Rattle.mc_cli.proofs.Names as names
-use Rattle.mc_cli.proofs.Once.{check_once, convert_once, draw_once, judge_once, plan_once, search_once, service_once, value_once}
+use Rattle.mc_cli.proofs.Once.{check_once, convert_once, draw_once, judge_once, maybe_once, plan_once, search_once, service_once, value_once}
 use Rattle.mc_cli.specs.Args.{number}
 use Rattle.mc_cli.specs.Asking.{AsksFor, HasFault, IsAskedBy, IsAskedWith, IsFaultOf, IsLike, IsShown, Says, name_of}
 use Rattle.mc_cli.specs.Line.{line_command, line_faults, line_value}
@@ -45,6 +45,10 @@ with_once value (request.Run args) other named is also =
     let found = names.is_run other named in
     let more = rw found.1 at also in
     (found.0, found.1, search_once value args.how found.0.how is.how more.how)
+with_once value (request.Test args) other named is also =
+    let found = names.is_test other named in
+    let more = rw found.1 at also in
+    (found.0, found.1, maybe_once (number MAX_64) _ args.seed found.0.seed is.seed more.seed)
 with_once value (request.Generate seed job) other named is also =
     let found = names.is_generate other named in
     let are = rw found.2 at also in

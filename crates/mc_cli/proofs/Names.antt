@@ -11,6 +11,7 @@ use Rattle.mc_cli.specs.declared.args.JudgeArgs.{JudgeArgs}
 use Rattle.mc_cli.specs.declared.args.RunArgs.{RunArgs}
 use Rattle.mc_cli.specs.declared.args.Search.{Search}
 use Rattle.mc_cli.specs.declared.args.ServeArgs.{ServeArgs}
+use Rattle.mc_cli.specs.declared.args.TestArgs.{TestArgs}
 use Rattle.mc_cli.specs.declared.question.Question.TheVariants as question
 use Rattle.mc_cli.specs.declared.request.Request.{Request}
 use Rattle.mc_cli.specs.declared.request.Request.TheVariants as request
@@ -32,6 +33,7 @@ is_judge (request.Question (question.Draw how)) same = differ (codes "draw") (co
 is_judge (request.Question (question.Convert args)) same = differ (codes "convert") (codes "judge") refl same
 is_judge (request.Question question.Join) same = differ (codes "join") (codes "judge") refl same
 is_judge (request.Run args) same = differ (codes "run") (codes "judge") refl same
+is_judge (request.Test args) same = differ (codes "test") (codes "judge") refl same
 is_judge (request.Generate seed job) same = differ (codes "generate") (codes "judge") refl same
 is_judge (request.Serve service) same = differ (codes "serve") (codes "judge") refl same
 is_judge (request.Campaign args) same = differ (codes "campaign") (codes "judge") refl same
@@ -46,6 +48,7 @@ is_check (request.Question (question.Draw how)) same = differ (codes "draw") (co
 is_check (request.Question (question.Convert args)) same = differ (codes "convert") (codes "check") refl same
 is_check (request.Question question.Join) same = differ (codes "join") (codes "check") refl same
 is_check (request.Run args) same = differ (codes "run") (codes "check") refl same
+is_check (request.Test args) same = differ (codes "test") (codes "check") refl same
 is_check (request.Generate seed job) same = differ (codes "generate") (codes "check") refl same
 is_check (request.Serve service) same = differ (codes "serve") (codes "check") refl same
 is_check (request.Campaign args) same = differ (codes "campaign") (codes "check") refl same
@@ -60,6 +63,7 @@ is_asm (request.Question (question.Draw how)) same = differ (codes "draw") (code
 is_asm (request.Question (question.Convert args)) same = differ (codes "convert") (codes "asm") refl same
 is_asm (request.Question question.Join) same = differ (codes "join") (codes "asm") refl same
 is_asm (request.Run args) same = differ (codes "run") (codes "asm") refl same
+is_asm (request.Test args) same = differ (codes "test") (codes "asm") refl same
 is_asm (request.Generate seed job) same = differ (codes "generate") (codes "asm") refl same
 is_asm (request.Serve service) same = differ (codes "serve") (codes "asm") refl same
 is_asm (request.Campaign args) same = differ (codes "campaign") (codes "asm") refl same
@@ -74,6 +78,7 @@ is_drive (request.Question (question.Draw how)) same = differ (codes "draw") (co
 is_drive (request.Question (question.Convert args)) same = differ (codes "convert") (codes "drive") refl same
 is_drive (request.Question question.Join) same = differ (codes "join") (codes "drive") refl same
 is_drive (request.Run args) same = differ (codes "run") (codes "drive") refl same
+is_drive (request.Test args) same = differ (codes "test") (codes "drive") refl same
 is_drive (request.Generate seed job) same = differ (codes "generate") (codes "drive") refl same
 is_drive (request.Serve service) same = differ (codes "serve") (codes "drive") refl same
 is_drive (request.Campaign args) same = differ (codes "campaign") (codes "drive") refl same
@@ -88,6 +93,7 @@ is_draw (request.Question (question.Draw how)) same = (how, refl)
 is_draw (request.Question (question.Convert args)) same = differ (codes "convert") (codes "draw") refl same
 is_draw (request.Question question.Join) same = differ (codes "join") (codes "draw") refl same
 is_draw (request.Run args) same = differ (codes "run") (codes "draw") refl same
+is_draw (request.Test args) same = differ (codes "test") (codes "draw") refl same
 is_draw (request.Generate seed job) same = differ (codes "generate") (codes "draw") refl same
 is_draw (request.Serve service) same = differ (codes "serve") (codes "draw") refl same
 is_draw (request.Campaign args) same = differ (codes "campaign") (codes "draw") refl same
@@ -102,6 +108,7 @@ is_convert (request.Question (question.Draw how)) same = differ (codes "draw") (
 is_convert (request.Question (question.Convert args)) same = (args, refl)
 is_convert (request.Question question.Join) same = differ (codes "join") (codes "convert") refl same
 is_convert (request.Run args) same = differ (codes "run") (codes "convert") refl same
+is_convert (request.Test args) same = differ (codes "test") (codes "convert") refl same
 is_convert (request.Generate seed job) same = differ (codes "generate") (codes "convert") refl same
 is_convert (request.Serve service) same = differ (codes "serve") (codes "convert") refl same
 is_convert (request.Campaign args) same = differ (codes "campaign") (codes "convert") refl same
@@ -116,6 +123,7 @@ is_join (request.Question (question.Draw how)) same = differ (codes "draw") (cod
 is_join (request.Question (question.Convert args)) same = differ (codes "convert") (codes "join") refl same
 is_join (request.Question question.Join) same = refl
 is_join (request.Run args) same = differ (codes "run") (codes "join") refl same
+is_join (request.Test args) same = differ (codes "test") (codes "join") refl same
 is_join (request.Generate seed job) same = differ (codes "generate") (codes "join") refl same
 is_join (request.Serve service) same = differ (codes "serve") (codes "join") refl same
 is_join (request.Campaign args) same = differ (codes "campaign") (codes "join") refl same
@@ -130,10 +138,26 @@ is_run (request.Question (question.Draw how)) same = differ (codes "draw") (code
 is_run (request.Question (question.Convert args)) same = differ (codes "convert") (codes "run") refl same
 is_run (request.Question question.Join) same = differ (codes "join") (codes "run") refl same
 is_run (request.Run args) same = (args, refl)
+is_run (request.Test args) same = differ (codes "test") (codes "run") refl same
 is_run (request.Generate seed job) same = differ (codes "generate") (codes "run") refl same
 is_run (request.Serve service) same = differ (codes "serve") (codes "run") refl same
 is_run (request.Campaign args) same = differ (codes "campaign") (codes "run") refl same
 is_run request.Selftest same = differ (codes "selftest") (codes "run") refl same
+
+pub is_test : (wanted : Request) → name_of wanted ≡ codes "test" → (args : TestArgs) × (wanted ≡ request.Test args)
+is_test (request.Question (question.Judge args)) same = differ (codes "judge") (codes "test") refl same
+is_test (request.Question (question.Check args)) same = differ (codes "check") (codes "test") refl same
+is_test (request.Question (question.Asm why)) same = differ (codes "asm") (codes "test") refl same
+is_test (request.Question (question.Drive how)) same = differ (codes "drive") (codes "test") refl same
+is_test (request.Question (question.Draw how)) same = differ (codes "draw") (codes "test") refl same
+is_test (request.Question (question.Convert args)) same = differ (codes "convert") (codes "test") refl same
+is_test (request.Question question.Join) same = differ (codes "join") (codes "test") refl same
+is_test (request.Test args) same = (args, refl)
+is_test (request.Run args) same = differ (codes "run") (codes "test") refl same
+is_test (request.Generate seed job) same = differ (codes "generate") (codes "test") refl same
+is_test (request.Serve service) same = differ (codes "serve") (codes "test") refl same
+is_test (request.Campaign args) same = differ (codes "campaign") (codes "test") refl same
+is_test request.Selftest same = differ (codes "selftest") (codes "test") refl same
 
 pub is_generate : (wanted : Request) → name_of wanted ≡ codes "generate" → (seed : ℕ) × (job : ℕ) × (wanted ≡ request.Generate seed job)
 is_generate (request.Question (question.Judge args)) same = differ (codes "judge") (codes "generate") refl same
@@ -144,6 +168,7 @@ is_generate (request.Question (question.Draw how)) same = differ (codes "draw") 
 is_generate (request.Question (question.Convert args)) same = differ (codes "convert") (codes "generate") refl same
 is_generate (request.Question question.Join) same = differ (codes "join") (codes "generate") refl same
 is_generate (request.Run args) same = differ (codes "run") (codes "generate") refl same
+is_generate (request.Test args) same = differ (codes "test") (codes "generate") refl same
 is_generate (request.Generate seed job) same = (seed, job, refl)
 is_generate (request.Serve service) same = differ (codes "serve") (codes "generate") refl same
 is_generate (request.Campaign args) same = differ (codes "campaign") (codes "generate") refl same
@@ -158,6 +183,7 @@ is_serve (request.Question (question.Draw how)) same = differ (codes "draw") (co
 is_serve (request.Question (question.Convert args)) same = differ (codes "convert") (codes "serve") refl same
 is_serve (request.Question question.Join) same = differ (codes "join") (codes "serve") refl same
 is_serve (request.Run args) same = differ (codes "run") (codes "serve") refl same
+is_serve (request.Test args) same = differ (codes "test") (codes "serve") refl same
 is_serve (request.Generate seed job) same = differ (codes "generate") (codes "serve") refl same
 is_serve (request.Serve service) same = (service, refl)
 is_serve (request.Campaign args) same = differ (codes "campaign") (codes "serve") refl same
@@ -172,6 +198,7 @@ is_campaign (request.Question (question.Draw how)) same = differ (codes "draw") 
 is_campaign (request.Question (question.Convert args)) same = differ (codes "convert") (codes "campaign") refl same
 is_campaign (request.Question question.Join) same = differ (codes "join") (codes "campaign") refl same
 is_campaign (request.Run args) same = differ (codes "run") (codes "campaign") refl same
+is_campaign (request.Test args) same = differ (codes "test") (codes "campaign") refl same
 is_campaign (request.Generate seed job) same = differ (codes "generate") (codes "campaign") refl same
 is_campaign (request.Serve service) same = differ (codes "serve") (codes "campaign") refl same
 is_campaign (request.Campaign args) same = (args, refl)
@@ -186,6 +213,7 @@ is_selftest (request.Question (question.Draw how)) same = differ (codes "draw") 
 is_selftest (request.Question (question.Convert args)) same = differ (codes "convert") (codes "selftest") refl same
 is_selftest (request.Question question.Join) same = differ (codes "join") (codes "selftest") refl same
 is_selftest (request.Run args) same = differ (codes "run") (codes "selftest") refl same
+is_selftest (request.Test args) same = differ (codes "test") (codes "selftest") refl same
 is_selftest (request.Generate seed job) same = differ (codes "generate") (codes "selftest") refl same
 is_selftest (request.Serve service) same = differ (codes "serve") (codes "selftest") refl same
 is_selftest (request.Campaign args) same = differ (codes "campaign") (codes "selftest") refl same

@@ -1,10 +1,11 @@
 -- The words of a line say one thing at most.
-use Rattle.std.proofs.Common.{◌≡◌, ◌∙◌, ◌||◌, ◌+◌, ◌≤◌, ◌^◌, refl, ap, ap₂, sym, true, ℕ, List, [], Option, Some, None, codes, is_some, length, unwrap_or}
+use Rattle.std.proofs.Common.{◌≡◌, ◌∙◌, ◌||◌, ◌+◌, ◌-◌, ◌≤◌, ◌^◌, refl, ap, ap₂, sym, true, ℕ, nat_lt, List, [], Option, Some, None, codes}
+use Rattle.std.proofs.Common.{is_some, length, unwrap_or, if◌then◌else◌}
 use Rattle.std.proofs.lemmas.Bool.{false≢true}
 use Rattle.clap.specs.Words.{Text}
 use Rattle.mc_protocol.specs.Decimals.{MAX_64}
 use Rattle.mc_cli.specs.Args.{AreJobs, GREATEST_JOBS, IsCheck, IsConvert, IsDraw, IsJudge, IsPlan, IsRepeat, IsSearch, IsService, IsUntil}
-use Rattle.mc_cli.specs.Args.{MayBeName, count, jobs_from, notation_word, number}
+use Rattle.mc_cli.specs.Args.{MayBeName, count, notation_word, number}
 use Rattle.mc_cli.specs.Kinds.{IsValue, MayBeValue, reads}
 use Rattle.mc_cli.specs.Line.{is_set}
 use Rattle.mc_cli.specs.declared.args.CheckArgs.{CheckArgs}
@@ -31,6 +32,9 @@ read_once kind.Meeting word one other is also = absurd is
 read_once kind.Notation word one other is also = absurd is
 read_once kind.Name word one other is also = absurd is
 read_once kind.Address word one other is also = absurd is
+read_once kind.Key word one other is also = absurd is
+read_once kind.Names word one other is also = absurd is
+read_once kind.Folder word one other is also = absurd is
 read_once kind.Switch word one other is also = absurd is
 
 pub value_once : (k : Kind) (default : Option ℕ) (word : Option (List ℕ)) (one other : ℕ) → IsValue k default word one
@@ -61,9 +65,13 @@ pub judge_once : (value : Text → Option Text) (one other : JudgeArgs) → IsJu
 judge_once value one other is also =
     let job = maybe_once (number MAX_64) _ one.job other.job is.job also.job in
     let run = is.run ∙ (ap (λ j. is_set (value (codes "run")) || is_some j) job ∙ sym also.run) in
+    let limit = maybe_once (number 1000000000) _ one.limit other.limit is.limit also.limit in
+    let key = is.key ∙ sym also.key in
     ap (λ h. record one { how = h }) (search_once value one.how other.how is.how also.how)
+    ∙ (ap (λ n. record other { limit = n; key = one.key; json = one.json; run = one.run; job = one.job }) limit
+    ∙ (ap (λ k. record other { key = k; json = one.json; run = one.run; job = one.job }) key
     ∙ (ap (λ b. record other { json = b; run = one.run; job = one.job }) (is.json ∙ sym also.json)
-    ∙ (ap (λ b. record other { run = b; job = one.job }) run ∙ ap (λ n. record other { job = n }) job))
+    ∙ (ap (λ b. record other { run = b; job = one.job }) run ∙ ap (λ n. record other { job = n }) job))))
 
 pub check_once : (value : Text → Option Text) (one other : CheckArgs) → IsCheck value one → IsCheck value other → one ≡ other
 check_once value one other is also =
@@ -120,7 +128,7 @@ until_once value (Some one) (Some other) is also =
 pub jobs_once : (time word : Option (List ℕ)) (first same_first one other : ℕ) → first ≡ same_first
     → AreJobs time word first one → AreJobs time word same_first other → one ≡ other
 jobs_once None word first same_first one other same_as is also = value_once (count GREATEST_JOBS) _ _ one other is also
-jobs_once (Some time) word first same_first one other same_as is also = is ∙ (ap jobs_from same_as ∙ sym also)
+jobs_once (Some time) word first same_first one other same_as is also = is ∙ (ap (λ n. if nat_lt 0 n then 2 ^ 64 - n else MAX_64) same_as ∙ sym also)
 
 pub plan_once : (value : Text → Option Text) (one other : Plan) → IsPlan value one → IsPlan value other → one ≡ other
 plan_once value one other is also =

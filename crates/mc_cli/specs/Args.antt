@@ -11,7 +11,7 @@ use Rattle.mc_cli.specs.Kinds.{IsValue, MayBeValue}
 use Rattle.mc_cli.specs.Line.{is_set}
 use Rattle.mc_cli.specs.declared.args.{CampaignArgs.CampaignArgs, Plan.Plan, Repeat.Repeat, RunArgs.RunArgs, Search.Search}
 use Rattle.mc_cli.specs.declared.args.{CheckArgs.CheckArgs, ConvertArgs.ConvertArgs, DrawArgs.DrawArgs, JudgeArgs.JudgeArgs}
-use Rattle.mc_cli.specs.declared.args.{Notation.Notation, ServeArgs.ServeArgs, Until.Until}
+use Rattle.mc_cli.specs.declared.args.{Notation.Notation, ServeArgs.ServeArgs, TestArgs.TestArgs, Until.Until}
 use Rattle.mc_cli.specs.declared.args.Notation.TheVariants as notation
 use Rattle.mc_cli.specs.declared.rows.Kind.{Kind}
 use Rattle.mc_cli.specs.declared.rows.Kind.TheVariants as kind
@@ -35,6 +35,8 @@ pub record IsSearch (value : Text → Option Text) (how : Search) : Type 0 where
 -- the values of the options of `judge` say how a history is judged; a job is one of what a campaign printed
 pub record IsJudge (value : Text → Option Text) (args : JudgeArgs) : Type 0 where
   pub how : IsSearch value args.how
+  pub limit : MayBeValue (number 1000000000) (value (codes "limit")) args.limit
+  pub key : args.key ≡ value (codes "key")
   pub json : args.json ≡ is_set (value (codes "json"))
   pub run : args.run ≡ (is_set (value (codes "run")) || is_some args.job)
   pub job : MayBeValue (number MAX_64) (value (codes "job")) args.job
@@ -108,6 +110,14 @@ pub record IsRunArgs (value : Text → Option Text) (args : RunArgs) : Type 0 wh
   pub json : args.json ≡ is_set (value (codes "json"))
   pub spread : IsValue (number 10000) (Some (if is_some args.repeat then 64 else 0)) (value (codes "spread")) args.spread
 
+-- the values of the options of `test` say this, beside what those of `run` would
+pub record IsTestArgs (value : Text → Option Text) (args : TestArgs) : Type 0 where
+  pub run : IsRunArgs value args.run
+  pub seed : MayBeValue (number MAX_64) (value (codes "seed")) args.seed
+  pub only : option_map (λ names. names.now) args.only ≡ value (codes "only")
+  pub skip : option_map (λ names. names.now) args.skip ≡ value (codes "skip")
+  pub out : option_map (λ folder. folder.now) args.out ≡ value (codes "out")
+
 -- the values of the options of `campaign` say until when it runs in blocks, if they name a time or a number of unexplained jobs; a time
 -- doesn't stand beside a number of jobs
 abbrev pub IsUntil : (Text → Option Text) → Option Until → Type 0
@@ -116,14 +126,11 @@ IsUntil value (Some until) = MayBeValue kind.Time (value (codes "for")) until.ti
     × MayBeValue (count 10000) (value (codes "stop-after")) until.unexplained × ((is_some until.time || is_some until.unexplained) ≡ true)
     × (is_some until.time ≡ true → value (codes "jobs") ≡ None)
 
--- how many jobs have a number of 64 bits, from the first on; but one less where these are all of them, as that number has 64 bits too
-abbrev pub jobs_from : ℕ → ℕ
-jobs_from first = if nat_lt 0 first then 2 ^ 64 - first else MAX_64
-
--- how many jobs there are at most if the first word names a time, should there be one, and the second one a number of jobs
+-- how many jobs there are at most if the first word names a time, should there be one, and the second one a number of jobs: with a time,
+-- as many as have a number of 64 bits from the first on, but one less than all of them, as that number has 64 bits too
 abbrev pub AreJobs : Option (List ℕ) → Option (List ℕ) → ℕ → ℕ → Type 0
 AreJobs None word first jobs = IsValue (count GREATEST_JOBS) (Some 100) word jobs
-AreJobs (Some time) word first jobs = jobs ≡ jobs_from first
+AreJobs (Some time) word first jobs = jobs ≡ (if nat_lt 0 first then 2 ^ 64 - first else MAX_64)
 
 -- whether a seed is drawn, for which the line names none
 abbrev pub IsRandomSeed : (Text → Option Text) → Bool → Type 0

@@ -38,6 +38,12 @@ run_rules =
     valued (codes "wait") ∷ valued (codes "times") ∷ valued (codes "for") ∷ switch (codes "keep-going") ∷
     switch (codes "reconnect") ∷ switch (codes "quiet") ∷ valued (codes "spread") ∷ switch (codes "stats") ∷ switch (codes "json") ∷ []
 
+abbrev pub test_rules : List Rule
+test_rules =
+    argument (codes "target") ∷ valued (codes "for") ∷ valued (codes "only") ∷ valued (codes "skip") ∷ valued (codes "name") ∷
+    valued (codes "timeout") ∷ valued (codes "wait") ∷ valued (codes "a") ∷ valued (codes "b") ∷ valued (codes "seed") ∷
+    valued (codes "out") ∷ switch (codes "json") ∷ switch (codes "quiet") ∷ []
+
 abbrev pub campaign_rules : List Rule
 campaign_rules =
     argument (codes "target") ∷ valued (codes "seed") ∷ switch (codes "random-seed") ∷ valued (codes "from") ∷
@@ -61,15 +67,18 @@ and_with app subcommands = fold (λ whole sub. with_subcommand whole (app_with s
 abbrev pub reading_app : App
 reading_app = and_with bare_app ((
   codes "judge",
-  valued (codes "limit") ∷ switch (codes "why") ∷ switch (codes "run") ∷ valued (codes "job") ∷ switch (codes "json") ∷ [],
-) ∷ (codes "check", switch (codes "why") ∷ switch (codes "json") ∷ []) ∷
-    (codes "asm", switch (codes "why") ∷ []) ∷ (codes "drive", valued (codes "limit") ∷ switch (codes "why") ∷ []) ∷
+  valued (codes "limit") ∷ switch (codes "why") ∷ switch (codes "run") ∷
+      valued (codes "job") ∷ valued (codes "key") ∷ switch (codes "json") ∷ [],
+) ∷
+    (codes "check", switch (codes "why") ∷ switch (codes "json") ∷ []) ∷ (codes "asm", switch (codes "why") ∷ []) ∷
+    (codes "drive", valued (codes "limit") ∷ switch (codes "why") ∷ []) ∷
     (codes "draw", switch (codes "text") ∷ switch (codes "lines") ∷ valued (codes "job") ∷ valued (codes "limit") ∷ []) ∷
     (codes "convert", valued (codes "to") ∷ valued (codes "job") ∷ []) ∷ (codes "join", []) ∷ [])
 
 -- with all that ask for something
 abbrev pub asking_app : App
-asking_app = and_with reading_app ((codes "run", run_rules) ∷ (codes "generate", valued (codes "seed") ∷ valued (codes "job") ∷ []) ∷
+asking_app = and_with reading_app ((codes "test", test_rules) ∷ (codes "run", run_rules) ∷
+    (codes "generate", valued (codes "seed") ∷ valued (codes "job") ∷ []) ∷
     (codes "serve", argument (codes "port") ∷ valued (codes "connections") ∷ switch (codes "racy") ∷ []) ∷
     (codes "campaign", campaign_rules) ∷ (codes "selftest", []) ∷ [])
 

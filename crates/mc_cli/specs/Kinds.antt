@@ -43,7 +43,7 @@ seconds_at word (Some point) = joined_time (decimal_in GREATEST_TIME (take point
 unfoldable pub seconds_in : List ℕ → Option ℕ
 seconds_in word = seconds_at word (position is_point word)
 
--- this number of the unit with this name, in milliseconds, in milliseconds
+-- this number of the unit with this name, in milliseconds
 abbrev pub in_unit : ℕ → List ℕ → Option ℕ
 in_unit number name =
     if bytes_eq name (codes "ms") then Some number else if bytes_eq name (codes "s") then Some (number * 1000)

@@ -6,6 +6,7 @@ ghost use Rattle.mc_cli.specs.Line.{section_server};
 use mc_protocol::Actor;
 use mc_settings::{Meeting, Namespace};
 use std::fmt::{Display, Error, Formatter, Write};
+use std::marker::Model;
 use std::time::Duration;
 
 /// The most jobs that a line may name.
@@ -24,11 +25,45 @@ pub struct Search {
     pub why: bool,
 }
 
+/// A word that is sought among the keys of a history, and may be none of them. Contracts see its bytes.
+#[derive(Debug, Drop)]
+pub struct SoughtKey<'a> {
+    word: &'a str,
+}
+
+impl<'a> Model for SoughtKey<'a> {
+    ghost use Rattle.std.specs.Prelude.{ℕ, List};
+
+    ghost Value = { List ℕ };
+
+    ghost view = { λ k. k.word.now };
+}
+
+impl<'a> SoughtKey<'a> {
+    /// The word as such a key.
+    pub fn new(word: &'a str) -> Self
+        ensures { result ≡ word.entry.now }
+    {
+        SoughtKey { word }
+    }
+
+    /// Its bytes.
+    pub fn as_bytes(&self) -> &'a [u8]
+        ensures { result.now ≡ self.now }
+    {
+        self.word.as_bytes()
+    }
+}
+
 /// How a history is judged.
-#[derive(Clone, Copy, Debug, Drop, PartialEq, Eq)]
-pub struct JudgeArgs {
+#[derive(Debug, Drop)]
+pub struct JudgeArgs<'a> {
     /// How an explanation is searched for.
     pub how: Search,
+    /// The most turns of the search for each key of a timeline, if the line names a limit.
+    pub limit: Option<u64>,
+    /// The one key of a timeline that is judged, if it isn't each.
+    pub key: Option<SoughtKey<'a>>,
     /// Whether the answer is JSON.
     pub json: bool,
     /// Whether the history is read from what `run` or `campaign` printed; so it is if a job is named.
@@ -184,6 +219,21 @@ impl<'a> RunArgs<'a> {
             Actor::B => self.b.unwrap_or(self.server),
         }
     }
+}
+
+/// A test of a server.
+#[derive(Debug, Drop)]
+pub struct TestArgs<'a> {
+    /// The server and how it is met. Its `repeat` has the time of the test, if the line has one.
+    pub run: RunArgs<'a>,
+    /// What generated scripts are made of, if it isn't drawn.
+    pub seed: Option<u64>,
+    /// The races that are looked for, with commas between, if those aren't all.
+    pub only: Option<&'a str>,
+    /// The races that are left out, with commas between.
+    pub skip: Option<&'a str>,
+    /// The folder that the evidence is written to, if there is one.
+    pub out: Option<&'a str>,
 }
 
 /// A server of the program's own.

@@ -95,6 +95,9 @@ impl Display for Kind {
             Kind::Notation => write!(f, "json or edn"),
             Kind::Name => write!(f, "1 to {NAMESPACE_BYTES_LIMIT} of a to z, 0 to 9 and -"),
             Kind::Address => write!(f, "HOST:PORT"),
+            Kind::Names => write!(f, "names with commas between"),
+            Kind::Folder => write!(f, "a folder"),
+            Kind::Key => write!(f, "a key"),
             Kind::Switch => write!(f, "no value"),
         }
     }

@@ -17,6 +17,7 @@ mod script;
 mod selftest;
 mod serve;
 mod steps;
+mod test;
 
 pub use asm::ASM;
 pub use campaign::CAMPAIGN;
@@ -35,6 +36,7 @@ pub use script::SCRIPT;
 pub use selftest::SELFTEST;
 pub use serve::SERVE;
 pub use steps::STEPS;
+pub use test::TEST;
 
 /// What help says of a subcommand, beside its options.
 pub struct Help {
@@ -79,6 +81,6 @@ Topics:
 
 /// The names of the subcommands, in the order of their help.
 pub const NAMES: &[&str] = &[
-    "judge", "check", "asm", "drive", "draw", "convert", "join", "run", "generate", "serve",
-    "campaign", "selftest",
+    "judge", "check", "asm", "drive", "draw", "convert", "join", "test", "run", "generate",
+    "serve", "campaign", "selftest",
 ];

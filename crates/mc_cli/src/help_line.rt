@@ -29,7 +29,8 @@ impl Row {
             Kind::Time => format!(in alloc; "{help}: 500ms, 2s, 10m or 2h"),
             Kind::Notation => format!(in alloc; "{help}: {}", self.kind),
             Kind::Meeting => format!(in alloc; "{help}: {} [default: drawn]", self.kind),
-            Kind::Name | Kind::Address | Kind::Switch => format!(in alloc; "{help}"),
+            Kind::Name | Kind::Address => format!(in alloc; "{help}"),
+            Kind::Key | Kind::Names | Kind::Folder | Kind::Switch => format!(in alloc; "{help}"),
         }
     }
 }

@@ -36,6 +36,8 @@ pub const LINES: Row = row!(Daily "lines", "Show the lines of the input, with --
 pub const SHOWN_JOB: Row =
     row!(Daily "job" "N" Kind::Number(0, u64::MAX), "Take the history of this job of a campaign");
 
+pub const KEY: Row = row!(Daily "key" "KEY" Kind::Key, "Judge this key of a history 3 alone");
+
 pub const TO: Row = row!(Daily "to" "NOTATION" Kind::Notation, "Write it in this notation");
 
 pub const RUN: Row = row!(Daily "run", "Pass over what run or campaign printed before it");
@@ -118,6 +120,18 @@ pub const SPREAD_OF_CAMPAIGN: Row =
     row!(Rare "spread" "MICROS" Kind::Number(0, 10_000) => Some(64), "Maximum delay of a branch");
 
 pub const FOR_OF_CAMPAIGN: Row = row!(Daily "for" "TIME" Kind::Time, "Start jobs for this long");
+
+pub const FOR_OF_TEST: Row =
+    row!(Daily "for" "TIME" Kind::Time, "How long the test takes, by default 30 s");
+
+pub const SEED_OF_TEST: Row =
+    row!(Rare "seed" "N" Kind::Number(0, u64::MAX), "The seed of generated scripts");
+
+pub const ONLY: Row = row!(Daily "only" "RACES" Kind::Names, "Look for these races alone");
+
+pub const SKIP: Row = row!(Daily "skip" "RACES" Kind::Names, "Leave these races out");
+
+pub const OUT: Row = row!(Daily "out" "DIR" Kind::Folder, "Write the evidence into this folder");
 
 pub const STOP_AFTER: Row =
     row!(Rare "stop-after" "N" Kind::Number(1, 10_000), "Begin no block when N jobs are unexplained");

@@ -3,10 +3,10 @@
 use crate::args::{CheckArgs, ConvertArgs, DrawArgs, JudgeArgs, Search};
 
 /// A question about the input, which no network answers.
-#[derive(Clone, Copy, Debug, Drop, PartialEq, Eq)]
-pub enum Question {
+#[derive(Debug, Drop)]
+pub enum Question<'a> {
     /// A judgement of a history.
-    Judge(JudgeArgs),
+    Judge(JudgeArgs<'a>),
     /// Whether the code of a script or of an image is sound.
     Check(CheckArgs),
     /// The image of a script; and whether the answer shows the line for which a script is refused.
@@ -21,9 +21,9 @@ pub enum Question {
     Join,
 }
 
-impl Question {
+impl Question<'_> {
     /// What is read on standard input, as a person is asked for it.
-    pub fn input_name(self) -> &'static str {
+    pub fn input_name(&self) -> &'static str {
         match self {
             Question::Judge(_) | Question::Draw(_) | Question::Convert(_) => "a history",
             Question::Check(_) => "a script or an image",

@@ -2,11 +2,11 @@
 ghost use Rattle.std.specs.Prelude.{◌≡◌, ◌≤◌, ℕ, Option, codes, is_some, IfErr, IfOk, if◌then◌else◌};
 ghost use Rattle.clap.specs.Words.{first_value, found_of};
 ghost use Rattle.mc_cli.specs.Args as spec;
-ghost use Rattle.mc_cli.specs.Args.{IsCheck, IsConvert, IsDraw, IsJob, IsJudge, IsRepeat, IsRunArgs, IsSearch, IsService};
+ghost use Rattle.mc_cli.specs.Args.{IsCheck, IsConvert, IsDraw, IsJob, IsJudge, IsRepeat, IsRunArgs, IsTestArgs, IsSearch, IsService};
 ghost use Rattle.mc_cli.specs.Kinds.{IsValue};
 
 use crate::args::{
-    CheckArgs, ConvertArgs, DrawArgs, JudgeArgs, Repeat, RunArgs, Search, ServeArgs,
+    CheckArgs, ConvertArgs, DrawArgs, JudgeArgs, Repeat, RunArgs, Search, ServeArgs, TestArgs,
 };
 use crate::fault::OptionFault;
 use crate::rows::Row;
@@ -28,14 +28,17 @@ pub fn read_search<'a>(options: &ArgMatches<'a>) -> Result<Search, OptionFault<'
 }
 
 /// The judgement that `judge` asks for.
-pub fn read_judge<'a>(options: &ArgMatches<'a>) -> Result<JudgeArgs, OptionFault<'a>>
+pub fn read_judge<'a>(options: &ArgMatches<'a>) -> Result<JudgeArgs<'a>, OptionFault<'a>>
     ensures args { IfOk result (IsJudge (first_value (found_of options.now))) }
     ensures none { IfErr result (λ _. (args : JudgeArgs) → IsJudge (first_value (found_of options.now)) args → ⊥) }
 {
     let how = read_search(options)?;
+    let limit = value::optional(options, &rows::LIMIT)?;
     let job = value::optional(options, &rows::SHOWN_JOB)?;
     Ok(JudgeArgs {
         how,
+        limit,
+        key: value::key(options, &rows::KEY),
         json: value::is_set(options, &rows::JSON),
         run: value::is_set(options, &rows::RUN) || job.is_some(),
         job,
@@ -129,6 +132,22 @@ pub fn read_run<'a>(options: &ArgMatches<'a>) -> Result<RunArgs<'a>, OptionFault
         stats: value::is_set(options, &rows::STATS),
         json: value::is_set(options, &rows::JSON),
         spread,
+    })
+}
+
+/// The test that `test` asks for.
+pub fn read_test<'a>(options: &ArgMatches<'a>) -> Result<TestArgs<'a>, OptionFault<'a>>
+    ensures args { IfOk result (IsTestArgs (first_value (found_of options.now))) }
+    ensures none { IfErr result (λ _. (args : TestArgs) → IsTestArgs (first_value (found_of options.now)) args → ⊥) }
+{
+    let run = read_run(options)?;
+    let seed = value::optional(options, &rows::SEED_OF_TEST)?;
+    Ok(TestArgs {
+        run,
+        seed,
+        only: options.get_str(rows::ONLY.name),
+        skip: options.get_str(rows::SKIP.name),
+        out: options.get_str(rows::OUT.name),
     })
 }
 

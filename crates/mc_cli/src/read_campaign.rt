@@ -1,9 +1,9 @@
 //! What the values of the options of `campaign` ask for.
-ghost use Rattle.std.specs.Prelude.{◌≡◌, ◌+◌, ◌≤◌, ◌^◌, ◌↔◌, ℕ, Bool, Option, codes, true, IfErr, IfOk};
+ghost use Rattle.std.specs.Prelude.{◌≡◌, ◌+◌, ◌-◌, ◌≤◌, ◌^◌, ◌↔◌, ℕ, nat_lt, Bool, Option, codes, true, IfErr, IfOk, if◌then◌else◌};
+ghost use Rattle.mc_protocol.specs.Decimals.{MAX_64};
 ghost use Rattle.std.specs.Option.{option_copied};
 ghost use Rattle.clap.specs.Words.{first_value, found_of};
 ghost use Rattle.mc_settings.specs.JobKeys.{NameFits};
-ghost use Rattle.mc_cli.specs.Args as spec;
 ghost use Rattle.mc_cli.specs.Args.{AreForms, AreJobs, IsCampaignArgs, IsPlan, IsRandomSeed, IsUntil};
 
 use crate::args::{CampaignArgs, Plan, Until, has_last};
@@ -141,7 +141,7 @@ fn read_jobs<'a>(options: &ArgMatches<'a>, first: u64) -> Result<u64, OptionFaul
 
 // How many jobs have a number of 64 bits, from the first on; but one less where these are all of them.
 fn jobs_from(first: u64) -> u64
-    ensures jobs { result ≡ spec.jobs_from first }
+    ensures jobs { result ≡ (if nat_lt 0 first then 2 ^ 64 - first else MAX_64) }
 {
     (u64::MAX - first).saturating_add(1)
 }

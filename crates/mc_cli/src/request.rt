@@ -3,13 +3,14 @@ ghost use Rattle.std.specs.Prelude.{◌≡◌, map, string_bytes, IfErr, IfOk, S
 ghost use Rattle.clap.specs.Words.{first_value, found_of, kind_of};
 ghost use Rattle.mc_cli.specs.Asking.{AsksFor, IsAskedBy, IsFaultOf, IsLike, Says};
 
-use crate::args::{CampaignArgs, RunArgs, ServeArgs};
+use crate::args::{CampaignArgs, RunArgs, ServeArgs, TestArgs};
 use crate::fault::{OptionFault, long_key_message};
 use crate::help_line::help_text;
 use crate::hints::error_text;
 use crate::question::Question;
 use crate::read::{
     read_check, read_convert, read_draw, read_job, read_judge, read_run, read_search, read_service,
+    read_test,
 };
 use crate::read_campaign::read_campaign;
 use crate::subcommand::{program, usage_fault};
@@ -23,9 +24,11 @@ use std::alloc::{AllocError, Global};
 #[derive(Debug, Drop)]
 pub enum Request<'a> {
     /// An answer to a question about the input.
-    Question(Question),
+    Question(Question<'a>),
     /// Runs of a script against a server.
     Run(RunArgs<'a>),
+    /// A test of a server.
+    Test(TestArgs<'a>),
     /// The script of this seed and this job.
     Generate(u64, u64),
     /// A server of the program's own.
@@ -94,6 +97,7 @@ fn read_options<'a>(name: &str, options: &ArgMatches<'a>) -> Result<Request<'a>,
         "draw" => Ok(Request::Question(Question::Draw(read_draw(options)?))),
         "convert" => Ok(Request::Question(Question::Convert(read_convert(options)?))),
         "join" => Ok(Request::Question(Question::Join)),
+        "test" => Ok(Request::Test(read_test(options)?)),
         "run" => Ok(Request::Run(read_run(options)?)),
         "generate" => {
             let (seed, job) = read_job(options)?;
@@ -158,4 +162,14 @@ pub fn long_key_text(
 ) -> Result<String, AllocError> {
     let message = long_key_message(alloc, name, key)?;
     usage_fault(alloc, "run", message.as_str())
+}
+
+/// What is said of a line of `test` that names a race of which none is known.
+///
+/// # Errors
+///
+/// That there is no memory.
+pub fn unknown_race_text(alloc: Global, name: &str) -> Result<String, AllocError> {
+    let message = format!(in alloc; "there is no race '{name}'; mcrace test --list names them")?;
+    usage_fault(alloc, "test", message.as_str())
 }

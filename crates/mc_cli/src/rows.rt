@@ -15,6 +15,12 @@ pub enum Kind {
     Name,
     /// A server, as HOST:PORT.
     Address,
+    /// Names with commas between.
+    Names,
+    /// The path of a folder.
+    Folder,
+    /// Any word, which is sought among the keys of a history.
+    Key,
     /// None: the option is there or not.
     Switch,
 }

@@ -6,7 +6,7 @@ ghost use Rattle.mc_cli.specs.Commands.{rule_of_row};
 
 use crate::help::{
     ASM, CAMPAIGN, CHECK, CONVERT, DRAW, DRIVE, FORMATS, GENERATE, HISTORY, Help, IMAGE, JOIN,
-    JUDGE, RUN, SCRIPT, SELFTEST, SERVE, SHORT_STATUSES, STATUSES, STEPS,
+    JUDGE, RUN, SCRIPT, SELFTEST, SERVE, SHORT_STATUSES, STATUSES, STEPS, TEST,
 };
 use crate::options as rows;
 use crate::rows::{Kind, Place, Row};
@@ -23,6 +23,7 @@ const JUDGE_ROWS: &[Row] = &[
     rows::WHY,
     rows::RUN,
     rows::SHOWN_JOB,
+    rows::KEY,
     rows::JSON,
 ];
 
@@ -54,6 +55,22 @@ const RUN_ROWS: &[Row] = &[
     rows::SPREAD,
     rows::STATS,
     rows::JSON,
+];
+
+const TEST_ROWS: &[Row] = &[
+    rows::TARGET,
+    rows::FOR_OF_TEST,
+    rows::ONLY,
+    rows::SKIP,
+    rows::NAME,
+    rows::TIMEOUT,
+    rows::WAIT,
+    rows::SERVER_OF_A,
+    rows::SERVER_OF_B,
+    rows::SEED_OF_TEST,
+    rows::OUT,
+    rows::JSON,
+    rows::QUIET,
 ];
 
 const GENERATE_ROWS: &[Row] = &[rows::SEED, rows::JOB];
@@ -109,6 +126,7 @@ fn asking_program<'a>(alloc: Global) -> Result<Command<'a>, AllocError>
     ensures { IfOk result (λ command. app_of command ≡ spec.asking_app) }
 {
     reading_program(alloc)?
+        .subcommand(command_of(alloc, &TEST, TEST_ROWS)?)?
         .subcommand(command_of(alloc, &RUN, RUN_ROWS)?)?
         .subcommand(command_of(alloc, &GENERATE, GENERATE_ROWS)?)?
         .subcommand(command_of(alloc, &SERVE, SERVE_ROWS)?)?
@@ -202,6 +220,7 @@ fn parts_of(name: &str) -> Option<(&'static Help, &'static [Row])> {
         "draw" => Some((&DRAW, DRAW_ROWS)),
         "convert" => Some((&CONVERT, CONVERT_ROWS)),
         "join" => Some((&JOIN, &[])),
+        "test" => Some((&TEST, TEST_ROWS)),
         "run" => Some((&RUN, RUN_ROWS)),
         "generate" => Some((&GENERATE, GENERATE_ROWS)),
         "serve" => Some((&SERVE, SERVE_ROWS)),

@@ -6,7 +6,7 @@ ghost use Rattle.mc_cli.specs.Args.{IsMeeting, MayBeName, notation_word};
 ghost use Rattle.mc_cli.specs.Kinds.{IsValue, MayBeValue};
 ghost use Rattle.mc_cli.specs.Line as line;
 
-use crate::args::{Notation, Seconds};
+use crate::args::{Notation, Seconds, SoughtKey};
 use crate::decimal::number_in;
 use crate::fault::OptionFault;
 use crate::rows::Row;
@@ -148,6 +148,16 @@ pub fn name<'a>(
     match Namespace::new(word.as_bytes()) {
         Some(name) => Ok(Some(name)),
         None => Err(OptionFault::Value(*row, word)),
+    }
+}
+
+/// The key that the option names, if it is there.
+pub fn key<'a>(options: &ArgMatches<'a>, row: &Row) -> Option<SoughtKey<'a>>
+    ensures { result ≡ first_value (found_of options.now) row.now.name.now }
+{
+    match options.get_str(row.name) {
+        Some(word) => Some(SoughtKey::new(word)),
+        None => None,
     }
 }
 

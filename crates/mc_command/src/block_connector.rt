@@ -36,7 +36,7 @@ struct BegunJobs {
 }
 
 impl<'a, C, R: Wait + Clock> BlockConnector<'a, C, R> {
-    /// Of a block with this first job, in a campaign that has begun then, and whose time has so many milliseconds, if it has one.
+    /// A connector for the block whose first job is `first`, in a campaign that began at `begun` and may last `time` milliseconds.
     pub fn new(
         rt: &'a R,
         connector: &'a C,
@@ -96,7 +96,7 @@ impl<'a, C, R: Wait + Clock> BlockConnector<'a, C, R> {
     }
 }
 
-/// Whether no job begins any more in a campaign that has begun then: if it has a time, that is over, or its connector has given up.
+/// Whether no further job begins in a campaign that began at `begun`: it has a time, which is over, or its connector has given up.
 pub fn is_over<R: Clock>(
     rt: &R,
     begun: &io::Result<Instant>,

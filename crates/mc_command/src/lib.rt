@@ -39,8 +39,11 @@ mod totals;
 mod watching;
 
 pub use campaigning::{campaign_answer, run_campaign_at};
+pub use keeping::play_kept;
 pub use meeting::seed_by;
 pub use playing::{run_command, run_target};
+pub use progress::Progress;
+pub use renaming::leaves_request;
 pub use run::{Played, Remarks};
 pub use run_teller::{RunObserver, RunTeller, Unobserved};
 pub use selftest::run_selftest;

@@ -7,11 +7,11 @@ use std::io::{Eprint, ErrorKind};
 use std::sync::{Mutex, Wait};
 use std::{io, mem};
 
-// When as many connects have failed one after the other, no other is tried.
+// After this many failed connects in a row none is tried.
 const MOST_IN_A_ROW: u32 = 64;
 
-/// The connections of the jobs of a report that were not made. Standard error says at once of each server and reason which is the first,
-/// and when so many connects in a row have failed that no other is tried.
+/// The connections that jobs of a report didn't get. Standard error tells the first of each server and reason as soon as it fails, and
+/// says when `MOST_IN_A_ROW` connects in a row have failed, after which none is tried.
 #[derive(Drop)]
 pub(crate) struct Failures<'a, R> {
     rt: &'a R,

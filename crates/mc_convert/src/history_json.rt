@@ -171,6 +171,7 @@ pub fn write_why(out: &mut JsonText, lines: &[&[u8]]) -> Result<(), OutOfMemory>
         write_answer(out, line)?;
     }
     out.end_list()?;
+    write_forms(out, lines)?;
     out.end()
 }
 
@@ -202,4 +203,15 @@ fn write_answer(out: &mut JsonText, line: &[u8]) -> Result<(), OutOfMemory> {
         }
         _ => Ok(()),
     }
+}
+
+// The replies that would be explained, if any are told.
+fn write_forms(out: &mut JsonText, lines: &[&[u8]]) -> Result<(), OutOfMemory> {
+    let mut forms = Vec::new(out.alloc());
+    'lines: for line in lines {
+        if let Some(form) = line.strip_prefix(b"explained would be ".as_slice()) {
+            forms.push(form)?;
+        }
+    }
+    out.strings("would_be_explained", forms.as_slice())
 }

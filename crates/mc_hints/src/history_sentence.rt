@@ -22,7 +22,7 @@ pub fn text_at(expected: Expected, spot: &Spot<'_>) -> &'static str {
         | Expected::ReplyToLastRequest
         | Expected::Word(ExpectedWord::ReplyWord) => { sentence_of_reply(expected, spot.word()) }
         Expected::Word(word) => sentence_of_word(word, spot),
-        Expected::HistoryHeader => "a history begins with the line `history 1` or `history 2`",
+        Expected::HistoryHeader => "the first line is `history 1`, `history 2` or `history 3`",
         Expected::SectionOrEnd if is_word(spot.word(), b"start") =>
             "`start` stands only after `explain`: what P is answered shows what was there",
         Expected::SectionOrEnd => "a line begins with P, A or B, or is `explain` or `end` alone",

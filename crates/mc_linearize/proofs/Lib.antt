@@ -10,6 +10,17 @@ pub mod ShownNumbers
 pub mod Seen
 pub mod Simulating
 pub mod Nexts
+pub mod Tracing
 pub mod Reaching
 pub mod Finishing
 pub mod ByKeys
+pub mod Following
+pub mod Freeing
+pub mod Advancing
+pub mod Numbered
+pub mod OnEachKey
+pub mod SortedMoves
+pub mod Placing
+pub mod Walking
+pub mod Joints
+pub mod KeyList

@@ -14,4 +14,7 @@ pub mod Verdicts
 -- What private contracts cite.
 pub mod Trials
 pub mod Searching
+pub mod Ways
 pub mod Finding
+pub mod Starts
+pub mod Joints

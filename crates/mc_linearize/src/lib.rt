@@ -2,8 +2,8 @@
 //!
 //! Below it stands `mc_timeline`, which says what a timeline is and when it has an explanation. The crate above uses three contracts:
 //! `confirm_timeline` is true exactly if the explanation explains the timeline (`specs/Claims.antt`); `judge_key` is right if it
-//! says of the requests on a key that an explanation explains them, or that none does; and so is `judge_timeline` of the whole
-//! timeline (`specs/Verdicts.antt`).
+//! says of the requests on a key that an explanation explains them, or that none does, and says neither only if all its turns were
+//! used; so of `judge_timeline`, for the whole timeline (`specs/Verdicts.antt`).
 #![tactic(auto)]
 
 mod confirm;
@@ -11,6 +11,7 @@ mod each_key;
 mod explanation;
 mod ground;
 mod held;
+mod index;
 mod joint;
 mod judging;
 mod keys;

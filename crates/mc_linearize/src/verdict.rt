@@ -20,6 +20,6 @@ pub enum TimelineVerdict {
     Explained(TimelineExplanation),
     /// Nothing explains the requests on this key, so nothing explains the timeline.
     Unexplained(Bytes),
-    /// Neither is known of the requests on this key, and no key is known to be unexplained.
+    /// Neither is known of the requests on this key, and no key was found to be unexplained.
     Undecided(Bytes),
 }

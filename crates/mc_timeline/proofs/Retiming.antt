@@ -7,7 +7,7 @@ use Rattle.mc_timeline.specs.Members.{IsIn}
 use Rattle.mc_timeline.specs.Operations.{Answer, Operation, IsLinearization}
 use Rattle.mc_protocol.specs.declared.reply.Reply.{Reply}
 use Rattle.mc_model.specs.declared.note.Note.TheVariants as note
-use Rattle.mc_timeline.specs.Explanations.{Effected, step_of, order_of, received, GivesEach, IsExplained}
+use Rattle.mc_timeline.specs.Explanations.{Effected, step_of, order_of, received, GivesEach, Explains, IsExplained}
 use Rattle.mc_claims.specs.Explains.{IsReceived, start_contents}
 use Rattle.mc_claims.specs.Replay.{replay, versions}
 use Rattle.mc_timeline.proofs.Members.{absent, is_absent, mapped_among}
@@ -121,7 +121,7 @@ same_some clock (Some a) = refl
 
 -- ---- effected operations
 
-abbrev retimed_effected : (ℕ → ℕ) → Effected → Effected
+abbrev pub retimed_effected : (ℕ → ℕ) → Effected → Effected
 retimed_effected clock a = record a { operation = retimed clock a.operation }
 
 same_steps : (clock : ℕ → ℕ) (effected : List Effected) → map step_of (map (retimed_effected clock) effected) ≡ map step_of effected
@@ -169,21 +169,26 @@ retimed_linear Used clock keeps operations order uses l =
         let some : is_some r.0.answer ≡ true = sym (same_some clock r.0.answer) ∙ ap (λ y. is_some y.answer) (sym r.1) ∙ is in
         subst (λ y. IsIn y (map (retimed clock) order)) (sym r.1) (among_retimed clock r.0 order (l.answered r.0 r.2 some))
 
+pub retimed_explains : (Used : ℕ → Type 0) (clock : ℕ → ℕ) → Keeps Used clock → (operations : List Operation)
+    → ((x : Operation) → IsIn x operations → Uses Used x) → (start : List (List ℕ × ℕ)) (effected : List Effected) → Explains operations start effected
+    → Explains (map (retimed clock) operations) start (map (retimed_effected clock) effected)
+retimed_explains Used clock keeps operations uses start effected e = record {
+  linear = subst (IsLinearization (map (retimed clock) operations)) (sym (retimed_order_of clock effected))
+      (retimed_linear Used clock keeps operations (order_of effected) uses e.linear);
+  start_fits = e.start_fits;
+  effected_fit = retimed_fits clock effected e.effected_fit;
+  keys = e.keys;
+  numbers = subst (λ l. AreDistinct (start ++ versions (start_contents start) l)) (sym (same_steps clock effected)) e.numbers;
+  replies = subst (λ l. GivesEach (map (retimed_effected clock) effected) (replay (start_contents start) l)) (sym (same_steps clock effected))
+      (retimed_gives clock effected (replay (start_contents start) (map step_of effected)) e.replies);
+}
+
 retimed_explained : (Used : ℕ → Type 0) (clock : ℕ → ℕ) → Keeps Used clock → (operations : List Operation)
     → ((x : Operation) → IsIn x operations → Uses Used x) → IsExplained operations → IsExplained (map (retimed clock) operations)
 retimed_explained Used clock keeps operations uses e = record {
   start = e.start;
   effected = map (retimed_effected clock) e.effected;
-  explains = record {
-    linear = subst (IsLinearization (map (retimed clock) operations)) (sym (retimed_order_of clock e.effected))
-        (retimed_linear Used clock keeps operations (order_of e.effected) uses e.explains.linear);
-    start_fits = e.explains.start_fits;
-    effected_fit = retimed_fits clock e.effected e.explains.effected_fit;
-    keys = e.explains.keys;
-    numbers = subst (λ l. AreDistinct (e.start ++ versions (start_contents e.start) l)) (sym (same_steps clock e.effected)) e.explains.numbers;
-    replies = subst (λ l. GivesEach (map (retimed_effected clock) e.effected) (replay (start_contents e.start) l)) (sym (same_steps clock e.effected))
-        (retimed_gives clock e.effected (replay (start_contents e.start) (map step_of e.effected)) e.explains.replies);
-  };
+  explains = retimed_explains Used clock keeps operations uses e.start e.effected e.explains;
 }
 
 -- ---- notes at other places
@@ -325,6 +330,13 @@ clock_keeps clock (t ∷ ts) (u ∷ us) s rt ru early late he hl less = by he hl
     by (inl e) (inr l) rest = let after = shown_after clock u.0 late ts us s.2 ru.0 l in let at = ap clock e ∙ s.0 in omega arith
     by (inr e) (inl l) rest = let after = place_after t.0 early ts rt.0 e in absurd (omega arith)
     by (inr e) (inr l) rest = rest e l
+
+-- the same notes at other places, in the same order, are explained too, by the same operations at the other times
+pub explains_elsewhere : (clock : ℕ → ℕ) (ts us : List Placed) → Rises ts → Rises us → Shows clock ts us → (start : List (List ℕ × ℕ))
+    (effected : List Effected) → Explains (operations_in ts) start effected → Explains (operations_in us) start (map (retimed_effected clock) effected)
+explains_elsewhere clock ts us rt ru shows start effected e =
+    subst (λ operations. Explains operations start (map (retimed_effected clock) effected)) (sym (retimed_operations clock ts us shows))
+    (retimed_explains (IsPlace ts) clock (clock_keeps clock ts us shows rt ru) (operations_in ts) (operation_places ts) start effected e)
 
 -- the same notes at other places, in the same order, are explained too
 pub explained_elsewhere : (ts us : List Placed) → Rises ts → Rises us → SameNotes ts us

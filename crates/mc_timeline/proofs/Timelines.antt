@@ -1,11 +1,12 @@
 -- A timeline is explained exactly where its restriction to each key is.
 use Rattle.std.proofs.Common.{◌≡◌, ◌<◌, ℕ, suc, Bool, true, false, cond, List, [], ◌∷◌, map, refl, ap, subst, sym, ◌∙◌, arith}
 use Rattle.mc_timeline.specs.Operations.{on_key}
-use Rattle.mc_timeline.specs.Explanations.{IsExplained}
+use Rattle.mc_timeline.specs.Explanations.{Effected, Explains, IsExplained}
 use Rattle.mc_timeline.specs.Timelines.{is_in_order, ClientNote, Placed, Waiting, placed, is_on_key, waiting_after, operations_in, operations_of, restricted}
 use Rattle.mc_timeline.specs.Laws.{LocalityOfTimelines}
 use Rattle.mc_timeline.proofs.Restricting.{notes_of, kept_after, notes_kept, same_operations}
-use Rattle.mc_timeline.proofs.Retiming.{AllAfter, Rises, SameNotes, retimed, clock_of, clock_shows, retimed_operations, explained_elsewhere}
+use Rattle.mc_timeline.proofs.Retiming.{AllAfter, Rises, SameNotes, Shows, retimed, retimed_effected, clock_of, clock_shows, retimed_operations}
+use Rattle.mc_timeline.proofs.Retiming.{explained_elsewhere, explains_elsewhere}
 use Rattle.mc_timeline.proofs.Joining.{is_local}
 
 -- ---- places
@@ -55,7 +56,7 @@ on_key_is : (key : List ℕ) (notes : List ClientNote) → is_in_order notes ≡
 on_key_is key notes ordered =
     same_operations (λ client. false) (λ client. false) key (placed 0 notes) (ap is_in_order (notes_placed 0 notes) ∙ ordered)
 
-restricted_is : (key : List ℕ) (notes : List ClientNote) → notes_of (kept_after (λ client. false) key (placed 0 notes)) ≡ restricted key notes
+pub restricted_is : (key : List ℕ) (notes : List ClientNote) → notes_of (kept_after (λ client. false) key (placed 0 notes)) ≡ restricted key notes
 restricted_is key notes = notes_kept (λ client. false) key (placed 0 notes) ∙ ap (restricted key) (notes_placed 0 notes)
 
 -- the operations of the restriction are those on the key, at other times
@@ -90,6 +91,17 @@ from_restricted key notes ordered e =
     subst (IsExplained) (on_key_is key notes ordered)
     (explained_elsewhere (placed 0 (notes_of kept)) kept (placed_rise 0 (notes_of kept)) rises (notes_same 0 kept)
     (subst (λ l. IsExplained (operations_of l)) (sym (restricted_is key notes)) e))
+
+-- what explains the requests on a key explains those of the timeline that are on it, at their own times
+pub explains_on_key : (key : List ℕ) (notes : List ClientNote) → is_in_order notes ≡ true → (clock : ℕ → ℕ)
+    → Shows clock (placed 0 (restricted key notes)) (kept_after (λ client. false) key (placed 0 notes)) → (start : List (List ℕ × ℕ))
+    (effected : List Effected) → Explains (operations_of (restricted key notes)) start effected
+    → Explains (on_key key (operations_of notes)) start (map (retimed_effected clock) effected)
+explains_on_key key notes ordered clock shows start effected e =
+    let kept = kept_after (λ client. false) key (placed 0 notes) in
+    subst (λ operations. Explains operations start (map (retimed_effected clock) effected)) (on_key_is key notes ordered)
+    (explains_elsewhere clock (placed 0 (restricted key notes)) kept (placed_rise 0 (restricted key notes))
+    (kept_rise (λ client. false) key (placed 0 notes) (placed_rise 0 notes)) shows start effected e)
 
 pub timelines_are_local : LocalityOfTimelines
 timelines_are_local notes ordered =

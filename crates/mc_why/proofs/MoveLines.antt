@@ -1,10 +1,11 @@
--- The lines of an explanation, one after the other.
+-- The lines of an explanation, and of forms, one after the other.
 use Rattle.std.proofs.Common.{◌≡◌, ℕ, ◌+◌, ◌<◌, List, [], ◌∷◌, ◌++◌, take, drop, length, get_or, sym, ap, ◌∙◌, append_assoc}
 use Rattle.std.specs.List.{flat_map}
 use Rattle.std.proofs.lemmas.List.{drop_more, flat_map_more, take_more}
 use Rattle.mc_model.specs.Sections.{Sections}
 use Rattle.mc_history.specs.declared.explanation.Move.{Move}
-use Rattle.mc_why.specs.WhyText.{move_text, order_text, start_text}
+use Rattle.mc_why.specs.WhyText.{form_text, move_text, order_text, start_text}
+use Rattle.mc_why.specs.declared.form.Form.{Form}
 
 -- one more item at the start
 pub starts_on : (front back out : List ℕ) (xs : List (List ℕ × ℕ)) (i : ℕ) (x d : List ℕ × ℕ) → i < length xs → x ≡ get_or xs i d
@@ -14,6 +15,15 @@ starts_on front back out xs i x d less here known printed =
     ∙ ap (λ (ys : List ℕ). ys ++ start_text (get_or xs i d)) known
     ∙ flat_map_more start_text front (take i xs) (get_or xs i d)
     ∙ ap (λ (ys : List (List ℕ × ℕ)). front ++ flat_map start_text ys) (sym (take_more xs i d less))
+
+-- one more form
+pub forms_on : (front back out : List ℕ) (xs : List Form) (i : ℕ) (x d : Form) → i < length xs → x ≡ get_or xs i d
+    → back ≡ front ++ flat_map form_text (take i xs) → out ≡ back ++ form_text x → out ≡ front ++ flat_map form_text (take (i + 1) xs)
+forms_on front back out xs i x d less here known printed =
+    printed ∙ ap (λ (y : Form). back ++ form_text y) here
+    ∙ ap (λ (ys : List ℕ). ys ++ form_text (get_or xs i d)) known
+    ∙ flat_map_more form_text front (take i xs) (get_or xs i d)
+    ∙ ap (λ (ys : List Form). front ++ flat_map form_text ys) (sym (take_more xs i d less))
 
 -- one more move
 pub moves_on : (s : Sections) (moves : List Move) (i : ℕ) (d : Move) (out next whole : List ℕ) → i < length moves

@@ -9,6 +9,7 @@ use Rattle.mc_claims.specs.Explains.{Explains}
 use Rattle.mc_explain.specs.Hopeless.{IsUnexplained}
 use Rattle.mc_why.specs.Cuts.{cut, place_count}
 use Rattle.mc_why.specs.Answers.{IsAnswerIn}
+use Rattle.mc_why.specs.Forms.{AreFormsAt}
 use Rattle.mc_why.specs.declared.answer.Answer.{Answer}
 use Rattle.mc_why.specs.declared.cause.Finding.{Finding}
 use Rattle.mc_why.specs.declared.cause.Finding.TheVariants as finding
@@ -31,8 +32,9 @@ abbrev pub place_of : Finding → ℕ
 place_of (finding.Cause cause) = cause.place
 place_of (finding.Undecided place) = place
 
--- what is found is so: the cause, with its answers; an open search was one of a cut of the history
+-- what is found is so: the cause, with its answers and its forms; an open search was one of a cut of the history
 abbrev pub IsFoundOf : History → Finding → Type 0
 IsFoundOf h (finding.Cause cause) =
     IsUnexplainedFrom h cause.place cause.explanation × AreAnswersAt h cause.place cause.explanation cause.answers
+    × AreFormsAt h cause.place cause.forms.items
 IsFoundOf h (finding.Undecided place) = (0 < place) × (place < place_count h)

@@ -18,9 +18,11 @@ pub use Rattle.mc_model.specs.Words
 pub mod Cuts
 pub mod Causes
 pub mod Answers
+pub mod Forms
 pub mod CutLaws
 pub mod AnswerLaws
 pub mod WhyText
 -- What private contracts cite.
 pub mod Answering
 pub mod Locating
+pub mod Trying

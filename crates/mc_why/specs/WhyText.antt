@@ -7,6 +7,7 @@ use Rattle.mc_protocol.specs.Words.{actor_word, verb_word}
 use Rattle.mc_protocol.specs.declared.actor.Actor.{Actor}
 use Rattle.mc_protocol.specs.declared.actor.Actor.TheVariants as actor
 use Rattle.mc_protocol.specs.declared.reply.Reply.{Reply}
+use Rattle.mc_protocol.specs.declared.reply.Reply.TheVariants as replies
 use Rattle.mc_protocol.specs.declared.request.{Request.Request, Verb.Verb}
 use Rattle.mc_protocol.specs.declared.sections.Sections.{Sections}
 use Rattle.mc_model.specs.declared.sent.Sent.{Sent}
@@ -23,6 +24,8 @@ use Rattle.mc_why.specs.declared.answer.Answer.{Answer}
 use Rattle.mc_why.specs.declared.answer.Answer.TheVariants as answer
 use Rattle.mc_why.specs.declared.cause.Finding.{Finding}
 use Rattle.mc_why.specs.declared.cause.Finding.TheVariants as finding
+use Rattle.mc_why.specs.declared.form.Form.{Form}
+use Rattle.mc_why.specs.declared.form.Form.TheVariants as form
 
 -- where no notes are kept, the section of the request at a place, and its place there: P's come first, then A's, then B's
 abbrev pub request_place : sent.Sections → ℕ → Actor × ℕ
@@ -81,6 +84,23 @@ answer_text s section (Some (answer.Acted place reply)) =
 abbrev pub answers_text : sent.Sections → Sections (Option Answer) → List ℕ
 answers_text s answers = answer_text s actor.P answers.p ++ (answer_text s actor.A answers.a ++ answer_text s actor.B answers.b)
 
+-- a hit that says in place of its number that this is a new one
+abbrev pub new_words : ℕ → List ℕ → List ℕ
+new_words flags body = join_words (reply_words (replies.Hit flags body None)) ++ codes " (a new number)"
+
+-- the words of a form
+abbrev pub form_words : Form → List ℕ
+form_words (form.Reply reply) = join_words (reply_words reply)
+form_words (form.NewNumber flags body number) = new_words flags body
+
+-- its line
+abbrev pub form_text : Form → List ℕ
+form_text form = codes "explained would be " ++ (form_words form ++ codes "\n")
+
+-- what a cache answers, and what would be explained
+abbrev pub told_text : sent.Sections → Sections (Option Answer) → List Form → List ℕ
+told_text s answers forms = answers_text s answers ++ flat_map form_text forms
+
 -- a key that reads as a mark of a move
 abbrev pub is_mark : List ℕ → Bool
 is_mark key = bytes_eq key (codes "pad") || bytes_eq key (codes "refuse")
@@ -113,10 +133,10 @@ explained_text s claim = codes "explained before\n" ++ (flat_map start_text clai
 abbrev pub undecided_text : ℕ → List ℕ
 undecided_text line = codes "why\nundecided at line " ++ (decimal line ++ codes "\nend\n")
 
--- what is found of a history, whose place is the one at this line: what stands there, what explains what stands before it, and
--- what a cache answers there
+-- what is found of a history, whose place is the one at this line: what stands there, what explains what stands before it, what a
+-- cache answers there, and the replies that would be explained
 abbrev pub why_text : ℕ → History → Finding → List ℕ
 why_text line h (finding.Cause cause) =
     codes "why\n" ++ (place_text line (words_at h cause.place) ++ (explained_text (cut cause.place h).sections cause.explanation
-    ++ (answers_text h.sections cause.answers ++ codes "end\n")))
+    ++ (told_text h.sections cause.answers cause.forms.items ++ codes "end\n")))
 why_text line h (finding.Undecided place) = undecided_text line

@@ -2,7 +2,7 @@
 ghost use Rattle.std.specs.Prelude.{◌≡◌};
 ghost use Rattle.mc_why.specs.Causes.{place_of};
 
-use crate::Answer;
+use crate::{Answer, Form};
 use mc_explain::Explanation;
 use mc_protocol::Sections;
 
@@ -17,6 +17,9 @@ pub struct Cause {
     /// What a cache that acts by the explanation answers: to the next request of each section that stands up to the place, and to
     /// one in the explanation that was not answered before it.
     pub answers: Sections<Option<Answer>>,
+    /// The forms of the replies that would be explained in place of the one that came there, words first, then numbers from the smallest,
+    /// or hits. There are none if there would be more than four, or if it took too much to find out.
+    pub forms: Vec<Form>,
 }
 
 /// What is found of a history that nothing explains.

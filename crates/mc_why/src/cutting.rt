@@ -39,7 +39,11 @@ fn cut_notes(alloc: Global, notes: &[(Actor, Note)], count: usize) -> Result<His
 }
 
 /// The history of the first `count` requests of one.
-fn cut_sections(alloc: Global, history: &History, count: usize) -> Result<History, OutOfMemory>
+pub(crate) fn cut_sections(
+    alloc: Global,
+    history: &History,
+    count: usize,
+) -> Result<History, OutOfMemory>
     requires { is_history history.now.sections ≡ true }
     ensures { IfOk result (λ h. h ≡ without_notes (cuts.first_requests count history.now.sections)) }
 {
@@ -69,13 +73,17 @@ fn want_of_memory(kind: HistoryKind) -> OutOfMemory
 }
 
 /// The first `count` of the items, or all where there are fewer.
-fn first<T>(items: &[T], count: usize) -> &[T]
+pub(crate) fn first<T>(items: &[T], count: usize) -> &[T]
     ensures { result.now ≡ take count items.now }
 {
     items.get(..count).unwrap_or(items)
 }
 
-fn copy_notes(alloc: Global, notes: &[(Actor, Note)]) -> Result<Vec<(Actor, Note)>, OutOfMemory>
+/// A copy, in memory of its own.
+pub(crate) fn copy_notes(
+    alloc: Global,
+    notes: &[(Actor, Note)],
+) -> Result<Vec<(Actor, Note)>, OutOfMemory>
     ensures { IfOk result (λ copies. copies.items ≡ notes.now) }
 {
     let mut copies = Vec::with_capacity(alloc, notes.len())?;
@@ -95,7 +103,8 @@ fn copy_note(alloc: Global, note: &Note) -> Result<Note, OutOfMemory>
     })
 }
 
-fn copy_requests(alloc: Global, section: &[Sent]) -> Result<Vec<Sent>, OutOfMemory>
+/// A copy, in memory of its own.
+pub(crate) fn copy_requests(alloc: Global, section: &[Sent]) -> Result<Vec<Sent>, OutOfMemory>
     ensures { IfOk result (λ copies. copies.items ≡ section.now) }
 {
     let mut copies = Vec::with_capacity(alloc, section.len())?;
@@ -119,7 +128,8 @@ fn copy_sent(alloc: Global, sent: &Sent) -> Result<Sent, OutOfMemory>
     })
 }
 
-fn copy_request(alloc: Global, request: &Request) -> Result<Request, OutOfMemory>
+/// A copy, in memory of its own.
+pub(crate) fn copy_request(alloc: Global, request: &Request) -> Result<Request, OutOfMemory>
     ensures { IfOk result (λ copy. copy ≡ request.now) }
 {
     Ok(Request {

@@ -6,6 +6,7 @@ ghost use Rattle.mc_why.specs.Answering.{IsAnswerToNext, IsAnswerToUnanswered};
 ghost use Rattle.mc_why.specs.Causes.{AreAnswersAt, IsFoundOf};
 
 use crate::cutting::cut;
+use crate::forms::forms_at;
 use crate::locating::{Located, locate};
 use crate::moved::{cache_after, count_moves, first_unanswered, nth_move, reply_of};
 use crate::{Answer, Cause, Finding};
@@ -20,8 +21,9 @@ const PLAIN: Choice = Choice {
     read: true,
 };
 
-/// From which place on nothing explains the history, what explains the part before it, and what a cache answers there. Each search
-/// for an explanation takes at most `limit` turns; where one of them finds none in that many, only its place is answered.
+/// From which place on nothing explains the history, what explains the part before it, what a cache answers there, and which replies
+/// would be explained. Each search for an explanation takes at most `limit` turns. If a search for the place uses them up, only the
+/// place is answered. If a search for a reply does, no reply is told.
 ///
 /// # Errors
 ///
@@ -33,10 +35,12 @@ pub fn why_unexplained(alloc: Global, history: &History, limit: u64) -> Result<F
     match locate(alloc, history, limit)? {
         Located::At(place, explanation) => {
             let answers = answers_at(alloc, history, place, &explanation)?;
+            let forms = forms_at(alloc, history, place, limit)?;
             Ok(Finding::Cause(Cause {
                 place,
                 explanation,
                 answers,
+                forms,
             }))
         }
         Located::Undecided(place) => Ok(Finding::Undecided(place)),

@@ -3,9 +3,10 @@
 
 mod forms;
 mod sources;
+mod suite;
 
 ghost use Rattle.std.specs.Prelude.{◌≡◌, false, true};
-ghost use Rattle.mc_answers.specs.Answers.{AnswersRightly, Does};
+ghost use Rattle.mc_answers.specs.Answers.{AnswersQuestion, AnswersRightly};
 ghost use Rattle.mc_answers.specs.Statuses.{status_number};
 ghost use Rattle.mc_answers.specs.Writing.{WritesRightly};
 ghost use Rattle.mc_command.specs.Command.{WritesReport};
@@ -15,6 +16,7 @@ ghost use Rattle.mc_command.specs.ServeAnswers.{Serves};
 
 use crate::forms::{Form, write_in};
 use crate::sources::SOURCES;
+use crate::suite::{answer_of_races, test_races};
 use mc_answers::{
     Reader, Sink, Source, Status, Writer, answer_question, explain_fault, unread_line,
     write_generated, write_text,
@@ -31,7 +33,7 @@ use std::alloc::Global;
 use std::io::{Eprint, ErrorKind, IsTerminal};
 use std::net::{Net, TcpListener, TcpStream};
 use std::process::ExitCode;
-use std::rt::{Clock, Env};
+use std::rt::{Clock, Env, Files};
 use std::sync::Wait;
 use std::thread::Threads;
 use std::{env, io};
@@ -104,13 +106,17 @@ where
         + Clock
         + Sync
         + Eprint
+        + Files
         + AllocGlobal,
 {
     if asks_alone(line, &["--built-from"]) {
         return write_text(SOURCES, Status::Success, output).number();
     }
+    if let Some(status) = answer_of_races(rt.alloc(), line, output, faults) {
+        return status;
+    }
     match read_request(rt.alloc(), line) {
-        Ok(request) => perform(rt, request, terminal, input, output),
+        Ok(request) => perform(rt, request, terminal, input, output, faults),
         Err(fault) => match explain_fault(&fault, output, faults) {
             Status::Success if asks_alone(line, &["--version", "-V"]) => {
                 write_text(SOURCES, Status::Success, output).number()
@@ -120,7 +126,7 @@ where
     }
 }
 
-// Whether the line has one of these words behind the program's name, and no other.
+// Whether the line is the program's name and one of these words.
 fn asks_alone(line: &[String], words: &[&str]) -> bool {
     match line {
         [_, word] => words.iter().any(|it| *it == word.as_str()),
@@ -129,12 +135,13 @@ fn asks_alone(line: &[String], words: &[&str]) -> bool {
 }
 
 // Does what is asked for, and answers the exit status.
-fn perform<R, I: Source, O: Sink>(
+fn perform<R, I: Source, O: Sink, F: Sink>(
     rt: &R,
     request: Request<'_>,
     terminal: Terminal,
     input: &mut I,
     output: &mut O,
+    faults: &mut F,
 ) -> u8
 where
     R: Net<Listener = TcpListener, Stream = TcpStream>
@@ -143,6 +150,7 @@ where
         + Clock
         + Sync
         + Eprint
+        + Files
         + AllocGlobal,
 {
     let alloc = rt.alloc();
@@ -150,7 +158,7 @@ where
     match request {
         Request::Question(question) => {
             tell_reading(rt, terminal, question.input_name());
-            if question == Question::Join {
+            if matches!(question, Question::Join) {
                 return join(rt, alloc, input, output);
             }
             ask(alloc, question, input, output)
@@ -167,13 +175,14 @@ where
         Request::Serve(service) => host(rt, alloc, service, output),
         Request::Campaign(target) => campaign(rt, alloc, target, columns, output),
         Request::Selftest => test(rt, alloc, output),
+        Request::Test(args) => test_races(rt, &args, columns, output, faults),
     }
 }
 
 // Answers the question about the input.
 fn ask<I: Source, O: Sink>(alloc: Global, question: Question, input: &mut I, output: &mut O) -> u8
     ensures { (ended : Status) × (result ≡ status_number ended)
-        × AnswersRightly I.left I.has_failed O.written O.has_failed (Does question)
+        × AnswersQuestion I.left I.has_failed O.written O.has_failed question.entry
         input.old input.new output.old output.new ended }
 {
     answer_question(alloc, question, input, output).number()

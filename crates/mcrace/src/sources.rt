@@ -2,4 +2,4 @@
 
 /// The SHA-256 of all sources, definitions and proofs but of this file.
 pub const SOURCES: &[u8] =
-    b"sources 7ab6d27b0688d1ef919531b7faff6bee97d8405c6bb3c9cb5551e7d36b8d51d4\n";
+    b"sources 4eb1af8ce11968b81ddbd999a0fd2a8771821ee0112b8f576871053b756c80b4\n";

@@ -6,7 +6,7 @@ use mc_answers::{
 };
 use mc_cli::{
     CheckArgs, ConvertArgs, DrawArgs, JudgeArgs, LineFault, Notation, Question, Repeat, Request,
-    RunArgs, Search, Seconds, ServeArgs, read_request,
+    RunArgs, Search, Seconds, ServeArgs, SoughtKey, read_request,
 };
 use mc_settings::Meeting;
 use std::alloc::{AllocError, Global};
@@ -17,13 +17,6 @@ use std::test::Fail;
 const SEARCH: Search = Search {
     limit: 7,
     why: true,
-};
-
-const JUDGED: JudgeArgs = JudgeArgs {
-    how: SEARCH,
-    json: false,
-    run: false,
-    job: None,
 };
 
 const CHECKED: CheckArgs = CheckArgs {
@@ -49,10 +42,16 @@ const SERVICE: ServeArgs = ServeArgs {
     racy: false,
 };
 
-/// What a line asks for, without its server.
+/// What a line asks for, without its server, its form of an answer and its key.
 #[derive(Clone, Copy, Debug, Drop, PartialEq, Eq)]
 enum Asked {
-    Question(Question),
+    Judge(Search, Option<u64>),
+    Check(CheckArgs),
+    Asm(bool),
+    Drive(Search),
+    Draw(DrawArgs),
+    Convert(ConvertArgs),
+    Join,
     Run(Search),
     Generate(u64, u64),
     Serve(ServeArgs),
@@ -63,37 +62,37 @@ enum Asked {
 static LINES: &[(&[&str], Option<Asked>, Option<&str>)] = &[
     (
         &["mcrace", "judge", "--limit", "7", "--why"],
-        Some(Asked::Question(Question::Judge(JUDGED))),
+        Some(Asked::Judge(SEARCH, Some(7))),
         Some("a history"),
     ),
     (
         &["mcrace", "check"],
-        Some(Asked::Question(Question::Check(CHECKED))),
+        Some(Asked::Check(CHECKED)),
         Some("a script or an image"),
     ),
     (
         &["mcrace", "asm", "--why"],
-        Some(Asked::Question(Question::Asm(true))),
+        Some(Asked::Asm(true)),
         Some("a script"),
     ),
     (
         &["mcrace", "drive", "--why", "--limit", "7"],
-        Some(Asked::Question(Question::Drive(SEARCH))),
+        Some(Asked::Drive(SEARCH)),
         Some("a script"),
     ),
     (
         &["mcrace", "draw", "--text", "--job", "31", "--limit", "7"],
-        Some(Asked::Question(Question::Draw(DRAWN))),
+        Some(Asked::Draw(DRAWN)),
         Some("a history"),
     ),
     (
         &["mcrace", "convert", "--to", "edn", "--job", "31"],
-        Some(Asked::Question(Question::Convert(CONVERTED))),
+        Some(Asked::Convert(CONVERTED)),
         Some("a history"),
     ),
     (
         &["mcrace", "join"],
-        Some(Asked::Question(Question::Join)),
+        Some(Asked::Join),
         Some("reports of a campaign"),
     ),
     (
@@ -131,12 +130,24 @@ fn lines_ask_for_what_they_say(rt: HostRuntime) -> Result<(), Fail> {
 
 fn asked_by(request: &Request<'_>) -> Option<Asked> {
     match request {
-        Request::Question(question) => Some(Asked::Question(*question)),
+        Request::Question(question) => Some(asked_of_input(question)),
         Request::Run(args) => Some(Asked::Run(args.how)),
         Request::Generate(seed, job) => Some(Asked::Generate(*seed, *job)),
         Request::Serve(service) => Some(Asked::Serve(*service)),
-        Request::Campaign(_) => None,
+        Request::Test(_) | Request::Campaign(_) => None,
         Request::Selftest => Some(Asked::Selftest),
+    }
+}
+
+fn asked_of_input(question: &Question<'_>) -> Asked {
+    match question {
+        Question::Judge(args) => Asked::Judge(args.how, args.limit),
+        Question::Check(args) => Asked::Check(*args),
+        Question::Asm(why) => Asked::Asm(*why),
+        Question::Drive(how) => Asked::Drive(*how),
+        Question::Draw(args) => Asked::Draw(*args),
+        Question::Convert(args) => Asked::Convert(*args),
+        Question::Join => Asked::Join,
     }
 }
 
@@ -155,7 +166,7 @@ Usage: mcrace run HOST:PORT [OPTIONS] < FILE
 
 For more information, try '--help'.
 
-mcrace: --seed is an option of generate, campaign
+mcrace: --seed is an option of test, generate, campaign
 ";
 
 #[test]
@@ -173,6 +184,46 @@ fn is_other_option_named(alloc: Global, line: &[String]) -> bool {
     match &fault {
         LineFault::Wrong(text) => text.as_str() == OTHER_OPTION,
         _ => false,
+    }
+}
+
+/// Lines of `judge`, the limit that they name, and the key.
+static JUDGED_KEYS: &[(&[&str], Option<u64>, Option<&str>)] = &[
+    (&["mcrace", "judge"], None, None),
+    (
+        &["mcrace", "judge", "--key", "a", "--limit", "9"],
+        Some(9),
+        Some("a"),
+    ),
+    (
+        &["mcrace", "judge", "--key=a b", "--run"],
+        None,
+        Some("a b"),
+    ),
+    (&["mcrace", "judge", "--key", ""], None, Some("")),
+];
+
+#[test]
+fn lines_of_judge_name_limits_and_keys(rt: HostRuntime) -> Result<(), Fail> {
+    for (words, limit, key) in JUDGED_KEYS {
+        let line = line_of(rt.alloc(), words)?;
+        assert!(rt; is_judged_with(rt.alloc(), line.as_slice(), *limit, *key));
+    }
+    Ok(())
+}
+
+fn is_judged_with(alloc: Global, line: &[String], limit: Option<u64>, key: Option<&str>) -> bool {
+    let args: JudgeArgs<'_> = match read_request(alloc, line) {
+        Ok(Request::Question(Question::Judge(args))) => args,
+        _ => return false,
+    };
+    args.limit == limit && is_key(args.key.as_ref(), key)
+}
+
+fn is_key(found: Option<&SoughtKey<'_>>, wanted: Option<&str>) -> bool {
+    match found {
+        Some(found) => wanted.is_some_and(|word| found.as_bytes() == word.as_bytes()),
+        None => wanted.is_none(),
     }
 }
 

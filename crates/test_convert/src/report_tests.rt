@@ -49,14 +49,16 @@ static ROWS: [(&str, &str); 12] = [
     (
         "run 7 of 1000\nruns 7 explained 6 unexplained 1 other 0 overlapped 5\nP done\nA failed 3 Ended\nB not begun\n\
          unexplained\nwhy\nline 4 B begin get a\nexplained before\nstart a 7\nP 0\nnext B get a answers MISS\n\
-         acted A incr a 1 answers NUMBER 7\nend\nhistory 2\nend\n",
+         acted A incr a 1 answers NUMBER 7\nexplained would be MISS\nexplained would be HIT 0 =%20%22 (a new number)\n\
+         end\nhistory 2\nend\n",
         "{\"run\":7,\"of\":1000,\"totals\":{\"runs\":7,\"explained\":6,\"unexplained\":1,\"other\":0,\"overlapped\":5},\
          \"verdict\":\"unexplained\",\"endings\":{\"P\":{\"state\":\"done\"},\"A\":{\"state\":\"failed\",\"code\":3,\"fault\":\"Ended\"},\
          \"B\":{\"state\":\"not begun\"}},\"why\":{\"line\":4,\"section\":\"B\",\"request\":{\"verb\":\"get\",\"key\":\"a\"},\
          \"start\":[{\"key\":\"a\",\"number\":\"7\"}],\"order\":[{\"section\":\"P\",\"number\":\"0\"}],\
          \"answers\":[{\"when\":\"next\",\"section\":\"B\",\"request\":{\"verb\":\"get\",\"key\":\"a\"},\"reply\":{\"word\":\"MISS\"}},\
          {\"when\":\"acted\",\"section\":\"A\",\"request\":{\"verb\":\"incr\",\"key\":\"a\",\"number\":\"1\"},\
-         \"reply\":{\"word\":\"NUMBER\",\"number\":\"7\"}}]},\
+         \"reply\":{\"word\":\"NUMBER\",\"number\":\"7\"}}],\
+         \"would_be_explained\":[\"MISS\",\"HIT 0 =%20%22 (a new number)\"]},\
          \"history\":{\"version\":2,\"sections\":[\"P\",\"A\",\"B\"],\"notes\":[]}}\n",
     ),
 ];

@@ -160,6 +160,24 @@ static JOINED: &[Joined] = &[
         &[],
         &[(0, 1), (0, 1), (2, 0), (3, 2), (1, 3)],
     ),
+    // each key that held something at the start stands there, and an unanswered request may take effect
+    (
+        &[
+            (0, true, "delete c"),
+            (1, true, "delete a"),
+            (0, false, "DELETED"),
+            (1, false, "DELETED"),
+            (2, true, "set b 0 =1"),
+            (2, false, "STORED"),
+            (3, true, "set c 0 =1"),
+            (0, true, "get a"),
+            (1, true, "get c"),
+            (0, false, "MISS"),
+            (1, false, "HIT 0 =1"),
+        ],
+        &[(b"c", 1), (b"a", 1)],
+        &[(0, 0), (1, 0), (2, 1), (3, 2), (0, 0), (1, 0)],
+    ),
 ];
 
 fn judged(
@@ -204,7 +222,11 @@ fn judges_one_key(alloc: Global) -> Result<bool, WordsFault> {
 fn judges_each_key(alloc: Global) -> Result<bool, WordsFault> {
     for (lines, limit, word, key) in KEYS {
         let (verdict, turns) = judged(alloc, &[], lines, *limit)?;
+        let is_used_up = turns == *limit;
         if !is_verdict(&verdict, word, key) || turns > *limit {
+            return Ok(false);
+        }
+        if *word == "undecided" && !is_used_up {
             return Ok(false);
         }
     }

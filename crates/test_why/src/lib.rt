@@ -4,6 +4,8 @@
 #[cfg(test)]
 mod cut_tests;
 #[cfg(test)]
+mod forms_tests;
+#[cfg(test)]
 mod memory;
 #[cfg(test)]
 mod report_tests;

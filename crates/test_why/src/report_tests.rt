@@ -11,7 +11,7 @@ use std::test::Fail;
 // The text of a history that nothing explains, the limit of each search, the number of the line, and what is printed.
 type Row = (&'static str, u64, u64, &'static str);
 
-static PRINTED: [Row; 10] = [
+static PRINTED: [Row; 11] = [
     // Both delete what is there once. A's reply stands, and after it B finds nothing.
     (
         "history 2\nP begin delete k\nP reply NOT_FOUND\nP begin set k 0 =old\nP reply STORED\nB begin delete k\n\
@@ -19,7 +19,7 @@ static PRINTED: [Row; 10] = [
         u64::MAX,
         9,
         "why\nline 9 B reply DELETED\nexplained before\nP 0  delete k -> NOT_FOUND\nP 1  set k 0 =old -> STORED\n\
-         A 0  delete k -> DELETED\nnext B delete k answers NOT_FOUND\nend\n",
+         A 0  delete k -> DELETED\nnext B delete k answers NOT_FOUND\nexplained would be NOT_FOUND\nend\n",
     ),
     // The number of the line is the caller's.
     (
@@ -27,7 +27,7 @@ static PRINTED: [Row; 10] = [
         u64::MAX,
         u64::MAX,
         "why\nline 18446744073709551615 P reply HIT 7 =%20\nexplained before\nstart k 1  k held an item\n\
-         P 0  delete k -> DELETED\nnext P get k answers MISS\nend\n",
+         P 0  delete k -> DELETED\nnext P get k answers MISS\nexplained would be MISS\nend\n",
     ),
     // Either branch may come next: A's stands before B's.
     (
@@ -36,7 +36,8 @@ static PRINTED: [Row; 10] = [
         u64::MAX,
         7,
         "why\nline 7 B reply HIT 0 =7\nexplained before\nP 0  delete a -> NOT_FOUND\nP 1  set a 0 =5 -> STORED\n\
-         next A incr a 1 answers NUMBER 6\nnext B get a answers HIT 0 =5\nend\n",
+         next A incr a 1 answers NUMBER 6\nnext B get a answers HIT 0 =5\n\
+         explained would be HIT 0 =5\nexplained would be HIT 0 =6\nend\n",
     ),
     // A's request has acted, since B read what it counted.
     (
@@ -46,7 +47,7 @@ static PRINTED: [Row; 10] = [
         8,
         "why\nline 8 A reply NUMBER 7\nexplained before\nP 0  delete a -> NOT_FOUND\nP 1  set a 0 =5 -> STORED\n\
          A 2  incr a 1 -> ?\nB 0  get a -> HIT 0 =6\nacted A incr a 1 answers NUMBER 6\n  A's incr has acted already, \
-         where it stands in this order, and a cache answers NUMBER 6\nend\n",
+         where it stands in this order, and a cache answers NUMBER 6\nexplained would be NUMBER 6\nend\n",
     ),
     // Without notes the line is that of the request, with its reply. B's second request stands at the place.
     (
@@ -54,7 +55,7 @@ static PRINTED: [Row; 10] = [
         u64::MAX,
         5,
         "why\nline 5 B get a -> MISS\nexplained before\nP 0  delete a -> NOT_FOUND\nB 1  set a 0 =1 -> STORED\n\
-         A 0  get a -> HIT 0 =1\nnext B get a answers HIT 0 =1\nend\n",
+         A 0  get a -> HIT 0 =1\nnext B get a answers HIT 0 =1\nexplained would be HIT 0 =1\nend\n",
     ),
     // A's is at the place, which stands before those of B, whatever the text has first.
     (
@@ -62,7 +63,7 @@ static PRINTED: [Row; 10] = [
         u64::MAX,
         4,
         "why\nline 4 A set a 3 =x -> NOT_STORED\nexplained before\nP 0  delete a -> NOT_FOUND\n\
-         next A set a 3 =x answers STORED\nend\n",
+         next A set a 3 =x answers STORED\nexplained would be STORED\nend\n",
     ),
     // One of P's.
     (
@@ -70,7 +71,7 @@ static PRINTED: [Row; 10] = [
         u64::MAX,
         3,
         "why\nline 3 P touch a -> TOUCHED\nexplained before\nP 0  delete a -> NOT_FOUND\n\
-         next P touch a answers NOT_FOUND\nend\n",
+         next P touch a answers NOT_FOUND\nexplained would be NOT_FOUND\nend\n",
     ),
     // A's request was not answered and has acted, and B's comes next.
     (
@@ -79,7 +80,7 @@ static PRINTED: [Row; 10] = [
         6,
         "why\nline 6 B get a -> HIT 0 =7\nexplained before\nP 0  delete a -> NOT_FOUND\nP 1  set a 0 =5 -> STORED\n\
          A 2  incr a 1 -> ?\nB 0  get a -> HIT 0 =6\nacted A incr a 1 answers NUMBER 6\n  A's incr has acted already, \
-         where it stands in this order, and a cache answers NUMBER 6\nnext B get a answers HIT 0 =6\nend\n",
+         where it stands in this order, and a cache answers NUMBER 6\nnext B get a answers HIT 0 =6\nexplained would be HIT 0 =6\nend\n",
     ),
     // A key that reads as a mark of a move isn't shown beside one.
     (
@@ -87,7 +88,17 @@ static PRINTED: [Row; 10] = [
         u64::MAX,
         5,
         "why\nline 5 P get a -> HIT 0 =\nexplained before\nstart a 1  a held an item\nP 0\nP 0\nP 0  delete a -> DELETED\n\
-         next P get a answers MISS\nend\n",
+         next P get a answers MISS\nexplained would be MISS\nend\n",
+    ),
+    // What A stored has a number that no `gets` showed, and B hasn't begun before A was answered.
+    (
+        "history 2\nP begin delete k\nP reply NOT_FOUND\nP begin set k 0 =10\nP reply STORED\nP begin gets k\nP reply HIT 0 =10 7\n\
+         A begin incr k 1\nA reply NUMBER 11\nB begin gets k\nB reply HIT 0 =10 7\nend\n",
+        u64::MAX,
+        11,
+        "why\nline 11 B reply HIT 0 =10 7\nexplained before\nP 0  delete k -> NOT_FOUND\nP 7  set k 0 =10 -> STORED\n\
+         P 0  gets k -> HIT 0 =10 7\nA 1  incr k 1 -> NUMBER 11\nnext B gets k answers HIT 0 =11 1\n\
+         explained would be HIT 0 =11 (a new number)\nend\n",
     ),
     // Of three requests the first two are tried first, and one turn isn't enough for them.
     (

@@ -148,7 +148,11 @@ fn lines_of(alloc: Global, finding: &Finding) -> Result<Vec<u8>, Fail> {
 }
 
 // What is found of the history, once it is known that nothing explains it.
-fn found_of(alloc: Global, history: &History, limit: u64) -> Result<Option<Finding>, OutOfMemory> {
+pub(crate) fn found_of(
+    alloc: Global,
+    history: &History,
+    limit: u64,
+) -> Result<Option<Finding>, OutOfMemory> {
     let (verdict, _) = judge(alloc, history, u64::MAX)?;
     match verdict {
         Verdict::Unexplained => Ok(Some(again(|| why_unexplained(alloc, history, limit))?)),

@@ -11,5 +11,6 @@ pub const FORMATS: &str = "What mcrace reads and writes:
   image    a script in bytes; see `mcrace help image`
            written by asm; read by check
 
-All are text of lines, but for images. An input has at most 1,048,576 bytes.
+All are text of lines, but for images. An input has at most 1,048,576 bytes; but
+a `history 3` has at most 67,108,864.
 ";

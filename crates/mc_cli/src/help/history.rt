@@ -56,6 +56,19 @@ before it (linearizability).
 P deletes each key before its first other request, so that what the key holds
 is known. A client sends at most 24 requests.
 
+`history 3` is a `history 2` of many clients, which are numbers from 0 to 63. It
+has up to 100,000 requests and 1,000 keys. The first request of a key is a
+`delete` or a `set` of any client, and is answered before another one of the key
+begins. The number of a `cas` is one that a `gets` of any client showed:
+
+  history 3
+  0 begin delete a
+  0 reply NOT_FOUND
+  2 begin set a 0 =5
+  11 begin get a
+  2 reply STORED
+  end
+
 Explanations
 
 An explanation is an order in which the server may have acted. It explains the
@@ -106,20 +119,23 @@ with a sentence, stands for a request that acts in the order and has no reply
 before line 9. In a `history 1`, P's lines come first, then A's and then B's,
 whatever the order of the input. Each search takes at most as many turns as
 `--limit` says; if one is undecided, `undecided at line 9` and `end` are all
-that follows `why`.
+that follows `why`. For a `history 3`, `overlap 5 8` stands in place of `next`
+and `acted`: the lines where this key's requests began that had no reply before.
 
 Refusals
 
 A text that is no history is refused, as `refused history 5 WrongReply line 4`:
-  1 Header        the first line is neither `history 1` nor `history 2`
+  1 Header        the first line isn't `history 1`, `history 2` or `history 3`
   2 Line          the line or one of its words may not stand there
   3 Number        a number is too large, or has more than 20 digits
   4 Order         a line of P after one of A or B, a request before the reply
                   that its client waits for, or a reply that answers none
   5 WrongReply    the protocol has no such reply to the request
-  6 NotCleared    the key's first request is not a `delete` of P
+  6 NotCleared    the key's first request is not a `delete` of P; in a `history
+                  3`, it is no `delete` or `set`, or not yet answered
   7 UnseenNumber  no `gets` of the key showed the number of this `cas` before
-  8 TooMany       more than 24 requests of a client, or more than 8 keys
+  8 TooMany       more than 24 requests of a client, or more than 8 keys; in a
+                  `history 3`, more than 100,000 requests or 1,000 keys
   9 Unended       the line `end` is missing
 With `--why` the input's line follows, with a caret under the word at fault and
 what was expected there:

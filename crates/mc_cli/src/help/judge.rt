@@ -6,8 +6,8 @@ pub const JUDGE: Help = Help {
     usage: "mcrace judge [OPTIONS] < FILE",
     about: "Judges the history on standard input",
     long_about: "Judges the history on standard input: whether one cache can have given every
-reply in it, that is, whether it is linearizable (`history 2`) or sequentially
-consistent (`history 1`).
+reply in it, that is, whether it is linearizable (`history 2` and `history 3`)
+or sequentially consistent (`history 1`).
 
   history 2
   P begin delete a
@@ -18,8 +18,9 @@ consistent (`history 1`).
   B reply HIT 0 =1
   end
 
-P runs alone first, then A and B run at once. `mcrace help history` describes
-the format, the lines of an explanation, and why a text is refused.
+P runs alone first, then A and B run at once. A `history 3` has many clients,
+and up to 67,108,864 bytes. `mcrace help history` describes the formats, the
+lines of an explanation, and why a text is refused.
 
 The answer:
   explained    an explanation was found; its lines follow, and `end`
@@ -27,6 +28,11 @@ The answer:
   undecided    the search used up its turns before either was known
 If the history claims an explanation, the answer is `confirmed` or `not
 confirmed`.
+
+A `history 3` is judged key by key. After `unexplained` or `undecided` stands
+the first such key, as `key KEY`. `--key KEY` judges this key alone. `--limit`
+holds for each key; without it the limit is 100 turns for each request of the
+key, if that is more than the default.
 
 A turn tries one request at one place of the order. The search remembers its
 dead ends in up to 256 MiB; beyond that it may need more turns.
@@ -42,13 +48,14 @@ takes the first history. `--job N` takes that of job N, of what `campaign
 
 With `--why`, `unexplained` is followed by the first line that no order can
 explain, an order for everything before it, and what a correct cache answers
-there; and a refusal by the line at fault.",
+there, or for a `history 3` the lines of the requests that overlap it; and a
+refusal by the line at fault.",
     short_statuses: "Exit status: 0 explained, 1 unexplained, 2 wrong line, 3 refused, 4 otherwise.
 Read on: mcrace judge --help, mcrace help history",
     statuses: "Exit status:
   0  explained, or confirmed
   1  unexplained, or not confirmed
   2  the command line is wrong
-  3  refused: the input is no history, or has more than 1,048,576 bytes
+  3  refused: the input is no history, or too long, or has no such key
   4  undecided; out of memory; or input or output failed",
 };

@@ -9,4 +9,4 @@ returns c = Gives-weaker _ _
       stands = c.find_history-part.ensures;
       judged = rw c.in_ok-lines.ensures at (rw c.as_slice.ensures.value at is);
     })
-    c.judge.result c.judge.ensures
+    c.judge_text.result c.judge_text.ensures

@@ -1,9 +1,11 @@
 use Rattle.std.proofs.Common.{ap, inl, inr, refl, ◌∙◌}
+use Rattle.mc_answers.proofs.Limits.{lacking_memory, most_is_small, takes_as_many, takes_few}
 use Rattle.mc_answers.proofs.LineFaults.{asking_lacks_memory, fault_is}
 use Rattle.mc_answers.proofs.Questions.{same_question}
 use Rattle.mc_answers.proofs.Right.{out_of_memory_by}
 use Rattle.mc_cli.specs.declared.request.Request.TheVariants as request
-use Rattle.mc_answers.specs.Answers.{Does}
+use Rattle.mc_answers.specs.Answers.{IsAnswerTo, most_read}
+use Rattle.mc_answers.specs.Command.{judges}
 use Rattle.mc_answers.specs.Statuses.{status_number}
 use Rattle.mc_answers.proofs.program.command.Goals as goal
 
@@ -17,7 +19,7 @@ pub returns-in-Err-clause-answered : goal.returns-in-Err-clause-answered
 returns-in-Err-clause-answered g c question asks input_old input_new output_old output_new =
     let memory = asking_lacks_memory _ (request.Question question) _ asks c.in-Err.ensures.fault in
     let written = c.explain_fault.ensures.memory memory output_old output_new in
-    (_, c.number-in-Err.ensures, out_of_memory_by (Does question) _ _ _ _ written.0 written.1)
+    (_, c.number-in-Err.ensures, out_of_memory_by (IsAnswerTo question) _ _ _ _ (lacking_memory question) written.0 written.1)
 
 pub returns-in-Err-clause-generated : goal.returns-in-Err-clause-generated
 returns-in-Err-clause-generated g c seed job asks output_old output_new =
@@ -47,3 +49,14 @@ returns-in-Err-clause-fault g c faulty output_old output_new faults_old faults_n
       let written = c.explain_fault.ensures.wrong text is in
       inl (c.number-in-Err.ensures ∙ ap status_number (written.1 faults_old faults_new).0, written.0, told)
 ]
+
+pub returns-in-Ok-Question-clause-taken : goal.returns-in-Ok-Question-clause-taken
+returns-in-Ok-Question-clause-taken g c =
+    let asked = c.in-Ok-Question.question in
+    takes_as_many (most_read asked) 67108865 _ _ (most_is_small asked) c.answer_question.ensures.taken
+
+pub returns-in-Ok-Question-clause-few : goal.returns-in-Ok-Question-clause-few
+returns-in-Ok-Question-clause-few g c wanted asks is =
+    let asked = c.in-Ok-Question.question in
+    let asked_is = rw c.in-Ok-Question.field-0-is at (c.in-Ok-Question.ensures.only wanted asks) in
+    takes_few asked _ _ (ap judges asked_is ∙ is) c.answer_question.ensures.taken

@@ -1,5 +1,6 @@
-use Rattle.std.proofs.Common.{inl}
+use Rattle.std.proofs.Common.{inl, inr, refl}
 use Rattle.mc_answers.proofs.Right.{answer_written, fault_written}
+use Rattle.mc_answers.specs.Answers.{IsAnswerBy}
 use Rattle.mc_command.specs.RepeatAnswers.{AnswersFor, Runs}
 use Rattle.mc_command.proofs.RunTexts.{code_written}
 use Rattle.mc_command.proofs.playing.run_target.Goals as goal
@@ -15,12 +16,13 @@ returns-in-Ok-Ok g c =
 
 pub returns-in-Ok-Err : goal.returns-in-Ok-Err
 returns-in-Ok-Err g c =
-    answer_written _ _ _ _ (Runs c.args.target.now.repeat c.args.target.now.how.why c.args.target.now.name) _ _ _ _
+    answer_written _ _ _ _ (IsAnswerBy (Runs c.args.target.now.repeat c.args.target.now.how.why c.args.target.now.name)) _ _ _ _ _
     c.in-Ok-Err.answer.output.items c.in-Ok-Err.answer.status _
     (rw c.in-Ok-Err.field-0-is at c.in-Ok-Err.ensures.unplayed) c.in-Ok-Err.ensures.fails c.in-Ok-Err.ensures.taken
     (rw c.as_slice.ensures.value at c.write_text-status.ensures.written) c.write_text-status.ensures.broken
 
 pub returns-in-Err : goal.returns-in-Err
 returns-in-Err g c =
-    fault_written _ _ _ _ (Runs c.args.target.now.repeat c.args.target.now.how.why c.args.target.now.name) _ _ _ _ c.in-Err.fault _
+    fault_written _ _ _ _ (IsAnswerBy (Runs c.args.target.now.repeat c.args.target.now.how.why c.args.target.now.name)) _ _ _ _ _
+    c.in-Err.fault _ (λ text. inr (inr (refl, refl)))
     c.in-Err.ensures.fails c.in-Err.ensures.taken c.write_fault.ensures.broken c.write_fault.ensures.memory c.write_fault.ensures.status

@@ -1,0 +1,102 @@
+//! The reply from which on nothing explains a run, and what a correct server answers in its place.
+
+use crate::seen::Shown;
+use mc_model::{History, Note, print_reply_words, print_request_words};
+use mc_protocol::{Actor, OutOfMemory, Reply, Request, Verb};
+use mc_why::{Finding, Form};
+use std::alloc::Global;
+
+// A line has at most so many columns, where what it says allows it.
+const COLUMNS: usize = 80;
+
+/// That reply in words, and those that would be explained, if that was found out.
+#[derive(Debug, Drop)]
+pub(crate) struct Blame {
+    pub(crate) section: Actor,
+    pub(crate) verb: Verb,
+    pub(crate) request: Vec<u8>,
+    pub(crate) reply: Vec<u8>,
+    pub(crate) correct: Vec<Vec<u8>>,
+}
+
+impl Blame {
+    /// What was found out of the run, if that is a reply.
+    pub(crate) fn of(alloc: Global, shown: &Shown) -> Result<Option<Blame>, OutOfMemory> {
+        let Finding::Cause(cause) = &shown.finding else {
+            return Ok(None);
+        };
+        let Some((section, request, reply)) = answered_at(&shown.history, cause.place) else {
+            return Ok(None);
+        };
+        let mut asked = Vec::new(alloc);
+        print_request_words(request, &mut asked)?;
+        let mut answered = Vec::new(alloc);
+        print_reply_words(reply, &mut answered)?;
+        let mut correct = Vec::new(alloc);
+        'forms: for form in &cause.forms {
+            correct.push(form_text(alloc, form)?)?;
+        }
+        Ok(Some(Blame {
+            section,
+            verb: request.verb,
+            request: asked,
+            reply: answered,
+            correct,
+        }))
+    }
+
+    /// The sentence that says what a correct server answers, or nothing.
+    pub(crate) fn sentence(&self, alloc: Global) -> Result<Vec<u8>, OutOfMemory> {
+        let (section, verb) = (self.section.word(), self.verb.word());
+        let head = format!(in alloc; "  A correct server answers {section}'s {verb}")?;
+        let mut width = head.len();
+        'forms: for form in &self.correct {
+            width = width.saturating_add(form.len()).saturating_add(5);
+        }
+        let lead = if width > COLUMNS { "\n    " } else { " " };
+        let mut text = Vec::new(alloc);
+        'forms: for (index, form) in self.correct.iter().enumerate() {
+            let before = if index == 0 { head.as_str() } else { ", or" };
+            text.extend_from_slice(before.as_bytes())?;
+            text.extend_from_slice(lead.as_bytes())?;
+            text.extend_from_slice(form.as_slice())?;
+        }
+        if !text.is_empty() {
+            text.extend_from_slice(b".\n")?;
+        }
+        Ok(text)
+    }
+}
+
+// The section whose reply was noted at this place, with the request and the reply.
+fn answered_at(history: &History, place: usize) -> Option<(Actor, &Request, &Reply)> {
+    let (section, reply) = match history.notes()?.get(place)? {
+        (section, Note::Reply(reply)) => (*section, reply),
+        (_, Note::Begin(_)) => return None,
+    };
+    let mut answered = 0usize;
+    'notes: for (actor, note) in history.notes()?.iter().take(place) {
+        if *actor == section && matches!(note, Note::Reply(_)) {
+            answered = answered.saturating_add(1);
+        }
+    }
+    let sent = history.sent(section).get(answered)?;
+    Some((section, &sent.request, reply))
+}
+
+fn form_text(alloc: Global, form: &Form) -> Result<Vec<u8>, OutOfMemory> {
+    let mut text = Vec::new(alloc);
+    match form {
+        Form::Reply(reply) => print_reply_words(reply, &mut text)?,
+        Form::NewNumber { flags, body, .. } => {
+            let hit = Reply::Hit {
+                flags: *flags,
+                body: body.copy(alloc)?,
+                cas: None,
+            };
+            print_reply_words(&hit, &mut text)?;
+            text.extend_from_slice(b" (a new number)")?;
+        }
+    }
+    Ok(text)
+}

@@ -1,0 +1,54 @@
+//! Names that keys are put under, so that two tests at once share none.
+
+use mc_command::seed_by;
+use mc_generate::draw;
+use mc_settings::Namespace;
+use rand_pcg::Pcg32;
+use std::rt::Clock;
+
+// How many characters a name has, of five bits each: 65 in all.
+const LENGTH: usize = 13;
+
+const CHARACTERS: &[u8; 32] = b"abcdefghijklmnopqrstuvwxyz234567";
+
+// Which of its sequences the generator goes along.
+const SEQUENCE: u64 = 117;
+
+/// The name that keys are put under now.
+#[derive(Debug, Drop)]
+pub(crate) struct Names {
+    generator: Pcg32,
+    characters: [u8; LENGTH],
+    /// How many names there were before it.
+    pub(crate) count: u64,
+}
+
+impl Names {
+    /// The first name, drawn by the clock.
+    pub(crate) fn new<R: Clock>(rt: &R) -> Names {
+        let mut names = Names {
+            generator: Pcg32::new(seed_by(rt), SEQUENCE),
+            characters: [b'a'; LENGTH],
+            count: 0,
+        };
+        names.draw();
+        names
+    }
+
+    /// Draws another name.
+    pub(crate) fn renew(&mut self) {
+        self.count = self.count.saturating_add(1);
+        self.draw();
+    }
+
+    fn draw(&mut self) {
+        'characters: for character in self.characters.iter_mut() {
+            *character = CHARACTERS[(draw(&mut self.generator, 32) % 32) as usize];
+        }
+    }
+
+    /// The name.
+    pub(crate) fn name(&self) -> Option<Namespace<'_>> {
+        Namespace::new(&self.characters)
+    }
+}

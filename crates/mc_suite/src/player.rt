@@ -1,0 +1,232 @@
+//! Plays scripts against the server, one run after another.
+
+use crate::health::Health;
+use crate::names::Names;
+use crate::numbers::Grouped;
+use crate::outcome::{Outcome, outcome_of};
+use crate::prepared::Prepared;
+use crate::progress::Progress;
+use crate::seen::Seen;
+use crate::tally::Tally;
+use mc_cli::RunArgs;
+use mc_command::{leaves_request, play_kept};
+use mc_connect::{Kept, Network};
+use std::alloc::{AllocError, Global};
+use std::io;
+use std::io::Eprint;
+use std::rt::Clock;
+use std::sync::Wait;
+use std::thread::Threads;
+use std::time::{Duration, Instant};
+
+/// The connections to the server, the name of the keys, and what its runs came to.
+#[derive(Drop)]
+pub(crate) struct Player<'a, R, N: Network> {
+    pub(crate) rt: &'a R,
+    pub(crate) alloc: Global,
+    pub(crate) target: &'a RunArgs<'a>,
+    network: &'a mut N,
+    kept: Kept<N::Connection>,
+    names: Names,
+    begun: Instant,
+    /// How long it may take in all.
+    pub(crate) time: Duration,
+    // How long one reply may take.
+    limit: Duration,
+    pub(crate) health: Health,
+    tally: Tally,
+    // How many races were found.
+    found: u64,
+    // What is to be said of the first run that failed.
+    first_failure: Option<String>,
+    // Why the first connect failed.
+    first_unconnected: Option<io::Error>,
+    progress: Option<Progress>,
+}
+
+/// What came of several runs of one code.
+#[derive(Debug, Drop)]
+pub(crate) struct Tries {
+    /// The run that nothing explains, after which there was none.
+    pub(crate) seen: Option<Seen>,
+    pub(crate) runs: u64,
+    /// What first came that is no reply, or more than replies.
+    pub(crate) wrong: Option<String>,
+}
+
+impl<'a, R: Threads + Wait + Clock + Sync + Eprint, N: Network> Player<'a, R, N> {
+    /// Nothing was played so far.
+    pub(crate) fn new(
+        rt: &'a R,
+        alloc: Global,
+        target: &'a RunArgs<'a>,
+        network: &'a mut N,
+        begun: Instant,
+        time: Duration,
+        columns: Option<usize>,
+    ) -> Self {
+        Player {
+            rt,
+            alloc,
+            target,
+            network,
+            kept: Kept::new(alloc),
+            names: Names::new(rt),
+            begun,
+            time,
+            limit: limit_of(target),
+            health: Health::new(),
+            tally: Tally::new(),
+            found: 0,
+            first_failure: None,
+            first_unconnected: None,
+            progress: columns.map(Progress::new),
+        }
+    }
+
+    /// How long it has taken.
+    pub(crate) fn passed(&self) -> Duration {
+        self.begun.elapsed(self.rt).unwrap_or(Duration::MAX)
+    }
+
+    /// Whether its time is over, or the server gone.
+    pub(crate) fn is_over(&self) -> bool {
+        self.health.is_gone() || self.passed() >= self.time
+    }
+
+    /// Plays the code once. After a request without a reply keys have another name, since the server may still act on it.
+    pub(crate) fn play(&mut self, prepared: &mut Prepared) -> Result<Outcome, AllocError> {
+        let before = self.passed();
+        let Some(code) = prepared.code(self.alloc, self.target.name.as_ref(), &self.names)? else {
+            return Ok(Outcome::NotRun);
+        };
+        let (played, remarks) = play_kept(
+            self.rt,
+            self.alloc,
+            self.target,
+            code,
+            &mut *self.network,
+            &mut self.kept,
+        )?;
+        if leaves_request(&played) {
+            self.names.renew();
+        }
+        let outcome = outcome_of(self.alloc, played, remarks, self.target.how.limit)?;
+        let passed = self.passed();
+        let took = passed.saturating_sub(before);
+        self.health.note(self.rt, &outcome, took, self.limit);
+        self.tally.add(&outcome, took);
+        self.keep_first(&outcome)?;
+        self.tell_progress(passed);
+        Ok(outcome)
+    }
+
+    // Keeps what is to be said of the first run that failed, and of the first without a connection.
+    fn keep_first(&mut self, outcome: &Outcome) -> Result<(), AllocError> {
+        match outcome {
+            Outcome::Failed(failure) if self.first_failure.is_none() => {
+                let text = failure.text.as_str();
+                self.first_failure = Some(format!(in self.alloc; "{text}")?);
+            }
+            Outcome::Unconnected(error) if self.first_unconnected.is_none() => {
+                self.first_unconnected = Some(*error);
+            }
+            _ => {}
+        }
+        Ok(())
+    }
+
+    fn tell_progress(&mut self, passed: Duration) {
+        let (runs, found) = (self.tally.runs, self.found);
+        if let Some(progress) = &mut self.progress {
+            progress.tell(self.rt, self.alloc, passed, self.time, runs, found);
+        }
+    }
+
+    /// What its runs came to.
+    pub(crate) fn tally(&self) -> Tally {
+        Tally {
+            passed: self.passed(),
+            is_gone: self.health.is_gone(),
+            ..self.tally
+        }
+    }
+
+    /// What is to be said of the first failures, a line for each.
+    pub(crate) fn failures(&self) -> Result<Vec<String>, AllocError> {
+        let mut lines = Vec::new(self.alloc);
+        if let Some(first) = &self.first_failure {
+            let failed = Grouped(self.tally.failed);
+            lines.push(format!(in self.alloc; "failed runs: {failed}; the first: {first}\n")?)?;
+        }
+        if let Some(first) = &self.first_unconnected {
+            let failed = Grouped(self.tally.unconnected);
+            lines.push(format!(in self.alloc; "failed connects: {failed}; the first: {first}\n")?)?;
+        }
+        Ok(lines)
+    }
+
+    /// One run that failed doesn't count as such: the server doesn't know what it asked.
+    pub(crate) fn take_back_failure(&mut self) {
+        self.tally.failed = self.tally.failed.saturating_sub(1);
+        if self.tally.failed == 0 {
+            self.first_failure = None;
+        }
+    }
+
+    /// A race was found.
+    pub(crate) fn count_found(&mut self) {
+        self.found = self.found.saturating_add(1);
+    }
+
+    /// Clears the line of progress, since something is written next.
+    pub(crate) fn give_way(&self) {
+        if let Some(progress) = &self.progress {
+            progress.clear(self.rt);
+        }
+    }
+
+    /// Plays the code until nothing explains a run, at most so often, and not after this time.
+    pub(crate) fn play_until_seen(
+        &mut self,
+        prepared: &mut Prepared,
+        most: u64,
+        until: Duration,
+    ) -> Result<Tries, AllocError> {
+        let mut tries = Tries {
+            seen: None,
+            runs: 0,
+            wrong: None,
+        };
+        'runs: for _ in 0..most {
+            if self.health.is_gone() || self.passed() >= until {
+                break;
+            }
+            let outcome = self.play(prepared)?;
+            tries.runs = tries.runs.saturating_add(1);
+            match outcome {
+                Outcome::Unexplained(seen) => {
+                    tries.seen = Some(seen);
+                    break;
+                }
+                Outcome::Wrong(text) if tries.wrong.is_none() => tries.wrong = Some(text),
+                _ => {}
+            }
+        }
+        Ok(tries)
+    }
+
+    /// Gives the connections back.
+    pub(crate) fn quit(self) {
+        let Player { kept, network, .. } = self;
+        kept.quit(network);
+    }
+}
+
+// How long one reply may take.
+fn limit_of(target: &RunArgs<'_>) -> Duration {
+    match &target.timeout {
+        Some(time) => time.duration(),
+        None => Duration::MAX,
+    }
+}

@@ -1,0 +1,190 @@
+//! What is known of a test, as an object in JSON.
+
+use crate::blame::Blame;
+use crate::book::{Book, State};
+use crate::race::Race;
+use crate::races::RACES;
+use crate::told::{Evidence, Kind};
+use json::Writer;
+use std::alloc::{AllocError, Global};
+use std::str;
+use std::time::Duration;
+
+/// The object, as a line.
+pub(crate) fn report_json(
+    alloc: Global,
+    book: &Book<'_>,
+    state: &State<'_>,
+) -> Result<Vec<u8>, AllocError> {
+    let mut out = Writer::new(Vec::new(alloc));
+    out.begin_object()?;
+    write_head(&mut out, book, state)?;
+    write_races(&mut out, book, state)?;
+    write_generated(&mut out, book, state)?;
+    write_wrong(&mut out, book)?;
+    write_unsupported(&mut out, book)?;
+    write_counts(&mut out, state)?;
+    out.end_object()?;
+    let mut line = out.into_inner();
+    line.push(b'\n')?;
+    Ok(line)
+}
+
+fn write_head(out: &mut Writer, book: &Book<'_>, state: &State<'_>) -> Result<(), AllocError> {
+    out.key("server")?;
+    out.string(book.server)?;
+    out.key("version")?;
+    match &book.version {
+        Some(version) => out.string(version.as_str())?,
+        None => out.null()?,
+    }
+    out.key("seed")?;
+    out.quoted_u64(book.seed)?;
+    write_number(out, "milliseconds", milliseconds_of(book.time))?;
+    out.key("ended")?;
+    out.boolean(state.has_ended)?;
+    write_number(out, "status", u64::from(book.status(state)))
+}
+
+// The races that are wanted.
+fn write_races(out: &mut Writer, book: &Book<'_>, state: &State<'_>) -> Result<(), AllocError> {
+    out.key("races")?;
+    out.begin_array()?;
+    'races: for race in RACES {
+        if book.selection.has(race) {
+            write_race(out, race, book, state)?;
+        }
+    }
+    out.end_array()
+}
+
+fn write_race(
+    out: &mut Writer,
+    race: &Race,
+    book: &Book<'_>,
+    state: &State<'_>,
+) -> Result<(), AllocError> {
+    let runs = state.runs_of(race);
+    let told = book.told_of(Kind::Race, race.name);
+    out.begin_object()?;
+    out.key("name")?;
+    out.string(race.name)?;
+    out.key("tried")?;
+    out.boolean(runs.is_some())?;
+    write_number(out, "runs", runs.unwrap_or(0))?;
+    out.key("found")?;
+    out.boolean(told.is_some())?;
+    if let Some(told) = told {
+        write_evidence(out, told.evidence.as_ref())?;
+    }
+    out.end_object()
+}
+
+fn write_generated(out: &mut Writer, book: &Book<'_>, state: &State<'_>) -> Result<(), AllocError> {
+    out.key("generated")?;
+    out.begin_object()?;
+    write_number(out, "scripts", state.generated.count)?;
+    write_number(out, "unexplained", state.generated.unexplained)?;
+    write_told(out, "found", book, Kind::Generated)?;
+    out.end_object()
+}
+
+fn write_wrong(out: &mut Writer, book: &Book<'_>) -> Result<(), AllocError> {
+    write_told(out, "wrong_alone", book, Kind::Alone)?;
+    write_told(out, "wrong_replies", book, Kind::Reply)
+}
+
+// What was told of this kind.
+fn write_told(out: &mut Writer, name: &str, book: &Book<'_>, kind: Kind) -> Result<(), AllocError> {
+    out.key(name)?;
+    out.begin_array()?;
+    'told: for told in &book.told {
+        if told.kind == kind {
+            out.begin_object()?;
+            out.key("name")?;
+            out.string(told.name.as_str())?;
+            write_evidence(out, told.evidence.as_ref())?;
+            if kind == Kind::Reply {
+                write_text(out, "text", told.text.as_slice())?;
+            }
+            out.end_object()?;
+        }
+    }
+    out.end_array()
+}
+
+fn write_evidence(out: &mut Writer, evidence: Option<&Evidence>) -> Result<(), AllocError> {
+    let Some(evidence) = evidence else {
+        return Ok(());
+    };
+    write_number(out, "seen", evidence.times)?;
+    write_number(out, "of", evidence.runs)?;
+    write_text(out, "script", evidence.script.as_slice())?;
+    write_text(out, "history", evidence.history.as_slice())?;
+    match &evidence.blame {
+        Some(blame) => write_blame(out, blame),
+        None => Ok(()),
+    }
+}
+
+// The reply that nothing explains, and those that would be explained.
+fn write_blame(out: &mut Writer, blame: &Blame) -> Result<(), AllocError> {
+    out.key("why")?;
+    out.begin_object()?;
+    out.key("section")?;
+    out.string(blame.section.word())?;
+    write_text(out, "request", blame.request.as_slice())?;
+    write_text(out, "reply", blame.reply.as_slice())?;
+    out.key("correct")?;
+    out.begin_array()?;
+    'forms: for form in &blame.correct {
+        out.string(text_of(form.as_slice()))?;
+    }
+    out.end_array()?;
+    out.end_object()
+}
+
+fn write_unsupported(out: &mut Writer, book: &Book<'_>) -> Result<(), AllocError> {
+    out.key("not_supported")?;
+    out.begin_array()?;
+    'verbs: for unknown in book.unsupported.verbs() {
+        out.begin_object()?;
+        out.key("name")?;
+        out.string(unknown.verb)?;
+        out.key("closes")?;
+        out.boolean(unknown.closes)?;
+        out.end_object()?;
+    }
+    out.end_array()
+}
+
+fn write_counts(out: &mut Writer, state: &State<'_>) -> Result<(), AllocError> {
+    let tally = &state.tally;
+    write_number(out, "runs", tally.runs)?;
+    write_number(out, "passed", milliseconds_of(tally.passed))?;
+    write_number(out, "wrong", tally.wrong)?;
+    write_number(out, "failed", tally.failed)?;
+    write_number(out, "unconnected", tally.unconnected)?;
+    write_number(out, "undecided", tally.undecided)?;
+    out.key("gone")?;
+    out.boolean(tally.is_gone)
+}
+
+fn milliseconds_of(time: Duration) -> u64 {
+    u64::try_from(time.as_millis()).unwrap_or(u64::MAX)
+}
+
+fn write_number(out: &mut Writer, name: &str, number: u64) -> Result<(), AllocError> {
+    out.key(name)?;
+    out.u64(number)
+}
+
+fn write_text(out: &mut Writer, name: &str, bytes: &[u8]) -> Result<(), AllocError> {
+    out.key(name)?;
+    out.string(text_of(bytes))
+}
+
+// The bytes as text. All that is printed is ASCII.
+fn text_of(bytes: &[u8]) -> &str {
+    str::from_utf8(bytes).unwrap_or("?")
+}

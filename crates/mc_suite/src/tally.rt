@@ -1,0 +1,77 @@
+//! What the runs of a test came to.
+
+use crate::outcome::Outcome;
+use std::time::Duration;
+
+// The exit statuses.
+const NOTHING: u8 = 0;
+
+const FOUND: u8 = 1;
+
+/// It couldn't be tested.
+pub(crate) const UNTESTED: u8 = 4;
+
+const FAILED: u8 = 5;
+
+/// How many runs there were, and how many of them came to what.
+#[derive(Clone, Copy, Debug)]
+pub(crate) struct Tally {
+    pub(crate) runs: u64,
+    pub(crate) failed: u64,
+    pub(crate) unconnected: u64,
+    pub(crate) not_run: u64,
+    pub(crate) undecided: u64,
+    /// What came was no reply, or more than replies.
+    pub(crate) wrong: u64,
+    /// How long the slowest run took whose requests all have replies.
+    pub(crate) slowest: Duration,
+    /// How long all took.
+    pub(crate) passed: Duration,
+    /// Whether the server was gone before the time was over.
+    pub(crate) is_gone: bool,
+}
+
+impl Tally {
+    /// No runs.
+    pub(crate) fn new() -> Tally {
+        Tally {
+            runs: 0,
+            failed: 0,
+            unconnected: 0,
+            not_run: 0,
+            undecided: 0,
+            wrong: 0,
+            slowest: Duration::ZERO,
+            passed: Duration::ZERO,
+            is_gone: false,
+        }
+    }
+
+    /// Counts a run that took so long.
+    pub(crate) fn add(&mut self, outcome: &Outcome, took: Duration) {
+        self.runs = self.runs.saturating_add(1);
+        match outcome {
+            Outcome::Explained | Outcome::Unexplained(_) => self.slowest = self.slowest.max(took),
+            Outcome::Failed(_) => self.failed = self.failed.saturating_add(1),
+            Outcome::Wrong(_) => self.wrong = self.wrong.saturating_add(1),
+            Outcome::Undecided => self.undecided = self.undecided.saturating_add(1),
+            Outcome::Unconnected(_) => self.unconnected = self.unconnected.saturating_add(1),
+            Outcome::NotRun => self.not_run = self.not_run.saturating_add(1),
+        }
+    }
+
+    /// The exit status: what was found goes before a server that failed, and that before what wasn't tested.
+    pub(crate) fn status(&self, has_found: bool, is_tested: bool) -> u8 {
+        let left_out = self.unconnected.saturating_add(self.not_run);
+        let has_played = self.runs > left_out;
+        if has_found || self.wrong > 0 {
+            FOUND
+        } else if self.failed > 0 || has_played && (self.is_gone || self.unconnected > 0) {
+            FAILED
+        } else if !is_tested || self.undecided > 0 || left_out > 0 {
+            UNTESTED
+        } else {
+            NOTHING
+        }
+    }
+}
