@@ -1,6 +1,6 @@
 #!/usr/bin/env -S python3 -B
-"""Compares each refusal of code that stands in the cases, the examples and the tests of mc_verify
-with what a second verifier says (`verifier.py`).
+"""Compares each refusal of code that stands in the cases and the examples with what a second
+verifier says (`verifier.py`).
 
 usage: shown_cases.py PROGRAM
 
@@ -10,7 +10,6 @@ for replies of one sort, which lead to the same place and show the same, just on
 fault.
 """
 
-import ast
 import functools
 import multiprocessing
 import re
@@ -18,38 +17,11 @@ import subprocess
 
 from comparing import ROOT, compare, parser_of
 from model import SECTIONS, code_of
-from verifier import NAMES, odd_answer, runs_apart
+from verifier import odd_answer, runs_apart
 
 import cases  # which comparing finds
 
 FORCED = "cases/check/forced-runs.cases"
-# The tests of mc_verify: images of sound code, and what is changed of each and then refused.
-TESTS = ROOT / "crates/test_verify/src"
-BYTES = r'b"((?:[^"\\]|\\.)*)"'
-STATIC = re.compile(rf"static \w+: &\[u8\] =\s*{BYTES};|static \w+: &\[Row\] = &\[\n(.*?)^\];",
-                    re.S | re.M)
-ROW = re.compile(r"\(\s*&\[(.*?)\],\s*(\w+),\s*([PAB]),\s*(\d+),?\s*\)", re.S)
-EDIT = re.compile(rf"\(\s*(\d+),\s*(\d+),\s*{BYTES},?\s*\)", re.S)
-
-
-def literal(text):
-    """The bytes of a literal, of which a line may be continued on the next."""
-    return ast.literal_eval('b"' + re.sub(r"\\\n\s*", "", text) + '"')
-
-
-def rows():
-    """Each image of the tests with a fault of structure, with its refusal, and where it stands."""
-    for path in sorted(TESTS.glob("*_tables.rt")):
-        image = b""
-        for data, body in STATIC.findall(path.read_text(encoding="utf-8")):
-            image = literal(data) if data else image
-            for edits, kind, section, place in ROW.findall(body):
-                changed = image
-                for start, end, new in reversed(EDIT.findall(edits)):
-                    changed = changed[: int(start)] + literal(new) + changed[int(end) :]
-                number = NAMES.index(kind) + 1
-                refusal = f"refused verify {number} {kind} {section} {place}\n"
-                yield f"{path.name}: {edits}", changed, refusal
 
 
 def expected_answers():
@@ -61,7 +33,6 @@ def expected_answers():
     for path in sorted((ROOT / "examples").glob("*.script")):
         checked = path.with_suffix(".checked").read_text(encoding="utf-8")
         yield path.name, path.read_bytes(), checked.rpartition("exit status")[0]
-    yield from rows()
 
 
 def image_in(program, given):

@@ -17,6 +17,10 @@ LINES = (ROOT / "cases/serve/talk.txt").read_text(encoding="ascii").splitlines()
 TALK = [tuple(map(written_bytes, line.split(" -> "))) for line in LINES]
 ASKED = b"".join(request for request, _ in TALK)
 ANSWERED = b"".join(reply for _, reply in TALK)
+BAD_DATA = [b"set a 0 0 1\r\n12\r\nget a\r\n", b"set a 0 0 1 noreply\r\n12\r\n"]
+TOO_LARGE = [b"set a 0 0 65537%b\r\n%b\r\nget a\r\n" % (end, b"1" * 65537)
+             for end in (b"", b" noreply")]
+REFUSED = b"SERVER_ERROR object too large for cache\r\nEND\r\n"
 TOO_LONG = [b"x" * 2048, b"get " + b"a " * 1022 + b"\r\n", b"delete a noreply" + b" " * 2048]
 # What is sent at once after another, each with the reply to all of it.
 THOUSAND = b"".join(b"%d\r\n" % number for number in range(1, 1001))
@@ -25,6 +29,7 @@ PIPELINES = [
     ("all at once", [(ASKED, ANSWERED)]),
     ("a thousand", [(b"set a 0 0 1\r\n0\r\n", b"STORED\r\n"), (b"incr a 1\r\n" * 1000, THOUSAND),
                     (b"delete a\r\n", b"DELETED\r\n")]),
+    ("bodies that are too large", [(asked, REFUSED) for asked in TOO_LARGE]),
 ]
 
 
@@ -81,9 +86,10 @@ class OwnBytes(servers.ServedTest):
                 self.assertEqual(read(stream, len(ANSWERED)), wanted)
 
     @rows([("quit", b"get a\r\nquit\r\nget a\r\n", b"END\r\n"),
+           *((f"{it[:19]!r}", it, b"CLIENT_ERROR bad data chunk\r\n") for it in BAD_DATA),
            *((f"{line[:9]!r}..", line, b"CLIENT_ERROR line too long\r\n") for line in TOO_LONG)])
     def test_server_closes(self, asked, answered):
-        """After a `quit`, and after a line that is too long."""
+        """After a `quit`, a body that is too long for its line, and a line that is too long."""
         with self.connect() as stream:
             stream.sendall(asked)
             self.assertEqual(read(stream, 1000), answered)

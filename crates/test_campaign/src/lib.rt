@@ -18,8 +18,6 @@ mod report_tests;
 #[cfg(test)]
 mod signal;
 #[cfg(test)]
-mod status_tests;
-#[cfg(test)]
 mod store_runs;
 #[cfg(test)]
 mod store_stream;

@@ -1,15 +1,15 @@
-//! Campaigns whose keys are put under a name.
+//! Campaigns whose keys are put under a name. `tools/live/test_campaigns.py` has more of them.
 
 ghost use Rattle.std.specs.Prelude.{◌≡◌};
 
 use crate::connectors::Stores;
-use crate::store_runs::{collected_text, outcome_of, text_and_status};
+use crate::store_runs::{collected_text, outcome_of};
 use crate::store_stream::StoreStream;
 use crate::watching::Seen;
 use mc_campaign::{Campaign, JobOutcome};
 use mc_generate::JobFault;
 use mc_lane::Wire;
-use mc_protocol::{OutOfMemory, Sections};
+use mc_protocol::OutOfMemory;
 use mc_server::Shared;
 use mc_settings::{Meeting, Namespace};
 use std::alloc::Global;
@@ -19,20 +19,6 @@ use std::thread::Threads;
 
 /// A name of 35 bytes.
 const LONG: &str = "a-name-of-35-bytes-leaves-room-for-";
-
-/// What job 31 of seed 1 sends, whatever it is answered.
-const REQUESTS: Sections<&[u8]> = Sections {
-    p: b"delete r31-0\r\ndelete r31-1\r\nset r31-0 0 0 2\r\n95\r\n",
-    a: b"get r31-1\r\nincr r31-0 9\r\n",
-    b: b"add r31-1 0 0 2\r\n11\r\ndelete r31-0\r\ndelete r31-0\r\n",
-};
-
-/// The same under `ci7`.
-const REQUESTS_UNDER_CI7: Sections<&[u8]> = Sections {
-    p: b"delete ci7-r31-0\r\ndelete ci7-r31-1\r\nset ci7-r31-0 0 0 2\r\n95\r\n",
-    a: b"get ci7-r31-1\r\nincr ci7-r31-0 9\r\n",
-    b: b"add ci7-r31-1 0 0 2\r\n11\r\ndelete ci7-r31-0\r\ndelete ci7-r31-0\r\n",
-};
 
 /// The word as a name.
 fn named(word: &str) -> Result<Namespace<'_>, Fail> {
@@ -56,39 +42,6 @@ fn campaign<'a>(name: Option<&'a Namespace<'a>>, first: u64, jobs: u64) -> Campa
         spread: 0,
         name,
     }
-}
-
-/// Whether the sections of a job sent these requests.
-fn have_sent<R: Wait>(
-    outcome: &JobOutcome<Wire<StoreStream<'_, R>>>,
-    requests: Sections<&[u8]>,
-) -> Result<bool, Fail> {
-    let JobOutcome::Ran { run, .. } = outcome else {
-        return Err(Fail::new("the job didn't run"));
-    };
-    let lanes = &run.lanes;
-    Ok(lanes.p.sent() == requests.p && lanes.a.sent() == requests.a && lanes.b.sent() == requests.b)
-}
-
-/// Whether job 31 under this name sends these requests.
-fn sends<R: Threads + Wait + Sync>(
-    rt: &R,
-    alloc: Global,
-    name: Option<&Namespace<'_>>,
-    requests: Sections<&[u8]>,
-) -> Result<bool, Fail> {
-    let store = Shared::new(alloc)?;
-    let connector = Stores::honest(rt, alloc, &store);
-    let outcome = outcome_of(rt, alloc, &connector, campaign(name, 0, 1), 31);
-    have_sent(&outcome, requests)
-}
-
-#[test]
-fn job_sends_its_requests_with_keys_under_the_name(rt: HostRuntime) -> Result<(), Fail> {
-    let alloc = rt.alloc();
-    assert!(rt; sends(&rt, alloc, None, REQUESTS)?);
-    assert!(rt; sends(&rt, alloc, Some(&named("ci7")?), REQUESTS_UNDER_CI7)?);
-    Ok(())
 }
 
 #[test]
@@ -128,35 +81,6 @@ fn fault_of<R: Wait>(outcome: &JobOutcome<Wire<StoreStream<'_, R>>>) -> Result<J
         JobOutcome::NotMade(fault) => Ok(*fault),
         _ => Err(Fail::new("the job was made")),
     }
-}
-
-/// Whether the jobs 7 to 9 are explained under a name.
-fn are_explained<R: Threads + Wait + Sync>(
-    rt: &R,
-    alloc: Global,
-    store: &Shared,
-    word: &str,
-) -> Result<bool, Fail> {
-    let connector = Stores::honest(rt, alloc, store);
-    let name = named(word)?;
-    let (text, status) = text_and_status(rt, alloc, &connector, campaign(Some(&name), 7, 3), 2)?;
-    let expected = b"report\n7 explained\n8 explained\n9 explained\n\
-        jobs 3 explained 3 unexplained 0 other 0\n"
-        .as_slice();
-    Ok(text.as_slice() == expected && status == 0)
-}
-
-#[test]
-fn campaigns_under_names_are_explained(rt: HostRuntime) -> Result<(), Fail> {
-    assert!(rt; are_explained_under_both(&rt, rt.alloc())?);
-    Ok(())
-}
-
-/// Whether the jobs are explained under a short name and a long one, in one store.
-fn are_explained_under_both<R: Threads + Wait + Sync>(rt: &R, alloc: Global) -> Result<bool, Fail> {
-    let store = Shared::new(alloc)?;
-    let under_short = are_explained(rt, alloc, &store, "ci7")?;
-    Ok(under_short && are_explained(rt, alloc, &store, LONG)?)
 }
 
 /// The name of a campaign of one job, that of a message of this job which comes to it, and how many connections are made until there is

@@ -77,16 +77,6 @@ fn released_with_faults<R: Threads + Wait + Sync>(rt: &R, alloc: Global) -> Resu
     Ok(connector.released())
 }
 
-#[test]
-fn brief_report_leaves_out_what_is_right(rt: HostRuntime) -> Result<(), Fail> {
-    let text = brief_text(&rt, rt.alloc(), 3)?;
-    assert_eq!(rt;
-        text.as_slice(),
-        b"1 no connection A\njobs 3 explained 2 unexplained 0 other 1\n".as_slice()
-    );
-    Ok(())
-}
-
 // Two jobs: few enough allocations that each of them can be refused.
 #[test]
 fn brief_report_leaves_out_one_job(rt: HostRuntime) -> Result<(), Fail> {
@@ -181,68 +171,10 @@ fn are_released<R: Wait>(connector: &Stores<'_, R>, connections: u64) -> Result<
     Ok(connector.count() == connections && connector.released() == connections)
 }
 
-/// Whether the campaign comes to the expected report without workers, with one and with sixteen.
-fn comes_to_by_any<R: Threads + Wait + Sync>(
-    rt: &R,
-    alloc: Global,
-    campaign: Campaign<'_>,
-    expected: &[u8],
-) -> Result<bool, CampaignError>
-    requires jobs { campaign.jobs ≤ 10000 }
-    requires last { campaign.first + campaign.jobs ≤ 2 ^ 64 }
-{
-    let without = comes_to(rt, alloc, campaign, 0, expected)?;
-    let by_one = comes_to(rt, alloc, campaign, 1, expected)?;
-    Ok(without && by_one && comes_to(rt, alloc, campaign, 16, expected)?)
-}
-
-// Without turns to search in no history is judged, whoever runs the jobs.
-#[test]
-fn no_job_is_judged_without_turns(rt: HostRuntime) -> Result<(), Fail> {
-    let expected = b"report\n0 undecided\n1 undecided\n2 undecided\n\
-        jobs 3 explained 0 unexplained 0 other 3\n"
-        .as_slice();
-    assert!(rt; is_told_without_turns(&rt, rt.alloc(), 0, expected)?);
-    assert!(rt; is_told_without_turns(&rt, rt.alloc(), 2, expected)?);
-    Ok(())
-}
-
-/// Whether this is the text of a report on three jobs whose search for an explanation has no turns, and its status is 4.
-fn is_told_without_turns<R: Threads + Wait + Sync>(
-    rt: &R,
-    alloc: Global,
-    workers: u32,
-    expected: &[u8],
-) -> Result<bool, Fail>
-    requires { workers ≤ 16 }
-{
-    let store = Shared::new(alloc)?;
-    let connector = Stores::honest(rt, alloc, &store);
-    let report = run_campaign(rt, alloc, 1, 3, workers, 0, &connector, &FreeGate)?;
-    let (text, status) = text_and_status_of(alloc, &report)?;
-    Ok(text.as_slice() == expected && status == 4)
-}
-
-#[test]
-fn jobs_are_run_by_any_number_of_workers(rt: HostRuntime) -> Result<(), Fail> {
-    let expected = b"report\n8 explained\n9 explained\n10 explained\n\
-        jobs 3 explained 3 unexplained 0 other 0\n"
-        .as_slice();
-    assert!(rt; comes_to_by_any(&rt, rt.alloc(), campaign(8, 3), expected)?);
-    Ok(())
-}
-
 // One job and one worker: few enough allocations that each of them can be refused.
 #[test]
 fn one_job_is_run_by_one_worker(rt: HostRuntime) -> Result<(), Fail> {
     let expected = b"report\n8 explained\njobs 1 explained 1 unexplained 0 other 0\n".as_slice();
     assert!(rt; again(|| comes_to(&rt, rt.alloc(), campaign(8, 1), 1, expected))?);
-    Ok(())
-}
-
-#[test]
-fn no_jobs_give_an_empty_report(rt: HostRuntime) -> Result<(), Fail> {
-    let expected = b"report\njobs 0 explained 0 unexplained 0 other 0\n".as_slice();
-    assert!(rt; comes_to_by_any(&rt, rt.alloc(), campaign(0, 0), expected)?);
     Ok(())
 }

@@ -1,11 +1,8 @@
-//! `decode`: the code of images, its parts and its requests, and what is read of changed images.
+//! `decode`: the code of images, its parts and its requests, and how many changed images are read.
 
-use crate::images::{
-    COUNTER_IMAGE, COUNTER_IMAGE_2, EVERYTHING_IMAGE, LAST_FLAG_IMAGE, LONGEST_BODY, image_after,
-    is_image_of, with_changes,
-};
+use crate::images::{COUNTER_IMAGE, EVERYTHING_IMAGE, LAST_FLAG_IMAGE, LONGEST_BODY, image_after};
 use crate::memory::again;
-use crate::parts::{COUNTER, EVERYTHING, LAST_FLAG, Parts, has_parts};
+use crate::parts::{COUNTER, Parts, has_parts};
 use mc_code::{Call, Code, ImageFault, ImageKind, decode};
 use mc_protocol::{Request, Verb};
 use std::alloc::Global;
@@ -13,138 +10,83 @@ use std::test::Fail;
 
 #[test]
 fn reads_two_images(rt: HostRuntime) -> Result<(), Fail> {
-    let rows = [
-        (COUNTER_IMAGE, &COUNTER, true),
-        (EVERYTHING_IMAGE, &EVERYTHING, true),
-        (COUNTER_IMAGE, &EVERYTHING, false),
-    ];
-    for (image, parts, is_its_code) in &rows {
-        assert!(rt; is_code_of(rt.alloc(), image, parts)? == *is_its_code);
-    }
+    assert!(rt; is_read_as(rt.alloc(), COUNTER_IMAGE, &COUNTER)?);
+    assert!(rt; is_written_again(rt.alloc(), EVERYTHING_IMAGE)?);
     Ok(())
 }
 
-fn is_code_of(alloc: Global, image: &[u8], parts: &Parts) -> Result<bool, ImageFault> {
+fn is_read_as(alloc: Global, image: &[u8], parts: &Parts) -> Result<bool, ImageFault> {
     let code = again(|| decode(alloc, image))?;
     Ok(has_parts(&code, parts))
 }
 
-// Of a code that version 1 can spell, the image of version 1 is written.
-#[test]
-fn reads_both_versions_of_an_image(rt: HostRuntime) -> Result<(), Fail> {
-    assert_eq!(rt; COUNTER_IMAGE_2.len(), 266);
-    assert!(rt; is_read_as(rt.alloc(), COUNTER_IMAGE_2, &COUNTER, COUNTER_IMAGE)?);
-    Ok(())
-}
-
-#[test]
-fn reads_the_last_flag(rt: HostRuntime) -> Result<(), Fail> {
-    assert!(rt; is_read_as(rt.alloc(), LAST_FLAG_IMAGE, &LAST_FLAG, LAST_FLAG_IMAGE)?);
-    Ok(())
-}
-
-// Whether the code of the first image has these parts, and the second one is written of it.
-fn is_read_as(
-    alloc: Global,
-    image: &[u8],
-    parts: &Parts,
-    written: &[u8],
-) -> Result<bool, ImageFault> {
+fn is_written_again(alloc: Global, image: &[u8]) -> Result<bool, ImageFault> {
     let code = again(|| decode(alloc, image))?;
-    is_written_with(alloc, &code, parts, written)
+    Ok(image_after(alloc, b"", &code)?.as_slice() == image)
 }
 
-fn is_written_with(
-    alloc: Global,
-    code: &Code,
-    parts: &Parts,
-    written: &[u8],
-) -> Result<bool, ImageFault> {
-    Ok(has_parts(code, parts) && is_written(alloc, code, written, Again::Bytes)?)
-}
-
-// Each byte of an image of version 1 takes each value in turn. What is read is written again, byte for byte. The numbers are
-// how many of these images `docs/FORMATS.md` allows; the image itself is among them once for each of its bytes.
+// Each byte of an image takes each value in turn. The number is how many of these images `docs/FORMATS.md` allows; the image
+// itself is among them once for each of its bytes.
 #[test]
-fn writes_what_it_reads(rt: HostRuntime) -> Result<(), Fail> {
-    let images = [(COUNTER_IMAGE, 17_613), (EVERYTHING_IMAGE, 31_815)];
-    for (image, count) in &images {
-        assert_eq!(rt; count_read(rt.alloc(), image, Again::Bytes)?, Some(*count));
-    }
+fn reads_changed_images(rt: HostRuntime) -> Result<(), Fail> {
+    assert_eq!(rt; count_read(rt.alloc(), COUNTER_IMAGE)?, 17_613);
     Ok(())
 }
 
-// The same of images of version 2: what is written is an image of the same code, in either version.
 #[test]
-fn writes_the_code_that_it_reads(rt: HostRuntime) -> Result<(), Fail> {
-    let images = [(COUNTER_IMAGE_2, 17_709), (LAST_FLAG_IMAGE, 33_596)];
-    for (image, count) in &images {
-        assert_eq!(rt; count_read(rt.alloc(), image, Again::Code)?, Some(*count));
-    }
+fn reads_changed_images_of_version_2(rt: HostRuntime) -> Result<(), Fail> {
+    assert_eq!(rt; count_read(rt.alloc(), LAST_FLAG_IMAGE)?, 33_596);
     Ok(())
 }
 
-// How what was read of an image is written again: byte for byte, or as an image of the same code.
-#[derive(Clone, Copy)]
-enum Again {
-    Bytes,
-    Code,
-}
-
-// How many of the images with another value at one offset are read, or `None` if one of them isn't written again so.
-fn count_read(alloc: Global, image: &[u8], again: Again) -> Result<Option<usize>, ImageFault> {
+fn count_read(alloc: Global, image: &[u8]) -> Result<usize, ImageFault> {
     let mut count = 0usize;
     for offset in 0..image.len() {
         for value in 0..=u8::MAX {
-            match is_written_again(alloc, image, (offset, value), again)? {
-                Some(true) => count = count.saturating_add(1),
-                Some(false) => return Ok(None),
-                None => {}
+            if is_read_with(alloc, image, offset, value)? {
+                count = count.saturating_add(1);
             }
         }
     }
-    Ok(Some(count))
+    Ok(count)
 }
 
-// Whether the code of the image with this change is written again so, where it has code. Want of memory is an error.
-fn is_written_again(
-    alloc: Global,
-    image: &[u8],
-    change: (usize, u8),
-    again: Again,
-) -> Result<Option<bool>, ImageFault> {
-    let bytes = with_changes(alloc, image, &[change])?;
-    is_image_written_again(alloc, &bytes, again)
+fn is_read_with(alloc: Global, image: &[u8], offset: usize, value: u8) -> Result<bool, ImageFault> {
+    let mut bytes = Vec::from_slice(alloc, image)?;
+    if let Some(byte) = bytes.get_mut(offset) {
+        *byte = value;
+    }
+    Ok(fault_in(alloc, &bytes)?.is_none())
 }
 
-fn is_image_written_again(
-    alloc: Global,
-    image: &[u8],
-    again: Again,
-) -> Result<Option<bool>, ImageFault> {
-    let read = decode(alloc, image);
-    is_written_where_read(alloc, &read, image, again)
-}
-
-fn is_written_where_read(
-    alloc: Global,
-    read: &Result<Code, ImageFault>,
-    image: &[u8],
-    again: Again,
-) -> Result<Option<bool>, ImageFault> {
-    match read {
-        Ok(code) => Ok(Some(is_written(alloc, code, image, again)?)),
-        Err(fault) if fault.kind == ImageKind::OutOfMemory => Err(*fault),
-        Err(_) => Ok(None),
+// Why the bytes are no image, if they aren't. Want of memory is an error.
+fn fault_in(alloc: Global, bytes: &[u8]) -> Result<Option<ImageFault>, ImageFault> {
+    match decode(alloc, bytes) {
+        Ok(_) => Ok(None),
+        Err(fault) if fault.kind == ImageKind::OutOfMemory => Err(fault),
+        Err(fault) => Ok(Some(fault)),
     }
 }
 
-fn is_written(alloc: Global, code: &Code, image: &[u8], again: Again) -> Result<bool, ImageFault> {
-    let written = image_after(alloc, b"", code)?;
-    match again {
-        Again::Bytes => Ok(written.as_slice() == image),
-        Again::Code => is_image_of(alloc, &written, code),
+// Bytes that the program reads as a script.
+static OTHERS: [(&[u8], ImageKind); 5] = [
+    (b"", ImageKind::Short),
+    (b"xyz", ImageKind::Short),
+    (b"mCR1", ImageKind::Magic),
+    (b"McR1", ImageKind::Magic),
+    (b"MC\x001", ImageKind::Magic),
+];
+
+#[test]
+fn refuses_what_begins_otherwise(rt: HostRuntime) -> Result<(), Fail> {
+    for (bytes, kind) in &OTHERS {
+        let fault = ImageFault {
+            kind: *kind,
+            offset: 0,
+        };
+        assert_eq!(rt; fault_in(rt.alloc(), bytes)?, Some(fault));
     }
+    Ok(())
 }
 
 // A call of a template, and the request that it makes.

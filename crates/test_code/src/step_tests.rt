@@ -51,16 +51,3 @@ fn finds_the_step_of_an_instruction(rt: HostRuntime) -> Result<(), Fail> {
     }
     Ok(())
 }
-
-fn is_beyond(alloc: Global, place: usize) -> Result<bool, Fail> {
-    let script = parse(alloc, TEXT)?;
-    Ok(step_at(&script, Actor::B, place).is_none())
-}
-
-#[test]
-fn finds_none_beyond_the_code(rt: HostRuntime) -> Result<(), Fail> {
-    for place in [2, 128, usize::MAX] {
-        assert!(rt; is_beyond(rt.alloc(), place)?, "{place}");
-    }
-    Ok(())
-}

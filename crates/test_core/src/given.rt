@@ -17,7 +17,6 @@ pub(crate) enum Given {
     Begin,
     Stored,
     NotFound,
-    Miss,
     Number(u64),
     Fail(Fault),
 }
@@ -32,7 +31,6 @@ impl Given {
             Given::Fail(fault) => return Event::Fail(fault),
             Given::Stored => Reply::Stored,
             Given::NotFound => Reply::NotFound,
-            Given::Miss => Reply::Miss,
             Given::Number(number) => Reply::Number(number),
         })
     }
@@ -73,15 +71,11 @@ pub(crate) fn endings(world: &World) -> [Ending; 3] {
 
 /// The code of a script, which is sound.
 pub(crate) fn checked(alloc: Global, script: &[u8]) -> Result<Checked, Fail> {
-    sound(alloc, code(alloc, script)?)
+    let code = code(alloc, script)?;
+    Ok(verify(alloc, code).map_err(|(refusal, _)| refusal)?)
 }
 
 fn code(alloc: Global, script: &[u8]) -> Result<Code, Fail> {
     let script = parse(alloc, script)?;
     Ok(assemble(alloc, &script)?)
-}
-
-/// The same of code.
-pub(crate) fn sound(alloc: Global, code: Code) -> Result<Checked, Fail> {
-    Ok(verify(alloc, code).map_err(|(refusal, _)| refusal)?)
 }

@@ -1,4 +1,4 @@
-//! What worlds come to, and what their histories are judged to be.
+//! What worlds come to, and what their histories are judged to be. `cases/drive/endings.cases` has more of it.
 
 ghost use Rattle.mc_core.specs.Held.{IsHeldBy};
 
@@ -23,7 +23,7 @@ type Row = (
     &'static str,
 );
 
-static ROWS: [Row; 7] = [
+static ROWS: [Row; 2] = [
     // an event of A before P is done, one after A failed, and a reply that no increment has
     (
         COUNTER,
@@ -43,74 +43,6 @@ static ROWS: [Row; 7] = [
         3,
         [Ending::Done, Ending::Failed(Fault::Ended), Ending::Done],
         "P 0\nP 1\nB 2\n",
-    ),
-    // the same, where A's call was executed
-    (
-        COUNTER,
-        &[
-            (A, Begin),
-            (P, Begin),
-            (P, NotFound),
-            (P, Begin),
-            (P, Stored),
-            (A, Begin),
-            (A, Fail(Fault::Ended)),
-            (A, Begin),
-            (B, Begin),
-            (B, Stored),
-            (B, Number(7)),
-        ],
-        3,
-        [Ending::Done, Ending::Failed(Fault::Ended), Ending::Done],
-        "P 0\nP 1\nA 2\nB 3\n",
-    ),
-    // nothing
-    (
-        COUNTER,
-        &[],
-        0,
-        [Ending::Running, Ending::NotBegun, Ending::NotBegun],
-        "",
-    ),
-    // P fails before its first call, between its calls, and while the second one waits
-    (
-        COUNTER,
-        &[(P, Fail(Fault::WriteFailed)), (A, Begin)],
-        1,
-        [
-            Ending::Failed(Fault::WriteFailed),
-            Ending::NotBegun,
-            Ending::NotBegun,
-        ],
-        "",
-    ),
-    (
-        COUNTER,
-        &[(P, Begin), (P, NotFound), (P, Fail(Fault::Closed))],
-        0,
-        [
-            Ending::Failed(Fault::Closed),
-            Ending::NotBegun,
-            Ending::NotBegun,
-        ],
-        "P 0\n",
-    ),
-    (
-        COUNTER,
-        &[
-            (P, Begin),
-            (P, NotFound),
-            (P, Begin),
-            (P, Fail(Fault::ReadFailed)),
-            (P, Stored),
-        ],
-        1,
-        [
-            Ending::Failed(Fault::ReadFailed),
-            Ending::NotBegun,
-            Ending::NotBegun,
-        ],
-        "P 0\n",
     ),
     // a branch without a call is done when P is
     (

@@ -5,13 +5,9 @@
 #![tactic(auto)]
 
 #[cfg(test)]
-mod changed_image_tests;
-#[cfg(test)]
 mod given;
 #[cfg(test)]
 mod history_tests;
-#[cfg(test)]
-mod long_tests;
 #[cfg(test)]
 mod memory;
 #[cfg(test)]

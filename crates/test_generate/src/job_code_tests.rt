@@ -42,12 +42,6 @@ fn job_has_its_keys_under_the_name(rt: HostRuntime) -> Result<(), Fail> {
     Ok(())
 }
 
-#[test]
-fn job_without_a_name_has_its_own_keys(rt: HostRuntime) -> Result<(), Fail> {
-    assert!(rt; has_keys(rt.alloc(), None, "r31-0", "r31-1")?);
-    Ok(())
-}
-
 // `r10-0` has 5 bytes, which have no room after 35 and a dash.
 #[test]
 fn job_whose_key_is_too_long_has_no_code(rt: HostRuntime) -> Result<(), Fail> {

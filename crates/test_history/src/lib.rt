@@ -1,12 +1,10 @@
 //! Tests of `mc_history`: each of its public calls that is no law, once with memory there, and with an answer that was worked out
 //! by hand.
 //!
-//! What `mcrace judge` and `mcrace drive` answer to a text stands in `cases`. Here is what only a call shows: the parts of what was
-//! read, which fault a text has, and what is printed of a history.
+//! What `mcrace judge` and `mcrace drive` answer to a text, and which fault another has, stands in `cases`. Here is what only a call
+//! shows: what is printed of what was read.
 #![tactic(auto)]
 
-#[cfg(test)]
-mod fault_tests;
 #[cfg(test)]
 mod memory;
 #[cfg(test)]

@@ -1,7 +1,7 @@
 //! Which texts are step lists.
 
 use crate::memory::again;
-use mc_history::{Event, StepsFault, parse_steps};
+use mc_history::{Event, parse_steps};
 use mc_model::print_reply_words;
 use mc_protocol::{Actor, Fault, OutOfMemory, Reply, append_all};
 use std::alloc::Global;
@@ -91,48 +91,5 @@ fn reads_step_lists(rt: HostRuntime) -> Result<(), Fail> {
     for (text, wanted) in LISTS {
         assert!(rt; is_list_of(rt.alloc(), text, wanted)?, "{text}");
     }
-    Ok(())
-}
-
-// Whether the text is the list of one step, in which B begins.
-fn is_begin_of_b(alloc: Global, text: &[u8]) -> Result<bool, StepsFault> {
-    let steps = parse_steps(alloc, text, 1)?;
-    Ok(steps.as_slice() == [(Actor::B, Event::Begin)].as_slice())
-}
-
-#[test]
-fn reads_parts(rt: HostRuntime) -> Result<(), Fail> {
-    assert!(rt; is_begin_of_b(rt.alloc(), b"steps\nB begin\nend\n")?);
-    Ok(())
-}
-
-// A text with this number of steps, and then these lines.
-pub(crate) fn text_with(alloc: Global, steps: usize, others: &str) -> Result<String, Fail> {
-    let mut text = String::from_str(alloc, "steps\n")?;
-    push_steps(&mut text, steps)?;
-    text.push_str(others)?;
-    Ok(text)
-}
-
-fn push_steps(text: &mut String, steps: usize) -> Result<(), OutOfMemory> {
-    for _ in 0..steps {
-        text.push_str("P begin\n")?;
-    }
-    Ok(())
-}
-
-// How many steps are read of a thousand and these lines.
-fn count_with(alloc: Global, others: &str) -> Result<usize, Fail> {
-    let text = text_with(alloc, 1000, others)?;
-    Ok(count_in(alloc, &text)?)
-}
-
-fn count_in(alloc: Global, text: &str) -> Result<usize, StepsFault> {
-    Ok(parse_steps(alloc, text.as_bytes(), 1)?.len())
-}
-
-#[test]
-fn takes_a_thousand_steps(rt: HostRuntime) -> Result<(), Fail> {
-    assert_eq!(rt; count_with(rt.alloc(), "# the last one\nend\n")?, 1000);
     Ok(())
 }

@@ -1,11 +1,9 @@
-//! The parts of what is read, and what is printed of it.
+//! What is printed of what was read, and a long text.
 
 use crate::memory::again;
-use mc_history::{
-    Explanation, HistoryFault, Move, parse_history, print_explanation, print_history,
-};
-use mc_model::{Choice, History};
-use mc_protocol::{Actor, OutOfMemory, Verb};
+use mc_history::{Explanation, HistoryFault, parse_history, print_explanation, print_history};
+use mc_model::History;
+use mc_protocol::OutOfMemory;
 use std::alloc::Global;
 use std::test::Fail;
 
@@ -122,73 +120,6 @@ fn prints_what_was_noted(rt: HostRuntime) -> Result<(), Fail> {
 fn noted_again(alloc: Global) -> Result<Vec<u8>, Fail> {
     let read = again(|| parse_history(alloc, NOTED.as_bytes()))?;
     Ok(history_after(alloc, b"", &read.0)?)
-}
-
-const CLAIMED: &[u8] =
-    b"history 1\nP delete a -> NOT_FOUND\nB set a 1 =%00 -> STORED\nA get a -> ?\nexplain\nstart b 2\n\
-      start a 18446744073709551615\nP 1 pad refuse\nA 0 pad\nB 7 refuse\nB 8\nend\n";
-
-// The sections' only requests, and whether they were answered.
-static SENT: [(Actor, Verb, bool); 3] = [
-    (Actor::P, Verb::Delete, true),
-    (Actor::A, Verb::Get, false),
-    (Actor::B, Verb::Set, true),
-];
-
-static STARTS: [(&[u8], u64); 2] = [(b"b", 2), (b"a", u64::MAX)];
-
-// The moves: their sections, whether they pad and read, and their numbers.
-static MOVES: [(Actor, bool, bool, u64); 4] = [
-    (Actor::P, true, false, 1),
-    (Actor::A, true, true, 0),
-    (Actor::B, false, false, 7),
-    (Actor::B, false, true, 8),
-];
-
-fn has_sent(history: &History) -> bool {
-    SENT.iter().all(|(actor, verb, is_answered)| match history.sent(*actor) {
-        [sent] => sent.request.verb == *verb && sent.reply.is_some() == *is_answered,
-        _ => false,
-    })
-}
-
-fn has_starts(explanation: &Explanation) -> bool {
-    explanation.start.len() == STARTS.len()
-        && explanation.start.iter().zip(&STARTS).all(|(found, wanted)| {
-            found.0.as_slice() == wanted.0 && found.1 == wanted.1
-        })
-}
-
-fn has_moves(explanation: &Explanation) -> bool {
-    explanation.order.len() == MOVES.len()
-        && explanation.order.iter().zip(&MOVES).all(|(found, wanted)| {
-            let (actor, pad, read, number) = *wanted;
-            let choice = Choice { pad, read };
-            *found
-                == Move {
-                    actor,
-                    choice,
-                    number,
-                }
-        })
-}
-
-#[test]
-fn reads_parts(rt: HostRuntime) -> Result<(), Fail> {
-    assert!(rt; are_parts_read(rt.alloc())?);
-    Ok(())
-}
-
-fn are_parts_read(alloc: Global) -> Result<bool, Fail> {
-    let read = parse_history(alloc, CLAIMED)?;
-    Ok(has_sent(&read.0) && has_claim(&read.1))
-}
-
-fn has_claim(explanation: &Option<Explanation>) -> bool {
-    match explanation {
-        Some(explanation) => has_starts(explanation) && has_moves(explanation),
-        None => false,
-    }
 }
 
 // A text of a mebibyte, each line of which has a key of its own, is read in a moment.

@@ -2,7 +2,7 @@
 //! rows are cases of the program.
 use crate::lines::{bytes, reply_in, request_in};
 use crate::memory::again;
-use mc_model::{Cache, Choice, Item, Numeral, WordsFault, numeral_of};
+use mc_model::{Cache, Choice, Item, WordsFault};
 use mc_protocol::{OutOfMemory, Reply, Request};
 use std::alloc::Global;
 use std::test::Fail;
@@ -202,17 +202,4 @@ fn store(alloc: Global, cache: &mut Cache) -> Result<(), WordsFault> {
 fn copies_caches(rt: HostRuntime) -> Result<(), Fail> {
     assert!(rt; copies(rt.alloc())?);
     Ok(())
-}
-
-static NUMERALS: &[(&str, Numeral)] = &[
-    ("5 ", Numeral::Is(5)),
-    ("5 x", Numeral::MayBe(5)),
-    ("x", Numeral::NoNumber),
-];
-
-#[test]
-fn knows_numerals(rt: HostRuntime) {
-    for (body, numeral) in NUMERALS {
-        assert!(rt; numeral_of(body.as_bytes()) == *numeral, "{body}");
-    }
 }

@@ -1,8 +1,8 @@
-//! What makes a history, and the faults of requests that make none. The rules themselves are cases of the program.
+//! What makes a history. The rules themselves, and the faults of requests that make none, are cases of the program.
 use crate::lines::{reply_in, request_in};
 use crate::memory::again;
 use mc_model::{History, HistoryBuilder, HistoryKind, Sent, WordsFault};
-use mc_protocol::{Actor, KEY_BYTES_LIMIT, KEYS_LIMIT, REQUESTS_LIMIT, Verb};
+use mc_protocol::{Actor, Verb};
 use std::alloc::Global;
 use std::test::Fail;
 
@@ -50,43 +50,6 @@ fn history_of(
     let a = section(alloc, sections[1])?;
     let b = section(alloc, sections[2])?;
     Ok(History::new(alloc, p, a, b))
-}
-
-/// What is broken, where that is more than memory.
-fn broken_by(alloc: Global, sections: [&[(&str, &str)]; 3]) -> Result<Option<Broken>, WordsFault> {
-    match history(alloc, sections)? {
-        Ok(_) => Ok(None),
-        Err((HistoryKind::OutOfMemory, _, _)) => Err(WordsFault::out_of_memory()),
-        Err(broken) => Ok(Some(broken)),
-    }
-}
-
-/// Sections that are no history, and what is broken.
-static FAULTY: &[(Section, Section, Section, Broken)] = &[
-    (
-        &[("delete a", "NOT_FOUND")],
-        &[("get a", "MISS")],
-        &[("get a", "?"), ("get a", "?")],
-        (HistoryKind::Order, Actor::B, 1),
-    ),
-    (
-        &[
-            ("delete a", "NOT_FOUND"),
-            ("cas a 0 = 7", "NOT_FOUND"),
-            ("gets a", "HIT 0 = 7"),
-        ],
-        &[],
-        &[],
-        (HistoryKind::UnseenNumber, Actor::P, 1),
-    ),
-];
-
-#[test]
-fn finds_first_faults(rt: HostRuntime) -> Result<(), Fail> {
-    for (p, a, b, expected) in FAULTY {
-        assert_eq!(rt; broken_by(rt.alloc(), [p, a, b])?, Some(*expected));
-    }
-    Ok(())
 }
 
 fn has_verbs(section: &[Sent], verbs: &[Verb]) -> bool {
@@ -190,9 +153,4 @@ fn oddities(alloc: Global) -> Result<(Option<usize>, Option<Actor>), Fail> {
 fn builds_histories(rt: HostRuntime) -> Result<(), Fail> {
     assert_eq!(rt; oddities(rt.alloc())?, (None, None));
     Ok(())
-}
-
-#[test]
-fn knows_limits(rt: HostRuntime) {
-    assert!(rt; KEY_BYTES_LIMIT == 40 && REQUESTS_LIMIT == 24 && KEYS_LIMIT == 8);
 }

@@ -1,4 +1,4 @@
-//! Histories that keep what was noted: what makes one, the first fault of notes that make none, and what they count.
+//! Histories that keep what was noted: what makes one, and what they count. `cases/judge` has the faults of notes that make none.
 use crate::lines::{reply_in, request_in};
 use crate::memory::again;
 use mc_model::{History, HistoryKind, Note, NotedBuilder, WordsFault};
@@ -36,126 +36,9 @@ fn history_of(alloc: Global, lines: &[Line]) -> Result<Result<History, Broken>, 
     Ok(History::noted(alloc, notes))
 }
 
-/// What is broken, where that is more than memory.
-fn broken_by(alloc: Global, lines: &[Line]) -> Result<Option<Broken>, WordsFault> {
-    match history(alloc, lines)? {
-        Ok(_) => Ok(None),
-        Err((HistoryKind::OutOfMemory, _, _)) => Err(WordsFault::out_of_memory()),
-        Err(broken) => Ok(Some(broken)),
-    }
-}
-
 /// The history of notes that make one.
 fn sound_history(alloc: Global, lines: &[Line]) -> Result<History, Fail> {
     Ok(history(alloc, lines)?.map_err(|broken| broken.0)?)
-}
-
-/// Notes that make no history, and what is broken.
-static FAULTY: &[(&[Line], Broken)] = &[
-    (
-        &[(Actor::P, false, "NOT_FOUND")],
-        (HistoryKind::Order, Actor::P, 0),
-    ),
-    (
-        &[(Actor::P, true, "delete a"), (Actor::P, true, "delete b")],
-        (HistoryKind::Order, Actor::P, 1),
-    ),
-    (
-        &[
-            (Actor::P, true, "delete a"),
-            (Actor::P, false, "NOT_FOUND"),
-            (Actor::P, false, "NOT_FOUND"),
-        ],
-        (HistoryKind::Order, Actor::P, 2),
-    ),
-    (
-        &[(Actor::P, true, "delete a"), (Actor::A, true, "get a")],
-        (HistoryKind::Order, Actor::A, 1),
-    ),
-    (
-        &[(Actor::P, true, "delete a"), (Actor::B, true, "get a")],
-        (HistoryKind::Order, Actor::B, 1),
-    ),
-    (
-        &[
-            (Actor::P, true, "delete a"),
-            (Actor::P, false, "NOT_FOUND"),
-            (Actor::B, false, "MISS"),
-        ],
-        (HistoryKind::Order, Actor::B, 2),
-    ),
-    (
-        &[
-            (Actor::P, true, "delete a"),
-            (Actor::P, false, "NOT_FOUND"),
-            (Actor::A, true, "get a"),
-            (Actor::B, false, "MISS"),
-        ],
-        (HistoryKind::Order, Actor::B, 3),
-    ),
-    (
-        &[
-            (Actor::P, true, "delete a"),
-            (Actor::P, false, "NOT_FOUND"),
-            (Actor::A, true, "get a"),
-            (Actor::P, true, "delete b"),
-        ],
-        (HistoryKind::Order, Actor::P, 3),
-    ),
-    (
-        &[
-            (Actor::P, true, "delete a"),
-            (Actor::P, false, "NOT_FOUND"),
-            (Actor::B, true, "get a"),
-            (Actor::P, false, "NOT_FOUND"),
-        ],
-        (HistoryKind::Order, Actor::P, 3),
-    ),
-    (
-        &[
-            (Actor::P, true, "delete a"),
-            (Actor::P, false, "NOT_FOUND"),
-            (Actor::A, true, "get a"),
-            (Actor::B, true, "get a"),
-            (Actor::A, true, "get a"),
-        ],
-        (HistoryKind::Order, Actor::A, 4),
-    ),
-    (
-        &[
-            (Actor::P, true, "delete a"),
-            (Actor::P, false, "NOT_FOUND"),
-            (Actor::A, true, "get a"),
-            (Actor::B, true, "get b"),
-        ],
-        (HistoryKind::NotCleared, Actor::B, 3),
-    ),
-    (
-        &[
-            (Actor::P, true, "delete a"),
-            (Actor::P, false, "NOT_FOUND"),
-            (Actor::A, true, "get a"),
-            (Actor::A, false, "STORED"),
-        ],
-        (HistoryKind::WrongReply, Actor::A, 3),
-    ),
-    (
-        &[
-            (Actor::P, true, "delete a"),
-            (Actor::P, false, "NOT_FOUND"),
-            (Actor::A, true, "gets a"),
-            (Actor::B, true, "cas a 0 = 7"),
-        ],
-        (HistoryKind::UnseenNumber, Actor::B, 3),
-    ),
-];
-
-#[test]
-fn finds_first_faults_of_notes(rt: HostRuntime) -> Result<(), Fail> {
-    for (lines, expected) in FAULTY {
-        assert_eq!(rt; broken_by(rt.alloc(), lines)?, Some(*expected));
-    }
-    Ok(())
 }
 
 /// Each section's last request was not answered in one of these.
@@ -245,18 +128,6 @@ fn is_counted(history: &History) -> bool {
 fn counts_what_was_answered_before(rt: HostRuntime) -> Result<(), Fail> {
     let history = sound_history(rt.alloc(), COUNTED)?;
     assert!(rt; is_counted(&history));
-    Ok(())
-}
-
-fn has_no_notes(history: &History) -> bool {
-    history.notes().is_none() && history.answered_before(Actor::A, 0) == 0
-}
-
-#[test]
-fn keeps_no_notes_of_sections(rt: HostRuntime) -> Result<(), Fail> {
-    let alloc = rt.alloc();
-    let history = History::new(alloc, Vec::new(alloc), Vec::new(alloc), Vec::new(alloc));
-    assert!(rt; has_no_notes(&history.map_err(|broken| broken.0)?));
     Ok(())
 }
 

@@ -108,47 +108,6 @@ fn reads_and_prints_each_reply(rt: HostRuntime) -> Result<(), Fail> {
     Ok(())
 }
 
-/// The line of a hit, and its flags, body and cas number.
-static HITS: &[(&str, u32, &[u8], Option<u64>)] = &[
-    ("HIT 3 =%00a%25", 3, b"\0a%", None),
-    ("HIT 0 = 12", 0, b"", Some(12)),
-];
-
-fn is_hit(reply: &Reply, flags: u32, body: &[u8], cas: Option<u64>) -> bool {
-    match reply {
-        Reply::Hit {
-            flags: shown,
-            body: bytes,
-            cas: number,
-        } => { *shown == flags && bytes.as_slice() == body && *number == cas }
-        _ => false,
-    }
-}
-
-/// Whether the line is read as a hit with these parts.
-fn is_hit_of(
-    alloc: Global,
-    line: &str,
-    flags: u32,
-    body: &[u8],
-    cas: Option<u64>,
-) -> Result<bool, WordsFault> {
-    Ok(is_hit(&reply_in(alloc, line)?, flags, body, cas))
-}
-
-fn is_number_of(alloc: Global, line: &str, number: u64) -> Result<bool, WordsFault> {
-    Ok(reply_in(alloc, line)? == Reply::Number(number))
-}
-
-#[test]
-fn reads_the_parts_of_replies(rt: HostRuntime) -> Result<(), Fail> {
-    for (line, flags, body, cas) in HITS {
-        assert!(rt; is_hit_of(rt.alloc(), line, *flags, body, *cas)?, "{line}");
-    }
-    assert!(rt; is_number_of(rt.alloc(), "NUMBER 10", 10)?);
-    Ok(())
-}
-
 /// A word, the body that it says, and the reply that is printed of it.
 static BODIES: &[(&str, &[u8], &str)] = &[
     ("=", b"", "HIT 0 ="),

@@ -6,7 +6,7 @@ use mc_reader::{AskFault, Asked, RequestReader};
 use std::alloc::{AllocError, Global};
 
 /// What the reader answers to the piece; none where it has failed.
-pub(crate) fn feed(reader: &mut RequestReader, piece: &[u8]) -> Result<Option<Asked>, OutOfMemory> {
+fn feed(reader: &mut RequestReader, piece: &[u8]) -> Result<Option<Asked>, OutOfMemory> {
     match reader.feed(piece) {
         Ok(asked) => Ok(Some(asked)),
         Err(AskFault::OutOfMemory) => fail_without_memory(reader),
@@ -52,60 +52,28 @@ fn goes_on_after(reader: &mut RequestReader, closes: bool) -> Result<bool, OutOf
     }
 }
 
-/// Feeds all but the last piece of `len` bytes, and answers that one, where the reader goes on at each of them.
-pub(crate) fn last_piece<'t>(
-    reader: &mut RequestReader,
-    text: &'t [u8],
-    len: usize,
-) -> Result<Option<&'t [u8]>, OutOfMemory> {
-    let mut rest = text;
-    'pieces: while rest.len() > len && len > 0 {
-        let (piece, others) = rest.split_at(len);
-        if !goes_on(reader, piece)? {
-            return Ok(None);
-        }
-        rest = others;
-    }
-    Ok(Some(rest))
-}
-
-/// Whether this is asked at the end of the text, fed in pieces of `len` bytes, and not before.
-pub(crate) fn is_asked_in_pieces(
-    alloc: Global,
-    text: &[u8],
-    len: usize,
-    wanted: &WantedAsk,
-    closes: bool,
-) -> Result<bool, OutOfMemory> {
-    let mut reader = RequestReader::new(alloc);
-    is_asked_by(&mut reader, text, len, wanted, closes)
-}
-
-fn is_asked_by(
-    reader: &mut RequestReader,
-    text: &[u8],
-    len: usize,
-    wanted: &WantedAsk,
-    closes: bool,
-) -> Result<bool, OutOfMemory> {
-    match last_piece(reader, text, len)? {
-        Some(last) => Ok(asks(reader, last, last.len(), wanted)? && goes_on_after(reader, closes)?),
-        None => Ok(false),
-    }
-}
-
 fn is_asked_at_cut(
     alloc: Global,
     text: &[u8],
     cut: usize,
     wanted: &WantedAsk,
+    closes: bool,
 ) -> Result<bool, OutOfMemory> {
     if cut > text.len() {
         return Ok(false);
     }
     let (front, back) = text.split_at(cut);
     let mut reader = RequestReader::new(alloc);
-    Ok(goes_on(&mut reader, front)? && asks(&mut reader, back, back.len(), wanted)?)
+    Ok(goes_on(&mut reader, front)? && is_asked_last(&mut reader, back, wanted, closes)?)
+}
+
+fn is_asked_last(
+    reader: &mut RequestReader,
+    last: &[u8],
+    wanted: &WantedAsk,
+    closes: bool,
+) -> Result<bool, OutOfMemory> {
+    Ok(asks(reader, last, last.len(), wanted)? && goes_on_after(reader, closes)?)
 }
 
 /// Whether this is asked where other bytes follow the text in the piece, and these are left.
@@ -119,23 +87,19 @@ fn is_asked_before_another(
     asks(&mut reader, longer.as_slice(), text.len(), wanted)
 }
 
-/// Whether this is asked at the end of the text: in one piece, byte by byte, at every cut, and where more bytes follow it.
-pub(crate) fn is_asked(
+/// Whether this is asked at the end of the text: at every cut, and where more bytes follow it.
+fn is_asked(
     alloc: Global,
     text: &[u8],
     wanted: &WantedAsk,
     closes: bool,
 ) -> Result<bool, OutOfMemory> {
     for cut in 0..text.len() {
-        if !is_asked_at_cut(alloc, text, cut, wanted)? {
+        if !is_asked_at_cut(alloc, text, cut, wanted, closes)? {
             return Ok(false);
         }
     }
-    Ok(
-        is_asked_in_pieces(alloc, text, text.len(), wanted, closes)?
-            && is_asked_in_pieces(alloc, text, 1, wanted, closes)?
-            && is_asked_before_another(alloc, text, wanted)?,
-    )
+    is_asked_before_another(alloc, text, wanted)
 }
 
 /// The first row of which another thing is asked, or after which the reader doesn't go on as it should.

@@ -6,10 +6,6 @@
 #[cfg(test)]
 mod ask_cuts;
 #[cfg(test)]
-mod ask_limit_tests;
-#[cfg(test)]
-mod ask_stream_tests;
-#[cfg(test)]
 mod ask_tests;
 #[cfg(test)]
 mod cuts;

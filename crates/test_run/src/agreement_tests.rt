@@ -1,10 +1,9 @@
 //! Worlds, and lanes that carried the calls of two increments of one counter, or something else.
 
-use crate::branch_rows::{BRANCHES, Branches};
-use crate::carried::Carried;
+use crate::agreement_rows::{BOTH, BRANCHES, Branches, PREFIXES};
+use crate::carried::{Carried, NOTHING, P_DONE, SEVEN, SIX, lane_after};
 use crate::counter::Given::*;
 use crate::counter::{Given, checked, counter, events};
-use crate::prefix_rows::PREFIXES;
 use mc_core::{World, drive};
 use mc_lane::MemoryStream;
 use mc_protocol::Actor::*;
@@ -56,7 +55,7 @@ fn first_odd_prefix(alloc: Global) -> Result<Option<usize>, Fail> {
 
 fn first_odd_prefix_in(alloc: Global, counter: &Checked) -> Result<Option<usize>, OutOfMemory> {
     for (index, (steps, p, a, expected)) in PREFIXES.iter().enumerate() {
-        let carried = [*p, *a, Carried::NOTHING];
+        let carried = [*p, *a, NOTHING];
         if agree(alloc, counter, counter, steps, carried)? != *expected {
             return Ok(Some(index));
         }
@@ -65,18 +64,7 @@ fn first_odd_prefix_in(alloc: Global, counter: &Checked) -> Result<Option<usize>
 }
 
 /// Where both branches are done.
-static BOTH_DONE: Branches = (
-    &[(A, Begin), (A, Number(6)), (B, Begin), (B, Number(7))],
-    Carried {
-        got: b"6\r\n",
-        ..Carried::BRANCH
-    },
-    Carried {
-        got: b"7\r\n",
-        ..Carried::BRANCH
-    },
-    true,
-);
+static BOTH_DONE: Branches = (BOTH, SIX, SEVEN, true);
 
 /// A world of one script is no world of another, whatever the lanes carried.
 #[test]
@@ -107,7 +95,7 @@ fn agree_as_branches(
     row: &Branches,
 ) -> Result<bool, OutOfMemory> {
     let (steps, a, b, _) = *row;
-    agree_after_prefix(alloc, code, other, steps, [Carried::P_DONE, a, b])
+    agree_after_prefix(alloc, code, other, steps, [P_DONE, a, b])
 }
 
 /// The same as `agree`, where P is done before these events.
@@ -151,8 +139,8 @@ fn world_after(
 fn lanes_after(alloc: Global, carried: [Carried; 3]) -> Result<Lanes<MemoryStream>, OutOfMemory> {
     let [p, a, b] = carried;
     Ok(Lanes {
-        p: p.lane(alloc)?,
-        a: a.lane(alloc)?,
-        b: b.lane(alloc)?,
+        p: lane_after(alloc, p)?,
+        a: lane_after(alloc, a)?,
+        b: lane_after(alloc, b)?,
     })
 }

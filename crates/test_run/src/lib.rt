@@ -3,11 +3,11 @@
 #![tactic(auto)]
 
 #[cfg(test)]
+mod agreement_rows;
+#[cfg(test)]
 mod agreement_tests;
 #[cfg(test)]
 mod book_tests;
-#[cfg(test)]
-mod branch_rows;
 #[cfg(test)]
 mod carried;
 #[cfg(test)]
@@ -25,15 +25,9 @@ mod meets;
 #[cfg(test)]
 mod memory;
 #[cfg(test)]
-mod prefix_rows;
-#[cfg(test)]
-mod printing_tests;
-#[cfg(test)]
 mod run_tests;
 #[cfg(test)]
 mod signal;
-#[cfg(test)]
-mod tcp_tests;
 #[cfg(test)]
 mod thread_tests;
 #[cfg(test)]

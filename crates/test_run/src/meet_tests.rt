@@ -2,7 +2,7 @@
 
 use crate::counter::{checked, counter};
 use crate::lanes::{BothBegin, NEVER, Served, endings, lanes, run_meeting, run_served_meeting};
-use crate::meets::MEETS;
+use crate::meets::meets;
 use Ending::{Done, Failed};
 use mc_core::{Ending, Event};
 use mc_lane::MemoryStream;
@@ -49,7 +49,8 @@ fn first_that_begins_late_in<R: Threads + Wait + Sync>(
     alloc: Global,
     counter: &Checked,
 ) -> Result<Option<Meet>, Fail> {
-    for meet in &MEETS {
+    let all = meets();
+    for meet in &all {
         if !begin_both(rt, alloc, counter, *meet)? {
             return Ok(Some(*meet));
         }
@@ -114,7 +115,8 @@ fn first_that_miscounts_in<R: Threads + Wait + Sync>(
     alloc: Global,
     counter: &Checked,
 ) -> Result<Option<Meet>, Fail> {
-    for meet in &MEETS {
+    let all = meets();
+    for meet in &all {
         if !count_both(rt, alloc, counter, *meet)? {
             return Ok(Some(*meet));
         }
@@ -221,7 +223,8 @@ fn first_that_waits_in<R: Threads + Wait + Sync>(
     alloc: Global,
     unequal: &Checked,
 ) -> Result<Option<Meet>, Fail> {
-    for meet in &MEETS {
+    let all = meets();
+    for meet in &all {
         if !go_on_alone(rt, alloc, unequal, *meet)? {
             return Ok(Some(*meet));
         }

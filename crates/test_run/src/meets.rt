@@ -1,69 +1,41 @@
 //! The ways in which the branches of a run may meet.
 
-use mc_run::{Branch, Late, Manner, Meet};
+use mc_run::Branch::{self, A, B};
+use mc_run::Manner::{self, Each, First, Never};
+use mc_run::{Late, Meet};
 
 /// Each way to meet.
-pub(crate) static MEETS: [Meet; 10] = [
+pub(crate) fn meets() -> [Meet; 10] {
+    [
+        meet(Each, A, None),
+        meet(Each, B, None),
+        meet(First, A, None),
+        meet(First, B, None),
+        meet(Never, A, None),
+        meet(Never, B, None),
+        meet(Each, A, SOON_A),
+        meet(First, A, ASLEEP_B),
+        meet(Each, B, ASLEEP_B),
+        meet(Never, B, SOON_A),
+    ]
+}
+
+fn meet(manner: Manner, apart: Branch, late: Option<Late>) -> Meet {
     Meet {
-        manner: Manner::Each,
-        apart: Branch::A,
-        late: None,
-    },
-    Meet {
-        manner: Manner::Each,
-        apart: Branch::B,
-        late: None,
-    },
-    Meet {
-        manner: Manner::First,
-        apart: Branch::A,
-        late: None,
-    },
-    Meet {
-        manner: Manner::First,
-        apart: Branch::B,
-        late: None,
-    },
-    Meet {
-        manner: Manner::Never,
-        apart: Branch::A,
-        late: None,
-    },
-    Meet {
-        manner: Manner::Never,
-        apart: Branch::B,
-        late: None,
-    },
-    Meet {
-        manner: Manner::Each,
-        apart: Branch::A,
-        late: SOON_A,
-    },
-    Meet {
-        manner: Manner::First,
-        apart: Branch::A,
-        late: ASLEEP_B,
-    },
-    Meet {
-        manner: Manner::Each,
-        apart: Branch::B,
-        late: ASLEEP_B,
-    },
-    Meet {
-        manner: Manner::Never,
-        apart: Branch::B,
-        late: SOON_A,
-    },
-];
+        manner,
+        apart,
+        late,
+    }
+}
 
 /// A is late by so little that it doesn't sleep.
 const SOON_A: Option<Late> = Some(Late {
-    branch: Branch::A,
+    branch: A,
     nanoseconds: 3_000,
 });
 
 /// B is late by so much that it sleeps.
 const ASLEEP_B: Option<Late> = Some(Late {
-    branch: Branch::B,
+    branch: B,
     nanoseconds: 150_000,
 });

@@ -1,4 +1,5 @@
-//! Runs of two increments of one counter, over streams in memory: what they note, what their lanes record, and the verdict.
+//! Runs of two increments of one counter, over streams in memory: what they note, what their lanes record, and the verdict. What
+//! replies lead to is shown by `cases/run`.
 
 ghost use Rattle.std.specs.Prelude.{IfOk};
 ghost use Rattle.mc_core.specs.Held.{IsHeldBy};
@@ -116,57 +117,6 @@ static ROWS: &[Row] = &[
         endings: [Done, Done, Failed(Fault::ReadFailed)],
         sent: [PREFIX, INCREMENT, INCREMENT],
         verdict: "P 0\nP 1\nA 2\n",
-    },
-    // A's stream ends before the reply is whole
-    Row {
-        p: (TO_PREFIX, NEVER),
-        a: (&[], NEVER),
-        b: SIX,
-        endings: [Done, Failed(Fault::Ended), Done],
-        sent: [PREFIX, INCREMENT, INCREMENT],
-        verdict: "P 0\nP 1\nB 2\n",
-    },
-    Row {
-        p: (TO_PREFIX, NEVER),
-        a: (&[b"6"], NEVER),
-        b: SIX,
-        endings: [Done, Failed(Fault::Ended), Done],
-        sent: [PREFIX, INCREMENT, INCREMENT],
-        verdict: "P 0\nP 1\nB 2\n",
-    },
-    Row {
-        p: (TO_PREFIX, NEVER),
-        a: (&[b"6\r"], NEVER),
-        b: SIX,
-        endings: [Done, Failed(Fault::Ended), Done],
-        sent: [PREFIX, INCREMENT, INCREMENT],
-        verdict: "P 0\nP 1\nB 2\n",
-    },
-    // it answers what is no reply to an increment, or an error
-    Row {
-        p: (TO_PREFIX, NEVER),
-        a: (&[b"6x\r\n"], NEVER),
-        b: SIX,
-        endings: [Done, Failed(Fault::BadReply), Done],
-        sent: [PREFIX, INCREMENT, INCREMENT],
-        verdict: "P 0\nP 1\nB 2\n",
-    },
-    Row {
-        p: (TO_PREFIX, NEVER),
-        a: (&[b"ERROR\r\n"], NEVER),
-        b: SIX,
-        endings: [Done, Failed(Fault::ErrorLine), Done],
-        sent: [PREFIX, INCREMENT, INCREMENT],
-        verdict: "P 0\nP 1\nB 2\n",
-    },
-    // it answers a number that no order of the increments gives; what comes after the reply isn't looked at
-    Row {
-        p: (TO_PREFIX, NEVER),
-        a: (&[b"9\r\n", b"6\r\n"], NEVER),
-        b: SIX,
-        endings: [Done, Done, Done],
-        sent: [PREFIX, INCREMENT, INCREMENT],
-        verdict: "unexplained",
     },
 ];
 

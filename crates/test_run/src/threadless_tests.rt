@@ -2,7 +2,7 @@
 
 use crate::counter::{checked, counter};
 use crate::lanes::{NEVER, Served, endings, has_memory, lanes};
-use crate::meets::MEETS;
+use crate::meets::meets;
 use Ending::{Done, Failed, NotBegun};
 use core::thread::Stack;
 use mc_core::Ending;
@@ -87,7 +87,8 @@ fn first_odd<R: Threads + Wait + Sync>(
     served: &[Served; 3],
     expected: Came,
 ) -> Result<Option<Meet>, Fail> {
-    for meet in &MEETS {
+    let all = meets();
+    for meet in &all {
         if run_threadless(rt, alloc, checked, served, *meet)? != expected {
             return Ok(Some(*meet));
         }

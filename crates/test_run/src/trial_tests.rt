@@ -1,4 +1,4 @@
-//! Trials of two increments of one counter.
+//! Trials of two increments of one counter. `cases/drive` has more of them.
 
 use crate::counter::Given::*;
 use crate::counter::{Given, counter, events};
@@ -14,7 +14,7 @@ use std::test::Fail;
 /// Events, the limit of turns, how many of the events are refused, and the verdict: the lines of an explanation, or a word.
 type Row = (&'static [(Actor, Given)], u64, u64, &'static str);
 
-static ROWS: [Row; 5] = [
+static ROWS: [Row; 2] = [
     // an event of A before P is done, one after A failed, and a reply that no increment has; A's call wasn't executed
     (
         &[
@@ -33,53 +33,6 @@ static ROWS: [Row; 5] = [
         1_000_000,
         3,
         "P 0\nP 1\nB 2\n",
-    ),
-    // both branches read 5, or the one after the other
-    (
-        &[
-            (P, Begin),
-            (P, NotFound),
-            (P, Begin),
-            (P, Stored),
-            (A, Begin),
-            (B, Begin),
-            (A, Number(6)),
-            (B, Number(6)),
-        ],
-        1_000_000,
-        0,
-        "unexplained",
-    ),
-    (
-        &[
-            (P, Begin),
-            (P, NotFound),
-            (P, Begin),
-            (P, Stored),
-            (A, Begin),
-            (B, Begin),
-            (A, Number(7)),
-            (B, Number(6)),
-        ],
-        1_000_000,
-        0,
-        "P 0\nP 1\nB 2\nA 3\n",
-    ),
-    // B began after A's reply, which is then the first
-    (
-        &[
-            (P, Begin),
-            (P, NotFound),
-            (P, Begin),
-            (P, Stored),
-            (A, Begin),
-            (A, Number(7)),
-            (B, Begin),
-            (B, Number(6)),
-        ],
-        1_000_000,
-        0,
-        "unexplained",
     ),
     // no turns to search in
     (

@@ -9,15 +9,11 @@ mod memory;
 #[cfg(test)]
 mod misread_tests;
 #[cfg(test)]
-mod part_tests;
-#[cfg(test)]
 mod print_tests;
 #[cfg(test)]
 mod printed;
 #[cfg(test)]
 mod step_line_tests;
-#[cfg(test)]
-mod told;
 #[cfg(test)]
 mod version_tests;
 #[cfg(test)]

@@ -40,8 +40,8 @@ gone:
 end
 ";
 
-// The same, as it is printed: of two changes `+` goes before `-`, and both go before jumps.
-const MARKS_PRINTED: &str = "script 1
+/// The same, as it is printed: of two changes `+` goes before `-`, and both go before jumps.
+pub(crate) const MARKS_PRINTED: &str = "script 1
 keys item
 flags ready done late
 vars unique count

@@ -1,10 +1,8 @@
 //! The lines of a script's steps.
 
 use crate::memory::again;
-use crate::printed::{printed, text_of};
-use crate::told::told;
 use mc_protocol::Actor;
-use mc_script::{parse, parse_lines};
+use mc_script::parse_lines;
 use std::alloc::Global;
 use std::test::Fail;
 
@@ -48,34 +46,4 @@ fn numbers_the_lines_of_steps(rt: HostRuntime) -> Result<(), Fail> {
         assert!(rt; are_lines(rt.alloc(), *actor, *wanted)?, "{actor:?}");
     }
     Ok(())
-}
-
-// What is printed of the script that the text spells, as the reader of lines reads it.
-fn printed_with_lines(alloc: Global) -> Result<Vec<u8>, Fail> {
-    let (script, _) = again(|| parse_lines(alloc, TEXT.as_bytes()))?;
-    text_of(alloc, &script, b"")
-}
-
-fn is_read_alike(alloc: Global) -> Result<bool, Fail> {
-    let wanted = printed(alloc, TEXT, b"")?;
-    Ok(printed_with_lines(alloc)?.as_slice() == wanted.as_slice())
-}
-
-#[test]
-fn reads_the_same_script(rt: HostRuntime) -> Result<(), Fail> {
-    assert!(rt; is_read_alike(rt.alloc())?);
-    Ok(())
-}
-
-// Whether both readers tell the same fault of the text.
-fn is_refused_alike(alloc: Global, text: &[u8]) -> bool {
-    match (parse(alloc, text), parse_lines(alloc, text)) {
-        (Err(fault), Err(other)) => told(fault) == told(other) && told(fault).is_some(),
-        _ => false,
-    }
-}
-
-#[test]
-fn tells_the_same_fault(rt: HostRuntime) {
-    assert!(rt; is_refused_alike(rt.alloc(), b"script 1\nkeys a\nkeys b\n"));
 }

@@ -1,35 +1,14 @@
 //! A script less one of its steps.
 
 use crate::memory::again;
+use crate::print_tests::MARKS_PRINTED;
 use crate::printed::{is_printed_as, text_of};
 use mc_protocol::{Actor, OutOfMemory};
 use mc_script::{Script, parse, without};
 use std::alloc::{AllocError, Global};
 use std::test::Fail;
 
-// Every mark, as it is printed.
-const MARKS: &str = "script 1
-keys item
-flags ready done late
-vars unique count
-budget P 2 100
-budget A 2 100
-budget B 2 100
-P
-set item 0 =5 +ready
-A
-gets item ?ready miss:gone >unique
-cas item 0 =7 $unique +done -ready exists:gone
-gone:
-B
-incr item 1 !late notfound:gone notnumber:gone
-bind count
-decr item $count
-gone:
-end
-";
-
-// Each step of it: the section, its place, and the number of its line.
+// Each step of `MARKS_PRINTED`: the section, its place, and the number of its line.
 static STEPS_OF_MARKS: [(Actor, usize, usize); 6] = [
     (Actor::P, 0, 9),
     (Actor::A, 0, 11),
@@ -135,13 +114,13 @@ fn leave_lines(alloc: Global, text: &str, steps: &[(Actor, usize, usize)]) -> Re
 // One step, which two labels and a flag stand around: few enough allocations that each of them can be refused.
 #[test]
 fn leaves_the_other_lines_of_one_step(rt: HostRuntime) -> Result<(), Fail> {
-    assert!(rt; leave_lines(rt.alloc(), MARKS, &[(Actor::A, 1, 12)])?);
+    assert!(rt; leave_lines(rt.alloc(), MARKS_PRINTED, &[(Actor::A, 1, 12)])?);
     Ok(())
 }
 
 #[test]
 fn leaves_the_other_lines(rt: HostRuntime) -> Result<(), Fail> {
-    assert!(rt; leave_lines(rt.alloc(), MARKS, &STEPS_OF_MARKS)?);
+    assert!(rt; leave_lines(rt.alloc(), MARKS_PRINTED, &STEPS_OF_MARKS)?);
     assert!(rt; leave_lines(rt.alloc(), LABELS, &STEPS_OF_LABELS)?);
     Ok(())
 }

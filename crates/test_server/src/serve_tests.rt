@@ -10,37 +10,14 @@ use std::test::Fail;
 /// What a client sends, what it is answered, how many requests were read, and why no more.
 type Row = (&'static [u8], &'static [u8], u64, Why);
 
-/// Requests, one after another.
+/// Requests, one after another. `cases/serve/talk.txt` has more of them, with those that are refused and those to which no reply is
+/// written.
 static REQUESTS: &[Row] = &[
     (b"", b"", 0, Why::Ended),
     (
         b"set a 0 0 1\r\n1\r\ngets a\r\n",
         b"STORED\r\nVALUE a 0 1 1\r\n1\r\nEND\r\n",
         2,
-        Why::Ended,
-    ),
-    (
-        b"set a 0 0 1\n1\r\nget a\n",
-        b"STORED\r\nVALUE a 0 1\r\n1\r\nEND\r\n",
-        2,
-        Why::Ended,
-    ),
-    (
-        b"add a 5 0 1\r\n1\r\nadd a 0 0 1\r\n2\r\nreplace a 6 0 2\r\n22\r\nappend a 0 0 1\r\n3\r\nprepend a 0 0 1\r\n0\r\ngets a\r\n",
-        b"STORED\r\nNOT_STORED\r\nSTORED\r\nSTORED\r\nSTORED\r\nVALUE a 6 4 4\r\n0223\r\nEND\r\n",
-        6,
-        Why::Ended,
-    ),
-    (
-        b"cas a 0 0 1 1\r\n1\r\nset a 0 0 1\r\n1\r\ncas a 0 0 1 7\r\n2\r\ncas a 0 0 1 1\r\n3\r\nget a\r\n",
-        b"NOT_FOUND\r\nSTORED\r\nEXISTS\r\nSTORED\r\nVALUE a 0 1\r\n3\r\nEND\r\n",
-        5,
-        Why::Ended,
-    ),
-    (
-        b"incr a 1\r\nset a 0 0 1\r\n5\r\nincr a 6\r\ndecr a 2\r\ntouch a 0\r\ndelete a 0\r\ndelete a\r\ntouch a -0\r\n",
-        b"NOT_FOUND\r\nSTORED\r\n11\r\n9\r\nTOUCHED\r\nDELETED\r\nNOT_FOUND\r\nNOT_FOUND\r\n",
-        8,
         Why::Ended,
     ),
     // each store counts its own numbers: a and q are in one, b in another
@@ -50,104 +27,7 @@ static REQUESTS: &[Row] = &[
         4,
         Why::Ended,
     ),
-    (
-        b"set a 0 0 1\r\n1\r\nget b a c a\r\nget b c\r\n",
-        b"STORED\r\nVALUE a 0 1\r\n1\r\nVALUE a 0 1\r\n1\r\nEND\r\nEND\r\n",
-        3,
-        Why::Ended,
-    ),
-    (
-        b"set a 0 0 4\r\n\r\n\r\n\r\nget a\r\n",
-        b"STORED\r\nVALUE a 0 4\r\n\r\n\r\n\r\nEND\r\n",
-        2,
-        Why::Ended,
-    ),
     (b"get a\r\nquit\r\nget a\r\n", b"END\r\n", 1, Why::Quit),
-];
-
-/// Requests to which no reply is written. What is refused is told all the same.
-static UNTOLD: &[Row] = &[
-    (
-        b"set a 0 0 1 noreply\r\n1\r\nget a b\r\n",
-        b"VALUE a 0 1\r\n1\r\nEND\r\n",
-        2,
-        Why::Ended,
-    ),
-    (
-        b"set a 0 0 1\r\nx\r\nincr a 1 noreply\r\nincr a 1\r\n",
-        b"STORED\r\nCLIENT_ERROR cannot increment or decrement non-numeric value\r\n",
-        3,
-        Why::Ended,
-    ),
-    (
-        b"delete a noreply\r\ndecr a 1 noreply\r\ntouch a 0 noreply\r\nadd a 0 0 1 noreply\r\n1\r\nget a\r\n",
-        b"VALUE a 0 1\r\n1\r\nEND\r\n",
-        5,
-        Why::Ended,
-    ),
-    (
-        b"set a 0 5 1 noreply\r\n1\r\n",
-        b"SERVER_ERROR expiry not supported\r\n",
-        0,
-        Why::Ended,
-    ),
-    (
-        b"incr a x noreply\r\n",
-        b"CLIENT_ERROR bad command line format\r\n",
-        0,
-        Why::Ended,
-    ),
-    (b"foo noreply\r\n", b"ERROR\r\n", 0, Why::Ended),
-    (
-        b"set a 0 0 1 noreply\r\n12\r\n",
-        b"CLIENT_ERROR bad data chunk\r\n",
-        0,
-        Why::Refused,
-    ),
-];
-
-/// Requests that are refused, and what comes after them.
-static REFUSED: &[Row] = &[
-    (b"foo\r\nget a\r\n", b"ERROR\r\nEND\r\n", 1, Why::Ended),
-    (b"\r\n", b"ERROR\r\n", 0, Why::Ended),
-    (b"GET a\r\n", b"ERROR\r\n", 0, Why::Ended),
-    (
-        b"get\r\nget a\r\n",
-        b"CLIENT_ERROR bad command line format\r\nEND\r\n",
-        1,
-        Why::Ended,
-    ),
-    (
-        b"quit now\r\n",
-        b"CLIENT_ERROR bad command line format\r\n",
-        0,
-        Why::Ended,
-    ),
-    (
-        b"set a 0 0 2147483648\r\n",
-        b"CLIENT_ERROR bad command line format\r\n",
-        0,
-        Why::Ended,
-    ),
-    (
-        b"set a 0 5 1\r\n1\r\nget a\r\n",
-        b"SERVER_ERROR expiry not supported\r\nEND\r\n",
-        1,
-        Why::Ended,
-    ),
-    // the block of a refused request isn't looked at
-    (
-        b"set a 0 -1 6\r\nquit\r\n\r\nget a\r\n",
-        b"SERVER_ERROR expiry not supported\r\nEND\r\n",
-        1,
-        Why::Ended,
-    ),
-    (
-        b"touch a 5\r\n",
-        b"SERVER_ERROR expiry not supported\r\n",
-        0,
-        Why::Ended,
-    ),
     (
         b"set a 0 0 1\r\n12\r\nget a\r\n",
         b"CLIENT_ERROR bad data chunk\r\n",
@@ -222,58 +102,11 @@ fn answers_requests(rt: HostRuntime) -> Result<(), Fail> {
     Ok(())
 }
 
-#[test]
-fn writes_no_reply_where_none_is_asked_for(rt: HostRuntime) -> Result<(), Fail> {
-    assert_eq!(rt; first_other(&rt, UNTOLD)?, None);
-    Ok(())
-}
-
-#[test]
-fn refuses_requests(rt: HostRuntime) -> Result<(), Fail> {
-    assert_eq!(rt; first_other(&rt, REFUSED)?, None);
-    Ok(())
-}
-
 const SENT: &[u8] = b"set a 0 0 1\r\n1\r\ngets a\r\n";
 
 const STORED: &[u8] = b"STORED\r\n";
 
 const ALL: &[u8] = b"STORED\r\nVALUE a 0 1 1\r\n1\r\nEND\r\n";
-
-/// What comes of a connection.
-fn served(requests: u64, why: Why) -> Served {
-    Served { requests, why }
-}
-
-#[test]
-fn answers_the_whole_requests_of_a_prefix(rt: HostRuntime) -> Result<(), Fail> {
-    for len in 0..SENT.len() {
-        let (answers, requests): (&[u8], u64) = if len < 16 { (b"", 0) } else { (STORED, 1) };
-        assert!(rt;
-            is_served(
-                &rt,
-                &[&SENT[..len]],
-                None,
-                answers,
-                served(requests, Why::Ended)
-            )?,
-            "{len}"
-        );
-    }
-    Ok(())
-}
-
-#[test]
-fn answers_a_request_however_it_is_cut(rt: HostRuntime) -> Result<(), Fail> {
-    for len in 0..SENT.len() {
-        let pieces = [&SENT[..len], &SENT[len..]];
-        assert!(rt;
-            is_served(&rt, &pieces, None, ALL, served(2, Why::Ended))?,
-            "{len}"
-        );
-    }
-    Ok(())
-}
 
 /// The call of the stream that fails, what is written then, how many requests were read, and why no more.
 type Failing = (u64, &'static [u8], u64, Why);
@@ -311,52 +144,13 @@ fn first_odd_call<R: Wait + AllocGlobal>(
     rows: &[Failing],
 ) -> Result<Option<u64>, AllocError> {
     for (call, answers, requests, why) in rows {
-        if !is_served(rt, pieces, Some(*call), answers, served(*requests, *why))? {
+        let served = Served {
+            requests: *requests,
+            why: *why,
+        };
+        if !is_served(rt, pieces, Some(*call), answers, served)? {
             return Ok(Some(*call));
         }
     }
     Ok(None)
-}
-
-#[test]
-fn closes_after_a_line_that_is_too_long(rt: HostRuntime) -> Result<(), Fail> {
-    let line = [b'a'; 2_048];
-    assert!(rt; is_served(&rt, &[&line[..2_047]], None, b"", served(0, Why::Ended))?);
-    assert_eq!(rt; are_refused(&rt, &line)?, [true; 3]);
-    Ok(())
-}
-
-/// Whether a line of 2,048 bytes is refused: by itself, after the words of a request for which no reply is asked, and where the end of the
-/// line follows.
-fn are_refused<R: Wait + AllocGlobal>(rt: &R, line: &[u8; 2_048]) -> Result<[bool; 3], AllocError> {
-    Ok([
-        is_refused(rt, &[line])?,
-        is_refused(rt, &[b"delete a noreply", line])?,
-        is_refused(rt, &[&line[..2_047], b"\r\nget a\r\n"])?,
-    ])
-}
-
-/// Whether the connection ends where a client sends these pieces of a line.
-fn is_refused<R: Wait + AllocGlobal>(rt: &R, pieces: &[&[u8]]) -> Result<bool, AllocError> {
-    let answer = b"CLIENT_ERROR line too long\r\n";
-    is_served(rt, pieces, None, answer, served(0, Why::Refused))
-}
-
-/// The lines of a request whose body is too large, which asks for a reply or doesn't.
-static TOO_LARGE: [&[u8]; 2] = [b"set a 0 0 65537\r\n", b"set a 0 0 65537 noreply\r\n"];
-
-/// Whether the body after such a line is skipped, and what comes after it is answered.
-fn is_skipped<R: Wait + AllocGlobal>(rt: &R, line: &[u8]) -> Result<bool, AllocError> {
-    let body = vec![in rt.alloc(); b'1'; 65_537]?;
-    let pieces = [line, body.as_slice(), b"\r\nget a\r\n".as_slice()];
-    let answers = b"SERVER_ERROR object too large for cache\r\nEND\r\n";
-    is_served(rt, &pieces, None, answers, served(1, Why::Ended))
-}
-
-#[test]
-fn skips_a_body_that_is_too_large(rt: HostRuntime) -> Result<(), Fail> {
-    for line in TOO_LARGE {
-        assert!(rt; is_skipped(&rt, line)?);
-    }
-    Ok(())
 }

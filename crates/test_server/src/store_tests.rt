@@ -60,30 +60,6 @@ const VERBS: Rows = &[
     ("gets k", "HIT 0 =x 8"),
 ];
 
-/// One item after another, and what is at one key while another changes.
-const KEYS: Rows = &[
-    ("set a 0 =1", "STORED"),
-    ("gets a", "HIT 0 =1 1"),
-    ("get b", "MISS"),
-    ("set b 1 =2", "STORED"),
-    ("append b 0 =3", "STORED"),
-    ("gets a", "HIT 0 =1 1"),
-    ("gets b", "HIT 1 =23 3"),
-    ("delete a", "DELETED"),
-    ("get a", "MISS"),
-    ("get b", "HIT 1 =23"),
-];
-
-/// Nothing is padded, and what may be read as a number is read.
-const CHOICES: Rows = &[
-    ("set k 0 =10", "STORED"),
-    ("decr k 1", "NUMBER 9"),
-    ("get k", "HIT 0 =9"),
-    ("set k 0 =000000000000000000007", "STORED"),
-    ("incr k 1", "NUMBER 8"),
-    ("get k", "HIT 0 =8"),
-];
-
 /// No number is left: nothing is stored, and what stores nothing is answered.
 const USED_UP_AT_ONCE: Rows = &[
     ("set k 0 =1", USED_UP),
@@ -119,8 +95,6 @@ const ONE_LEFT: Rows = &[
 /// The number of the first version, and what is answered in turn.
 static STORES: &[(u64, Rows)] = &[
     (1, VERBS),
-    (1, KEYS),
-    (1, CHOICES),
     (u64::MAX, USED_UP_AT_ONCE),
     (u64::MAX - 1, ONE_LEFT),
 ];
@@ -151,20 +125,6 @@ fn first_other_of_all(alloc: Global) -> Result<Option<&'static str>, Fail> {
 fn answers_in_turn(rt: HostRuntime) -> Result<(), Fail> {
     assert_eq!(rt; first_other_of_all(rt.alloc())?, None);
     Ok(())
-}
-
-/// The first item has the number 1.
-const FIRST: Rows = &[("set k 0 =1", "STORED"), ("gets k", "HIT 0 =1 1")];
-
-#[test]
-fn begins_with_the_number_1(rt: HostRuntime) -> Result<(), Fail> {
-    assert!(rt; begins_with_1(rt.alloc())?);
-    Ok(())
-}
-
-fn begins_with_1(alloc: Global) -> Result<bool, Fail> {
-    let mut store = Store::new(alloc);
-    are_answered(alloc, &mut store, FIRST)
 }
 
 /// A request that takes memory, the reply to it, and what `gets k` answers after it.
