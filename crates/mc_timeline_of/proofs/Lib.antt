@@ -1,0 +1,11 @@
+pub mod ClientQueues
+pub mod SectionQueues
+pub mod Counting
+pub mod Leading
+pub mod Tests
+pub mod Keeping
+pub mod NextActs
+pub mod Orders
+pub mod Explaining
+pub mod Faultless
+pub mod Agreeing
