@@ -77,7 +77,9 @@ class Right(ScriptTest):
         port = self.enter(servers.memcached()).port
         found = tested(port, "--for", "4s", "--name", "ours", "--seed", "7")
         self.assert_nothing(found)
-        self.assertRegex(found.text, r"\Amcrace on \S+ \(version 1\.[\d.]+\), seed 7, 4\.0 s\n")
+        version = run(["--version"]).text.splitlines()[0]
+        line = rf"{re.escape(version)} on \S+ \(version 1\.[\d.]+\), seed 7, 4\.0 s\n"
+        self.assertRegex(found.text, rf"\A{line}")
 
     def test_left_out(self):
         port = self.enter(servers.serving()).port
@@ -266,6 +268,34 @@ class Failing(LiveTest):
         found = tested(servers.free_port())
         self.assertEqual((found.status, found.output), (4, b""))
         self.assertIn("Connection refused", found.faults)
+
+    def reports(self, port, *options):
+        """The status of a test, the report in its folder, and the suite there."""
+        folder = pathlib.Path(self.enter(tempfile.TemporaryDirectory()))
+        found = tested(port, "--out", folder, *options)
+        self.assertEqual({it.name for it in folder.iterdir()}, {"report.json", "junit.xml"})
+        suite = ElementTree.parse(folder / "junit.xml").getroot()
+        return found.status, json.loads((folder / "report.json").read_text()), suite
+
+    def check_error(self, suite, text):
+        error, = suite.iter("error")
+        self.assertEqual((suite.get("failures"), suite.get("errors")), ("0", "1"))
+        self.assertIn(text, error.get("message"))
+
+    def test_reports_of_no_server(self):
+        port = servers.free_port()
+        status, report, suite = self.reports(port)
+        self.assertEqual((status, report["status"], report["ended"]), (4, 4, True))
+        self.assertIn(f"127.0.0.1:{port}: Connection refused", report["fault"])
+        self.assertEqual((report["runs"], report["version"]), (0, None))
+        self.check_error(suite, f"exit status 4: 127.0.0.1:{port}: Connection refused")
+
+    def test_reports_of_gone_server(self):
+        server = self.enter(servers.Replying([servers.Step.READ] * 50))
+        status, report, suite = self.reports(server.port, "--for", "30s", "--timeout", "300ms")
+        self.assertEqual((status, report["status"], report["ended"]), (5, 5, True))
+        self.assertEqual((report["gone"], report["fault"]), (True, None))
+        self.check_error(suite, "exit status 5: ")
 
 
 if __name__ == "__main__":

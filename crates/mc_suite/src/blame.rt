@@ -6,11 +6,10 @@ use mc_protocol::{Actor, OutOfMemory, Reply, Request, Verb};
 use mc_why::{Finding, Form};
 use std::alloc::Global;
 
-// A line has at most so many columns, where what it says allows it.
+// Lines are broken to keep to these columns, as far as their words allow.
 const COLUMNS: usize = 80;
 
 /// That reply in words, and those that would be explained, if that was found out.
-#[derive(Debug, Drop)]
 pub(crate) struct Blame {
     pub(crate) section: Actor,
     pub(crate) verb: Verb,
@@ -19,8 +18,21 @@ pub(crate) struct Blame {
     pub(crate) correct: Vec<Vec<u8>>,
 }
 
+// One call drops its parts. A derived `Drop` would write them out at each end of each function that holds one.
+impl Drop for Blame {
+    fn drop(self) {
+        let Blame {
+            section: _,
+            verb: _,
+            request: _,
+            reply: _,
+            correct: _,
+        } = self;
+    }
+}
+
 impl Blame {
-    /// What was found out of the run, if that is a reply.
+    /// The reply that the run's finding blames, if it blames one.
     pub(crate) fn of(alloc: Global, shown: &Shown) -> Result<Option<Blame>, OutOfMemory> {
         let Finding::Cause(cause) = &shown.finding else {
             return Ok(None);
@@ -28,20 +40,12 @@ impl Blame {
         let Some((section, request, reply)) = answered_at(&shown.history, cause.place) else {
             return Ok(None);
         };
-        let mut asked = Vec::new(alloc);
-        print_request_words(request, &mut asked)?;
-        let mut answered = Vec::new(alloc);
-        print_reply_words(reply, &mut answered)?;
-        let mut correct = Vec::new(alloc);
-        'forms: for form in &cause.forms {
-            correct.push(form_text(alloc, form)?)?;
-        }
         Ok(Some(Blame {
             section,
             verb: request.verb,
-            request: asked,
-            reply: answered,
-            correct,
+            request: request_text(alloc, request)?,
+            reply: reply_text(alloc, reply)?,
+            correct: form_texts(alloc, cause.forms.as_slice())?,
         }))
     }
 
@@ -49,11 +53,11 @@ impl Blame {
     pub(crate) fn sentence(&self, alloc: Global) -> Result<Vec<u8>, OutOfMemory> {
         let (section, verb) = (self.section.word(), self.verb.word());
         let head = format!(in alloc; "  A correct server answers {section}'s {verb}")?;
-        let mut width = head.len();
-        'forms: for form in &self.correct {
-            width = width.saturating_add(form.len()).saturating_add(5);
-        }
-        let lead = if width > COLUMNS { "\n    " } else { " " };
+        let lead = if self.width(head.len()) > COLUMNS {
+            "\n    "
+        } else {
+            " "
+        };
         let mut text = Vec::new(alloc);
         'forms: for (index, form) in self.correct.iter().enumerate() {
             let before = if index == 0 { head.as_str() } else { ", or" };
@@ -65,6 +69,15 @@ impl Blame {
             text.extend_from_slice(b".\n")?;
         }
         Ok(text)
+    }
+
+    // The columns of a head of this many and of all replies on one line.
+    fn width(&self, head: usize) -> usize {
+        let mut width = head;
+        'forms: for form in &self.correct {
+            width = width.saturating_add(form.len()).saturating_add(5);
+        }
+        width
     }
 }
 
@@ -84,19 +97,38 @@ fn answered_at(history: &History, place: usize) -> Option<(Actor, &Request, &Rep
     Some((section, &sent.request, reply))
 }
 
-fn form_text(alloc: Global, form: &Form) -> Result<Vec<u8>, OutOfMemory> {
+fn request_text(alloc: Global, request: &Request) -> Result<Vec<u8>, OutOfMemory> {
     let mut text = Vec::new(alloc);
+    print_request_words(request, &mut text)?;
+    Ok(text)
+}
+
+fn reply_text(alloc: Global, reply: &Reply) -> Result<Vec<u8>, OutOfMemory> {
+    let mut text = Vec::new(alloc);
+    print_reply_words(reply, &mut text)?;
+    Ok(text)
+}
+
+fn form_texts(alloc: Global, forms: &[Form]) -> Result<Vec<Vec<u8>>, OutOfMemory> {
+    let mut texts = Vec::new(alloc);
+    'forms: for form in forms {
+        texts.push(form_text(alloc, form)?)?;
+    }
+    Ok(texts)
+}
+
+fn form_text(alloc: Global, form: &Form) -> Result<Vec<u8>, OutOfMemory> {
     match form {
-        Form::Reply(reply) => print_reply_words(reply, &mut text)?,
+        Form::Reply(reply) => reply_text(alloc, reply),
         Form::NewNumber { flags, body, .. } => {
             let hit = Reply::Hit {
                 flags: *flags,
                 body: body.copy(alloc)?,
                 cas: None,
             };
-            print_reply_words(&hit, &mut text)?;
+            let mut text = reply_text(alloc, &hit)?;
             text.extend_from_slice(b" (a new number)")?;
+            Ok(text)
         }
     }
-    Ok(text)
 }

@@ -1,19 +1,24 @@
 //! What is known of a test so far, from which its reports are made.
 
+use crate::generated::Generated;
 use crate::race::Race;
 use crate::selection::Selection;
 use crate::tally::Tally;
 use crate::told::{Kind, Told};
-use crate::turns::{Generated, Turn};
+use crate::turns::Turn;
 use crate::verbs::Unsupported;
 use std::time::Duration;
 
 /// What is tested, and what was told of it.
 #[derive(Drop)]
 pub(crate) struct Book<'a> {
+    /// The version of this program.
+    pub(crate) program: &'a str,
     pub(crate) server: &'a str,
-    /// What the server says to `version`.
+    /// What the server answers to `version`.
     pub(crate) version: Option<String>,
+    /// Why the server couldn't be reached.
+    pub(crate) fault: Option<String>,
     pub(crate) seed: u64,
     /// How long the test may take.
     pub(crate) time: Duration,
@@ -22,8 +27,8 @@ pub(crate) struct Book<'a> {
     /// How many verbs were asked alone.
     pub(crate) asked: usize,
     pub(crate) unsupported: Unsupported,
-    /// Whether a file couldn't be written.
-    pub(crate) is_unkept: bool,
+    /// Whether a file or standard output couldn't be written, or memory ran out.
+    pub(crate) has_failed: bool,
 }
 
 impl Book<'_> {
@@ -40,14 +45,17 @@ impl Book<'_> {
 
     /// What was told under this name.
     pub(crate) fn told_of(&self, kind: Kind, name: &str) -> Option<&Told> {
-        self.told
-            .iter()
-            .find(|told| told.kind == kind && told.name.as_str() == name)
+        'told: for told in &self.told {
+            if told.kind == kind && told.name.as_str() == name {
+                return Some(told);
+            }
+        }
+        None
     }
 
-    /// The exit status, if the test ends so.
+    /// The exit status, if the test ends in this state.
     pub(crate) fn status(&self, state: &State<'_>) -> u8 {
-        let is_tested = !self.is_unkept && !state.turns.is_empty();
+        let is_tested = !self.has_failed && !state.turns.is_empty();
         let has_found = !self.told.is_empty() || state.generated.unexplained > 0;
         state.tally.status(has_found, is_tested)
     }
@@ -72,5 +80,16 @@ impl State<'_> {
             }
         }
         runs
+    }
+
+    /// The fewest runs of a script whose race wasn't found, if there is such a script.
+    pub(crate) fn least_runs(&self) -> Option<u64> {
+        let mut least = None;
+        'turns: for turn in self.turns {
+            if !turn.is_found {
+                least = Some(least.unwrap_or(u64::MAX).min(turn.runs));
+            }
+        }
+        least
     }
 }

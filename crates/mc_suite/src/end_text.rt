@@ -2,143 +2,135 @@
 
 use crate::book::{Book, State};
 use crate::numbers::{Grouped, Milliseconds, Tenths};
-use crate::races::RACES;
+use crate::race::races;
+use crate::text::push_all;
 use crate::told::Kind;
 use std::alloc::{AllocError, Global};
+use std::fmt::Write;
 
-/// Which server is tested, with the version that it says, by which seed, and how long.
+/// What tests which server, with the version that the server answers, the seed, and how long.
 pub(crate) fn begin_text(alloc: Global, book: &Book<'_>) -> Result<String, AllocError> {
-    let (server, seed, time) = (book.server, book.seed, Tenths(book.time));
-    match &book.version {
-        Some(version) => format!(in alloc;
-            "mcrace on {server} (version {version}), seed {seed}, {time}\n\n"
-        ),
-        None => format!(in alloc; "mcrace on {server}, seed {seed}, {time}\n\n"),
+    let mut text = String::new(alloc);
+    push_all(&mut text, &["mcrace ", book.program, " on ", book.server])?;
+    if let Some(version) = &book.version {
+        push_all(&mut text, &[" (version ", version.as_str(), ")"])?;
     }
+    write!(text, ", seed {}, {}\n\n", book.seed, Tenths(book.time))?;
+    Ok(text)
 }
 
-/// What was tried, what failed, and what was found. `failures` has what is to be said of the first failures.
+/// What was tried, what failed, and what was found. `failures` has a line for the first of each kind of failure.
 pub(crate) fn end_text(
     alloc: Global,
     book: &Book<'_>,
     state: &State<'_>,
-    failures: &[String],
-) -> Result<Vec<u8>, AllocError> {
-    let mut text = wrong_text(alloc, book)?.into_bytes();
-    text.extend_from_slice(unsupported_text(alloc, book)?.as_bytes())?;
-    text.extend_from_slice(tried_text(alloc, book, state)?.as_bytes())?;
-    text.extend_from_slice(connections_text(alloc, state)?.as_bytes())?;
-    'failures: for failure in failures {
-        text.extend_from_slice(failure.as_bytes())?;
-    }
-    text.extend_from_slice(left_text(alloc, state)?.as_bytes())?;
-    text.extend_from_slice(found_text(alloc, book, state)?.as_bytes())?;
+    failures: &str,
+) -> Result<String, AllocError> {
+    let mut text = String::new(alloc);
+    push_end(&mut text, book, state, failures)?;
     Ok(text)
 }
 
+fn push_end(
+    text: &mut String,
+    book: &Book<'_>,
+    state: &State<'_>,
+    failures: &str,
+) -> Result<(), AllocError> {
+    push_wrong(text, book)?;
+    push_unsupported(text, book)?;
+    push_tried(text, book, state)?;
+    push_connections(text, state)?;
+    text.push_str(failures)?;
+    push_left(text, state)?;
+    push_found(text, book, state)
+}
+
 // Which verbs were answered wrongly without a race.
-fn wrong_text(alloc: Global, book: &Book<'_>) -> Result<String, AllocError> {
-    let mut text = String::new(alloc);
+fn push_wrong(text: &mut String, book: &Book<'_>) -> Result<(), AllocError> {
+    text.push_str("wrong alone: ")?;
+    let mut comma = "";
     'told: for told in &book.told {
         if told.kind == Kind::Alone {
-            text.push_str(if text.is_empty() { "" } else { ", " })?;
-            text.push_str(told.name.as_str())?;
+            push_all(text, &[comma, told.name.as_str()])?;
+            comma = ", ";
         }
     }
-    let verbs = if text.is_empty() {
-        "none"
-    } else {
-        text.as_str()
-    };
-    format!(in alloc; "wrong alone: {verbs}\n")
+    text.push_str(if comma.is_empty() { "none\n" } else { "\n" })
 }
 
 // Which verbs the server doesn't know.
-fn unsupported_text(alloc: Global, book: &Book<'_>) -> Result<String, AllocError> {
-    let mut text = String::new(alloc);
+fn push_unsupported(text: &mut String, book: &Book<'_>) -> Result<(), AllocError> {
+    text.push_str("not supported: ")?;
+    let mut comma = "";
     'verbs: for unknown in book.unsupported.verbs() {
-        text.push_str(if text.is_empty() { "" } else { ", " })?;
-        text.push_str(unknown.verb)?;
-        text.push_str(if unknown.closes { " (closes)" } else { "" })?;
+        let closes = if unknown.closes { " (closes)" } else { "" };
+        push_all(text, &[comma, unknown.verb, closes])?;
+        comma = ", ";
     }
-    let verbs = if text.is_empty() {
-        "none"
-    } else {
-        text.as_str()
-    };
-    format!(in alloc; "not supported: {verbs}\n")
+    text.push_str(if comma.is_empty() { "none\n" } else { "\n" })
 }
 
 // How many of the races that were wanted were tried, and how often.
-fn tried_text(alloc: Global, book: &Book<'_>, state: &State<'_>) -> Result<String, AllocError> {
+fn push_tried(text: &mut String, book: &Book<'_>, state: &State<'_>) -> Result<(), AllocError> {
     let mut wanted = 0usize;
     let mut tried = 0usize;
-    'races: for race in RACES {
+    'races: for race in races() {
         if book.selection.has(race) {
             wanted = wanted.saturating_add(1);
             tried = tried.saturating_add(usize::from(state.runs_of(race).is_some()));
         }
     }
-    let mut least = u64::MAX;
-    'turns: for turn in state.turns {
-        if !turn.is_found {
-            least = least.min(turn.runs);
-        }
+    write!(text, "races tried: {tried} of {wanted}")?;
+    if let Some(least) = state.least_runs() {
+        write!(text, ", each script at least {} runs", Grouped(least))?;
     }
-    let each = if least == u64::MAX {
-        String::new(alloc)
-    } else {
-        let least = Grouped(least);
-        format!(in alloc; ", each script at least {least} runs")?
-    };
-    let each = each.as_str();
-    let played = Grouped(state.generated.count);
-    format!(in alloc; "races tried: {tried} of {wanted}{each}; generated scripts: {played}\n")
+    write!(
+        text,
+        "; generated scripts: {}\n",
+        Grouped(state.generated.count)
+    )
 }
 
-// How long the slowest run took, and how many connects failed.
-fn connections_text(alloc: Global, state: &State<'_>) -> Result<String, AllocError> {
+// How long the slowest run took, and how many connections failed.
+fn push_connections(text: &mut String, state: &State<'_>) -> Result<(), AllocError> {
     let slowest = Milliseconds(state.tally.slowest);
+    write!(text, "slowest run {slowest}, ")?;
     match state.tally.failed.saturating_add(state.tally.unconnected) {
-        0 => format!(in alloc; "slowest run {slowest}, no failed connection\n"),
-        1 => format!(in alloc; "slowest run {slowest}, 1 failed connection\n"),
-        failed => {
-            let failed = Grouped(failed);
-            format!(in alloc; "slowest run {slowest}, {failed} failed connections\n")
-        }
+        0 => text.push_str("no failed connection\n"),
+        1 => text.push_str("1 failed connection\n"),
+        failed => write!(text, "{} failed connections\n", Grouped(failed)),
     }
 }
 
 // How many runs were left undecided, or weren't made, and whether the server is gone.
-fn left_text(alloc: Global, state: &State<'_>) -> Result<String, AllocError> {
-    let mut text = String::new(alloc);
-    let rows = [
-        ("wrong replies", state.tally.wrong),
-        ("undecided runs", state.tally.undecided),
-        ("runs without a thread", state.tally.not_run),
-    ];
-    'rows: for (name, count) in rows {
-        if count > 0 {
-            let count = Grouped(count);
-            let line = format!(in alloc; "{name}: {count}\n")?;
-            text.push_str(line.as_str())?;
-        }
-    }
+fn push_left(text: &mut String, state: &State<'_>) -> Result<(), AllocError> {
+    push_count(text, "wrong replies", state.tally.wrong)?;
+    push_count(text, "undecided runs", state.tally.undecided)?;
+    push_count(text, "runs without a thread", state.tally.not_run)?;
     if state.tally.is_gone {
         text.push_str("the server was gone before the time was over\n")?;
     }
-    Ok(text)
+    Ok(())
 }
 
-// How many runs there were in which time, and what was found.
-fn found_text(alloc: Global, book: &Book<'_>, state: &State<'_>) -> Result<String, AllocError> {
-    let (runs, passed) = (Grouped(state.tally.runs), Tenths(state.tally.passed));
-    match book.races() {
-        0 => format!(in alloc;
-            "a race that comes less often, or in other requests, stays unseen\n\
-                no race found in {runs} runs and {passed}\n"
-        ),
-        1 => format!(in alloc; "1 race found in {runs} runs and {passed}\n"),
-        found => format!(in alloc; "{found} races found in {runs} runs and {passed}\n"),
+// A line for this many, unless there are none.
+fn push_count(text: &mut String, name: &str, count: u64) -> Result<(), AllocError> {
+    if count == 0 {
+        return Ok(());
     }
+    write!(text, "{name}: {}\n", Grouped(count))
+}
+
+// What was found, in how many runs and how much time.
+fn push_found(text: &mut String, book: &Book<'_>, state: &State<'_>) -> Result<(), AllocError> {
+    match book.races() {
+        0 => text.push_str(
+            "a race that comes less often, or in other requests, stays unseen\nno race found",
+        )?,
+        1 => text.push_str("1 race found")?,
+        found => write!(text, "{found} races found")?,
+    }
+    let (runs, passed) = (Grouped(state.tally.runs), Tenths(state.tally.passed));
+    write!(text, " in {runs} runs and {passed}\n")
 }

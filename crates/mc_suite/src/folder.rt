@@ -6,13 +6,16 @@ use std::io::{Eprint, ErrorKind, Write};
 use std::rt::Files;
 use std::{fs, io};
 
-// So many new names are tried for a file.
+// The most new names that are tried for a file.
 const MOST_NAMES: u32 = 1_000;
 
-/// What keeps files under names.
+/// What keeps files under names, if there is such a place.
 pub(crate) trait Folder: Drop {
-    /// Keeps a file of this name, whole, in place of an earlier one, and answers whether it is kept.
-    fn put(&mut self, name: &str, bytes: &[u8]) -> bool;
+    /// The folder's path, if files are kept.
+    fn path(&self) -> Option<&str>;
+
+    /// Keeps a file, whole, in place of an earlier one, under this name and extension. Answers whether it is kept, or needn't be.
+    fn put(&mut self, name: &str, extension: &str, bytes: &[u8]) -> bool;
 }
 
 /// A folder of the system, which is made if it isn't there. Standard error says why the first file that isn't kept can't be.
@@ -20,13 +23,13 @@ pub(crate) trait Folder: Drop {
 pub(crate) struct DiskFolder<'a, R> {
     rt: &'a R,
     alloc: Global,
-    path: &'a str,
+    path: Option<&'a str>,
     has_failed: bool,
 }
 
 impl<'a, R> DiskFolder<'a, R> {
-    /// The folder of this path.
-    pub(crate) fn new(rt: &'a R, alloc: Global, path: &'a str) -> Self {
+    /// The folder of this path, or none.
+    pub(crate) fn new(rt: &'a R, alloc: Global, path: Option<&'a str>) -> Self {
         DiskFolder {
             rt,
             alloc,
@@ -37,18 +40,23 @@ impl<'a, R> DiskFolder<'a, R> {
 }
 
 impl<R: Files + Eprint> Folder for DiskFolder<'_, R> {
-    fn put(&mut self, name: &str, bytes: &[u8]) -> bool {
-        match replace(self.rt, self.alloc, self.path, name, bytes) {
-            Ok(()) => true,
-            Err(error) => {
-                if !self.has_failed {
-                    self.has_failed = true;
-                    // There is nowhere else to say that this could not be said.
-                    let _ = eprintln!(self.rt; "mcrace: {}/{name}: {error}", self.path);
-                }
-                false
-            }
+    fn path(&self) -> Option<&str> {
+        self.path
+    }
+
+    fn put(&mut self, name: &str, extension: &str, bytes: &[u8]) -> bool {
+        let Some(path) = self.path else {
+            return true;
+        };
+        let Err(error) = replace(self.rt, self.alloc, path, name, extension, bytes) else {
+            return true;
+        };
+        if !self.has_failed {
+            self.has_failed = true;
+            // There is nowhere else to say that this could not be said.
+            let _ = eprintln!(self.rt; "mcrace: {path}/{name}{extension}: {error}");
         }
+        false
     }
 }
 
@@ -58,10 +66,11 @@ fn replace<R: Files>(
     alloc: Global,
     path: &str,
     name: &str,
+    extension: &str,
     bytes: &[u8],
 ) -> io::Result<()> {
     fs::create_dir_all(rt, path)?;
-    let place = format!(in alloc; "{path}/{name}")?;
+    let place = format!(in alloc; "{path}/{name}{extension}")?;
     let beside = write_beside(rt, alloc, place.as_str(), bytes)?;
     let renamed = fs::rename(rt, beside.as_str(), place.as_str());
     if renamed.is_err() {
@@ -75,18 +84,21 @@ fn replace<R: Files>(
 fn write_beside<R: Files>(rt: &R, alloc: Global, place: &str, bytes: &[u8]) -> io::Result<String> {
     'names: for number in 0..MOST_NAMES {
         let beside = format!(in alloc; "{place}.new-{number}")?;
-        match File::create_new(rt, beside.as_str()) {
-            Ok(mut file) => {
-                if let Err(error) = file.write_all(bytes) {
-                    // The error of the writing is the one to be told.
-                    let _ = fs::remove_file(rt, beside.as_str());
-                    return Err(error);
-                }
-                return Ok(beside);
-            }
+        match write_new(rt, beside.as_str(), bytes) {
             Err(error) if error.kind() == ErrorKind::AlreadyExists => {}
             Err(error) => return Err(error),
+            Ok(()) => return Ok(beside),
         }
     }
     Err(io::Error::from(ErrorKind::AlreadyExists))
+}
+
+// Writes a file that wasn't there.
+fn write_new<R: Files>(rt: &R, place: &str, bytes: &[u8]) -> io::Result<()> {
+    let written = File::create_new(rt, place)?.write_all(bytes);
+    if written.is_err() {
+        // The error of the writing is the one to be told.
+        let _ = fs::remove_file(rt, place);
+    }
+    written
 }

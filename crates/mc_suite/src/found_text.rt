@@ -1,12 +1,13 @@
 //! What a person reads of a finding.
 
 use crate::numbers::Grouped;
+use crate::text::push_all;
 use crate::told::Evidence;
 use mc_cli::RunArgs;
 use mc_draw::{Drawing, Form, draw};
 use std::alloc::{AllocError, Global};
 
-// A line has at most so many columns, where what it says allows it.
+// Lines are broken to keep to these columns, as far as their words allow.
 const COLUMNS: usize = 80;
 
 // What the picture begins with. What is told says it otherwise.
@@ -21,13 +22,11 @@ pub(crate) fn found_text(
     evidence: &Evidence,
     file: Option<&str>,
 ) -> Result<Vec<u8>, AllocError> {
-    let (times, runs) = (evidence.times, evidence.runs);
-    let mut text = head_text(alloc, name, sentence, times, runs)?.into_bytes();
+    let mut text = head_text(alloc, name, sentence, evidence)?.into_bytes();
     let proved = "no order of these requests gives these replies.";
     append_shown(alloc, target.how.limit, evidence, proved, &mut text)?;
-    let again = again_text(alloc, target, file, evidence.script.as_slice())?;
-    text.extend_from_slice(again.as_slice())?;
-    text.extend_from_slice(b"\n")?;
+    append_again(alloc, target, file, evidence, &mut text)?;
+    text.push(b'\n')?;
     Ok(text)
 }
 
@@ -41,7 +40,7 @@ pub(crate) fn alone_text(
     let mut text = format!(in alloc; "wrong alone: {verb}\n\n")?.into_bytes();
     let proved = "a cache that is asked so doesn't give these replies.";
     append_shown(alloc, limit, evidence, proved, &mut text)?;
-    text.extend_from_slice(b"\n")?;
+    text.push(b'\n')?;
     Ok(text)
 }
 
@@ -53,89 +52,111 @@ fn append_shown(
     proved: &str,
     text: &mut Vec<u8>,
 ) -> Result<(), AllocError> {
-    let picture = picture_of(alloc, evidence.history.as_slice(), limit)?;
-    text.extend_from_slice(picture.as_slice())?;
+    append_picture(alloc, evidence.history.as_slice(), limit, text)?;
     if let Some(blame) = &evidence.blame {
-        let sentence = blame.sentence(alloc)?;
-        text.extend_from_slice(sentence.as_slice())?;
+        text.extend_from_slice(blame.sentence(alloc)?.as_slice())?;
     }
     text.extend_from_slice(b"  Proved: ")?;
     text.extend_from_slice(proved.as_bytes())?;
     text.extend_from_slice(b"\n")
 }
 
-// The text's history as a picture, each line indented.
-fn picture_of(alloc: Global, history: &[u8], limit: u64) -> Result<Vec<u8>, AllocError> {
+// Appends the history as a picture, each line indented.
+fn append_picture(
+    alloc: Global,
+    history: &[u8],
+    limit: u64,
+    text: &mut Vec<u8>,
+) -> Result<(), AllocError> {
     let drawing = draw(alloc, history, Form::Text { lines: false }, limit, None)?;
-    let text = match &drawing {
+    let picture = match &drawing {
         Drawing::Drawn(picture) => picture.as_slice(),
         Drawing::Refused(_) => history,
     };
-    let rest = text.strip_prefix(HEADLINE).unwrap_or(text);
-    let mut indented = Vec::new(alloc);
-    'lines: for line in rest.split(|byte| *byte == b'\n') {
-        if !line.is_empty() {
-            indented.extend_from_slice(b"  ")?;
-            indented.extend_from_slice(line)?;
-            indented.push(b'\n')?;
-        } else if !indented.is_empty() && !indented.as_slice().ends_with(b"\n\n") {
-            indented.push(b'\n')?;
-        }
-    }
-    Ok(indented)
+    append_indented(picture.strip_prefix(HEADLINE).unwrap_or(picture), text)
 }
 
-// The lines over the picture of a race, which was seen in so many of so many runs.
+// Appends the lines, of which empty ones stand alone and never first.
+fn append_indented(lines: &[u8], text: &mut Vec<u8>) -> Result<(), AllocError> {
+    let mut is_empty = true;
+    'lines: for line in lines.split(|byte| *byte == b'\n') {
+        if !line.is_empty() {
+            text.extend_from_slice(b"  ")?;
+            text.extend_from_slice(line)?;
+            text.push(b'\n')?;
+        } else if !is_empty {
+            text.push(b'\n')?;
+        }
+        is_empty = line.is_empty();
+    }
+    Ok(())
+}
+
+// The lines above the picture of a race, with how often it was seen.
 fn head_text(
     alloc: Global,
     name: &str,
     sentence: &str,
-    times: u64,
-    runs: u64,
+    evidence: &Evidence,
 ) -> Result<String, AllocError> {
-    let (times, runs) = (Grouped(times), Grouped(runs));
-    let one = format!(in alloc; "found: {name} - {sentence}\n")?;
-    let lead = if one.len() > COLUMNS + 1 { "\n  " } else { " " };
+    let (times, runs) = (Grouped(evidence.times), Grouped(evidence.runs));
+    let width = name.len().saturating_add(sentence.len());
+    let lead = if width > COLUMNS - 10 { "\n  " } else { " " };
     format!(in alloc; "found: {name} -{lead}{sentence}\n  seen in {times} of {runs} runs\n\n")
 }
 
-// How the race is seen again: by the script in this file, or by the one that follows.
-fn again_text(
+// Appends how the race is seen again: by the script in this file, or by the one that follows.
+fn append_again(
     alloc: Global,
     target: &RunArgs<'_>,
     file: Option<&str>,
-    script: &[u8],
-) -> Result<Vec<u8>, AllocError> {
+    evidence: &Evidence,
+    text: &mut Vec<u8>,
+) -> Result<(), AllocError> {
     let command = command_of(alloc, target)?;
-    let command = command.as_str();
+    let again = again_text(alloc, command.as_str(), file)?;
+    text.extend_from_slice(again.as_bytes())?;
+    if file.is_none() {
+        text.extend_from_slice(evidence.script.as_slice())?;
+    }
+    Ok(())
+}
+
+// The lines that say by which command, on one line if it fits.
+fn again_text<'x>(
+    alloc: Global,
+    command: &'x str,
+    file: Option<&'x str>,
+) -> Result<String, AllocError> {
+    let mut text = String::new(alloc);
     let Some(file) = file else {
-        let head = format!(in alloc;
-            "  Play it again, with this script as its input:\n    {command}\n\n"
-        )?;
-        let mut text = head.into_bytes();
-        text.extend_from_slice(script)?;
+        let head = "  Play it again, with this script as its input:\n    ";
+        push_all(&mut text, &[head, command, "\n\n"])?;
         return Ok(text);
     };
-    let one = format!(in alloc; "  Play it again: {command} < {file}\n")?;
-    if one.len() <= COLUMNS + 1 {
-        return Ok(one.into_bytes());
-    }
-    let two = format!(in alloc; "  Play it again:\n    {command} < {file}\n")?;
-    if two.len() <= COLUMNS + 20 {
-        return Ok(two.into_bytes());
-    }
-    Ok(format!(in alloc; "  Play it again:\n    {command} \\\n      < {file}\n")?.into_bytes())
+    let width = command.len().saturating_add(file.len());
+    let (lead, before) = if width <= COLUMNS - 20 {
+        (" ", " < ")
+    } else if width <= COLUMNS - 7 {
+        ("\n    ", " < ")
+    } else {
+        ("\n    ", " \\\n      < ")
+    };
+    push_all(
+        &mut text,
+        &["  Play it again:", lead, command, before, file, "\n"],
+    )?;
+    Ok(text)
 }
 
 fn command_of(alloc: Global, target: &RunArgs<'_>) -> Result<String, AllocError> {
-    let mut text = format!(in alloc; "mcrace run {}", target.server)?;
+    let mut text = String::new(alloc);
+    push_all(&mut text, &["mcrace run ", target.server])?;
     if let Some(server) = target.a {
-        text.push_str(" --a ")?;
-        text.push_str(server)?;
+        push_all(&mut text, &[" --a ", server])?;
     }
     if let Some(server) = target.b {
-        text.push_str(" --b ")?;
-        text.push_str(server)?;
+        push_all(&mut text, &[" --b ", server])?;
     }
     text.push_str(" --for 1m --why")?;
     Ok(text)
@@ -146,8 +167,13 @@ pub(crate) fn shell_word(alloc: Global, path: &str) -> Result<String, AllocError
     let mut word = String::new(alloc);
     if path.bytes().all(is_plain) {
         word.push_str(path)?;
-        return Ok(word);
+    } else {
+        push_quoted(&mut word, path)?;
     }
+    Ok(word)
+}
+
+fn push_quoted(word: &mut String, path: &str) -> Result<(), AllocError> {
     word.push_str("'")?;
     'characters: for character in path.chars() {
         if character == '\'' {
@@ -156,8 +182,7 @@ pub(crate) fn shell_word(alloc: Global, path: &str) -> Result<String, AllocError
             word.push(character)?;
         }
     }
-    word.push_str("'")?;
-    Ok(word)
+    word.push_str("'")
 }
 
 fn is_plain(byte: u8) -> bool {

@@ -6,18 +6,18 @@ use std::rt::Clock;
 use std::thread::sleep;
 use std::time::{Duration, Instant};
 
-// So many failed connects in a row, over so many milliseconds, and so many replies in a row that didn't come in time.
+// A server is gone after this many failed connects in a row, if they took as many milliseconds, or this many late replies in a row.
 const MOST_CONNECTS: u32 = 20;
 
 const MOST_WAIT: u64 = 2_000;
 
 const MOST_TIMEOUTS: u32 = 3;
 
-// After a failed connect there is none for as many milliseconds.
+// The milliseconds between a failed connect and the next one.
 const PAUSE: u64 = 50;
 
 /// How a server has answered lately.
-#[derive(Clone, Copy, Debug)]
+#[derive(Clone, Copy)]
 pub(crate) struct Health {
     failed_connects: u32,
     timeouts: u32,

@@ -1,8 +1,8 @@
 //! What is known of a test, in the XML of JUnit.
 
-use crate::alone::VERBS_ALONE;
 use crate::book::{Book, State};
-use crate::races::RACES;
+use crate::race::{races, verbs_alone};
+use crate::text::push_all;
 use crate::told::{Kind, Told};
 use mc_convert::escaped;
 use std::alloc::{AllocError, Global};
@@ -21,10 +21,11 @@ struct Cases {
 }
 
 // What a test case came to.
-#[derive(Clone, Copy, Debug)]
+#[derive(Clone, Copy)]
 enum Came<'a> {
     Passed,
     Failure(&'a Told),
+    // Why, in XML.
     Error(&'a str),
     Skipped(&'a str),
 }
@@ -34,7 +35,7 @@ pub(crate) fn report_junit(
     alloc: Global,
     book: &Book<'_>,
     state: &State<'_>,
-) -> Result<Vec<u8>, AllocError> {
+) -> Result<String, AllocError> {
     let mut cases = Cases {
         alloc,
         text: String::new(alloc),
@@ -43,67 +44,71 @@ pub(crate) fn report_junit(
         errors: 0,
         skipped: 0,
     };
-    add_verbs(&mut cases, book)?;
-    add_races(&mut cases, book, state)?;
-    add_generated(&mut cases, book, state)?;
-    add_server(&mut cases, book, state)?;
-    let Cases {
-        text,
-        tests,
-        failures,
-        errors,
-        skipped,
-        ..
-    } = cases;
-    let mut whole = format!(in alloc;
-        "{HEAD}<testsuite name=\"mcrace test\" tests=\"{tests}\" failures=\"{failures}\" errors=\"{errors}\" skipped=\"{skipped}\">\n"
-    )?;
-    whole.push_str(text.as_str())?;
-    whole.push_str("</testsuite>\n")?;
-    Ok(whole.into_bytes())
+    add_all(&mut cases, book, state)?;
+    cases.whole()
 }
 
 impl Cases {
     fn add(&mut self, class: &str, name: &str, came: Came<'_>) -> Result<(), AllocError> {
-        let class = escaped(self.alloc, class.as_bytes())?;
-        let name = escaped(self.alloc, name.as_bytes())?;
-        let inside = match came {
-            Came::Passed => String::new(self.alloc),
-            Came::Failure(told) => {
-                self.failures = self.failures.saturating_add(1);
-                let kind = if told.kind == Kind::Reply {
-                    "wrong reply"
-                } else {
-                    "unexplained"
-                };
-                let shown = escaped(self.alloc, told.text.as_slice())?;
-                format!(in self.alloc; "<failure message=\"{kind}\">{shown}</failure>\n")?
-            }
+        self.tests = self.tests.saturating_add(1);
+        let head = [
+            "<testcase classname=\"mcrace.",
+            class,
+            "\" name=\"",
+            name,
+            "\">\n",
+        ];
+        push_all(&mut self.text, &head)?;
+        match came {
+            Came::Passed => {}
+            Came::Failure(told) => self.add_failure(told)?,
             Came::Error(message) => {
                 self.errors = self.errors.saturating_add(1);
-                let message = escaped(self.alloc, message.as_bytes())?;
-                format!(in self.alloc; "<error message=\"{message}\"/>\n")?
+                push_all(&mut self.text, &["<error message=\"", message, "\"/>\n"])?;
             }
             Came::Skipped(message) => {
                 self.skipped = self.skipped.saturating_add(1);
-                let message = escaped(self.alloc, message.as_bytes())?;
-                format!(in self.alloc; "<skipped message=\"{message}\"/>\n")?
+                push_all(&mut self.text, &["<skipped message=\"", message, "\"/>\n"])?;
             }
+        }
+        self.text.push_str("</testcase>\n")
+    }
+
+    fn add_failure(&mut self, told: &Told) -> Result<(), AllocError> {
+        self.failures = self.failures.saturating_add(1);
+        let kind = if told.kind == Kind::Reply {
+            "wrong reply"
+        } else {
+            "unexplained"
         };
-        self.tests = self.tests.saturating_add(1);
-        let case = format!(in self.alloc;
-            "<testcase classname=\"mcrace.{class}\" name=\"{name}\">\n{inside}</testcase>\n"
-        )?;
-        self.text.push_str(case.as_str())
+        let shown = escaped(self.alloc, told.text.as_slice())?;
+        push_all(&mut self.text, &["<failure message=\"", kind, "\">"])?;
+        self.text.push_str(shown.as_str())?;
+        self.text.push_str("</failure>\n")
+    }
+
+    // The report of these cases.
+    fn whole(&self) -> Result<String, AllocError> {
+        let (tests, failures) = (self.tests, self.failures);
+        let (errors, skipped) = (self.errors, self.skipped);
+        let text = self.text.as_str();
+        format!(in self.alloc;
+            "{HEAD}<testsuite name=\"mcrace test\" tests=\"{tests}\" failures=\"{failures}\" \
+             errors=\"{errors}\" skipped=\"{skipped}\">\n{text}</testsuite>\n"
+        )
     }
 }
 
+fn add_all(cases: &mut Cases, book: &Book<'_>, state: &State<'_>) -> Result<(), AllocError> {
+    add_verbs(cases, book)?;
+    add_races(cases, book, state)?;
+    cases.add("generated", "generated scripts", generated(book, state))?;
+    add_server(cases, book, state)
+}
+
 fn add_verbs(cases: &mut Cases, book: &Book<'_>) -> Result<(), AllocError> {
-    'verbs: for (index, alone) in VERBS_ALONE.iter().enumerate() {
-        let told = book
-            .told_of(Kind::Alone, alone.verb)
-            .or(book.told_of(Kind::Reply, alone.verb));
-        let came = match told {
+    'verbs: for (index, alone) in verbs_alone().iter().enumerate() {
+        let came = match told_of(book, Kind::Alone, alone.verb) {
             Some(told) => Came::Failure(told),
             None if !book.unsupported.knows(alone.verb) => Came::Skipped("not supported"),
             None if index >= book.asked => Came::Skipped("not asked"),
@@ -115,50 +120,62 @@ fn add_verbs(cases: &mut Cases, book: &Book<'_>) -> Result<(), AllocError> {
 }
 
 fn add_races(cases: &mut Cases, book: &Book<'_>, state: &State<'_>) -> Result<(), AllocError> {
-    'races: for race in RACES {
+    'races: for race in races() {
         if !book.selection.has(race) {
             continue;
         }
-        let told = book
-            .told_of(Kind::Race, race.name)
-            .or(book.told_of(Kind::Reply, race.name));
-        let came = match told {
+        let came = match told_of(book, Kind::Race, race.name) {
             Some(told) => Came::Failure(told),
             None if !book.unsupported.allows(race) => Came::Skipped("not supported"),
-            None => match state.runs_of(race) {
-                Some(0) | None => Came::Skipped("not played"),
-                Some(_) => Came::Passed,
-            },
+            None if state.runs_of(race).unwrap_or(0) == 0 => Came::Skipped("not played"),
+            None => Came::Passed,
         };
         cases.add("race", race.name, came)?;
     }
     Ok(())
 }
 
-fn add_generated(cases: &mut Cases, book: &Book<'_>, state: &State<'_>) -> Result<(), AllocError> {
-    let told = book.told.iter().find(|told| is_of_generated(told));
-    let came = match told {
-        Some(told) => Came::Failure(told),
-        None if state.generated.count == 0 => Came::Skipped("not played"),
-        None => Came::Passed,
-    };
-    cases.add("generated", "generated scripts", came)
+// What was told under this name, or else which of its replies was none.
+fn told_of<'a>(book: &'a Book<'_>, kind: Kind, name: &str) -> Option<&'a Told> {
+    match book.told_of(kind, name) {
+        Some(told) => Some(told),
+        None => book.told_of(Kind::Reply, name),
+    }
 }
 
-fn is_of_generated(told: &Told) -> bool {
-    told.kind == Kind::Generated || told.kind == Kind::Reply && told.name.starts_with("generated-")
+// What the generated scripts came to.
+fn generated<'a>(book: &'a Book<'_>, state: &State<'_>) -> Came<'a> {
+    'told: for told in &book.told {
+        let is_reply = told.kind == Kind::Reply && told.name.starts_with("generated-");
+        if told.kind == Kind::Generated || is_reply {
+            return Came::Failure(told);
+        }
+    }
+    if state.generated.count == 0 {
+        Came::Skipped("not played")
+    } else {
+        Came::Passed
+    }
 }
 
-// The server failed, or couldn't be tested.
+// An error, if the test hasn't ended, or the server failed or couldn't be tested.
 fn add_server(cases: &mut Cases, book: &Book<'_>, state: &State<'_>) -> Result<(), AllocError> {
+    if !state.has_ended {
+        return cases.add("test", "server", Came::Error("the test didn't end"));
+    }
     let status = book.status(state);
-    if !state.has_ended || status == 0 || status == 1 {
+    if status == 0 || status == 1 {
         return Ok(());
     }
     let tally = &state.tally;
+    let why = match &book.fault {
+        Some(fault) => fault.as_str(),
+        None => "",
+    };
     let message = format!(in cases.alloc;
-        "exit status {status}: {} runs failed, {} without a connection, {} undecided",
+        "exit status {status}: {why}{} runs failed, {} without a connection, {} undecided",
         tally.failed, tally.unconnected, tally.undecided
     )?;
+    let message = escaped(cases.alloc, message.as_bytes())?;
     cases.add("test", "server", Came::Error(message.as_str()))
 }

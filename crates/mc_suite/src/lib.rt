@@ -1,9 +1,9 @@
-//! What `test` does: it asks a server each verb alone, plays scripts of races and generated ones in turns, and tells a person what was
+//! The command `test`: it asks a server each verb alone, plays scripts of races and generated ones in turns, and tells a person what it
 //! found, with evidence.
 //!
-//! Below it stands `mc_command`, whose `play_kept` plays a script and judges what came. The crate above uses `test_server`. What it tells
-//! as a race is a `Seen`: a history that nothing explains, as its type says. What it tells of the replies that a correct server gives is
-//! in a `Shown`: they would be explained, as that type says.
+//! Below it stands `mc_command`, whose `play_kept` plays a script and judges what came. The crate above uses `test_server`. A race that is
+//! told was a `Seen`: by its type, nothing explains its history. The replies of a correct server come from a `Shown`: by its type, they
+//! would be explained.
 #![tactic(auto)]
 
 mod alone;
@@ -11,8 +11,10 @@ mod blame;
 mod book;
 mod end_text;
 mod evidence;
+mod finding;
 mod folder;
 mod found_text;
+mod generated;
 mod health;
 mod junit;
 mod list;
@@ -30,6 +32,7 @@ mod seen;
 mod selection;
 mod tally;
 mod testing;
+mod text;
 mod told;
 mod turns;
 mod verbs;

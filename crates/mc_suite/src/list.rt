@@ -1,7 +1,7 @@
 //! The races as a person reads them: their names, and their scripts.
 
-use crate::race::race_named;
-use crate::races::RACES;
+use crate::race::{race_named, races};
+use crate::text::push_all;
 use std::alloc::{AllocError, Global};
 
 /// A paragraph for each race: its name, what a server that has it does wrong, and the verbs of its scripts.
@@ -11,9 +11,9 @@ use std::alloc::{AllocError, Global};
 /// That there is no memory.
 pub fn list_text(alloc: Global) -> Result<String, AllocError> {
     let mut text = String::new(alloc);
-    'races: for race in RACES {
-        let row = format!(in alloc; "{}\n  {}\n  {}\n", race.name, race.sentence, race.verbs)?;
-        text.push_str(row.as_str())?;
+    'races: for race in races() {
+        let row = [race.name, "\n  ", race.sentence, "\n  ", race.verbs, "\n"];
+        push_all(&mut text, &row)?;
     }
     Ok(text)
 }
@@ -29,12 +29,11 @@ pub fn scripts_text(alloc: Global, name: &str) -> Result<Option<String>, AllocEr
     };
     let mut text = String::new(alloc);
     'scripts: for (index, script) in race.scripts.iter().enumerate() {
-        if index > 0 {
-            text.push_str("\n")?;
-        }
-        let head = format!(in alloc; "# {}: {}\n", race.name, race.sentence)?;
-        text.push_str(head.as_str())?;
-        text.push_str(script)?;
+        let before = if index > 0 { "\n# " } else { "# " };
+        push_all(
+            &mut text,
+            &[before, race.name, ": ", race.sentence, "\n", script],
+        )?;
     }
     Ok(Some(text))
 }

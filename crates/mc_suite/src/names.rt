@@ -6,16 +6,16 @@ use mc_settings::Namespace;
 use rand_pcg::Pcg32;
 use std::rt::Clock;
 
-// How many characters a name has, of five bits each: 65 in all.
+// The characters of a name. Each has five bits, all have 65.
 const LENGTH: usize = 13;
 
 const CHARACTERS: &[u8; 32] = b"abcdefghijklmnopqrstuvwxyz234567";
 
-// Which of its sequences the generator goes along.
+// The generator's sequence.
 const SEQUENCE: u64 = 117;
 
 /// The name that keys are put under now.
-#[derive(Debug, Drop)]
+#[derive(Drop)]
 pub(crate) struct Names {
     generator: Pcg32,
     characters: [u8; LENGTH],

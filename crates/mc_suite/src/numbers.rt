@@ -4,7 +4,7 @@ use std::fmt::{Display, Error, Formatter, Write};
 use std::time::Duration;
 
 /// A number with a comma between each three digits.
-#[derive(Clone, Copy, Debug)]
+#[derive(Clone, Copy)]
 pub(crate) struct Grouped(pub(crate) u64);
 
 impl Display for Grouped {
@@ -23,7 +23,7 @@ impl Display for Grouped {
 }
 
 /// A time in seconds, with one place.
-#[derive(Clone, Copy, Debug)]
+#[derive(Clone, Copy)]
 pub(crate) struct Tenths(pub(crate) Duration);
 
 impl Display for Tenths {
@@ -34,7 +34,7 @@ impl Display for Tenths {
 }
 
 /// A time in milliseconds, with one place.
-#[derive(Clone, Copy, Debug)]
+#[derive(Clone, Copy)]
 pub(crate) struct Milliseconds(pub(crate) Duration);
 
 impl Display for Milliseconds {

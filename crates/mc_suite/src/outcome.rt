@@ -10,7 +10,7 @@ use std::alloc::{AllocError, Global};
 use std::io;
 
 /// What a run came to.
-#[derive(Debug, Drop)]
+#[derive(Drop)]
 pub(crate) enum Outcome {
     /// All requests have replies that an order explains.
     Explained,
@@ -29,7 +29,7 @@ pub(crate) enum Outcome {
 }
 
 /// How a section failed.
-#[derive(Debug, Drop)]
+#[derive(Drop)]
 pub(crate) struct Failure {
     pub(crate) fault: Fault,
     /// The verb of the request that had no reply, if there is one.
@@ -38,7 +38,7 @@ pub(crate) struct Failure {
     pub(crate) text: String,
 }
 
-/// What a run came to of which this was played and remarked. A search for what explains it takes at most `limit` turns.
+/// What a run came to, by what was played and remarked. A search for what explains it takes at most `limit` turns.
 pub(crate) fn outcome_of(
     alloc: Global,
     played: Played,
@@ -46,12 +46,7 @@ pub(crate) fn outcome_of(
     limit: u64,
 ) -> Result<Outcome, AllocError> {
     match played {
-        Played::Ended(_, history, Verdict::Unexplained, _) => {
-            match Seen::of(alloc, history, limit)? {
-                Some(seen) => Ok(Outcome::Unexplained(seen)),
-                None => Ok(Outcome::Undecided),
-            }
-        }
+        Played::Ended(_, history, Verdict::Unexplained, _) => unexplained(alloc, history, limit),
         Played::Ended(world, history, verdict, _) => {
             let text = text_of(alloc, &remarks)?;
             Ok(ended(&world, &history, &verdict, text))
@@ -61,6 +56,14 @@ pub(crate) fn outcome_of(
             _ => Ok(Outcome::NotRun),
         },
         Played::NotRun => Ok(Outcome::NotRun),
+    }
+}
+
+// What a run came to that no order is to explain. Its history is judged once more, since this is what is told.
+fn unexplained(alloc: Global, history: History, limit: u64) -> Result<Outcome, AllocError> {
+    match Seen::of(alloc, history, limit)? {
+        Some(seen) => Ok(Outcome::Unexplained(seen)),
+        None => Ok(Outcome::Undecided),
     }
 }
 

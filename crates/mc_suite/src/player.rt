@@ -12,6 +12,7 @@ use mc_cli::RunArgs;
 use mc_command::{leaves_request, play_kept};
 use mc_connect::{Kept, Network};
 use std::alloc::{AllocError, Global};
+use std::fmt::Write;
 use std::io;
 use std::io::Eprint;
 use std::rt::Clock;
@@ -29,7 +30,7 @@ pub(crate) struct Player<'a, R, N: Network> {
     kept: Kept<N::Connection>,
     names: Names,
     begun: Instant,
-    /// How long it may take in all.
+    /// How long the test may take.
     pub(crate) time: Duration,
     // How long one reply may take.
     limit: Duration,
@@ -37,7 +38,7 @@ pub(crate) struct Player<'a, R, N: Network> {
     tally: Tally,
     // How many races were found.
     found: u64,
-    // What is to be said of the first run that failed.
+    // How the first failed run did.
     first_failure: Option<String>,
     // Why the first connect failed.
     first_unconnected: Option<io::Error>,
@@ -45,7 +46,7 @@ pub(crate) struct Player<'a, R, N: Network> {
 }
 
 /// What came of several runs of one code.
-#[derive(Debug, Drop)]
+#[derive(Drop)]
 pub(crate) struct Tries {
     /// The run that nothing explains, after which there was none.
     pub(crate) seen: Option<Seen>,
@@ -84,7 +85,7 @@ impl<'a, R: Threads + Wait + Clock + Sync + Eprint, N: Network> Player<'a, R, N>
         }
     }
 
-    /// How long it has taken.
+    /// How long the test has taken.
     pub(crate) fn passed(&self) -> Duration {
         self.begun.elapsed(self.rt).unwrap_or(Duration::MAX)
     }
@@ -94,7 +95,7 @@ impl<'a, R: Threads + Wait + Clock + Sync + Eprint, N: Network> Player<'a, R, N>
         self.health.is_gone() || self.passed() >= self.time
     }
 
-    /// Plays the code once. After a request without a reply keys have another name, since the server may still act on it.
+    /// Plays the code once. After a request without a reply the keys get another name, since the server may still act on it.
     pub(crate) fn play(&mut self, prepared: &mut Prepared) -> Result<Outcome, AllocError> {
         let before = self.passed();
         let Some(code) = prepared.code(self.alloc, self.target.name.as_ref(), &self.names)? else {
@@ -121,12 +122,11 @@ impl<'a, R: Threads + Wait + Clock + Sync + Eprint, N: Network> Player<'a, R, N>
         Ok(outcome)
     }
 
-    // Keeps what is to be said of the first run that failed, and of the first without a connection.
+    // Keeps how the first failed run did, and why the first connect failed.
     fn keep_first(&mut self, outcome: &Outcome) -> Result<(), AllocError> {
         match outcome {
             Outcome::Failed(failure) if self.first_failure.is_none() => {
-                let text = failure.text.as_str();
-                self.first_failure = Some(format!(in self.alloc; "{text}")?);
+                self.first_failure = Some(failure.text.clone()?);
             }
             Outcome::Unconnected(error) if self.first_unconnected.is_none() => {
                 self.first_unconnected = Some(*error);
@@ -152,21 +152,21 @@ impl<'a, R: Threads + Wait + Clock + Sync + Eprint, N: Network> Player<'a, R, N>
         }
     }
 
-    /// What is to be said of the first failures, a line for each.
-    pub(crate) fn failures(&self) -> Result<Vec<String>, AllocError> {
-        let mut lines = Vec::new(self.alloc);
+    /// A line for the first failed run, and one for the first failed connect.
+    pub(crate) fn failures(&self) -> Result<String, AllocError> {
+        let mut text = String::new(self.alloc);
         if let Some(first) = &self.first_failure {
             let failed = Grouped(self.tally.failed);
-            lines.push(format!(in self.alloc; "failed runs: {failed}; the first: {first}\n")?)?;
+            write!(text, "failed runs: {failed}; the first: {first}\n")?;
         }
         if let Some(first) = &self.first_unconnected {
             let failed = Grouped(self.tally.unconnected);
-            lines.push(format!(in self.alloc; "failed connects: {failed}; the first: {first}\n")?)?;
+            write!(text, "failed connects: {failed}; the first: {first}\n")?;
         }
-        Ok(lines)
+        Ok(text)
     }
 
-    /// One run that failed doesn't count as such: the server doesn't know what it asked.
+    /// Takes a failed run out of the count: the server doesn't know what it asked.
     pub(crate) fn take_back_failure(&mut self) {
         self.tally.failed = self.tally.failed.saturating_sub(1);
         if self.tally.failed == 0 {
@@ -179,14 +179,14 @@ impl<'a, R: Threads + Wait + Clock + Sync + Eprint, N: Network> Player<'a, R, N>
         self.found = self.found.saturating_add(1);
     }
 
-    /// Clears the line of progress, since something is written next.
+    /// Clears the line of progress before something is written.
     pub(crate) fn give_way(&self) {
         if let Some(progress) = &self.progress {
             progress.clear(self.rt);
         }
     }
 
-    /// Plays the code until nothing explains a run, at most so often, and not after this time.
+    /// Plays the code until nothing explains a run: at most `most` times, and not after this time.
     pub(crate) fn play_until_seen(
         &mut self,
         prepared: &mut Prepared,

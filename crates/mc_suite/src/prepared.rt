@@ -7,11 +7,23 @@ use mc_settings::Namespace;
 use mc_verify::Checked;
 use std::alloc::{AllocError, Global};
 
-/// Code, and it under the last name.
-#[derive(Debug, Drop)]
+/// Code, and the same under the last name.
 pub(crate) struct Prepared {
     written: Checked,
-    under: Option<(u64, Checked)>,
+    under: Option<Checked>,
+    // How many names there were before that one.
+    count: u64,
+}
+
+// One call drops its parts. A derived `Drop` would write them out at each end of each function that holds one.
+impl Drop for Prepared {
+    fn drop(self) {
+        let Prepared {
+            written: _,
+            under: _,
+            count: _,
+        } = self;
+    }
 }
 
 impl Prepared {
@@ -20,6 +32,7 @@ impl Prepared {
         Prepared {
             written,
             under: None,
+            count: 0,
         }
     }
 
@@ -39,20 +52,11 @@ impl Prepared {
         given: Option<&Namespace<'_>>,
         names: &Names,
     ) -> Result<Option<&Checked>, AllocError> {
-        let is_there = match &self.under {
-            Some((count, _)) => *count == names.count,
-            None => false,
-        };
-        if !is_there {
-            self.under = match code_under(alloc, &self.written, given, names)? {
-                Some(code) => Some((names.count, code)),
-                None => None,
-            };
+        if self.under.is_none() || self.count != names.count {
+            self.under = code_under(alloc, &self.written, given, names)?;
+            self.count = names.count;
         }
-        match &self.under {
-            Some((_, code)) => Ok(Some(code)),
-            None => Ok(None),
-        }
+        Ok(self.under.as_ref())
     }
 }
 

@@ -8,18 +8,18 @@ use std::time::Duration;
 // What clears a line of a terminal, and goes back to its begin.
 const CLEAR: &str = "\r\x1b[K";
 
-// The line is written at most once in this many milliseconds.
+// The milliseconds from one writing of the line to the next, at least.
 const PAUSE: u64 = 100;
 
 /// When the line was written last, and how many columns it may have.
-#[derive(Clone, Copy, Debug)]
+#[derive(Clone, Copy)]
 pub(crate) struct Progress {
     columns: usize,
     next: Duration,
 }
 
 impl Progress {
-    /// A line of so many columns.
+    /// A line of this many columns.
     pub(crate) fn new(columns: usize) -> Progress {
         Progress {
             columns,
@@ -27,7 +27,7 @@ impl Progress {
         }
     }
 
-    /// Says that so much of the time has passed, and what was found in so many runs, unless it was said just now.
+    /// Says how much of the time has passed, and what was found in how many runs, unless it was said just now.
     pub(crate) fn tell<R: Eprint>(
         &mut self,
         rt: &R,

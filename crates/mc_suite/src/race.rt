@@ -1,9 +1,9 @@
 //! What a test asks a server: scripts of races, and one for each verb alone.
 
+use crate::alone::VERBS_ALONE;
 use crate::races::RACES;
 
 /// A race, with the scripts that show it.
-#[derive(Debug)]
 pub(crate) struct Race {
     pub(crate) name: &'static str,
     /// What a server that has it does wrong.
@@ -21,13 +21,22 @@ impl Race {
 }
 
 /// What is asked of a verb without a race.
-#[derive(Debug)]
 pub(crate) struct Alone {
     pub(crate) verb: &'static str,
     pub(crate) script: &'static str,
 }
 
+/// Each race, in the order of their names. Only this function names the table: each that does takes long to prove.
+pub(crate) fn races() -> &'static [Race] {
+    RACES
+}
+
+/// What is asked of each verb. Only this function names the table.
+pub(crate) fn verbs_alone() -> &'static [Alone] {
+    VERBS_ALONE
+}
+
 /// The race of this name.
 pub(crate) fn race_named(name: &str) -> Option<&'static Race> {
-    RACES.iter().find(|race| race.name == name)
+    races().iter().find(|race| race.name == name)
 }

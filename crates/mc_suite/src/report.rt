@@ -15,7 +15,7 @@ use mc_draw::{Drawing, Form, draw};
 use std::alloc::{AllocError, Global};
 use std::time::Duration;
 
-// At most so many wrong answers are told.
+// The most wrong replies that are told.
 const MOST_TOLD: u64 = 10;
 
 /// Where findings are told, and what was told so far.
@@ -25,13 +25,11 @@ pub(crate) struct Report<'a, O, F> {
     output: &'a mut O,
     // Whether standard output has JSON in place of the text.
     is_json: bool,
-    folder: Option<F>,
-    // The folder's path.
-    path: &'a str,
+    folder: F,
     pub(crate) book: Book<'a>,
     // How long was spent on evidence.
     spent: Duration,
-    // How many wrong replies were told.
+    // How many wrong replies came.
     wrong: u64,
 }
 
@@ -41,8 +39,7 @@ impl<'a, O: Sink, F: Folder> Report<'a, O, F> {
         alloc: Global,
         output: &'a mut O,
         is_json: bool,
-        folder: Option<F>,
-        path: &'a str,
+        folder: F,
         book: Book<'a>,
     ) -> Self {
         Report {
@@ -50,19 +47,10 @@ impl<'a, O: Sink, F: Folder> Report<'a, O, F> {
             output,
             is_json,
             folder,
-            path,
             book,
             spent: Duration::ZERO,
             wrong: 0,
         }
-    }
-
-    // Writes the text, if text is what is written.
-    fn say(&mut self, text: &[u8]) -> Result<(), InputFault> {
-        if self.is_json {
-            return Ok(());
-        }
-        Ok(self.output.write_all(text)?)
     }
 
     /// How long may be spent on the next evidence: a tenth of the time of the test, and a third of it for all.
@@ -71,15 +59,18 @@ impl<'a, O: Sink, F: Folder> Report<'a, O, F> {
         (time / 3).saturating_sub(self.spent).min(time / 10)
     }
 
-    /// So long was spent on evidence.
+    /// This time was spent on evidence.
     pub(crate) fn spend(&mut self, time: Duration) {
         self.spent = self.spent.saturating_add(time);
     }
 
-    /// Which server is tested, with the version that it says, by which seed, and how long.
+    /// Says what tests which server, by which seed, and how long.
     pub(crate) fn say_begin(&mut self) -> Result<(), InputFault> {
+        if self.is_json {
+            return Ok(());
+        }
         let text = begin_text(self.alloc, &self.book)?;
-        self.say(text.as_bytes())
+        Ok(self.output.write_all(text.as_bytes())?)
     }
 
     /// Tells a race, with the evidence of it.
@@ -91,21 +82,21 @@ impl<'a, O: Sink, F: Folder> Report<'a, O, F> {
         sentence: &str,
         found: Found,
     ) -> Result<(), InputFault> {
-        let limit = target.how.limit;
         let evidence = Evidence::of(self.alloc, found)?;
         let file = self.script_file(kind, name)?;
         let file = file.as_ref().map(String::as_str);
         let text = found_text(self.alloc, target, name, sentence, &evidence, file)?;
-        self.tell(limit, kind, name, text, evidence)
+        let told = told_as(self.alloc, kind, name, text, Some(evidence))?;
+        self.tell(target.how.limit, told)
     }
 
-    // The file of the script that shows a finding, as a shell takes it, if there is a folder.
+    // The file of the script that shows a finding, as a shell takes it, if files are kept.
     fn script_file(&self, kind: Kind, name: &str) -> Result<Option<String>, AllocError> {
-        if self.folder.is_none() {
+        let Some(path) = self.folder.path() else {
             return Ok(None);
-        }
+        };
         let base = file_name(self.alloc, kind, name)?;
-        let file = format!(in self.alloc; "{}/{base}.script", self.path)?;
+        let file = format!(in self.alloc; "{path}/{base}.script")?;
         Ok(Some(shell_word(self.alloc, file.as_str())?))
     }
 
@@ -125,7 +116,8 @@ impl<'a, O: Sink, F: Folder> Report<'a, O, F> {
         };
         let evidence = Evidence::of(self.alloc, found)?;
         let text = alone_text(self.alloc, limit, verb, &evidence)?;
-        self.tell(limit, Kind::Alone, verb, text, evidence)
+        let told = told_as(self.alloc, Kind::Alone, verb, text, Some(evidence))?;
+        self.tell(limit, told)
     }
 
     /// Tells what came that is no reply, or more than replies.
@@ -134,108 +126,105 @@ impl<'a, O: Sink, F: Folder> Report<'a, O, F> {
         if self.wrong > MOST_TOLD {
             return Ok(());
         }
-        let text = format!(in self.alloc; "wrong reply: {name}\n  {what}\n\n")?;
-        self.say(text.as_bytes())?;
-        Ok(self.note(Kind::Reply, name, text.into_bytes(), None)?)
+        let text = format!(in self.alloc; "wrong reply: {name}\n  {what}\n\n")?.into_bytes();
+        let told = told_as(self.alloc, Kind::Reply, name, text, None)?;
+        self.tell(0, told)
     }
 
-    // Writes the text, keeps its files, and notes that it was told.
-    fn tell(
-        &mut self,
-        limit: u64,
-        kind: Kind,
-        name: &str,
-        text: Vec<u8>,
-        evidence: Evidence,
-    ) -> Result<(), InputFault> {
-        self.say(text.as_slice())?;
-        self.keep_evidence(limit, kind, name, text.as_slice(), &evidence)?;
-        Ok(self.note(kind, name, text, Some(evidence))?)
+    // Keeps the files of a finding, notes it, and writes its text. The text is last, since standard output may be closed.
+    fn tell(&mut self, limit: u64, told: Told) -> Result<(), InputFault> {
+        self.keep_evidence(limit, &told)?;
+        self.note(told)?;
+        self.say_last()
     }
 
-    fn note(
-        &mut self,
-        kind: Kind,
-        name: &str,
-        text: Vec<u8>,
-        evidence: Option<Evidence>,
-    ) -> Result<(), AllocError> {
-        let name = format!(in self.alloc; "{name}")?;
-        let told = Told {
-            kind,
-            name,
-            text,
-            evidence,
-        };
+    fn note(&mut self, told: Told) -> Result<(), AllocError> {
         self.book.told.push(told)?;
         Ok(())
     }
 
-    fn keep_evidence(
-        &mut self,
-        limit: u64,
-        kind: Kind,
-        name: &str,
-        text: &[u8],
-        evidence: &Evidence,
-    ) -> Result<(), AllocError> {
-        if self.folder.is_none() {
-            return Ok(());
+    fn say_last(&mut self) -> Result<(), InputFault> {
+        match self.book.told.last() {
+            Some(told) if !self.is_json => Ok(self.output.write_all(told.text.as_slice())?),
+            _ => Ok(()),
         }
-        let base = file_name(self.alloc, kind, name)?;
-        let base = base.as_str();
-        let history = evidence.history.as_slice();
-        self.keep(base, ".script", evidence.script.as_slice())?;
-        self.keep(base, ".history", history)?;
-        if let Drawing::Drawn(picture) = draw(self.alloc, history, Form::Svg, limit, None)? {
-            self.keep(base, ".svg", picture.as_slice())?;
-        }
-        self.keep(base, ".txt", text)
     }
 
-    // Keeps a file, if there is a folder.
-    fn keep(&mut self, base: &str, end: &str, bytes: &[u8]) -> Result<(), AllocError> {
-        let name = format!(in self.alloc; "{base}{end}")?;
-        if let Some(folder) = &mut self.folder
-            && !folder.put(name.as_str(), bytes)
-        {
-            self.book.is_unkept = true;
+    fn keep_evidence(&mut self, limit: u64, told: &Told) -> Result<(), AllocError> {
+        let Some(evidence) = &told.evidence else {
+            return Ok(());
+        };
+        if self.folder.path().is_none() {
+            return Ok(());
+        }
+        let base = file_name(self.alloc, told.kind, told.name.as_str())?;
+        let base = base.as_str();
+        let history = evidence.history.as_slice();
+        self.keep(base, ".script", evidence.script.as_slice());
+        self.keep(base, ".history", history);
+        self.keep(base, ".txt", told.text.as_slice());
+        if let Drawing::Drawn(picture) = draw(self.alloc, history, Form::Svg, limit, None)? {
+            self.keep(base, ".svg", picture.as_slice());
         }
         Ok(())
     }
 
+    // Keeps a file, if files are kept.
+    fn keep(&mut self, name: &str, extension: &str, bytes: &[u8]) {
+        if !self.folder.put(name, extension, bytes) {
+            self.book.has_failed = true;
+        }
+    }
+
     /// Keeps the reports of all that is known by now.
     pub(crate) fn keep_reports(&mut self, state: &State<'_>) -> Result<(), AllocError> {
-        if self.folder.is_none() {
+        if self.folder.path().is_none() {
             return Ok(());
         }
         let json = report_json(self.alloc, &self.book, state)?;
-        self.keep("report", ".json", json.as_slice())?;
+        self.keep("report", ".json", json.as_slice());
         let junit = report_junit(self.alloc, &self.book, state)?;
-        self.keep("junit", ".xml", junit.as_slice())
+        self.keep("junit", ".xml", junit.as_bytes());
+        Ok(())
     }
 
-    /// Tells what was tried and what was found, and keeps the reports. Answers the exit status.
-    pub(crate) fn finish(
-        &mut self,
-        state: &State<'_>,
-        failures: &[String],
-    ) -> Result<u8, InputFault> {
+    /// Keeps the reports, and writes the text of the end, or JSON. Of a server that couldn't be reached there is no text.
+    pub(crate) fn finish(&mut self, state: &State<'_>, failures: &str) -> Result<(), InputFault> {
         self.keep_reports(state)?;
         if self.is_json {
             let json = report_json(self.alloc, &self.book, state)?;
             self.output.write_all(json.as_slice())?;
-        } else {
+        } else if self.book.fault.is_none() {
             let text = end_text(self.alloc, &self.book, state, failures)?;
-            self.output.write_all(text.as_slice())?;
+            self.output.write_all(text.as_bytes())?;
         }
-        Ok(self.book.status(state))
+        Ok(())
     }
 
-    /// Ends with what is written of a failure, and answers the exit status: 1 if something was found before.
-    pub(crate) fn fail(self, fault: InputFault) -> u8 {
-        let Report { output, book, .. } = self;
-        let status = write_fault(fault, output).number();
-        if book.told.is_empty() { status } else { 1 }
+    /// Ends the test with what was written at its end, or with the fault that cut it short. Answers the exit status.
+    pub(crate) fn end(&mut self, state: &State<'_>, ended: Result<(), InputFault>) -> u8 {
+        if let Err(fault) = ended {
+            self.book.has_failed = true;
+            write_fault(fault, self.output);
+            // What can't be kept now was kept at the last finding.
+            let _ = self.keep_reports(state);
+        }
+        self.book.status(state)
     }
+}
+
+fn told_as(
+    alloc: Global,
+    kind: Kind,
+    name: &str,
+    text: Vec<u8>,
+    evidence: Option<Evidence>,
+) -> Result<Told, AllocError> {
+    let name = format!(in alloc; "{name}")?;
+    Ok(Told {
+        kind,
+        name,
+        text,
+        evidence,
+    })
 }

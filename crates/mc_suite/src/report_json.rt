@@ -2,9 +2,8 @@
 
 use crate::blame::Blame;
 use crate::book::{Book, State};
-use crate::race::Race;
-use crate::races::RACES;
-use crate::told::{Evidence, Kind};
+use crate::race::{Race, races};
+use crate::told::{Evidence, Kind, Told};
 use json::Writer;
 use std::alloc::{AllocError, Global};
 use std::str;
@@ -17,32 +16,33 @@ pub(crate) fn report_json(
     state: &State<'_>,
 ) -> Result<Vec<u8>, AllocError> {
     let mut out = Writer::new(Vec::new(alloc));
-    out.begin_object()?;
-    write_head(&mut out, book, state)?;
-    write_races(&mut out, book, state)?;
-    write_generated(&mut out, book, state)?;
-    write_wrong(&mut out, book)?;
-    write_unsupported(&mut out, book)?;
-    write_counts(&mut out, state)?;
-    out.end_object()?;
+    write_report(&mut out, book, state)?;
     let mut line = out.into_inner();
     line.push(b'\n')?;
     Ok(line)
 }
 
+fn write_report(out: &mut Writer, book: &Book<'_>, state: &State<'_>) -> Result<(), AllocError> {
+    out.begin_object()?;
+    write_head(out, book, state)?;
+    write_races(out, book, state)?;
+    write_generated(out, book, state)?;
+    write_told(out, "wrong_alone", book, Kind::Alone)?;
+    write_told(out, "wrong_replies", book, Kind::Reply)?;
+    write_unsupported(out, book)?;
+    write_counts(out, state)?;
+    out.end_object()
+}
+
 fn write_head(out: &mut Writer, book: &Book<'_>, state: &State<'_>) -> Result<(), AllocError> {
-    out.key("server")?;
-    out.string(book.server)?;
-    out.key("version")?;
-    match &book.version {
-        Some(version) => out.string(version.as_str())?,
-        None => out.null()?,
-    }
+    write_text(out, "mcrace", book.program)?;
+    write_text(out, "server", book.server)?;
+    write_if_known(out, "version", book.version.as_ref())?;
+    write_if_known(out, "fault", book.fault.as_ref())?;
     out.key("seed")?;
     out.quoted_u64(book.seed)?;
     write_number(out, "milliseconds", milliseconds_of(book.time))?;
-    out.key("ended")?;
-    out.boolean(state.has_ended)?;
+    write_flag(out, "ended", state.has_ended)?;
     write_number(out, "status", u64::from(book.status(state)))
 }
 
@@ -50,7 +50,7 @@ fn write_head(out: &mut Writer, book: &Book<'_>, state: &State<'_>) -> Result<()
 fn write_races(out: &mut Writer, book: &Book<'_>, state: &State<'_>) -> Result<(), AllocError> {
     out.key("races")?;
     out.begin_array()?;
-    'races: for race in RACES {
+    'races: for race in races() {
         if book.selection.has(race) {
             write_race(out, race, book, state)?;
         }
@@ -67,13 +67,10 @@ fn write_race(
     let runs = state.runs_of(race);
     let told = book.told_of(Kind::Race, race.name);
     out.begin_object()?;
-    out.key("name")?;
-    out.string(race.name)?;
-    out.key("tried")?;
-    out.boolean(runs.is_some())?;
+    write_text(out, "name", race.name)?;
+    write_flag(out, "tried", runs.is_some())?;
     write_number(out, "runs", runs.unwrap_or(0))?;
-    out.key("found")?;
-    out.boolean(told.is_some())?;
+    write_flag(out, "found", told.is_some())?;
     if let Some(told) = told {
         write_evidence(out, told.evidence.as_ref())?;
     }
@@ -89,28 +86,26 @@ fn write_generated(out: &mut Writer, book: &Book<'_>, state: &State<'_>) -> Resu
     out.end_object()
 }
 
-fn write_wrong(out: &mut Writer, book: &Book<'_>) -> Result<(), AllocError> {
-    write_told(out, "wrong_alone", book, Kind::Alone)?;
-    write_told(out, "wrong_replies", book, Kind::Reply)
-}
-
 // What was told of this kind.
 fn write_told(out: &mut Writer, name: &str, book: &Book<'_>, kind: Kind) -> Result<(), AllocError> {
     out.key(name)?;
     out.begin_array()?;
     'told: for told in &book.told {
         if told.kind == kind {
-            out.begin_object()?;
-            out.key("name")?;
-            out.string(told.name.as_str())?;
-            write_evidence(out, told.evidence.as_ref())?;
-            if kind == Kind::Reply {
-                write_text(out, "text", told.text.as_slice())?;
-            }
-            out.end_object()?;
+            write_one(out, told)?;
         }
     }
     out.end_array()
+}
+
+fn write_one(out: &mut Writer, told: &Told) -> Result<(), AllocError> {
+    out.begin_object()?;
+    write_text(out, "name", told.name.as_str())?;
+    write_evidence(out, told.evidence.as_ref())?;
+    if told.kind == Kind::Reply {
+        write_bytes(out, "text", told.text.as_slice())?;
+    }
+    out.end_object()
 }
 
 fn write_evidence(out: &mut Writer, evidence: Option<&Evidence>) -> Result<(), AllocError> {
@@ -119,8 +114,8 @@ fn write_evidence(out: &mut Writer, evidence: Option<&Evidence>) -> Result<(), A
     };
     write_number(out, "seen", evidence.times)?;
     write_number(out, "of", evidence.runs)?;
-    write_text(out, "script", evidence.script.as_slice())?;
-    write_text(out, "history", evidence.history.as_slice())?;
+    write_bytes(out, "script", evidence.script.as_slice())?;
+    write_bytes(out, "history", evidence.history.as_slice())?;
     match &evidence.blame {
         Some(blame) => write_blame(out, blame),
         None => Ok(()),
@@ -131,17 +126,20 @@ fn write_evidence(out: &mut Writer, evidence: Option<&Evidence>) -> Result<(), A
 fn write_blame(out: &mut Writer, blame: &Blame) -> Result<(), AllocError> {
     out.key("why")?;
     out.begin_object()?;
-    out.key("section")?;
-    out.string(blame.section.word())?;
-    write_text(out, "request", blame.request.as_slice())?;
-    write_text(out, "reply", blame.reply.as_slice())?;
+    write_text(out, "section", blame.section.word())?;
+    write_bytes(out, "request", blame.request.as_slice())?;
+    write_bytes(out, "reply", blame.reply.as_slice())?;
+    write_correct(out, blame)?;
+    out.end_object()
+}
+
+fn write_correct(out: &mut Writer, blame: &Blame) -> Result<(), AllocError> {
     out.key("correct")?;
     out.begin_array()?;
     'forms: for form in &blame.correct {
         out.string(text_of(form.as_slice()))?;
     }
-    out.end_array()?;
-    out.end_object()
+    out.end_array()
 }
 
 fn write_unsupported(out: &mut Writer, book: &Book<'_>) -> Result<(), AllocError> {
@@ -149,10 +147,8 @@ fn write_unsupported(out: &mut Writer, book: &Book<'_>) -> Result<(), AllocError
     out.begin_array()?;
     'verbs: for unknown in book.unsupported.verbs() {
         out.begin_object()?;
-        out.key("name")?;
-        out.string(unknown.verb)?;
-        out.key("closes")?;
-        out.boolean(unknown.closes)?;
+        write_text(out, "name", unknown.verb)?;
+        write_flag(out, "closes", unknown.closes)?;
         out.end_object()?;
     }
     out.end_array()
@@ -166,8 +162,7 @@ fn write_counts(out: &mut Writer, state: &State<'_>) -> Result<(), AllocError> {
     write_number(out, "failed", tally.failed)?;
     write_number(out, "unconnected", tally.unconnected)?;
     write_number(out, "undecided", tally.undecided)?;
-    out.key("gone")?;
-    out.boolean(tally.is_gone)
+    write_flag(out, "gone", tally.is_gone)
 }
 
 fn milliseconds_of(time: Duration) -> u64 {
@@ -179,9 +174,28 @@ fn write_number(out: &mut Writer, name: &str, number: u64) -> Result<(), AllocEr
     out.u64(number)
 }
 
-fn write_text(out: &mut Writer, name: &str, bytes: &[u8]) -> Result<(), AllocError> {
+fn write_flag(out: &mut Writer, name: &str, flag: bool) -> Result<(), AllocError> {
     out.key(name)?;
-    out.string(text_of(bytes))
+    out.boolean(flag)
+}
+
+fn write_text(out: &mut Writer, name: &str, text: &str) -> Result<(), AllocError> {
+    out.key(name)?;
+    out.string(text)
+}
+
+fn write_bytes(out: &mut Writer, name: &str, bytes: &[u8]) -> Result<(), AllocError> {
+    write_text(out, name, text_of(bytes))
+}
+
+fn write_if_known(out: &mut Writer, name: &str, text: Option<&String>) -> Result<(), AllocError> {
+    match text {
+        Some(text) => write_text(out, name, text.as_str()),
+        None => {
+            out.key(name)?;
+            out.null()
+        }
+    }
 }
 
 // The bytes as text. All that is printed is ASCII.

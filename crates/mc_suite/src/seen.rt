@@ -9,7 +9,7 @@ use mc_why::{Finding, why_unexplained};
 use std::alloc::Global;
 
 /// The history of a run, which nothing explains. Nothing else is told as a race.
-#[derive(Debug, Drop)]
+#[derive(Drop)]
 pub(crate) struct Seen {
     pub(crate) history: History,
     ghost unexplained: { IsUnexplained history },
@@ -29,7 +29,7 @@ impl Seen {
         }
     }
 
-    /// How many of its requests began while another had no reply; the fewer, the easier it is read.
+    /// How many of its requests began while another had no reply. The fewer, the easier it is to read.
     pub(crate) fn overlaps(&self) -> usize {
         let mut overlaps = 0usize;
         let mut outstanding = 0usize;
@@ -47,12 +47,21 @@ impl Seen {
 }
 
 /// A run that nothing explains, and what was found out of it: from where on, and which replies would be explained there.
-#[derive(Debug, Drop)]
 pub(crate) struct Shown {
     pub(crate) history: History,
     pub(crate) finding: Finding,
     ghost unexplained: { IsUnexplained history },
     ghost found: { ∥ IsFoundOf history finding ∥₁ },
+}
+
+// One call drops its parts. A derived `Drop` would write them out at each end of each function that holds one.
+impl Drop for Shown {
+    fn drop(self) {
+        let Shown {
+            history: _,
+            finding: _,
+        } = self;
+    }
 }
 
 impl Shown {

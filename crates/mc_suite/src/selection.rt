@@ -3,7 +3,7 @@
 use crate::race::{Race, race_named};
 
 /// The races that `--only` and `--skip` name, with commas between.
-#[derive(Clone, Copy, Debug, Drop)]
+#[derive(Clone, Copy, Drop)]
 pub(crate) struct Selection<'a> {
     pub(crate) only: Option<&'a str>,
     pub(crate) skip: Option<&'a str>,

@@ -8,13 +8,13 @@ const NOTHING: u8 = 0;
 
 const FOUND: u8 = 1;
 
-/// It couldn't be tested.
-pub(crate) const UNTESTED: u8 = 4;
+// It couldn't be tested.
+const UNTESTED: u8 = 4;
 
 const FAILED: u8 = 5;
 
-/// How many runs there were, and how many of them came to what.
-#[derive(Clone, Copy, Debug)]
+/// How many runs there were, and how many came to each end.
+#[derive(Clone, Copy)]
 pub(crate) struct Tally {
     pub(crate) runs: u64,
     pub(crate) failed: u64,
@@ -23,9 +23,9 @@ pub(crate) struct Tally {
     pub(crate) undecided: u64,
     /// What came was no reply, or more than replies.
     pub(crate) wrong: u64,
-    /// How long the slowest run took whose requests all have replies.
+    /// The time of the slowest run whose requests all have replies.
     pub(crate) slowest: Duration,
-    /// How long all took.
+    /// The time of all.
     pub(crate) passed: Duration,
     /// Whether the server was gone before the time was over.
     pub(crate) is_gone: bool,
@@ -47,7 +47,7 @@ impl Tally {
         }
     }
 
-    /// Counts a run that took so long.
+    /// Counts a run that took this time.
     pub(crate) fn add(&mut self, outcome: &Outcome, took: Duration) {
         self.runs = self.runs.saturating_add(1);
         match outcome {
@@ -60,7 +60,7 @@ impl Tally {
         }
     }
 
-    /// The exit status: what was found goes before a server that failed, and that before what wasn't tested.
+    /// The exit status: a finding goes before a server that failed, and that before what wasn't tested.
     pub(crate) fn status(&self, has_found: bool, is_tested: bool) -> u8 {
         let left_out = self.unconnected.saturating_add(self.not_run);
         let has_played = self.runs > left_out;

@@ -1,15 +1,17 @@
 //! The command `test`.
 
 use crate::book::{Book, State};
+use crate::finding::keep_reports;
 use crate::folder::{DiskFolder, Folder};
+use crate::generated::Generated;
 use crate::player::Player;
 use crate::report::Report;
 use crate::selection::Selection;
-use crate::tally::UNTESTED;
-use crate::turns::{Generated, take_turns, turns_of};
+use crate::tally::Tally;
+use crate::turns::{Turn, add_turns, take_turns};
 use crate::verbs::{Unsupported, ask_verbs};
 use crate::version::version_of;
-use mc_answers::{InputFault, Sink, write_fault};
+use mc_answers::{InputFault, Sink};
 use mc_cli::{Repeat, RunArgs, Seconds, TestArgs};
 use mc_command::{seed_by, servers_of};
 use mc_connect::{Network, TcpNetwork, Unconnected, Unreached};
@@ -37,11 +39,13 @@ const SPREAD: u16 = 64;
 
 /// Tests the server that the line names, tells what is found as it comes, and answers the exit status: 0 if nothing was found; 1 if a race
 /// or a wrong answer was; 4 if it couldn't be tested, a search was left undecided, or what is told couldn't be written, and nothing else
-/// was found; 5 if the server failed meanwhile and nothing else was found. How far it is stands on standard error in a line of `columns`
-/// columns, if there are any. With `--out` the evidence is kept in a folder too.
+/// was found; 5 if the server failed meanwhile and nothing else was found. `version` is that of the program. A line of `columns` columns
+/// on standard error shows how far the test is, if there are any. With `--out` a folder has the evidence and the reports, also if the
+/// server can't be reached.
 pub fn test_server<R, O: Sink>(
     rt: &R,
     alloc: Global,
+    version: &'static str,
     args: &TestArgs<'_>,
     columns: Option<usize>,
     output: &mut O,
@@ -49,61 +53,87 @@ pub fn test_server<R, O: Sink>(
 where
     R: Net<Stream = TcpStream> + Threads + Wait + Clock + Sync + Eprint + Files,
 {
-    let patient = target_of(args);
-    let version = match reach(rt, alloc, &patient) {
-        Ok(Ok(version)) => version,
-        Ok(Err(AllocError)) => return write_fault(InputFault::OutOfMemory, output).number(),
-        Err(unconnected) => {
-            tell_unreached(rt, &patient, unconnected);
-            return UNTESTED;
-        }
-    };
+    let mut target = target_of(args);
+    let mut book = book_of(rt, alloc, version, args);
+    let reached = reach(rt, alloc, &target, &mut book);
     // From now on a server that can't be reached has failed.
-    let target = RunArgs {
-        wait: None,
-        ..target_of(args)
-    };
-    let mut network = TcpNetwork::new(rt, servers_of(&target));
-    let folder = match args.out {
-        Some(path) => Some(DiskFolder::new(rt, alloc, path)),
-        None => None,
-    };
-    let path = args.out.unwrap_or("");
-    let book = book_of(rt, alloc, args, version);
-    let mut report = Report::new(alloc, output, args.run.json, folder, path, book);
-    match run_test(rt, alloc, &target, &mut network, columns, &mut report) {
-        Ok(status) => status,
-        Err(fault) => report.fail(fault),
+    target.wait = None;
+    let folder = DiskFolder::new(rt, alloc, args.out);
+    let mut report = Report::new(alloc, output, args.run.json, folder, book);
+    match reached {
+        Ok(true) => {
+            let mut network = TcpNetwork::new(rt, servers_of(&target));
+            run_test(rt, alloc, &target, &mut network, columns, &mut report)
+        }
+        Ok(false) => end_untested(&mut report, Ok(())),
+        Err(error) => end_untested(&mut report, Err(error)),
     }
 }
 
-// Connects to the servers for as long as the line says, and asks for the version.
+// Connects to the servers for as long as the line says, and asks for the version. Notes the version, or why a server can't be reached.
 fn reach<R>(
     rt: &R,
     alloc: Global,
     target: &RunArgs<'_>,
-) -> Result<Result<Option<String>, AllocError>, Unconnected>
+    book: &mut Book<'_>,
+) -> Result<bool, AllocError>
 where
-    R: Net<Stream = TcpStream> + Clock + Sync,
+    R: Net<Stream = TcpStream> + Clock + Sync + Eprint,
 {
     let mut network = TcpNetwork::new(rt, servers_of(target));
-    let version = version_of(alloc, &mut network)?;
-    if target.wait.is_some() {
+    match connect(alloc, &mut network, target.wait.is_some()) {
+        Ok(version) => {
+            book.version = version?;
+            Ok(true)
+        }
+        Err(unconnected) => {
+            book.fault = Some(tell_unreached(rt, alloc, target, unconnected)?);
+            Ok(false)
+        }
+    }
+}
+
+// Asks for the version, and connects to the servers of A and B too if they may have to be waited for.
+fn connect<N: Network>(
+    alloc: Global,
+    network: &mut N,
+    waits: bool,
+) -> Result<Result<Option<String>, AllocError>, Unconnected> {
+    let version = version_of(alloc, network)?;
+    if waits {
         let _a = network.reconnect(Actor::A)?;
         let _b = network.reconnect(Actor::B)?;
     }
     Ok(version)
 }
 
+// Says that a server can't be reached, and answers what it said.
+fn tell_unreached<R: Eprint>(
+    rt: &R,
+    alloc: Global,
+    target: &RunArgs<'_>,
+    unconnected: Unconnected,
+) -> Result<String, AllocError> {
+    let unreached = Unreached {
+        server: target.server_of(unconnected.section),
+        error: unconnected.error,
+    };
+    // There is nowhere else to say that this could not be said.
+    let _ = eprintln!(rt; "mcrace: {unreached}");
+    format!(in alloc; "{unreached}")
+}
+
 fn book_of<'a, R: Clock>(
     rt: &R,
     alloc: Global,
+    program: &'static str,
     args: &TestArgs<'a>,
-    version: Option<String>,
 ) -> Book<'a> {
     Book {
+        program,
         server: args.run.server,
-        version,
+        version: None,
+        fault: None,
         seed: args.seed.unwrap_or(seed_by(rt)),
         time: time_of(args),
         selection: Selection {
@@ -113,28 +143,17 @@ fn book_of<'a, R: Clock>(
         told: Vec::new(alloc),
         asked: 0,
         unsupported: Unsupported::new(alloc),
-        is_unkept: false,
+        has_failed: false,
     }
 }
 
-fn run_test<R: Threads + Wait + Clock + Sync + Eprint, N: Network, O: Sink, F: Folder>(
-    rt: &R,
-    alloc: Global,
-    target: &RunArgs<'_>,
-    network: &mut N,
-    columns: Option<usize>,
-    report: &mut Report<'_, O, F>,
-) -> Result<u8, InputFault> {
-    let Ok(begun) = Instant::now(rt) else {
-        return Ok(UNTESTED);
+// How long it takes.
+fn time_of(args: &TestArgs<'_>) -> Duration {
+    let time = match args.run.repeat {
+        Some(repeat) => repeat.time,
+        None => None,
     };
-    report.say_begin()?;
-    let time = report.book.time;
-    let mut player = Player::new(rt, alloc, target, network, begun, time, columns);
-    let status = play_all(&mut player, report);
-    player.give_way();
-    player.quit();
-    status
+    Duration::from_millis(time.unwrap_or(TIME))
 }
 
 // How its scripts are run: over connections that are kept, and with 5 seconds for a reply if the line doesn't say.
@@ -159,51 +178,89 @@ fn target_of<'a>(args: &TestArgs<'a>) -> RunArgs<'a> {
     }
 }
 
-// How long it takes.
-fn time_of(args: &TestArgs<'_>) -> Duration {
-    let time = match args.run.repeat {
-        Some(repeat) => repeat.time,
-        None => None,
+// Ends a test in which nothing was played.
+fn end_untested<O: Sink, F: Folder>(
+    report: &mut Report<'_, O, F>,
+    reached: Result<(), AllocError>,
+) -> u8 {
+    let state = State {
+        tally: Tally::new(),
+        turns: &[],
+        generated: generated_of(&report.book),
+        has_ended: true,
     };
-    Duration::from_millis(time.unwrap_or(TIME))
+    let ended = match reached {
+        Ok(()) => report.finish(&state, ""),
+        Err(AllocError) => Err(InputFault::OutOfMemory),
+    };
+    report.end(&state, ended)
 }
 
-// Says that a server can't be reached.
-fn tell_unreached<R: Eprint>(rt: &R, target: &RunArgs<'_>, unconnected: Unconnected) {
-    let unreached = Unreached {
-        server: target.server_of(unconnected.section),
-        error: unconnected.error,
+// No generated script was played. They are, if no races are named.
+fn generated_of(book: &Book<'_>) -> Generated {
+    Generated::new(book.seed, book.selection.only.is_none())
+}
+
+fn run_test<R: Threads + Wait + Clock + Sync + Eprint, N: Network, O: Sink, F: Folder>(
+    rt: &R,
+    alloc: Global,
+    target: &RunArgs<'_>,
+    network: &mut N,
+    columns: Option<usize>,
+    report: &mut Report<'_, O, F>,
+) -> u8 {
+    let Ok(begun) = Instant::now(rt) else {
+        return end_untested(report, Ok(()));
     };
-    // There is nowhere else to say that this could not be said.
-    let _ = eprintln!(rt; "mcrace: {unreached}");
+    let time = report.book.time;
+    let mut player = Player::new(rt, alloc, target, network, begun, time, columns);
+    let status = play_all(&mut player, report);
+    player.quit();
+    status
 }
 
 // Plays all, tells what was found, and answers the exit status.
 fn play_all<R: Threads + Wait + Clock + Sync + Eprint, N: Network, O: Sink, F: Folder>(
     player: &mut Player<'_, R, N>,
     report: &mut Report<'_, O, F>,
-) -> Result<u8, InputFault> {
-    let mut generated = Generated {
-        seed: report.book.seed,
-        is_wanted: report.book.selection.only.is_none(),
-        job: 0,
-        count: 0,
-        unexplained: 0,
-    };
-    ask_verbs(player, report, generated)?;
-    let mut turns = turns_of(
-        player.alloc,
-        report.book.selection,
-        &report.book.unsupported,
-    )?;
-    take_turns(player, report, &mut turns, &mut generated)?;
+) -> u8 {
+    let mut generated = generated_of(&report.book);
+    let mut turns = Vec::new(player.alloc);
+    let played = play_scripts(player, report, &mut turns, &mut generated);
     player.give_way();
-    let failures = player.failures()?;
     let state = State {
         tally: player.tally(),
         turns: turns.as_slice(),
         generated,
         has_ended: true,
     };
-    report.finish(&state, failures.as_slice())
+    let ended = match played {
+        Ok(()) => finish(player, report, &state),
+        Err(fault) => Err(fault),
+    };
+    report.end(&state, ended)
+}
+
+// Asks each verb alone, and plays the scripts in turns. The first reports are kept at once, for whoever stops the test.
+fn play_scripts<R: Threads + Wait + Clock + Sync + Eprint, N: Network, O: Sink, F: Folder>(
+    player: &mut Player<'_, R, N>,
+    report: &mut Report<'_, O, F>,
+    turns: &mut Vec<Turn>,
+    generated: &mut Generated,
+) -> Result<(), InputFault> {
+    report.say_begin()?;
+    keep_reports(player, report, &[], generated)?;
+    ask_verbs(player, report, generated)?;
+    let book = &report.book;
+    add_turns(player.alloc, book.selection, &book.unsupported, turns)?;
+    take_turns(player, report, turns, generated)
+}
+
+fn finish<R: Threads + Wait + Clock + Sync + Eprint, N: Network, O: Sink, F: Folder>(
+    player: &Player<'_, R, N>,
+    report: &mut Report<'_, O, F>,
+    state: &State<'_>,
+) -> Result<(), InputFault> {
+    let failures = player.failures()?;
+    report.finish(state, failures.as_str())
 }

@@ -6,7 +6,7 @@ use mc_history::print_history;
 use std::alloc::{AllocError, Global};
 
 /// What was found.
-#[derive(Clone, Copy, Debug, PartialEq, Eq)]
+#[derive(Clone, Copy, PartialEq, Eq)]
 pub(crate) enum Kind {
     /// A race that a script of the table shows.
     Race,
@@ -19,7 +19,6 @@ pub(crate) enum Kind {
 }
 
 /// What was told of a finding.
-#[derive(Debug, Drop)]
 pub(crate) struct Told {
     pub(crate) kind: Kind,
     /// The name of the race or of the verb, or `generated-JOB`.
@@ -29,20 +28,44 @@ pub(crate) struct Told {
     pub(crate) evidence: Option<Evidence>,
 }
 
+// One call drops its parts. A derived `Drop` would write them out at each end of each function that holds one.
+impl Drop for Told {
+    fn drop(self) {
+        let Told {
+            kind: _,
+            name: _,
+            text: _,
+            evidence: _,
+        } = self;
+    }
+}
+
 /// What shows a finding.
-#[derive(Debug, Drop)]
 pub(crate) struct Evidence {
     pub(crate) script: Vec<u8>,
     /// The text of a run's history.
     pub(crate) history: Vec<u8>,
-    /// In how many of so many runs it was seen.
+    /// How many of the runs showed it.
     pub(crate) times: u64,
     pub(crate) runs: u64,
     pub(crate) blame: Option<Blame>,
 }
 
+// One call drops its parts.
+impl Drop for Evidence {
+    fn drop(self) {
+        let Evidence {
+            script: _,
+            history: _,
+            times: _,
+            runs: _,
+            blame: _,
+        } = self;
+    }
+}
+
 impl Evidence {
-    /// What is told of what was found.
+    /// The evidence as it is told.
     pub(crate) fn of(alloc: Global, found: Found) -> Result<Evidence, AllocError> {
         let Found {
             script,
@@ -63,11 +86,12 @@ impl Evidence {
     }
 }
 
-/// The name of the files of such a finding, without their ends.
+/// The name of such a finding's files, without their extensions.
 pub(crate) fn file_name(alloc: Global, kind: Kind, name: &str) -> Result<String, AllocError> {
-    match kind {
-        Kind::Race => format!(in alloc; "{name}-1"),
-        Kind::Generated | Kind::Reply => format!(in alloc; "{name}"),
-        Kind::Alone => format!(in alloc; "alone-{name}"),
-    }
+    let (before, after) = match kind {
+        Kind::Race => ("", "-1"),
+        Kind::Generated | Kind::Reply => ("", ""),
+        Kind::Alone => ("alone-", ""),
+    };
+    format!(in alloc; "{before}{name}{after}")
 }

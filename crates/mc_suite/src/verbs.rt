@@ -1,15 +1,14 @@
 //! Each verb alone: whether the server knows it, and answers it rightly.
 
-use crate::alone::VERBS_ALONE;
-use crate::book::State;
+use crate::finding::keep_new;
 use crate::folder::Folder;
+use crate::generated::Generated;
 use crate::outcome::{Failure, Outcome};
 use crate::player::Player;
 use crate::prepared::Prepared;
-use crate::race::{Alone, Race};
+use crate::race::{Alone, Race, verbs_alone};
 use crate::report::Report;
-use crate::seen::Shown;
-use crate::turns::Generated;
+use crate::seen::{Seen, Shown};
 use mc_answers::{InputFault, Sink};
 use mc_code::Code;
 use mc_connect::Network;
@@ -20,11 +19,11 @@ use std::rt::Clock;
 use std::sync::Wait;
 use std::thread::Threads;
 
-// What came to a request that the server doesn't know, or the first part of that: a body may be taken for another request.
+// What comes to a request that the server doesn't know. A part of it is enough: a body may be taken for another request.
 const UNKNOWN: &str = "came \"ERROR\\r\\n";
 
 /// A verb that the server doesn't know.
-#[derive(Clone, Copy, Debug, Drop)]
+#[derive(Clone, Copy, Drop)]
 pub(crate) struct Unknown {
     pub(crate) verb: &'static str,
     /// Whether it closes the connection in place of an answer.
@@ -32,7 +31,7 @@ pub(crate) struct Unknown {
 }
 
 /// The verbs that the server doesn't know.
-#[derive(Debug, Drop)]
+#[derive(Drop)]
 pub(crate) struct Unsupported {
     verbs: Vec<Unknown>,
 }
@@ -83,24 +82,16 @@ impl Unsupported {
 pub(crate) fn ask_verbs<R: Threads + Wait + Clock + Sync + Eprint, N: Network, O: Sink, F: Folder>(
     player: &mut Player<'_, R, N>,
     report: &mut Report<'_, O, F>,
-    generated: Generated,
+    generated: &Generated,
 ) -> Result<(), InputFault> {
-    'verbs: for alone in VERBS_ALONE {
+    'verbs: for alone in verbs_alone() {
         if player.is_over() {
             break;
         }
         let told = report.book.told.len();
         ask(player, report, alone)?;
         report.book.asked = report.book.asked.saturating_add(1);
-        if report.book.told.len() > told {
-            let state = State {
-                tally: player.tally(),
-                turns: &[],
-                generated,
-                has_ended: false,
-            };
-            report.keep_reports(&state)?;
-        }
+        keep_new(player, report, &[], generated, told)?;
     }
     Ok(())
 }
@@ -114,26 +105,47 @@ fn ask<R: Threads + Wait + Clock + Sync + Eprint, N: Network, O: Sink, F: Folder
         return Ok(());
     };
     match player.play(&mut prepared)? {
-        Outcome::Unexplained(seen) => {
-            let limit = player.target.how.limit;
-            let shown = Shown::of(player.alloc, seen, limit)?;
-            player.give_way();
-            report.tell_wrong_alone(limit, alone.verb, alone.script, shown)?;
-        }
+        Outcome::Unexplained(seen) => tell_wrong_alone(player, report, alone, seen),
         Outcome::Wrong(text) => {
             player.give_way();
-            report.tell_wrong(alone.verb, text.as_str())?;
+            report.tell_wrong(alone.verb, text.as_str())
         }
         Outcome::Failed(failure) => {
-            if is_unknown(&failure) {
-                player.take_back_failure();
-                report.book.unsupported.add(failure.verb, false)?;
-            } else if failure.fault == Fault::Ended {
-                let unsupported = &mut report.book.unsupported;
-                ask_again(player, &mut prepared, failure.verb, unsupported)?;
-            }
+            let unsupported = &mut report.book.unsupported;
+            Ok(note_failure(player, unsupported, &mut prepared, &failure)?)
         }
-        Outcome::Explained | Outcome::Undecided | Outcome::Unconnected(_) | Outcome::NotRun => {}
+        Outcome::Explained | Outcome::Undecided | Outcome::Unconnected(_) | Outcome::NotRun => Ok(
+            (),
+        ),
+    }
+}
+
+// Tells a verb whose replies nothing explains, though nothing else was asked.
+fn tell_wrong_alone<R: Threads + Wait + Clock + Sync + Eprint, N: Network, O: Sink, F: Folder>(
+    player: &mut Player<'_, R, N>,
+    report: &mut Report<'_, O, F>,
+    alone: &Alone,
+    seen: Seen,
+) -> Result<(), InputFault> {
+    let limit = player.target.how.limit;
+    let shown = Shown::of(player.alloc, seen, limit)?;
+    player.give_way();
+    report.tell_wrong_alone(limit, alone.verb, alone.script, shown)
+}
+
+// Notes the verb of a failed run as one that the server doesn't know, if that is why it failed.
+fn note_failure<R: Threads + Wait + Clock + Sync + Eprint, N: Network>(
+    player: &mut Player<'_, R, N>,
+    unsupported: &mut Unsupported,
+    prepared: &mut Prepared,
+    failure: &Failure,
+) -> Result<(), AllocError> {
+    if is_unknown(failure) {
+        player.take_back_failure();
+        return unsupported.add(failure.verb, false);
+    }
+    if failure.fault == Fault::Ended {
+        return ask_again(player, prepared, failure.verb, unsupported);
     }
     Ok(())
 }

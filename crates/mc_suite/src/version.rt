@@ -1,4 +1,4 @@
-//! Which server it is, as it says itself.
+//! Which version the server says that it is.
 
 use mc_connect::{Connection, Network, Unconnected};
 use mc_protocol::Actor;
@@ -8,10 +8,10 @@ const ASKED: &[u8] = b"version\r\n";
 
 const START: &[u8] = b"VERSION ";
 
-// At most this many bytes of a version are shown.
+// The most bytes of a version that are shown.
 const MOST: usize = 40;
 
-// Its line comes in at most so many pieces.
+// The most pieces in which its line may come.
 const MOST_PIECES: u32 = 256;
 
 /// What the server answers to `version` over a connection of its own, if it answers that.

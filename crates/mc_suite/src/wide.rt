@@ -3,6 +3,7 @@
 //! The other generator's bodies are short numbers with flags 0. These scripts have what a server keeps in another way: long bodies, empty
 //! ones, numbers that wrap, and flags.
 
+use crate::text::push_all;
 use mc_generate::draw;
 use mc_script::{Script, parse};
 use rand_pcg::Pcg32;
@@ -11,13 +12,13 @@ use std::alloc::{AllocError, Global};
 const HEAD: &str =
     "script 1\nkeys w x\nvars v\nbudget P 24 8192\nbudget A 24 8192\nbudget B 24 8192\nP\n";
 
-// The sequences of the generator are those of jobs, and this many more.
+// Added to the job's number to select the sequence of the generator, so that no job of the other generator has it.
 const SEQUENCE: u64 = 1 << 40;
 
 // The flags of an item.
 static FLAGS: [&str; 4] = ["0", "1", "7", "65535"];
 
-// What is added to or taken from a number.
+// What an incr adds or a decr takes.
 static AMOUNTS: [&str; 4] = ["1", "3", "10", "18446744073709551615"];
 
 // Numbers that wrap, or whose length changes, by one of these.
@@ -44,29 +45,31 @@ pub(crate) fn wide_script(
 fn text_of(alloc: Global, seed: u64, job: u64) -> Result<String, AllocError> {
     let mut generator = Pcg32::new(seed, SEQUENCE.wrapping_add(job));
     let mut text = String::new(alloc);
-    text.push_str(HEAD)?;
-    write_start(&mut generator, "w", &mut text)?;
-    write_start(&mut generator, "x", &mut text)?;
-    text.push_str("A\n")?;
-    write_branch(&mut generator, &mut text)?;
-    text.push_str("B\n")?;
-    write_branch(&mut generator, &mut text)?;
-    text.push_str("end\n")?;
+    write_sections(&mut generator, &mut text)?;
     Ok(text)
+}
+
+fn write_sections(generator: &mut Pcg32, text: &mut String) -> Result<(), AllocError> {
+    text.push_str(HEAD)?;
+    write_start(generator, "w", text)?;
+    write_start(generator, "x", text)?;
+    text.push_str("A\n")?;
+    write_branch(generator, text)?;
+    text.push_str("B\n")?;
+    write_branch(generator, text)?;
+    text.push_str("end\n")
 }
 
 // What P leaves of a key: nothing, an item, or one of 320 bytes.
 fn write_start(generator: &mut Pcg32, key: &str, text: &mut String) -> Result<(), AllocError> {
     let kind = draw(generator, 4);
     if kind == 0 {
-        return write_words(text, &["delete", key]);
+        return push_all(text, &["delete ", key, "\n"]);
     }
     write_storing(generator, "set", key, text)?;
     if kind == 1 {
         'appends: for _ in 0..4u32 {
-            text.push_str("append ")?;
-            text.push_str(key)?;
-            text.push_str(" 0 =")?;
+            push_all(text, &["append ", key, " 0 ="])?;
             write_letters(generator, 64, text)?;
             text.push_str("\n")?;
         }
@@ -74,7 +77,7 @@ fn write_start(generator: &mut Pcg32, key: &str, text: &mut String) -> Result<()
     Ok(())
 }
 
-// One to three requests, of which a cas has a gets before it.
+// One to three requests. A cas has a gets before it.
 fn write_branch(generator: &mut Pcg32, text: &mut String) -> Result<(), AllocError> {
     let count = 1 + draw(generator, 3);
     let mut has_cas = false;
@@ -84,14 +87,13 @@ fn write_branch(generator: &mut Pcg32, text: &mut String) -> Result<(), AllocErr
         if let Some(storing) = STORING.get(verb) {
             write_storing(generator, storing, key, text)?;
         } else if verb < 7 {
-            let change = if verb == 5 { "incr" } else { "decr" };
+            let change = if verb == 5 { "incr " } else { "decr " };
             let amount = one_of(generator, &AMOUNTS);
-            write_words(text, &[change, key, amount])?;
+            push_all(text, &[change, key, " ", amount, "\n"])?;
         } else if let Some(other) = OTHERS.get(verb.saturating_sub(7)) {
-            write_words(text, &[other, key])?;
+            push_all(text, &[other, " ", key, "\n"])?;
         } else {
             has_cas = true;
-            write_words(text, &["gets", key, "miss:gone", ">v"])?;
             write_cas(generator, key, text)?;
         }
     }
@@ -107,26 +109,29 @@ fn write_storing(
     key: &str,
     text: &mut String,
 ) -> Result<(), AllocError> {
-    let flags = one_of(generator, &FLAGS);
-    text.push_str(verb)?;
-    text.push_str(" ")?;
-    text.push_str(key)?;
-    text.push_str(" ")?;
-    text.push_str(flags)?;
-    text.push_str(" =")?;
-    write_body(generator, text)?;
+    write_item(generator, verb, key, text)?;
     text.push_str("\n")
 }
 
+// A gets and a cas with its number.
 fn write_cas(generator: &mut Pcg32, key: &str, text: &mut String) -> Result<(), AllocError> {
+    push_all(text, &["gets ", key, " miss:gone >v\n"])?;
+    write_item(generator, "cas", key, text)?;
+    text.push_str(" $v\n")
+}
+
+// The request up to its body.
+fn write_item<'x>(
+    generator: &mut Pcg32,
+    verb: &'x str,
+    key: &'x str,
+    text: &mut String,
+) -> Result<(), AllocError> {
     let flags = one_of(generator, &FLAGS);
-    text.push_str("cas ")?;
-    text.push_str(key)?;
-    text.push_str(" ")?;
+    push_all(text, &[verb, " ", key, " "])?;
     text.push_str(flags)?;
     text.push_str(" =")?;
-    write_body(generator, text)?;
-    text.push_str(" $v\n")
+    write_body(generator, text)
 }
 
 // A number, or letters.
@@ -141,7 +146,7 @@ fn write_body(generator: &mut Pcg32, text: &mut String) -> Result<(), AllocError
     write_letters(generator, length, text)
 }
 
-// So many times one letter, so that what is made of two bodies is seen.
+// One letter, again and again: a body that is made of two of them shows it.
 fn write_letters(
     generator: &mut Pcg32,
     length: usize,
@@ -156,15 +161,4 @@ fn write_letters(
 
 fn one_of(generator: &mut Pcg32, words: &'static [&'static str; 4]) -> &'static str {
     words[(draw(generator, 4) % 4) as usize]
-}
-
-// A line of these words.
-fn write_words(text: &mut String, words: &[&str]) -> Result<(), AllocError> {
-    'words: for (index, word) in words.iter().enumerate() {
-        if index > 0 {
-            text.push_str(" ")?;
-        }
-        text.push_str(word)?;
-    }
-    text.push_str("\n")
 }

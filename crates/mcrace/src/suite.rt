@@ -10,6 +10,9 @@ use std::rt::{Clock, Files};
 use std::sync::Wait;
 use std::thread::Threads;
 
+// As `--version` says.
+const VERSION: &str = "0.1.0";
+
 /// Writes the races that `test` looks for, or the scripts of one, if the line asks for these; and answers the exit status.
 pub fn answer_of_races<O: Sink, F: Sink>(
     alloc: Global,
@@ -68,5 +71,5 @@ where
         return refuse_race(alloc, name, output, faults);
     }
     let columns = if args.run.quiet { None } else { columns };
-    test_server(rt, alloc, args, columns, output)
+    test_server(rt, alloc, VERSION, args, columns, output)
 }

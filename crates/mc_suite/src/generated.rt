@@ -1,0 +1,175 @@
+//! Generated scripts, played between the turns of the races.
+
+use crate::finding::{Finding, keep_new, tell_found};
+use crate::folder::Folder;
+use crate::player::{Player, Tries};
+use crate::prepared::Prepared;
+use crate::report::Report;
+use crate::told::Kind;
+use crate::turns::Turn;
+use crate::verbs::Unsupported;
+use crate::wide::wide_script;
+use mc_answers::{InputFault, Sink, verify_code};
+use mc_code::assemble;
+use mc_connect::Network;
+use mc_generate::generate_script;
+use mc_script::Script;
+use std::alloc::{AllocError, Global};
+use std::io::Eprint;
+use std::rt::Clock;
+use std::sync::Wait;
+use std::thread::Threads;
+use std::time::Duration;
+
+// How often a generated script is played.
+const RUNS: u64 = 10;
+
+/// The generated scripts.
+#[derive(Clone, Copy, Drop)]
+pub(crate) struct Generated {
+    pub(crate) seed: u64,
+    /// Whether they are played. If not, the test ends once all races that are wanted were found.
+    pub(crate) is_wanted: bool,
+    /// The number of the next one.
+    pub(crate) job: u64,
+    /// How many were played.
+    pub(crate) count: u64,
+    /// How many of them had a run that nothing explains.
+    pub(crate) unexplained: u64,
+}
+
+impl Generated {
+    /// None was played.
+    pub(crate) fn new(seed: u64, is_wanted: bool) -> Generated {
+        Generated {
+            seed,
+            is_wanted,
+            job: 0,
+            count: 0,
+            unexplained: 0,
+        }
+    }
+}
+
+/// Plays generated scripts for as long as a round of turns takes.
+pub(crate) fn play_generated<
+    R: Threads + Wait + Clock + Sync + Eprint,
+    N: Network,
+    O: Sink,
+    F: Folder,
+>(
+    player: &mut Player<'_, R, N>,
+    report: &mut Report<'_, O, F>,
+    generated: &mut Generated,
+    turns: &[Turn],
+    round: Duration,
+) -> Result<(), InputFault> {
+    let until = player.passed().saturating_add(round);
+    'scripts: for _script in 0..u64::MAX {
+        if player.is_over() || player.passed() >= until {
+            break;
+        }
+        let told = report.book.told.len();
+        play_next(player, report, generated)?;
+        keep_new(player, report, turns, generated, told)?;
+    }
+    Ok(())
+}
+
+// Plays the next generated script.
+fn play_next<R: Threads + Wait + Clock + Sync + Eprint, N: Network, O: Sink, F: Folder>(
+    player: &mut Player<'_, R, N>,
+    report: &mut Report<'_, O, F>,
+    generated: &mut Generated,
+) -> Result<(), InputFault> {
+    let job = generated.job;
+    generated.job = generated.job.saturating_add(1);
+    match script_of(player.alloc, generated.seed, job)? {
+        Some(script) => play_script(player, report, generated, script, job),
+        None => Ok(()),
+    }
+}
+
+// Plays the script of this job, and tells what it showed.
+fn play_script<R: Threads + Wait + Clock + Sync + Eprint, N: Network, O: Sink, F: Folder>(
+    player: &mut Player<'_, R, N>,
+    report: &mut Report<'_, O, F>,
+    generated: &mut Generated,
+    script: Script,
+    job: u64,
+) -> Result<(), InputFault> {
+    let Some(tries) = try_script(player, &report.book.unsupported, &script)? else {
+        return Ok(());
+    };
+    generated.count = generated.count.saturating_add(1);
+    let Tries { seen, runs, wrong } = tries;
+    let name = format!(in player.alloc; "generated-{job}")?;
+    let name = name.as_str();
+    if let Some(wrong) = &wrong {
+        player.give_way();
+        report.tell_wrong(name, wrong.as_str())?;
+    }
+    let Some(seen) = seen else {
+        return Ok(());
+    };
+    let finding = Finding {
+        kind: Kind::Generated,
+        name,
+        sentence: "a generated script shows a race",
+        script,
+        seen,
+        runs,
+    };
+    tell_first(player, report, generated, finding)
+}
+
+// Plays a script a few times, if it is sound and the server knows its verbs.
+fn try_script<R: Threads + Wait + Clock + Sync + Eprint, N: Network>(
+    player: &mut Player<'_, R, N>,
+    unsupported: &Unsupported,
+    script: &Script,
+) -> Result<Option<Tries>, AllocError> {
+    let Some(mut prepared) = prepare(player.alloc, script, unsupported)? else {
+        return Ok(None);
+    };
+    let until = player.time;
+    Ok(Some(player.play_until_seen(&mut prepared, RUNS, until)?))
+}
+
+// Counts a race that a generated script shows, and tells the first.
+fn tell_first<R: Threads + Wait + Clock + Sync + Eprint, N: Network, O: Sink, F: Folder>(
+    player: &mut Player<'_, R, N>,
+    report: &mut Report<'_, O, F>,
+    generated: &mut Generated,
+    finding: Finding<'_>,
+) -> Result<(), InputFault> {
+    generated.unexplained = generated.unexplained.saturating_add(1);
+    if generated.unexplained > 1 {
+        return Ok(());
+    }
+    tell_found(player, report, finding)
+}
+
+// The script of a job. Two generators take turns.
+fn script_of(alloc: Global, seed: u64, job: u64) -> Result<Option<Script>, AllocError> {
+    if job % 2 == 0 {
+        Ok(Some(generate_script(alloc, seed, job)?))
+    } else {
+        wide_script(alloc, seed, job)
+    }
+}
+
+// The code of a script, if it is sound, and the server knows all its verbs.
+fn prepare(
+    alloc: Global,
+    script: &Script,
+    unsupported: &Unsupported,
+) -> Result<Option<Prepared>, AllocError> {
+    let Ok(code) = assemble(alloc, script) else {
+        return Ok(None);
+    };
+    if !unsupported.allows_code(&code) {
+        return Ok(None);
+    }
+    Ok(verify_code(alloc, code)?.ok().map(Prepared::new))
+}
