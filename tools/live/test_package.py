@@ -120,7 +120,7 @@ class Packages(LiveTest):
                          text.replace("`", "").split())
 
     def test_words_in_completions(self):
-        self.assertEqual(self.offered("mcrace", "r"), {"run"})
+        self.assertEqual(self.offered("mcrace", "r"), {"record", "run"})
         self.assertEqual(self.offered("mcrace", "help", "s"),
                          {it for it in COMMANDS + TOPICS if it.startswith("s")})
         self.assertEqual(self.offered("mcrace", "run", "HOST:PORT", "--meet", ""),

@@ -19,7 +19,7 @@ def nutcracker(behind):
     """A nutcracker before the server on this port."""
     program, port = shutil.which("nutcracker"), servers.free_port()
     if program is None:
-        raise unittest.SkipTest("nutcracker is not installed; on Debian: apt-get install nutcracker")
+        raise unittest.SkipTest("nutcracker isn't installed; on Debian: apt-get install nutcracker")
     with tempfile.TemporaryDirectory() as folder:
         settings = pathlib.Path(folder, "nutcracker.yml")
         settings.write_text(f"proxy:\n  listen: 127.0.0.1:{port}\n  servers:\n"

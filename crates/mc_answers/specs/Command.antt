@@ -14,10 +14,11 @@ abbrev pub judges : Request → Bool
 judges (request.Question (question.Judge args)) = true
 judges _ = false
 
--- what is asked for needs a network: lines of `run`, `serve`, `campaign` and `selftest` do
+-- what is asked for needs a network: lines of `run`, `test`, `serve`, `record`, `campaign` and `selftest` do
 abbrev pub needs_network : Request → Bool
 needs_network (request.Run args) = true
 needs_network (request.Serve service) = true
+needs_network (request.Record args) = true
 needs_network (request.Campaign args) = true
 needs_network (request.Test args) = true
 needs_network request.Selftest = true

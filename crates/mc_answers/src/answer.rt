@@ -16,7 +16,7 @@ use mc_cli::Question;
 use std::alloc::{AllocError, Global};
 
 /// What is written for a text, and the exit status with it.
-#[derive(Debug, Drop)]
+#[derive(Drop)]
 pub struct Answer {
     pub output: Vec<u8>,
     pub status: Status,

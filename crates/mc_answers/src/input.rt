@@ -23,7 +23,7 @@ const TOO_LONG: &[u8] = b"refused input too long\n";
 const PIECE: usize = 8192;
 
 /// Why an input was not read.
-#[derive(Clone, Copy, Debug, Drop, PartialEq, Eq)]
+#[derive(Clone, Copy, Drop, PartialEq, Eq)]
 pub enum InputFault {
     Broken,
     OutOfMemory,

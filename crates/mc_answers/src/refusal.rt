@@ -7,7 +7,7 @@ use mc_hints::{Refused, hint, refusal_with_hint};
 use std::alloc::{AllocError, Global};
 
 /// Why an input has no other answer.
-#[derive(Debug, Drop)]
+#[derive(Drop)]
 pub enum Unanswered {
     /// It is refused: this text says why, with a hint if one was asked for.
     Refused(Vec<u8>),

@@ -15,7 +15,7 @@ use mc_verify::Checked;
 use std::alloc::{AllocError, Global};
 
 /// Where steps led.
-#[derive(Debug, Drop)]
+#[derive(Drop)]
 pub struct Taken {
     pub world: World,
     /// How many steps were refused and skipped.

@@ -46,7 +46,7 @@ pub trait Sink {
 }
 
 /// A source over a reader of std. A read that was interrupted is one that failed.
-#[derive(Debug, Drop)]
+#[derive(Drop)]
 pub struct Reader<R> {
     inner: R,
     read_error: Option<io::Error>,
@@ -91,7 +91,7 @@ impl<R: Read> Source for Reader<R> {
 }
 
 /// A sink over a writer of std.
-#[derive(Debug, Drop)]
+#[derive(Drop)]
 pub struct Writer<W> {
     inner: W,
     write_error: Option<io::Error>,

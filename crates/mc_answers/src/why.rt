@@ -13,7 +13,7 @@ use mc_why::{print_why, request_place, why_unexplained};
 use std::alloc::{AllocError, Global};
 
 /// Where the lines of a history are counted.
-#[derive(Clone, Copy, Debug, Drop)]
+#[derive(Clone, Copy, Drop)]
 pub enum Counted<'a> {
     /// In the text that spells it.
     Text(&'a [u8]),

@@ -14,6 +14,7 @@ use Rattle.mc_cli.specs.declared.request.LineFault.{LineFault}
 use Rattle.mc_cli.specs.declared.request.LineFault.TheVariants as line_fault
 use Rattle.mc_cli.specs.declared.request.Request.{Request}
 use Rattle.mc_cli.specs.declared.request.Request.TheVariants as request
+use Rattle.mc_cli.specs.declared.rows.Kind.TheVariants as kind_of
 
 -- of two things that are asked for, each has the name of the subcommand
 one_name : {command : Option Text} {one other : Text} → command ≡ Some one → command ≡ Some other → other ≡ one
@@ -57,6 +58,16 @@ with_once value (request.Generate seed job) other named is also =
 with_once value (request.Serve service) other named is also =
     let found = names.is_serve other named in
     rw found.1 (ap request.Serve (service_once value service found.0 is (rw found.1 at also)))
+with_once value (request.Record args) other named is also =
+    let found = names.is_record other named in
+    let more = rw found.1 at also in (
+      found.0,
+      found.1,
+      value_once (number 65535) _ _ args.port found.0.port is.port more.port,
+      maybe_once (number MAX_64) _ args.connections found.0.connections is.connections more.connections,
+      maybe_once kind_of.Time _ args.time found.0.time is.time more.time,
+      is.judge ∙ sym more.judge,
+    )
 with_once value (request.Campaign args) other named is also =
     let found = names.is_campaign other named in
     let more = rw found.1 at also in

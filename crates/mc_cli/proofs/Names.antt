@@ -8,6 +8,7 @@ use Rattle.mc_cli.specs.declared.args.CheckArgs.{CheckArgs}
 use Rattle.mc_cli.specs.declared.args.ConvertArgs.{ConvertArgs}
 use Rattle.mc_cli.specs.declared.args.DrawArgs.{DrawArgs}
 use Rattle.mc_cli.specs.declared.args.JudgeArgs.{JudgeArgs}
+use Rattle.mc_cli.specs.declared.args.RecordArgs.{RecordArgs}
 use Rattle.mc_cli.specs.declared.args.RunArgs.{RunArgs}
 use Rattle.mc_cli.specs.declared.args.Search.{Search}
 use Rattle.mc_cli.specs.declared.args.ServeArgs.{ServeArgs}
@@ -36,6 +37,7 @@ is_judge (request.Run args) same = differ (codes "run") (codes "judge") refl sam
 is_judge (request.Test args) same = differ (codes "test") (codes "judge") refl same
 is_judge (request.Generate seed job) same = differ (codes "generate") (codes "judge") refl same
 is_judge (request.Serve service) same = differ (codes "serve") (codes "judge") refl same
+is_judge (request.Record args) same = differ (codes "record") (codes "judge") refl same
 is_judge (request.Campaign args) same = differ (codes "campaign") (codes "judge") refl same
 is_judge request.Selftest same = differ (codes "selftest") (codes "judge") refl same
 
@@ -51,6 +53,7 @@ is_check (request.Run args) same = differ (codes "run") (codes "check") refl sam
 is_check (request.Test args) same = differ (codes "test") (codes "check") refl same
 is_check (request.Generate seed job) same = differ (codes "generate") (codes "check") refl same
 is_check (request.Serve service) same = differ (codes "serve") (codes "check") refl same
+is_check (request.Record args) same = differ (codes "record") (codes "check") refl same
 is_check (request.Campaign args) same = differ (codes "campaign") (codes "check") refl same
 is_check request.Selftest same = differ (codes "selftest") (codes "check") refl same
 
@@ -66,6 +69,7 @@ is_asm (request.Run args) same = differ (codes "run") (codes "asm") refl same
 is_asm (request.Test args) same = differ (codes "test") (codes "asm") refl same
 is_asm (request.Generate seed job) same = differ (codes "generate") (codes "asm") refl same
 is_asm (request.Serve service) same = differ (codes "serve") (codes "asm") refl same
+is_asm (request.Record args) same = differ (codes "record") (codes "asm") refl same
 is_asm (request.Campaign args) same = differ (codes "campaign") (codes "asm") refl same
 is_asm request.Selftest same = differ (codes "selftest") (codes "asm") refl same
 
@@ -81,6 +85,7 @@ is_drive (request.Run args) same = differ (codes "run") (codes "drive") refl sam
 is_drive (request.Test args) same = differ (codes "test") (codes "drive") refl same
 is_drive (request.Generate seed job) same = differ (codes "generate") (codes "drive") refl same
 is_drive (request.Serve service) same = differ (codes "serve") (codes "drive") refl same
+is_drive (request.Record args) same = differ (codes "record") (codes "drive") refl same
 is_drive (request.Campaign args) same = differ (codes "campaign") (codes "drive") refl same
 is_drive request.Selftest same = differ (codes "selftest") (codes "drive") refl same
 
@@ -96,6 +101,7 @@ is_draw (request.Run args) same = differ (codes "run") (codes "draw") refl same
 is_draw (request.Test args) same = differ (codes "test") (codes "draw") refl same
 is_draw (request.Generate seed job) same = differ (codes "generate") (codes "draw") refl same
 is_draw (request.Serve service) same = differ (codes "serve") (codes "draw") refl same
+is_draw (request.Record args) same = differ (codes "record") (codes "draw") refl same
 is_draw (request.Campaign args) same = differ (codes "campaign") (codes "draw") refl same
 is_draw request.Selftest same = differ (codes "selftest") (codes "draw") refl same
 
@@ -111,6 +117,7 @@ is_convert (request.Run args) same = differ (codes "run") (codes "convert") refl
 is_convert (request.Test args) same = differ (codes "test") (codes "convert") refl same
 is_convert (request.Generate seed job) same = differ (codes "generate") (codes "convert") refl same
 is_convert (request.Serve service) same = differ (codes "serve") (codes "convert") refl same
+is_convert (request.Record args) same = differ (codes "record") (codes "convert") refl same
 is_convert (request.Campaign args) same = differ (codes "campaign") (codes "convert") refl same
 is_convert request.Selftest same = differ (codes "selftest") (codes "convert") refl same
 
@@ -126,6 +133,7 @@ is_join (request.Run args) same = differ (codes "run") (codes "join") refl same
 is_join (request.Test args) same = differ (codes "test") (codes "join") refl same
 is_join (request.Generate seed job) same = differ (codes "generate") (codes "join") refl same
 is_join (request.Serve service) same = differ (codes "serve") (codes "join") refl same
+is_join (request.Record args) same = differ (codes "record") (codes "join") refl same
 is_join (request.Campaign args) same = differ (codes "campaign") (codes "join") refl same
 is_join request.Selftest same = differ (codes "selftest") (codes "join") refl same
 
@@ -141,6 +149,7 @@ is_run (request.Run args) same = (args, refl)
 is_run (request.Test args) same = differ (codes "test") (codes "run") refl same
 is_run (request.Generate seed job) same = differ (codes "generate") (codes "run") refl same
 is_run (request.Serve service) same = differ (codes "serve") (codes "run") refl same
+is_run (request.Record args) same = differ (codes "record") (codes "run") refl same
 is_run (request.Campaign args) same = differ (codes "campaign") (codes "run") refl same
 is_run request.Selftest same = differ (codes "selftest") (codes "run") refl same
 
@@ -156,6 +165,7 @@ is_test (request.Test args) same = (args, refl)
 is_test (request.Run args) same = differ (codes "run") (codes "test") refl same
 is_test (request.Generate seed job) same = differ (codes "generate") (codes "test") refl same
 is_test (request.Serve service) same = differ (codes "serve") (codes "test") refl same
+is_test (request.Record args) same = differ (codes "record") (codes "test") refl same
 is_test (request.Campaign args) same = differ (codes "campaign") (codes "test") refl same
 is_test request.Selftest same = differ (codes "selftest") (codes "test") refl same
 
@@ -171,6 +181,7 @@ is_generate (request.Run args) same = differ (codes "run") (codes "generate") re
 is_generate (request.Test args) same = differ (codes "test") (codes "generate") refl same
 is_generate (request.Generate seed job) same = (seed, job, refl)
 is_generate (request.Serve service) same = differ (codes "serve") (codes "generate") refl same
+is_generate (request.Record args) same = differ (codes "record") (codes "generate") refl same
 is_generate (request.Campaign args) same = differ (codes "campaign") (codes "generate") refl same
 is_generate request.Selftest same = differ (codes "selftest") (codes "generate") refl same
 
@@ -186,8 +197,25 @@ is_serve (request.Run args) same = differ (codes "run") (codes "serve") refl sam
 is_serve (request.Test args) same = differ (codes "test") (codes "serve") refl same
 is_serve (request.Generate seed job) same = differ (codes "generate") (codes "serve") refl same
 is_serve (request.Serve service) same = (service, refl)
+is_serve (request.Record args) same = differ (codes "record") (codes "serve") refl same
 is_serve (request.Campaign args) same = differ (codes "campaign") (codes "serve") refl same
 is_serve request.Selftest same = differ (codes "selftest") (codes "serve") refl same
+
+pub is_record : (wanted : Request) → name_of wanted ≡ codes "record" → (args : RecordArgs) × (wanted ≡ request.Record args)
+is_record (request.Question (question.Judge args)) same = differ (codes "judge") (codes "record") refl same
+is_record (request.Question (question.Check args)) same = differ (codes "check") (codes "record") refl same
+is_record (request.Question (question.Asm why)) same = differ (codes "asm") (codes "record") refl same
+is_record (request.Question (question.Drive how)) same = differ (codes "drive") (codes "record") refl same
+is_record (request.Question (question.Draw how)) same = differ (codes "draw") (codes "record") refl same
+is_record (request.Question (question.Convert args)) same = differ (codes "convert") (codes "record") refl same
+is_record (request.Question question.Join) same = differ (codes "join") (codes "record") refl same
+is_record (request.Run args) same = differ (codes "run") (codes "record") refl same
+is_record (request.Test args) same = differ (codes "test") (codes "record") refl same
+is_record (request.Generate seed job) same = differ (codes "generate") (codes "record") refl same
+is_record (request.Serve service) same = differ (codes "serve") (codes "record") refl same
+is_record (request.Record args) same = (args, refl)
+is_record (request.Campaign args) same = differ (codes "campaign") (codes "record") refl same
+is_record request.Selftest same = differ (codes "selftest") (codes "record") refl same
 
 pub is_campaign : (wanted : Request) → name_of wanted ≡ codes "campaign" → (args : CampaignArgs) × (wanted ≡ request.Campaign args)
 is_campaign (request.Question (question.Judge args)) same = differ (codes "judge") (codes "campaign") refl same
@@ -201,6 +229,7 @@ is_campaign (request.Run args) same = differ (codes "run") (codes "campaign") re
 is_campaign (request.Test args) same = differ (codes "test") (codes "campaign") refl same
 is_campaign (request.Generate seed job) same = differ (codes "generate") (codes "campaign") refl same
 is_campaign (request.Serve service) same = differ (codes "serve") (codes "campaign") refl same
+is_campaign (request.Record args) same = differ (codes "record") (codes "campaign") refl same
 is_campaign (request.Campaign args) same = (args, refl)
 is_campaign request.Selftest same = differ (codes "selftest") (codes "campaign") refl same
 
@@ -216,5 +245,6 @@ is_selftest (request.Run args) same = differ (codes "run") (codes "selftest") re
 is_selftest (request.Test args) same = differ (codes "test") (codes "selftest") refl same
 is_selftest (request.Generate seed job) same = differ (codes "generate") (codes "selftest") refl same
 is_selftest (request.Serve service) same = differ (codes "serve") (codes "selftest") refl same
+is_selftest (request.Record args) same = differ (codes "record") (codes "selftest") refl same
 is_selftest (request.Campaign args) same = differ (codes "campaign") (codes "selftest") refl same
 is_selftest request.Selftest same = refl

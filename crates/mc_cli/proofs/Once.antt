@@ -34,7 +34,7 @@ read_once kind.Name word one other is also = absurd is
 read_once kind.Address word one other is also = absurd is
 read_once kind.Key word one other is also = absurd is
 read_once kind.Names word one other is also = absurd is
-read_once kind.Folder word one other is also = absurd is
+read_once kind.Path word one other is also = absurd is
 read_once kind.Switch word one other is also = absurd is
 
 pub value_once : (k : Kind) (default : Option ℕ) (word : Option (List ℕ)) (one other : ℕ) → IsValue k default word one

@@ -11,7 +11,7 @@ use Rattle.mc_cli.specs.Kinds.{IsValue, MayBeValue}
 use Rattle.mc_cli.specs.Line.{is_set}
 use Rattle.mc_cli.specs.declared.args.{CampaignArgs.CampaignArgs, Plan.Plan, Repeat.Repeat, RunArgs.RunArgs, Search.Search}
 use Rattle.mc_cli.specs.declared.args.{CheckArgs.CheckArgs, ConvertArgs.ConvertArgs, DrawArgs.DrawArgs, JudgeArgs.JudgeArgs}
-use Rattle.mc_cli.specs.declared.args.{Notation.Notation, ServeArgs.ServeArgs, TestArgs.TestArgs, Until.Until}
+use Rattle.mc_cli.specs.declared.args.{Notation.Notation, RecordArgs.RecordArgs, ServeArgs.ServeArgs, TestArgs.TestArgs, Until.Until}
 use Rattle.mc_cli.specs.declared.args.Notation.TheVariants as notation
 use Rattle.mc_cli.specs.declared.rows.Kind.{Kind}
 use Rattle.mc_cli.specs.declared.rows.Kind.TheVariants as kind
@@ -68,6 +68,14 @@ pub record IsService (value : Text → Option Text) (service : ServeArgs) : Type
   pub port : IsValue (number 65535) None (value (codes "port")) service.port
   pub connections : IsValue (number MAX_64) (Some 1000000) (value (codes "connections")) service.connections
   pub racy : service.racy ≡ is_set (value (codes "racy"))
+
+pub record IsRecordArgs (value : Text → Option Text) (args : RecordArgs) : Type 0 where
+  pub port : IsValue (number 65535) None (value (codes "port")) args.port
+  pub server : value (codes "target") ≡ Some args.server.now
+  pub connections : MayBeValue (number MAX_64) (value (codes "connections")) args.connections
+  pub time : MayBeValue kind.Time (value (codes "for")) args.time
+  pub out : option_map (λ file. file.now) args.out ≡ value (codes "out")
+  pub judge : args.judge ≡ is_set (value (codes "judge"))
 
 -- the word of a meeting
 abbrev pub meeting_word : Meeting → List ℕ

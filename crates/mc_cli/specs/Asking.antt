@@ -3,9 +3,10 @@ use Rattle.std.specs.Prelude.{◌≡◌, ◌⊎◌, ℕ, Option, Some, List, [],
 use Rattle.clap.specs.Words.{IsAmong, Text}
 use Rattle.clap.specs.declared.error.kind.ErrorKind.{ErrorKind}
 use Rattle.clap.specs.declared.error.kind.ErrorKind.TheVariants as kind
-use Rattle.mc_cli.specs.Args.{IsCampaignArgs, IsCheck, IsConvert, IsDraw, IsJob, IsJudge, IsRunArgs, IsSearch, IsService, IsTestArgs}
+use Rattle.mc_cli.specs.Args.{IsCampaignArgs, IsCheck, IsConvert, IsDraw, IsJob, IsJudge, IsRecordArgs, IsRunArgs}
+use Rattle.mc_cli.specs.Args.{IsSearch, IsService, IsTestArgs}
 use Rattle.mc_cli.specs.Line.{is_set, line_command, line_faults, line_value}
-use Rattle.mc_cli.specs.declared.args.{CampaignArgs.CampaignArgs, RunArgs.RunArgs, TestArgs.TestArgs}
+use Rattle.mc_cli.specs.declared.args.{CampaignArgs.CampaignArgs, RecordArgs.RecordArgs, RunArgs.RunArgs, TestArgs.TestArgs}
 use Rattle.mc_cli.specs.declared.question.Question.TheVariants as question
 use Rattle.mc_cli.specs.declared.request.{LineFault.LineFault, Request.Request}
 use Rattle.mc_cli.specs.declared.request.LineFault.TheVariants as line_fault
@@ -24,6 +25,7 @@ name_of (request.Run args) = codes "run"
 name_of (request.Test args) = codes "test"
 name_of (request.Generate seed job) = codes "generate"
 name_of (request.Serve service) = codes "serve"
+name_of (request.Record args) = codes "record"
 name_of (request.Campaign args) = codes "campaign"
 name_of request.Selftest = codes "selftest"
 
@@ -40,6 +42,7 @@ IsAskedWith value (request.Run args) = IsRunArgs value args
 IsAskedWith value (request.Test args) = IsTestArgs value args
 IsAskedWith value (request.Generate seed job) = IsJob value seed job
 IsAskedWith value (request.Serve service) = IsService value service
+IsAskedWith value (request.Record args) = IsRecordArgs value args
 IsAskedWith value (request.Campaign args) = IsCampaignArgs value args
 IsAskedWith value request.Selftest = Unit {0}
 
@@ -55,6 +58,8 @@ AsksFor words wanted = (line_faults words ≡ []) × IsAskedBy (line_command wor
 abbrev pub IsLike : Request → Request → Type 0
 IsLike (request.Run args) other = (more : RunArgs) × (other ≡ request.Run more) × (args.how ≡ more.how)
 IsLike (request.Test args) other = (more : TestArgs) × (other ≡ request.Test more) × (args.seed ≡ more.seed)
+IsLike (request.Record args) other = (more : RecordArgs) × (other ≡ request.Record more) × (args.port ≡ more.port)
+    × (args.connections ≡ more.connections) × (args.time ≡ more.time) × (args.judge ≡ more.judge)
 IsLike (request.Campaign args) other = (more : CampaignArgs) × (other ≡ request.Campaign more) × (args.plan ≡ more.plan)
 IsLike one other = one ≡ other
 

@@ -44,6 +44,11 @@ test_rules =
     valued (codes "timeout") ∷ valued (codes "wait") ∷ valued (codes "a") ∷ valued (codes "b") ∷ valued (codes "seed") ∷
     valued (codes "out") ∷ switch (codes "json") ∷ switch (codes "quiet") ∷ []
 
+abbrev pub record_rules : List Rule
+record_rules =
+    argument (codes "port") ∷ argument (codes "target") ∷ valued (codes "connections") ∷ valued (codes "for") ∷
+    valued (codes "out") ∷ switch (codes "judge") ∷ []
+
 abbrev pub campaign_rules : List Rule
 campaign_rules =
     argument (codes "target") ∷ valued (codes "seed") ∷ switch (codes "random-seed") ∷ valued (codes "from") ∷
@@ -80,7 +85,7 @@ abbrev pub asking_app : App
 asking_app = and_with reading_app ((codes "test", test_rules) ∷ (codes "run", run_rules) ∷
     (codes "generate", valued (codes "seed") ∷ valued (codes "job") ∷ []) ∷
     (codes "serve", argument (codes "port") ∷ valued (codes "connections") ∷ switch (codes "racy") ∷ []) ∷
-    (codes "campaign", campaign_rules) ∷ (codes "selftest", []) ∷ [])
+    (codes "record", record_rules) ∷ (codes "campaign", campaign_rules) ∷ (codes "selftest", []) ∷ [])
 
 -- with the topics of help, which are subcommands that ask for nothing
 abbrev pub program_app : App

@@ -16,7 +16,7 @@ pub const GREATEST_JOBS: u64 = 10_000;
 pub const GREATEST_WORKERS: u32 = 16;
 
 /// How an explanation is searched for.
-#[derive(Clone, Copy, Debug, Drop, PartialEq, Eq)]
+#[derive(Clone, Copy, Drop, PartialEq, Eq)]
 pub struct Search {
     /// The most turns of a search.
     pub limit: u64,
@@ -26,7 +26,7 @@ pub struct Search {
 }
 
 /// A word that is sought among the keys of a history, and may be none of them. Contracts see its bytes.
-#[derive(Debug, Drop)]
+#[derive(Drop)]
 pub struct SoughtKey<'a> {
     word: &'a str,
 }
@@ -56,7 +56,7 @@ impl<'a> SoughtKey<'a> {
 }
 
 /// How a history is judged.
-#[derive(Debug, Drop)]
+#[derive(Drop)]
 pub struct JudgeArgs<'a> {
     /// How an explanation is searched for.
     pub how: Search,
@@ -73,7 +73,7 @@ pub struct JudgeArgs<'a> {
 }
 
 /// How a script or an image is checked.
-#[derive(Clone, Copy, Debug, Drop, PartialEq, Eq)]
+#[derive(Clone, Copy, Drop, PartialEq, Eq)]
 pub struct CheckArgs {
     /// Whether the answer shows the line for which a script is refused.
     pub why: bool,
@@ -82,7 +82,7 @@ pub struct CheckArgs {
 }
 
 /// Another notation of histories, in which other programs read them.
-#[derive(Clone, Copy, Debug, Drop, PartialEq, Eq)]
+#[derive(Clone, Copy, Drop, PartialEq, Eq)]
 pub enum Notation {
     Json,
     /// What Jepsen's programs read.
@@ -90,7 +90,7 @@ pub enum Notation {
 }
 
 /// How a history is converted.
-#[derive(Clone, Copy, Debug, Drop, PartialEq, Eq)]
+#[derive(Clone, Copy, Drop, PartialEq, Eq)]
 pub struct ConvertArgs {
     pub to: Notation,
     /// The number of the campaign's job whose history is converted, if it isn't the first one.
@@ -98,7 +98,7 @@ pub struct ConvertArgs {
 }
 
 /// How a history is drawn.
-#[derive(Clone, Copy, Debug, Drop, PartialEq, Eq)]
+#[derive(Clone, Copy, Drop, PartialEq, Eq)]
 pub struct DrawArgs {
     /// Whether the picture is text, and not SVG.
     pub text: bool,
@@ -111,7 +111,7 @@ pub struct DrawArgs {
 }
 
 /// A time of 0.001 to 86,400 seconds.
-#[derive(Clone, Copy, Debug, Drop, PartialEq, Eq)]
+#[derive(Clone, Copy, Drop)]
 pub struct Seconds<'a> {
     /// As the command line has it.
     pub word: &'a str,
@@ -141,7 +141,7 @@ impl Display for Seconds<'_> {
 }
 
 /// How often a script is run. One of the two bounds is there.
-#[derive(Clone, Copy, Debug, Drop, PartialEq, Eq)]
+#[derive(Clone, Copy, Drop)]
 pub struct Repeat {
     /// The most runs, 1 to 1,000,000, if there is such a number.
     pub times: Option<u64>,
@@ -152,7 +152,7 @@ pub struct Repeat {
 }
 
 /// A run of a script against a server.
-#[derive(Debug, Drop)]
+#[derive(Drop)]
 pub struct RunArgs<'a> {
     /// The server, as HOST:PORT.
     pub server: &'a str,
@@ -222,7 +222,7 @@ impl<'a> RunArgs<'a> {
 }
 
 /// A test of a server.
-#[derive(Debug, Drop)]
+#[derive(Drop)]
 pub struct TestArgs<'a> {
     /// The server and how it is met. Its `repeat` has the time of the test, if the line has one.
     pub run: RunArgs<'a>,
@@ -237,7 +237,7 @@ pub struct TestArgs<'a> {
 }
 
 /// A server of the program's own.
-#[derive(Clone, Copy, Debug, Drop, PartialEq, Eq)]
+#[derive(Clone, Copy, Drop, PartialEq, Eq)]
 pub struct ServeArgs {
     /// The port of 127.0.0.1, or 0 for one that is free.
     pub port: u16,
@@ -247,8 +247,25 @@ pub struct ServeArgs {
     pub racy: bool,
 }
 
+/// A recording of what clients and a server say to each other.
+#[derive(Drop)]
+pub struct RecordArgs<'a> {
+    /// The port of 127.0.0.1 on which clients are waited for, or 0 for one that is free.
+    pub port: u16,
+    /// The server, as HOST:PORT.
+    pub server: &'a str,
+    /// How many connections are handed on, if there is such a number.
+    pub connections: Option<u64>,
+    /// After how many milliseconds all connections are closed, 1 to 86,400,000, if there is such a time.
+    pub time: Option<u64>,
+    /// The file that the recording is written to, if it isn't the output.
+    pub out: Option<&'a str>,
+    /// Whether each key is judged meanwhile.
+    pub judge: bool,
+}
+
 /// Until when a campaign begins blocks of jobs. One of the two bounds is there.
-#[derive(Clone, Copy, Debug, Drop, PartialEq, Eq)]
+#[derive(Clone, Copy, Drop)]
 pub struct Until {
     /// For how many milliseconds, 1 to 86,400,000, if there is such a time.
     pub time: Option<u64>,
@@ -257,7 +274,7 @@ pub struct Until {
 }
 
 /// The jobs of a campaign.
-#[derive(Clone, Copy, Debug, Drop, PartialEq, Eq)]
+#[derive(Clone, Copy, Drop)]
 pub struct Plan {
     /// What the scripts of the jobs are made of, beside the jobs' numbers.
     pub seed: u64,
@@ -288,7 +305,7 @@ pub struct Plan {
 }
 
 /// A campaign against a server.
-#[derive(Debug, Drop)]
+#[derive(Drop)]
 pub struct CampaignArgs<'a> {
     /// The server, as HOST:PORT.
     pub server: &'a str,

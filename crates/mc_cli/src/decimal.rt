@@ -20,7 +20,7 @@ pub fn number_in(kind: Kind, word: &[u8]) -> Option<u64>
         }
         Kind::Time => time_in(word),
         Kind::Meeting | Kind::Notation | Kind::Name | Kind::Address => None,
-        Kind::Key | Kind::Names | Kind::Folder | Kind::Switch => None,
+        Kind::Key | Kind::Names | Kind::Path | Kind::Switch => None,
     }
 }
 

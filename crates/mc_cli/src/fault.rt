@@ -7,7 +7,7 @@ use std::alloc::{AllocError, Global};
 use std::fmt::{Display, Error, Formatter, Write};
 
 /// Why the values of a subcommand's options ask for nothing.
-#[derive(Debug, Drop)]
+#[derive(Drop)]
 pub enum OptionFault<'a> {
     /// The word is no value of the option.
     Value(Row, &'a str),
@@ -96,7 +96,7 @@ impl Display for Kind {
             Kind::Name => write!(f, "1 to {NAMESPACE_BYTES_LIMIT} of a to z, 0 to 9 and -"),
             Kind::Address => write!(f, "HOST:PORT"),
             Kind::Names => write!(f, "names with commas between"),
-            Kind::Folder => write!(f, "a folder"),
+            Kind::Path => write!(f, "a path"),
             Kind::Key => write!(f, "a key"),
             Kind::Switch => write!(f, "no value"),
         }

@@ -12,6 +12,7 @@ mod history;
 mod image;
 mod join;
 mod judge;
+mod record;
 mod run;
 mod script;
 mod selftest;
@@ -31,6 +32,7 @@ pub use history::HISTORY;
 pub use image::IMAGE;
 pub use join::JOIN;
 pub use judge::JUDGE;
+pub use record::RECORD;
 pub use run::RUN;
 pub use script::SCRIPT;
 pub use selftest::SELFTEST;
@@ -82,5 +84,5 @@ Topics:
 /// The names of the subcommands, in the order of their help.
 pub const NAMES: &[&str] = &[
     "judge", "check", "asm", "drive", "draw", "convert", "join", "test", "run", "generate",
-    "serve", "campaign", "selftest",
+    "serve", "record", "campaign", "selftest",
 ];

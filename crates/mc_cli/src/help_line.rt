@@ -30,7 +30,7 @@ impl Row {
             Kind::Notation => format!(in alloc; "{help}: {}", self.kind),
             Kind::Meeting => format!(in alloc; "{help}: {} [default: drawn]", self.kind),
             Kind::Name | Kind::Address => format!(in alloc; "{help}"),
-            Kind::Key | Kind::Names | Kind::Folder | Kind::Switch => format!(in alloc; "{help}"),
+            Kind::Key | Kind::Names | Kind::Path | Kind::Switch => format!(in alloc; "{help}"),
         }
     }
 }

@@ -22,8 +22,8 @@ mod value;
 
 pub use args::{
     CampaignArgs, CheckArgs, ConvertArgs, DrawArgs, GREATEST_JOBS, GREATEST_WORKERS, JudgeArgs,
-    Notation, Plan, Repeat, RunArgs, Search, Seconds, ServeArgs, SoughtKey, TestArgs, Until,
-    has_last,
+    Notation, Plan, RecordArgs, Repeat, RunArgs, Search, Seconds, ServeArgs, SoughtKey, TestArgs,
+    Until, has_last,
 };
 pub use question::Question;
 pub use request::{LineFault, Request, long_key_text, read_request, unknown_race_text};

@@ -97,6 +97,22 @@ pub const CONNECTIONS: Row =
 
 pub const RACY: Row = row!(Daily "racy", "Have a race in incr");
 
+pub const LISTEN_PORT: Row =
+    row!(Required "port" "LISTEN_PORT" Kind::Number(0, 65_535), "The port for clients; 0 takes a free one");
+
+pub const RECORDED: Row =
+    row!(Required "target" "HOST:PORT" Kind::Address, "Record the server at this address");
+
+pub const CONNECTIONS_OF_RECORD: Row =
+    row!(Daily "connections" "N" Kind::Number(0, u64::MAX), "End after N connections");
+
+pub const FOR_OF_RECORD: Row = row!(Daily "for" "TIME" Kind::Time, "End after this long");
+
+pub const OUT_OF_RECORD: Row =
+    row!(Daily "out" "FILE" Kind::Path, "Write the recording to this file");
+
+pub const JUDGE: Row = row!(Daily "judge", "Judge each key meanwhile");
+
 pub const FROM: Row =
     row!(Rare "from" "N" Kind::Number(0, u64::MAX) => Some(0), "The first job's number");
 
@@ -131,7 +147,7 @@ pub const ONLY: Row = row!(Daily "only" "RACES" Kind::Names, "Look for these rac
 
 pub const SKIP: Row = row!(Daily "skip" "RACES" Kind::Names, "Leave these races out");
 
-pub const OUT: Row = row!(Daily "out" "DIR" Kind::Folder, "Write the evidence into this folder");
+pub const OUT: Row = row!(Daily "out" "DIR" Kind::Path, "Write the evidence into this folder");
 
 pub const STOP_AFTER: Row =
     row!(Rare "stop-after" "N" Kind::Number(1, 10_000), "Begin no block when N jobs are unexplained");

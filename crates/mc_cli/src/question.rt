@@ -3,7 +3,7 @@
 use crate::args::{CheckArgs, ConvertArgs, DrawArgs, JudgeArgs, Search};
 
 /// A question about the input, which no network answers.
-#[derive(Debug, Drop)]
+#[derive(Drop)]
 pub enum Question<'a> {
     /// A judgement of a history.
     Judge(JudgeArgs<'a>),

@@ -2,11 +2,13 @@
 ghost use Rattle.std.specs.Prelude.{◌≡◌, ◌≤◌, ℕ, Option, codes, is_some, IfErr, IfOk, if◌then◌else◌};
 ghost use Rattle.clap.specs.Words.{first_value, found_of};
 ghost use Rattle.mc_cli.specs.Args as spec;
-ghost use Rattle.mc_cli.specs.Args.{IsCheck, IsConvert, IsDraw, IsJob, IsJudge, IsRepeat, IsRunArgs, IsTestArgs, IsSearch, IsService};
+ghost use Rattle.mc_cli.specs.Args.{IsCheck, IsConvert, IsDraw, IsJob, IsJudge, IsRecordArgs, IsRepeat, IsRunArgs, IsTestArgs};
+ghost use Rattle.mc_cli.specs.Args.{IsSearch, IsService};
 ghost use Rattle.mc_cli.specs.Kinds.{IsValue};
 
 use crate::args::{
-    CheckArgs, ConvertArgs, DrawArgs, JudgeArgs, Repeat, RunArgs, Search, ServeArgs, TestArgs,
+    CheckArgs, ConvertArgs, DrawArgs, JudgeArgs, RecordArgs, Repeat, RunArgs, Search, ServeArgs,
+    TestArgs,
 };
 use crate::fault::OptionFault;
 use crate::rows::Row;
@@ -101,6 +103,25 @@ pub fn read_service<'a>(options: &ArgMatches<'a>) -> Result<ServeArgs, OptionFau
         port: port as u16,
         connections,
         racy: value::is_set(options, &rows::RACY),
+    })
+}
+
+/// The recording that `record` asks for.
+pub fn read_record<'a>(options: &ArgMatches<'a>) -> Result<RecordArgs<'a>, OptionFault<'a>>
+    ensures args { IfOk result (IsRecordArgs (first_value (found_of options.now))) }
+    ensures none { IfErr result (λ _. (args : RecordArgs) → IsRecordArgs (first_value (found_of options.now)) args → ⊥) }
+{
+    let port = value::number(options, &rows::LISTEN_PORT)?;
+    let server = value::address(options, &rows::RECORDED)?;
+    let connections = value::optional(options, &rows::CONNECTIONS_OF_RECORD)?;
+    let time = value::optional(options, &rows::FOR_OF_RECORD)?;
+    Ok(RecordArgs {
+        port: port as u16,
+        server,
+        connections,
+        time,
+        out: options.get_str(rows::OUT_OF_RECORD.name),
+        judge: value::is_set(options, &rows::JUDGE),
     })
 }
 

@@ -3,14 +3,14 @@ ghost use Rattle.std.specs.Prelude.{◌≡◌, map, string_bytes, IfErr, IfOk, S
 ghost use Rattle.clap.specs.Words.{first_value, found_of, kind_of};
 ghost use Rattle.mc_cli.specs.Asking.{AsksFor, IsAskedBy, IsFaultOf, IsLike, Says};
 
-use crate::args::{CampaignArgs, RunArgs, ServeArgs, TestArgs};
+use crate::args::{CampaignArgs, RecordArgs, RunArgs, ServeArgs, TestArgs};
 use crate::fault::{OptionFault, long_key_message};
 use crate::help_line::help_text;
 use crate::hints::error_text;
 use crate::question::Question;
 use crate::read::{
-    read_check, read_convert, read_draw, read_job, read_judge, read_run, read_search, read_service,
-    read_test,
+    read_check, read_convert, read_draw, read_job, read_judge, read_record, read_run, read_search,
+    read_service, read_test,
 };
 use crate::read_campaign::read_campaign;
 use crate::subcommand::{program, usage_fault};
@@ -21,7 +21,7 @@ use mc_settings::Namespace;
 use std::alloc::{AllocError, Global};
 
 /// What a line asks for, with all that its words say of it.
-#[derive(Debug, Drop)]
+#[derive(Drop)]
 pub enum Request<'a> {
     /// An answer to a question about the input.
     Question(Question<'a>),
@@ -33,6 +33,8 @@ pub enum Request<'a> {
     Generate(u64, u64),
     /// A server of the program's own.
     Serve(ServeArgs),
+    /// A recording of what clients and a server say.
+    Record(RecordArgs<'a>),
     /// The jobs of a campaign against a server.
     Campaign(CampaignArgs<'a>),
     /// Whether a server that is right is explained, and one with a race isn't.
@@ -40,7 +42,7 @@ pub enum Request<'a> {
 }
 
 /// Why a line asks for nothing.
-#[derive(Debug, Drop)]
+#[derive(Drop)]
 pub enum LineFault {
     /// It calls for help or for the version: this text, for standard output.
     Shown(String),
@@ -104,6 +106,7 @@ fn read_options<'a>(name: &str, options: &ArgMatches<'a>) -> Result<Request<'a>,
             Ok(Request::Generate(seed, job))
         }
         "serve" => Ok(Request::Serve(read_service(options)?)),
+        "record" => Ok(Request::Record(read_record(options)?)),
         "campaign" => Ok(Request::Campaign(read_campaign(options)?)),
         "selftest" => Ok(Request::Selftest),
         _ => Err(OptionFault::NoSubcommand),

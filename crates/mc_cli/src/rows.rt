@@ -1,7 +1,7 @@
 //! The options of the program, a row for each.
 
 /// What kind of value an option has.
-#[derive(Clone, Copy, Debug)]
+#[derive(Clone, Copy)]
 pub enum Kind {
     /// A decimal from the first of these numbers to the second.
     Number(u64, u64),
@@ -17,8 +17,8 @@ pub enum Kind {
     Address,
     /// Names with commas between.
     Names,
-    /// The path of a folder.
-    Folder,
+    /// The path of a folder or of a file.
+    Path,
     /// Any word, which is sought among the keys of a history.
     Key,
     /// None: the option is there or not.
@@ -26,7 +26,7 @@ pub enum Kind {
 }
 
 /// Where an option stands.
-#[derive(Clone, Copy, Debug)]
+#[derive(Clone, Copy)]
 pub enum Place {
     /// It is an argument, which every line of the subcommand has.
     Required,
@@ -37,7 +37,7 @@ pub enum Place {
 }
 
 /// An option.
-#[derive(Clone, Copy, Debug)]
+#[derive(Clone, Copy)]
 pub struct Row {
     pub name: &'static str,
     /// How help shows its value.

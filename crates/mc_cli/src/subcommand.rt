@@ -6,7 +6,7 @@ ghost use Rattle.mc_cli.specs.Commands.{rule_of_row};
 
 use crate::help::{
     ASM, CAMPAIGN, CHECK, CONVERT, DRAW, DRIVE, FORMATS, GENERATE, HISTORY, Help, IMAGE, JOIN,
-    JUDGE, RUN, SCRIPT, SELFTEST, SERVE, SHORT_STATUSES, STATUSES, STEPS, TEST,
+    JUDGE, RECORD, RUN, SCRIPT, SELFTEST, SERVE, SHORT_STATUSES, STATUSES, STEPS, TEST,
 };
 use crate::options as rows;
 use crate::rows::{Kind, Place, Row};
@@ -77,6 +77,15 @@ const GENERATE_ROWS: &[Row] = &[rows::SEED, rows::JOB];
 
 const SERVE_ROWS: &[Row] = &[rows::PORT, rows::CONNECTIONS, rows::RACY];
 
+const RECORD_ROWS: &[Row] = &[
+    rows::LISTEN_PORT,
+    rows::RECORDED,
+    rows::CONNECTIONS_OF_RECORD,
+    rows::FOR_OF_RECORD,
+    rows::OUT_OF_RECORD,
+    rows::JUDGE,
+];
+
 const CAMPAIGN_ROWS: &[Row] = &[
     rows::TARGET,
     rows::SEED,
@@ -130,6 +139,7 @@ fn asking_program<'a>(alloc: Global) -> Result<Command<'a>, AllocError>
         .subcommand(command_of(alloc, &RUN, RUN_ROWS)?)?
         .subcommand(command_of(alloc, &GENERATE, GENERATE_ROWS)?)?
         .subcommand(command_of(alloc, &SERVE, SERVE_ROWS)?)?
+        .subcommand(command_of(alloc, &RECORD, RECORD_ROWS)?)?
         .subcommand(command_of(alloc, &CAMPAIGN, CAMPAIGN_ROWS)?)?
         .subcommand(command_of(alloc, &SELFTEST, &[])?)
 }
@@ -224,6 +234,7 @@ fn parts_of(name: &str) -> Option<(&'static Help, &'static [Row])> {
         "run" => Some((&RUN, RUN_ROWS)),
         "generate" => Some((&GENERATE, GENERATE_ROWS)),
         "serve" => Some((&SERVE, SERVE_ROWS)),
+        "record" => Some((&RECORD, RECORD_ROWS)),
         "campaign" => Some((&CAMPAIGN, CAMPAIGN_ROWS)),
         "selftest" => Some((&SELFTEST, &[])),
         _ => None,

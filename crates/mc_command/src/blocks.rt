@@ -32,7 +32,7 @@ use std::thread::Threads;
 use std::time::Instant;
 
 /// Why a campaign broke off between its reports.
-#[derive(Clone, Copy, Debug, Drop, PartialEq, Eq)]
+#[derive(Clone, Copy, Drop, PartialEq, Eq)]
 pub enum Stop {
     /// No thread could be made for a worker.
     NotRun,

@@ -7,7 +7,7 @@ use std::thread::yield_now;
 const TURNS: u64 = 1_000_000;
 
 /// Holds each increment until two have read, but not for ever.
-#[derive(Debug, Drop)]
+#[derive(Drop)]
 pub struct BothRead {
     read: AtomicU64,
 }

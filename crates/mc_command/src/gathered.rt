@@ -19,7 +19,7 @@ use std::mem;
 const MOST_IN_BLOCK: u64 = 64;
 
 /// What is known of the jobs that ran.
-#[derive(Debug, Drop)]
+#[derive(Drop)]
 pub struct Gathered<S: Stream> {
     /// The results of those whose report isn't written yet.
     pub results: Vec<JobResult<S>>,

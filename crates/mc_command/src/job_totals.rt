@@ -18,7 +18,7 @@ const FAULTS: [Fault; 8] = [
 ];
 
 /// How many jobs there were, what they count as, and which of their sections failed.
-#[derive(Clone, Copy, Debug, Drop, PartialEq, Eq)]
+#[derive(Clone, Copy, Drop, PartialEq, Eq)]
 pub struct JobTotals {
     pub jobs: u64,
     explained: u64,
@@ -98,7 +98,7 @@ impl Display for JobTotals {
 }
 
 /// A line that says how many jobs had a section that failed, and how many sections by which fault; or nothing if none did.
-#[derive(Clone, Copy, Debug, Drop)]
+#[derive(Clone, Copy, Drop)]
 pub struct FailedSections<'a>(pub &'a JobTotals);
 
 impl Display for FailedSections<'_> {

@@ -24,7 +24,7 @@ const NAME_LENGTH: usize = 8;
 const CHARACTERS: &[u8; 32] = b"abcdefghijklmnopqrstuvwxyz234567";
 
 /// Under which name the code of the next run is put.
-#[derive(Debug, Drop)]
+#[derive(Drop)]
 pub struct Renaming {
     /// The code under the last name, if there was one.
     under: Option<Checked>,

@@ -22,7 +22,7 @@ use std::thread::Threads;
 use std::time::{Duration, Instant};
 
 /// The runs so far: what they came to, and the one that is handed out.
-#[derive(Debug, Drop)]
+#[derive(Drop)]
 pub struct Runs {
     /// The first whose status isn't 0, or else the last.
     pub played: Played,

@@ -16,7 +16,7 @@ const VERBS: usize = 12;
 const CLASSES: usize = 10;
 
 /// How many requests had a reply of each class, and how many had none. No count is greater than 2^64 - 1.
-#[derive(Clone, Copy, Debug, Drop, PartialEq, Eq)]
+#[derive(Clone, Copy, Drop, PartialEq, Eq)]
 pub struct Answers {
     /// In the order of [`Class::ALL`].
     by_class: [u64; CLASSES],
@@ -78,7 +78,7 @@ impl Display for Answers {
 }
 
 /// How many requests of each verb were answered how.
-#[derive(Clone, Copy, Debug, Drop, PartialEq, Eq)]
+#[derive(Clone, Copy, Drop, PartialEq, Eq)]
 pub struct Replies {
     /// In the order of [`Verb::ALL`].
     by_verb: [Answers; VERBS],

@@ -27,7 +27,7 @@ use std::time::Duration;
 const FOR_MORE: u64 = 5;
 
 /// What came of a run.
-#[derive(Debug, Drop)]
+#[derive(Drop)]
 pub enum Played {
     /// The world of the run, its history, the verdict on it, and the text that says why nothing explains the history, which is empty
     /// where that isn't so or isn't asked for.
@@ -39,7 +39,7 @@ pub enum Played {
 }
 
 /// What standard error says of a run, beside its answer.
-#[derive(Debug, Drop)]
+#[derive(Drop)]
 pub enum Remarks {
     /// Nothing.
     None,

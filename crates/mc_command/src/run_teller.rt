@@ -36,7 +36,7 @@ pub trait RunObserver {
 }
 
 /// An observer that does nothing.
-#[derive(Clone, Copy, Debug, Drop)]
+#[derive(Clone, Copy, Drop)]
 pub struct Unobserved;
 
 impl RunObserver for Unobserved {

@@ -17,7 +17,7 @@ use std::thread::Threads;
 const NO_LISTENER: &[u8] = b"no listener\n";
 
 /// What standard error is to say beside the answer of `serve`.
-#[derive(Debug, Drop)]
+#[derive(Drop)]
 pub enum Told {
     /// Nothing.
     Nothing,

@@ -13,7 +13,7 @@ use mc_protocol::{Actor, Class, Verb};
 use std::fmt::{Display, Error, Formatter, Write};
 
 /// What runs that came to a history sent and received, counted. No count is greater than 2^64 - 1.
-#[derive(Clone, Copy, Debug, Drop, PartialEq, Eq)]
+#[derive(Clone, Copy, Drop, PartialEq, Eq)]
 pub struct Statistics {
     /// How many runs there were.
     pub runs: u64,

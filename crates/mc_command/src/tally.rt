@@ -10,7 +10,7 @@ use mc_campaign::{JobResult, Report, report_status};
 use mc_lane::Stream;
 
 /// What jobs came to.
-#[derive(Clone, Copy, Debug, Drop, PartialEq, Eq)]
+#[derive(Clone, Copy, Drop, PartialEq, Eq)]
 pub struct Tally {
     /// How many there were.
     pub jobs: u64,

@@ -11,7 +11,7 @@ use mc_verify::Checked;
 use std::alloc::{AllocError, Global};
 
 /// Why no code is played.
-#[derive(Debug, Drop)]
+#[derive(Drop)]
 pub enum Unplayed {
     /// The script is refused, or its code under the name is: this text says why.
     Refused(Vec<u8>),

@@ -11,7 +11,7 @@ use mc_protocol::Actor;
 use std::alloc::{AllocError, Global};
 
 /// What a run counts as. Each run is of one class.
-#[derive(Clone, Copy, Debug, PartialEq, Eq)]
+#[derive(Clone, Copy, PartialEq, Eq)]
 pub enum RunClass {
     /// An order explains it, and no section failed.
     Explained,
@@ -24,7 +24,7 @@ pub enum RunClass {
 }
 
 /// How many runs there were, how many of them were of each class, and how many overlapped.
-#[derive(Clone, Copy, Debug, Drop, PartialEq, Eq)]
+#[derive(Clone, Copy, Drop, PartialEq, Eq)]
 pub struct Totals {
     pub runs: u64,
     pub explained: u64,

@@ -2,6 +2,7 @@
 #![tactic(auto)]
 
 mod forms;
+mod recording;
 mod sources;
 mod suite;
 
@@ -15,6 +16,7 @@ ghost use Rattle.mc_command.specs.SelftestAnswers.{Selftests};
 ghost use Rattle.mc_command.specs.ServeAnswers.{Serves};
 
 use crate::forms::{Form, write_in};
+use crate::recording::record_server;
 use crate::sources::SOURCES;
 use crate::suite::{answer_of_races, test_races};
 use mc_answers::{
@@ -173,6 +175,7 @@ where
             play(rt, alloc, &target, columns, input, output)
         }
         Request::Serve(service) => host(rt, alloc, service, output),
+        Request::Record(args) => record_server(rt, &args, output, faults),
         Request::Campaign(target) => campaign(rt, alloc, target, columns, output),
         Request::Selftest => test(rt, alloc, output),
         Request::Test(args) => test_races(rt, &args, columns, output, faults),

@@ -2,4 +2,4 @@
 
 /// The SHA-256 of all sources, definitions and proofs but of this file.
 pub const SOURCES: &[u8] =
-    b"sources 4eb1af8ce11968b81ddbd999a0fd2a8771821ee0112b8f576871053b756c80b4\n";
+    b"sources 3880a75e64f7b3a54eab31851cd139e876e9e85226cb1c2500f8dbcc5a20a12c\n";

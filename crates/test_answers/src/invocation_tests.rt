@@ -43,7 +43,7 @@ const SERVICE: ServeArgs = ServeArgs {
 };
 
 /// What a line asks for, without its server, its form of an answer and its key.
-#[derive(Clone, Copy, Debug, Drop, PartialEq, Eq)]
+#[derive(Clone, Copy, Drop, PartialEq, Eq)]
 enum Asked {
     Judge(Search, Option<u64>),
     Check(CheckArgs),
@@ -55,6 +55,8 @@ enum Asked {
     Run(Search),
     Generate(u64, u64),
     Serve(ServeArgs),
+    /// The port, the number of connections and the time of a recording, and whether it is judged.
+    Record(u16, Option<u64>, Option<u64>, bool),
     Selftest,
 }
 
@@ -106,6 +108,14 @@ static LINES: &[(&[&str], Option<Asked>, Option<&str>)] = &[
         None,
     ),
     (&["mcrace", "serve", "0"], Some(Asked::Serve(SERVICE)), None),
+    (
+        &[
+            "mcrace", "record", "11311", "host:1", "--for", "2s", "--judge",
+        ],
+        Some(Asked::Record(11_311, None, Some(2_000), true)),
+        None,
+    ),
+    (&["mcrace", "record", "11311"], None, None),
     (&["mcrace", "selftest"], Some(Asked::Selftest), None),
     (&["mcrace", "run"], None, None),
     (&["mcrace", "run", "host:1", "--meet", "x"], None, None),
@@ -134,6 +144,12 @@ fn asked_by(request: &Request<'_>) -> Option<Asked> {
         Request::Run(args) => Some(Asked::Run(args.how)),
         Request::Generate(seed, job) => Some(Asked::Generate(*seed, *job)),
         Request::Serve(service) => Some(Asked::Serve(*service)),
+        Request::Record(args) => Some(Asked::Record(
+            args.port,
+            args.connections,
+            args.time,
+            args.judge,
+        )),
         Request::Test(_) | Request::Campaign(_) => None,
         Request::Selftest => Some(Asked::Selftest),
     }
@@ -260,26 +276,25 @@ fn is_that_run(alloc: Global, line: &[String]) -> bool {
         Some(name) => Some(name.as_slice()),
         None => None,
     };
-    let repeat = Repeat {
-        times: Some(9),
-        time: None,
-        keep_going: false,
-    };
-    let timeout = Seconds {
-        word: "2",
-        milliseconds: 2_000,
-    };
     target.server == "host:1"
         && target.a == Some("host:2")
         && target.b.is_none()
         && target.meeting == Meeting::Never
         && name == Some(b"ci7".as_slice())
-        && target.timeout == Some(timeout)
+        && target.timeout.is_some_and(|time| is_two_seconds(time))
         && target.wait.is_none()
-        && target.repeat == Some(repeat)
+        && target.repeat.is_some_and(|repeat| is_nine_times(repeat))
         && target.reconnect
         && !target.quiet
         && target.spread == 64
+}
+
+fn is_two_seconds(time: Seconds<'_>) -> bool {
+    time.word == "2" && time.milliseconds == 2_000
+}
+
+fn is_nine_times(repeat: Repeat) -> bool {
+    repeat.times == Some(9) && repeat.time.is_none() && !repeat.keep_going
 }
 
 #[test]
@@ -308,9 +323,10 @@ fn scripts_are_generated(rt: HostRuntime) {
 }
 
 // Lines that need a network, which `command` hasn't.
-static LINES_ELSEWHERE: [&[&str]; 4] = [
+static LINES_ELSEWHERE: [&[&str]; 5] = [
     &["mcrace", "run", "host:1"],
     &["mcrace", "serve", "0"],
+    &["mcrace", "record", "0", "host:1"],
     &["mcrace", "campaign", "host:1"],
     &["mcrace", "selftest"],
 ];

@@ -1,6 +1,5 @@
-//! `campaign` where there is no server.
+//! `campaign` where there is no server. `cases/campaign/no-connection.cases` has more of it.
 
-use crate::line_tests::DEFAULT;
 use mc_answers::{Status, Writer};
 use mc_cli::{CampaignArgs, Plan, Until};
 use mc_command::run_campaign_at;
@@ -12,26 +11,22 @@ use std::rt::Clock;
 use std::sync::Wait;
 use std::thread::Threads;
 
-#[test]
-fn campaign_needs_a_server(rt: HostRuntime) {
-    assert_eq!(rt;
-        answer(&rt, rt.alloc(), 2, None).as_slice(),
-        b"0 no connection P\n1 no connection P\njobs 2 explained 0 unexplained 0 other 2\n".as_slice()
-    );
-}
-
-// Where it runs in blocks, too.
-#[test]
-fn campaign_in_blocks_needs_a_server(rt: HostRuntime) {
-    let until = Until {
-        time: Some(1_000),
-        unexplained: Some(1),
-    };
-    assert_eq!(rt;
-        answer(&rt, rt.alloc(), 2, Some(until)).as_slice(),
-        b"0 no connection P\n1 no connection P\njobs 2 explained 0 unexplained 0 other 2\n".as_slice()
-    );
-}
+/// The jobs of a campaign whose line names only the server.
+const DEFAULT: Plan = Plan {
+    seed: 1,
+    random_seed: false,
+    first: 0,
+    jobs: 100,
+    workers: 4,
+    limit: 1_000_000,
+    brief: false,
+    json: false,
+    junit: false,
+    show: false,
+    why: false,
+    tries: 1,
+    until: None,
+};
 
 // No job begins once the time is over, but the first.
 #[test]
@@ -60,18 +55,6 @@ fn campaign_for_an_hour_ends_after_64_connects(rt: HostRuntime) {
     };
     let answer = answer_of(&rt, rt.alloc(), plan);
     let end = b"63 no connection P\njobs 64 explained 0 unexplained 0 other 64\n";
-    assert!(rt; answer.as_slice().ends_with(end.as_slice()));
-}
-
-// It gives up, and the rest of the jobs stand in the report.
-#[test]
-fn campaign_that_gives_up_has_all_its_jobs(rt: HostRuntime) {
-    let until = Until {
-        time: None,
-        unexplained: Some(1),
-    };
-    let answer = answer(&rt, rt.alloc(), 140, Some(until));
-    let end = b"139 no connection P\njobs 140 explained 0 unexplained 0 other 140\n";
     assert!(rt; answer.as_slice().ends_with(end.as_slice()));
 }
 

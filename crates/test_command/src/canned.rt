@@ -75,15 +75,13 @@ impl Connection for Canned {
     }
 }
 
-/// A network that connects all sections, or all but one.
+/// A network that connects all sections.
 #[derive(Drop)]
 pub(crate) struct CannedNetwork {
     /// What comes on each connection of P, A and B.
     answers: [Answers; 3],
     /// What comes on A's connection once it was looked at after a run.
     pub(crate) later: &'static [u8],
-    /// The section that gets no connection.
-    unconnected: Option<Actor>,
     /// How often the sections were connected.
     pub(crate) connected: u32,
     /// How often one of them was connected anew.
@@ -98,19 +96,6 @@ impl CannedNetwork {
         CannedNetwork {
             answers,
             later: b"",
-            unconnected: None,
-            connected: 0,
-            reconnected: 0,
-            quit: 0,
-        }
-    }
-
-    /// One in which this section gets no connection.
-    pub(crate) fn without(section: Actor) -> Self {
-        CannedNetwork {
-            answers: [&[], &[], &[]],
-            later: b"",
-            unconnected: Some(section),
             connected: 0,
             reconnected: 0,
             quit: 0,
@@ -122,10 +107,6 @@ impl Network for CannedNetwork {
     type Connection = Canned;
 
     fn connect(&mut self) -> Result<Sections<Canned>, Unconnected> {
-        if let Some(section) = self.unconnected {
-            let error = io::Error::from(ErrorKind::ConnectionRefused);
-            return Err(Unconnected { section, error });
-        }
         self.connected = self.connected.saturating_add(1);
         let [p, a, b] = self.answers;
         Ok(Sections {

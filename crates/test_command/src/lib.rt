@@ -1,16 +1,12 @@
-//! Tests of `mc_command` by its public calls: that `run` and `campaign` need a server and `serve` its port, what comes of runs over a
-//! network in memory and against a listener, which keys repeated runs have, that the selftest passes, and the statistics of runs. What
-//! the program shows to its user stands in `cases/`.
+//! Tests of `mc_command` by its public calls: that `run` and `campaign` need a server, what comes of runs over a network in memory
+//! and against a listener, which keys repeated runs have, that the selftest passes, and the statistics of runs. What the program
+//! shows to its user stands in `cases/`.
 #![tactic(auto)]
 
 #[cfg(test)]
 mod campaign_tests;
 #[cfg(test)]
 mod canned;
-#[cfg(test)]
-mod failing_run_tests;
-#[cfg(test)]
-mod line_tests;
 #[cfg(test)]
 mod listener_tests;
 #[cfg(test)]
@@ -23,7 +19,5 @@ mod run_tests;
 mod script;
 #[cfg(test)]
 mod selftest_tests;
-#[cfg(test)]
-mod serve_tests;
 #[cfg(test)]
 mod statistics_tests;

@@ -3,14 +3,11 @@
 use crate::canned::{Answers, CannedNetwork};
 use mc_answers::{Reader, Status, Writer};
 use mc_cli::{Repeat, RunArgs, Search};
-use mc_command::{Remarks, RunTeller, Statistics, run_target};
-use mc_connect::Unconnected;
-use mc_protocol::Actor;
+use mc_command::{Remarks, RunTeller, run_target};
 use std::alloc::Global;
 use std::io::Eprint;
 use std::rt::Clock;
 use std::sync::Wait;
-use std::test::Fail;
 use std::thread::Threads;
 
 // P stores 5 and A adds 1. B does nothing, so the history is the same whichever branch goes first.
@@ -105,36 +102,6 @@ fn what_comes_after_the_last_run_is_remarked(rt: HostRuntime) {
     );
 }
 
-#[test]
-fn a_section_without_a_connection_is_named(rt: HostRuntime) -> Result<(), Fail> {
-    for section in [Actor::P, Actor::A, Actor::B] {
-        let mut network = CannedNetwork::without(section);
-        let ran = run(&rt, rt.alloc(), &mut network, None, false);
-        let text = format!(in rt.alloc(); "no connection {}\n", section.word())?;
-        assert_eq!(rt; ran.output.as_slice(), text.as_bytes());
-        assert_eq!(rt; ran.status, Status::NoAnswer);
-        assert_eq!(rt; unconnected(&ran.remarks), Some(section));
-    }
-    Ok(())
-}
-
-#[test]
-fn a_run_is_counted(rt: HostRuntime) -> Result<(), Fail> {
-    let mut network = CannedNetwork::new([TO_P, &[b"6\r\n"], &[]]);
-    let ran = run(&rt, rt.alloc(), &mut network, None, false);
-    let Some(statistics) = ran.statistics else {
-        return Err(Fail::new("the runs are not counted"));
-    };
-    assert_eq!(rt;
-        statistics.to_string(rt.alloc())?.as_str(),
-        "mcrace: 1 run, 0 overlapped, A's first reply first in 0 of 0\n\
-         mcrace: set: 1 stored\n\
-         mcrace: incr: 1 number\n\
-         mcrace: delete: 1 notfound\n"
-    );
-    Ok(())
-}
-
 // What P is answered in three runs on one connection.
 const TO_P_IN_THREE: Answers = &[
     b"NOT_FOUND\r\n",
@@ -212,7 +179,6 @@ struct Ran {
     status: Status,
     remarks: Remarks,
     output: Vec<u8>,
-    statistics: Option<Statistics>,
 }
 
 // Runs the script over the network.
@@ -233,7 +199,6 @@ where
     let target = RunArgs {
         repeat,
         reconnect,
-        stats: true,
         ..RunArgs::at("127.0.0.1:0", how)
     };
     let mut output = Vec::new(alloc);
@@ -251,7 +216,6 @@ where
         status,
         remarks,
         output,
-        statistics: teller.statistics,
     }
 }
 
@@ -264,13 +228,5 @@ fn remark_of(remarks: &Remarks) -> &str {
             _ => "several remarks",
         },
         _ => "other remarks",
-    }
-}
-
-// The section that has no connection.
-fn unconnected(remarks: &Remarks) -> Option<Actor> {
-    match remarks {
-        Remarks::NoConnection(Unconnected { section, .. }) => Some(*section),
-        _ => None,
     }
 }

@@ -1,10 +1,9 @@
 //! `run` where there is no server, or none is named.
 
 use crate::script::SCRIPT;
-use mc_answers::{Reader, Status, Writer};
-use mc_cli::{Repeat, RunArgs, Search};
-use mc_command::{Unobserved, run_command, run_target, servers_of};
-use mc_connect::TcpNetwork;
+use mc_answers::{Reader, Writer};
+use mc_cli::Search;
+use mc_command::run_command;
 use std::alloc::Global;
 use std::io;
 use std::net::{Net, TcpListener, TcpStream};
@@ -62,56 +61,4 @@ where
         &mut Writer::new(&mut output),
     );
     status == 4 && output.as_slice() == b"no connection P\n".as_slice()
-}
-
-#[test]
-fn each_run_of_several_needs_a_server(rt: HostRuntime) {
-    let all = Repeat {
-        times: Some(3),
-        time: None,
-        keep_going: true,
-    };
-    assert_eq!(rt;
-        repeated(&rt, rt.alloc(), all).as_slice(),
-        b"run 1 of 3\nno connection P\nruns 3 explained 0 unexplained 0 other 3 overlapped 0 failed 0\n".as_slice()
-    );
-    let until_the_first = Repeat {
-        times: None,
-        time: Some(60_000),
-        keep_going: false,
-    };
-    assert_eq!(rt;
-        repeated(&rt, rt.alloc(), until_the_first).as_slice(),
-        b"run 1\nruns 1 explained 0 unexplained 0 other 1 overlapped 0 failed 0\nno connection P\n".as_slice()
-    );
-}
-
-// What is written of runs at port 0; or nothing where the status isn't 4.
-fn repeated<R>(rt: &R, alloc: Global, repeat: Repeat) -> Vec<u8>
-where
-    R: Net<Stream = TcpStream> + Threads + Wait + Clock + Sync,
-{
-    let how = Search {
-        limit: 1_000,
-        why: false,
-    };
-    let target = RunArgs {
-        repeat: Some(repeat),
-        stats: true,
-        ..RunArgs::at("127.0.0.1:0", how)
-    };
-    let mut output = Vec::new(alloc);
-    let (status, _) = run_target(
-        rt,
-        alloc,
-        &target,
-        &mut TcpNetwork::new(rt, servers_of(&target)),
-        &mut Unobserved,
-        &mut Reader::new(SCRIPT.as_bytes()),
-        &mut Writer::new(&mut output),
-    );
-    match status {
-        Status::NoAnswer => output,
-        _ => Vec::new(alloc),
-    }
 }

@@ -3,7 +3,7 @@
 use mc_command::Statistics;
 use mc_history::{Event, parse_history};
 use mc_model::{Note, copy_reply};
-use mc_protocol::{Actor, Class, Fault, OutOfMemory, Reply, Verb};
+use mc_protocol::{Actor, Fault, OutOfMemory, Reply};
 use std::alloc::Global;
 use std::test::Fail;
 
@@ -50,15 +50,7 @@ end
 ";
 
 // Histories, and what is said of their statistics.
-static ROWS: [(&[&str], &str); 5] = [
-    (&[], ""),
-    (
-        &[TOGETHER],
-        "mcrace: 1 run, 1 overlapped, A's first reply first in 1 of 1\n\
-         mcrace: set: 1 stored\n\
-         mcrace: incr: 2 number\n\
-         mcrace: delete: 1 notfound\n",
-    ),
+static ROWS: [(&[&str], &str); 2] = [
     (
         &[APART],
         "mcrace: 1 run, 0 overlapped, A's first reply first in 0 of 1\n\
@@ -67,12 +59,6 @@ static ROWS: [(&[&str], &str); 5] = [
          mcrace: get: 1 without a reply\n\
          mcrace: gets: 1 hit, 1 miss\n\
          mcrace: delete: 1 deleted\n",
-    ),
-    (
-        &[MISSES, MISSES],
-        "mcrace: 2 runs, 0 overlapped, A's first reply first in 0 of 0\n\
-         mcrace: get: 4 miss\n\
-         mcrace: delete: 2 notfound\n",
     ),
     (
         &[TOGETHER, APART, MISSES, TOGETHER],
@@ -92,16 +78,6 @@ fn statistics_are_those_of_the_histories(rt: HostRuntime) -> Result<(), Fail> {
         let statistics = counted(rt.alloc(), texts)?;
         assert_eq!(rt; statistics.to_string(rt.alloc())?.as_str(), told);
     }
-    Ok(())
-}
-
-#[test]
-fn counts_are_known_by_verb_and_class(rt: HostRuntime) -> Result<(), Fail> {
-    let statistics = counted(rt.alloc(), &[APART, MISSES])?;
-    assert_eq!(rt; statistics.count(Verb::Get, Some(Class::Miss)), 2);
-    assert_eq!(rt; statistics.count(Verb::Get, None), 1);
-    assert_eq!(rt; statistics.count(Verb::Touch, Some(Class::NotFound)), 0);
-    assert_eq!(rt; statistics.count(Verb::Delete, Some(Class::NotFound)), 1);
     Ok(())
 }
 
