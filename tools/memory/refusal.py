@@ -137,6 +137,12 @@ def serve_may_end(whole, ended):
     return program_may_end(*both)
 
 
+def record_may_end(whole, ended):
+    """Each run listens at another port. What was written before memory was short stays written."""
+    both = ((*it[:2], re.sub(rb":\d+\n", b":PORT\n", it[2])) for it in (whole, ended))
+    return program_may_end(*both) or ended[0] == 4 and whole[1].startswith(ended[1])
+
+
 def run_may_end(whole, ended):
     return ended == whole or ended[0] == 4 and NO_MEMORY.fullmatch(ended[1]) is not None
 
@@ -157,8 +163,8 @@ def repeated_may_end(whole, ended):
 
 # How the commands may end that do more than to read and answer.
 MAY_END = {
-    "campaign": campaign_may_end, "run": repeated_may_end, "selftest": selftest_may_end,
-    "serve": serve_may_end,
+    "campaign": campaign_may_end, "record": record_may_end, "run": repeated_may_end,
+    "selftest": selftest_may_end, "serve": serve_may_end,
 }
 
 
