@@ -220,6 +220,12 @@ fn tell_totals<R: Eprint>(rt: &R, judges: bool, recorded: &Recorded) {
         tell_count(rt, "undecided", recorded.judged.undecided);
     }
     tell_left_out(rt, &recorded.left_out);
+    if !recorded.is_whole {
+        // There is nowhere else to say that this could not be said.
+        let _ = eprintln!(rt;
+            "mcrace: not all was written: the output failed, or memory was short"
+        );
+    }
 }
 
 fn tell_count<R: Eprint>(rt: &R, name: &str, count: Count) {

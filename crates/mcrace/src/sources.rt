@@ -2,4 +2,4 @@
 
 /// The SHA-256 of all sources, definitions and proofs but of this file.
 pub const SOURCES: &[u8] =
-    b"sources 3880a75e64f7b3a54eab31851cd139e876e9e85226cb1c2500f8dbcc5a20a12c\n";
+    b"sources 569051b73d33095120b7c9bb80ee6bfdd39142040bf3e75f39ece03e8e1d62cc\n";
