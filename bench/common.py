@@ -10,6 +10,7 @@ import fcntl
 import os
 import pathlib
 import re
+import resource
 import subprocess
 import sys
 import tempfile
@@ -90,20 +91,26 @@ def ran(words, text="", statuses=(0,), seconds=600):
     return found.stdout
 
 
-def timed(words, text):
-    """What a command answers to a text, its status, and the seconds that it took."""
+def processor_seconds():
+    """Those of the commands that have ended. They say more than a clock at a busy machine."""
+    its = resource.getrusage(resource.RUSAGE_CHILDREN)
+    return its.ru_utime + its.ru_stime
+
+
+def timed(words, text, clock=time.perf_counter):
+    """What a command answers to a text, its status, and the seconds that it took by the clock."""
     with tempfile.TemporaryFile() as given:
         given.write(text)
         given.seek(0)
-        began = time.perf_counter()
+        began = clock()
         ended = subprocess.run(words, stdin=given, stdout=subprocess.PIPE)
-        return ended.stdout, ended.returncode, time.perf_counter() - began
+        return ended.stdout, ended.returncode, clock() - began
 
 
-def quickest(repeats, words, text, is_right):
+def quickest(repeats, words, text, is_right, clock=time.perf_counter):
     """What a command answers to a text, which must be right with its status; the milliseconds of
     the quickest of its runs; and the most kilobytes that it held."""
-    runs = [timed(words, text) for _ in range(repeats)]
+    runs = [timed(words, text, clock) for _ in range(repeats)]
     for answer, status, _ in runs:
         if not is_right(answer, status):
             stop(words, "answered", answer[:80], "with status", status)

@@ -5,6 +5,8 @@ import contextlib
 import functools
 import math
 import re
+import subprocess
+import time
 from statistics import fmean
 
 from common import in_turns, ran, servers, stop  # which finds the model
@@ -160,3 +162,32 @@ def shares_of(runs):
     clear = [is_found for is_found, it in runs if it.late >= CLEARLY]
     return {"found": fmean(found), "overlapped": fmean(it.overlapped for it in visits),
             "A first": fmean(it.is_a_first for it in visits), "clear": fmean(clear or [0])}
+
+
+def by_seed(command, stream, says, program, port, attempt, limit):
+    """The seconds until a command with this seed says so on its standard error or output."""
+    words = [program, command, f"127.0.0.1:{port}", "--seed", attempt, "--for", f"{limit}s"]
+    pipes = dict.fromkeys(["stdin", "stdout", "stderr"], subprocess.DEVNULL)
+    pipes[stream] = subprocess.PIPE
+    began = time.perf_counter()
+    with subprocess.Popen(list(map(str, words)), **pipes, text=True) as process:
+        found = any(says in it for it in getattr(process, stream))
+        took = time.perf_counter() - began
+        process.kill()
+    if not found and process.wait():
+        stop(words, "ended with", process.returncode)
+    return took if found else float("inf")
+
+
+def seconds_to(ways, program, attempt, limit, *server):
+    """The seconds by each of the ways, each at a server of its own."""
+    found = {}
+    for way, look in ways.items():
+        with faulty_server(*server, is_shared=True) as (port, _):
+            found[way] = look(program, port, attempt, limit)
+    return found
+
+
+# The ways that need no script: what is asked, and what is said of a finding on which stream.
+SEEDED = {"campaign": functools.partial(by_seed, "campaign", "stderr", " is unexplained;"),
+          "test": functools.partial(by_seed, "test", "stdout", "found: ")}

@@ -26,7 +26,11 @@ def numbered(names, first=1):
 
 
 KEY = r"[a-z0-9-]{1,40}"
-EXPLANATION = rf"(?:start {KEY} \d+\n)*(?:[PAB] \d+(?: pad)?(?: refuse)?\n)*end\n"
+START, MARKS = rf"(?:start {KEY} \d+\n)*", r"(?: pad)?(?: refuse)?\n"
+EXPLANATION = rf"{START}(?:[PAB] \d+{MARKS})*end\n"
+# Of a timeline.
+CLIENT = r"(?:[0-9]|[1-5][0-9]|6[0-3])"
+LINEARIZATION = rf"{START}(?:{CLIENT} \d+{MARKS})*end\n"
 VERDICT = rf"(?P<verdict>explained\n{EXPLANATION}|unexplained\n|undecided\n)"
 TOO_LONG = "refused input too long\n"
 NO_HISTORY = rf"refused history {numbered(FAULTS_OF_HISTORY)} line \d+\n"
@@ -68,8 +72,10 @@ def forms_with(hint, why):
     a refusal of a line stands a hint, and after `unexplained` why it is so."""
     no_code = f"{NO_SCRIPT}{hint}|{TOO_LARGE}{hint}|{UNSOUND}{hint}|{TOO_LONG}"
     forms = {
-        "judge": [("confirmed\n", 0), ("not confirmed\n", 1), (rf"explained\n{EXPLANATION}", 0),
-                  (f"unexplained\n{why}", 1), ("undecided\n", 4),
+        "judge": [("confirmed\n", 0), ("not confirmed\n", 1),
+                  (rf"explained\n(?:{EXPLANATION}|{LINEARIZATION})", 0),
+                  (rf"unexplained\n(?:key {KEY}\n)?{why}", 1),
+                  (rf"undecided\n(?:key {KEY}\n)?", 4),
                   (f"{NO_HISTORY}{hint}|{TOO_LONG}", 3)],
         "draw": [(r"(?:confirmed|explained|unexplained|undecided): [ -~\n]*|<svg .*</svg>\n", 0),
                  (f"{NO_HISTORY}|{TOO_LONG}", 3)],

@@ -13,9 +13,9 @@ from .program import COUNTER, PROGRAM, SECONDS, run
 
 # An operation of EDN: its values are a string, numbers, keywords and strings.
 VALUE = r'(?:"(?:[ !#-\[\]-~]|\\["\\])*"|\d+N?|:[A-Z_]+)'
-OPERATION = re.compile(rf"{{:process [012], :type :(?:invoke|ok|info), :f :[a-z]+, :value \[{VALUE}"
+OPERATION = re.compile(rf"{{:process \d\d?, :type :(?:invoke|ok|info), :f :[a-z]+, :value \[{VALUE}"
                        rf"(?: {VALUE})*\], :index \d+}}")
-NOTE = re.compile(rb"^ *[PAB] +(?:begin|reply) ", re.M)
+NOTE = re.compile(rb"^ *(?:[PAB]|\d+) +(?:begin|reply) ", re.M)
 
 
 def answered(words, given):

@@ -1,24 +1,30 @@
-"""`mcrace record`: what it hands on, what it notes of what client libraries do, and that its record
-is true of any client and server."""
+"""`mcrace record`: what it hands on, what it notes of what client libraries do, which of their
+faults show on the wire, and that its record is true of any client and server."""
 
 import concurrent.futures
 import contextlib
 import importlib
 import itertools
 import pathlib
+import os
 import random
 import re
 import socket
+import subprocess
+import sys
 import tempfile
 import threading
 import time
 
 from . import servers
-from .program import SECONDS, LiveTest, begun, rows, run, three_times
+from .program import PROGRAM, ROOT, SECONDS, LiveTest, begun, rows, run, three_times
+from .test_scripts import ScriptTest
 
 LISTENING = re.compile(rb"mcrace: listening 127\.0\.0\.1:(\d+)\n")
 TOTALS = re.compile(r"mcrace: (\w+) (\d+) requests in (\d+) timelines")
 THREADS, ROUNDS = 4, 50
+# How long a race is open, in microseconds.
+WINDOW = 300
 
 
 class Recorder:
@@ -127,6 +133,47 @@ class Libraries(RecordTest):
         self.check_library(library, connect, server)
 
 
+class Faults(RecordTest):
+    """Faults of clients, by two threads before a right server. No key is unexplained; but where two
+    calls share a connection, one sends while the other waits, so it has two clients' numbers."""
+
+    # More connections than any of the clients opens in the rounds of a right one.
+    most = 60
+
+    @rows([(it, it, 200) for it in ("wrong-reply", "retried-incr", "shared-connection")] +
+          [(it, it, 10) for it in ("locked", "pool", "pymemcache", "pymemcache-pool",
+                                   "python-memcached-shared")])
+    @three_times
+    def test_faults(self, client, rounds):
+        is_faulty = rounds > 10
+        with servers.serving() as (_, port), Recorder(port, "--judge", "--connections",
+                                                      str(self.most)) as recorder:
+            words = [sys.executable, ROOT / "examples/clients/two-threads", client,
+                     f"127.0.0.1:{recorder.port}", str(rounds)]
+            ran = subprocess.run(words, check=False, capture_output=True, timeout=SECONDS,
+                                 env={**os.environ, "MCRACE": str(PROGRAM)})
+            if b"ModuleNotFoundError" in ran.stderr:
+                self.skipTest(f"{client} is not installed")
+            self.assertEqual(ran.returncode, int(is_faulty), ran.stderr)
+            connections = self.most - self.fill(recorder)
+            status, faults = recorder.ended()
+            self.assertEqual(status, 0, faults)
+            self.assert_judged(recorder)
+            numbers = {*re.findall(rb"^(\d+) begin", recorder.text(), re.M)}
+            self.assertEqual(len(numbers) > connections, is_faulty, (numbers, faults))
+            self.assertEqual("mcrace: pipelined " in faults, is_faulty, faults)
+
+    @staticmethod
+    def fill(recorder):
+        """Ends the recording by connections that say nothing, and answers how many it took."""
+        count = 0
+        while recorder.process.poll() is None:
+            with contextlib.suppress(OSError), servers.connect(recorder.port) as stream:
+                stream.shutdown(socket.SHUT_WR)
+                count += stream.recv(1) == b""
+        return count
+
+
 class Races(LiveTest):
     """A server with a race."""
 
@@ -161,6 +208,28 @@ class Races(LiveTest):
                 stream.close()
             time.sleep(1)
             self.assertEqual(run(["judge"], recorder.text()).text, "unexplained\nkey k1\n")
+
+
+class FaultyServer(ScriptTest, RecordTest):
+    """A server in C whose increments race, before the clients of a library."""
+
+    @three_times
+    def test_lost_increments(self):
+        with self.faulty("lost-increment", WINDOW) as (_, port), \
+                Recorder(port, "--judge", "--connections", str(THREADS)) as recorder:
+            try:
+                clients = [pymemcache_client(recorder.port) for _ in range(THREADS)]
+            except ImportError:
+                self.skipTest("pymemcache is not installed")
+            clients[0].set("n", "1")
+            with concurrent.futures.ThreadPoolExecutor(THREADS) as threads:
+                [*threads.map(lambda it: [it.incr("n", 1) for _ in range(ROUNDS)], clients)]
+            for client in clients:
+                client.close()
+            status, faults = recorder.ended()
+            self.assertEqual(status, 1, faults)
+            self.assertIn('mcrace: no order explains a key:\n# k1 is "n"\n', faults)
+            self.assert_judged(recorder, "unexplained")
 
 
 class Handing(RecordTest):
@@ -286,6 +355,22 @@ class Ends(RecordTest):
             output, faults = process.communicate(timeout=SECONDS)
         self.assertEqual((output, process.returncode), (b"history 3\nend\n", 0))
         self.assertIn(b"mcrace: left out 1: the key hadn't started\n", faults)
+
+    def test_pipelined(self):
+        """It says how many requests were sent while their connection waited for a reply."""
+        read = servers.Step.READ
+        with servers.Replying([read, read, b"6\r\n7\r\n", read, b"8\r\n"]) as server, \
+                Recorder(server.port, "--connections", "1") as recorder:
+            with servers.connect(recorder.port) as stream, stream.makefile("rb") as replies:
+                for requests in (2, 1):
+                    for _ in range(requests):
+                        stream.sendall(b"incr a 1\r\n")
+                    for _ in range(requests):
+                        replies.readline()
+            status, faults = recorder.ended()
+        self.assertEqual(status, 0, faults)
+        self.assertIn("\nmcrace: pipelined 1: sent while their connection waited for a reply\n",
+                      faults)
 
     def test_many(self):
         """A 65th connection is closed."""

@@ -15,6 +15,15 @@ from .test_scripts import RACES, SCRIPTS, ScriptTest, race_of
 # Each race, with the bug of examples/faulty_server.c that it finds.
 BUGS = {race: next(bug for name, bug in RACES if name in (race, f"{race}-1"))
         for race in sorted({*map(race_of, SCRIPTS)})}
+# Of a race's own bug, the other races that show it too, as far as they are played beside it.
+LIKE = {
+    "lost-increment": "lost-decrement,lost-update,set-undone",
+    "lost-decrement": "cas-undoes,lost-update,set-undone",
+    "lost-append": "lost-flags,lost-prepend,lost-update",
+    "lost-prepend": "lost-update,set-undone", "cas-two-winners": "cas-undoes,torn-gets",
+    "add-twice": "add-over-set", "delete-twice": "add-twice", "touch-undoes": "set-undone",
+    "torn-gets": "cas-two-winners,number-again,torn-flags", "torn-body": "torn-flags",
+    "stale-get": "add-over-set,stale-gets,torn-body", "number-again": "revived-item,torn-gets"}
 # In microseconds. Where each script has few runs, only a wide window is sure to be met.
 WINDOW = 20
 WIDE_WINDOW = 300
@@ -46,6 +55,17 @@ class Races(ScriptTest):
         self.check_at_once(self.check_found, BUGS.items())
 
     @three_times
+    def check_first(self, bug, like):
+        with self.faulty(bug, 120 if bug == "stale-get" else 2 * WINDOW) as (_, port):
+            found = tested(port, "--only", f"{like},{bug}", "--for", "5s")
+        self.assertEqual(found.status, 1, found.text)
+        self.assertEqual(re.search(r"^found: (\S+) -", found.text, re.M)[1], bug, found.text)
+
+    def test_first(self):
+        """A race of a bug's own name is told first, though others show the bug too."""
+        self.check_at_once(self.check_first, LIKE.items())
+
+    @three_times
     def test_all_at_once(self):
         """A test of all races tells the server's own, and plays generated scripts too."""
         with self.faulty("lost-increment", WIDE_WINDOW) as (_, port):
@@ -62,7 +82,7 @@ class Right(ScriptTest):
     def assert_nothing(self, found):
         self.assertEqual(found.status, 0, found.text)
         self.assertIn("\nwrong alone: none\nnot supported: none\n", found.text)
-        self.assertRegex(found.text, r"\nslowest run \d+\.\d ms, no failed connection\n")
+        self.assertRegex(found.text, r"\nslowest reply \d+\.\d ms, no failed connection\n")
         self.assertRegex(found.text, r"\nno race found in [\d,]+ runs and \d+\.\d s\n\Z")
         self.assertNotIn("wrong reply", found.text)
         self.assertEqual([it for it in found.text.splitlines() if len(it) > 80], [])
@@ -243,11 +263,16 @@ class Failing(LiveTest):
         self.assertIn("not supported: touch (closes)\n", found.text)
 
     def test_garbage(self):
+        """What isn't answered as by a cache isn't asked for races."""
         server = self.enter(servers.Replying(servers.answers(*[b"garbage\r\n"] * 50)))
-        found = tested(server.port, "--for", "2s", "--only", "add-twice")
+        found = tested(server.port, "--for", "30s")
         self.assertEqual(found.status, 1, found.text)
         self.assertIn('to "delete ', found.text)
         self.assertIn('came "garbage\\r\\n"', found.text)
+        self.assertEqual(found.text.count("wrong reply: "), 3)
+        self.assertIn(f"races tried: 0 of {len(BUGS)}; generated scripts: 0\n", found.text)
+        self.assertIn("\nno verb was answered as memcached would: is the address right?\n",
+                      found.text)
 
     @rows([("closes", servers.Step.END), ("resets", servers.Step.RESET)])
     def test_ended(self, step):
@@ -280,7 +305,7 @@ class Failing(LiveTest):
     def check_error(self, suite, text):
         error, = suite.iter("error")
         self.assertEqual((suite.get("failures"), suite.get("errors")), ("0", "1"))
-        self.assertIn(text, error.get("message"))
+        self.assertRegex(error.get("message"), text)
 
     def test_reports_of_no_server(self):
         port = servers.free_port()
@@ -288,14 +313,15 @@ class Failing(LiveTest):
         self.assertEqual((status, report["status"], report["ended"]), (4, 4, True))
         self.assertIn(f"127.0.0.1:{port}: Connection refused", report["fault"])
         self.assertEqual((report["runs"], report["version"]), (0, None))
-        self.check_error(suite, f"exit status 4: 127.0.0.1:{port}: Connection refused")
+        text = rf"\Aexit status 4: 127\.0\.0\.1:{port}: Connection refused \(os error 111\)\Z"
+        self.check_error(suite, text)
 
     def test_reports_of_gone_server(self):
         server = self.enter(servers.Replying([servers.Step.READ] * 50))
         status, report, suite = self.reports(server.port, "--for", "30s", "--timeout", "300ms")
         self.assertEqual((status, report["status"], report["ended"]), (5, 5, True))
         self.assertEqual((report["gone"], report["fault"]), (True, None))
-        self.check_error(suite, "exit status 5: ")
+        self.check_error(suite, r"\Aexit status 5: [1-9]\d* runs failed, ")
 
 
 if __name__ == "__main__":

@@ -4,7 +4,7 @@ use Rattle.std.specs.List.{concat}
 use Rattle.std.proofs.lemmas.List.Folds.{concat-append}
 use Rattle.bstr.proofs.lemmas.RestLemmas.{concat-lines_of}
 use Rattle.mc_code.specs.Code.{Code}
-use Rattle.mc_script.specs.FrontText.{SpellsFront}
+use Rattle.mc_script_text.specs.FrontText.{SpellsFront}
 use Rattle.mc_script.specs.Script.{Script}
 use Rattle.mc_answers.specs.DriveAnswers.{BeginsWith}
 

@@ -1,7 +1,7 @@
 -- What `asm` answers to a text.
 use Rattle.std.specs.Prelude.{◌≡◌, ◌⊎◌, ℕ, Bool, List, Ok, Err}
 use Rattle.mc_code.specs.Code.{Code}
-use Rattle.mc_code.specs.Image.{image_of}
+use Rattle.mc_image.specs.Image.{image_of}
 use Rattle.mc_answers.specs.Loading.{LoadsScript, SaysNoCode}
 use Rattle.mc_answers.specs.declared.status.Status.{Status}
 use Rattle.mc_answers.specs.declared.status.Status.TheVariants as status

@@ -14,12 +14,13 @@ abbrev pub judges : Request → Bool
 judges (request.Question (question.Judge args)) = true
 judges _ = false
 
--- what is asked for needs a network: lines of `run`, `test`, `serve`, `record`, `campaign` and `selftest` do
+-- what is asked for needs a network: lines of `test`, `run`, `campaign`, `stress`, `record`, `serve` and `selftest` do
 abbrev pub needs_network : Request → Bool
 needs_network (request.Run args) = true
 needs_network (request.Serve service) = true
 needs_network (request.Record args) = true
 needs_network (request.Campaign args) = true
+needs_network (request.Stress args) = true
 needs_network (request.Test args) = true
 needs_network request.Selftest = true
 needs_network _ = false

@@ -1,6 +1,6 @@
 -- What `generate` prints.
 use Rattle.std.specs.Prelude.{◌≡◌, ℕ, List}
-use Rattle.mc_script.specs.PrintedScript.{script_text}
+use Rattle.mc_script_text.specs.PrintedScript.{script_text}
 use Rattle.mc_generate.specs.Generated.{generated}
 use Rattle.mc_answers.specs.declared.status.Status.{Status}
 use Rattle.mc_answers.specs.declared.status.Status.TheVariants as status

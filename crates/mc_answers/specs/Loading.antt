@@ -1,16 +1,16 @@
 -- The code of an input: that of the script which it spells, or that whose image it is; or why it has none.
 use Rattle.std.specs.Prelude.{◌≡◌, ◌≢◌, ◌⊎◌, ◌==◌, ℕ, Bool, true, false, List, Result, Ok, Err, MatchResult, codes}
 use Rattle.std.specs.List.{starts_with}
-use Rattle.mc_script.specs.declared.fault.ScriptKind.TheVariants as script_kind
+use Rattle.mc_script_text.specs.declared.fault.ScriptKind.TheVariants as script_kind
 use Rattle.mc_script.specs.Script.{Script}
-use Rattle.mc_script.specs.FrontText.{SpellsFront}
-use Rattle.mc_script.specs.ScriptText.{SpellsScript}
+use Rattle.mc_script_text.specs.FrontText.{SpellsFront}
+use Rattle.mc_script_text.specs.ScriptText.{SpellsScript}
 use Rattle.mc_code.specs.declared.fault.AsmFault.{AsmFault}
 use Rattle.mc_code.specs.declared.fault.AsmFault.TheVariants as asm_fault
-use Rattle.mc_code.specs.declared.fault.ImageKind.TheVariants as image_kind
+use Rattle.mc_image.specs.declared.fault.ImageKind.TheVariants as image_kind
 use Rattle.mc_code.specs.Agreement.{Agrees}
 use Rattle.mc_code.specs.Code.{Code, IsCode}
-use Rattle.mc_code.specs.Image.{IsImageOf}
+use Rattle.mc_image.specs.Image.{IsImageOf}
 use Rattle.mc_code.specs.Layout.{IsExceeded, IsFirst, code_of}
 use Rattle.mc_hints.specs.Refusals.{load_refusal, unsound_text}
 use Rattle.mc_hints.specs.declared.refused.LoadFault.{LoadFault}

@@ -8,7 +8,7 @@ use Rattle.mc_model.specs.declared.note.Note.TheVariants as note
 use Rattle.mc_timeline.specs.TimelineText.{timeline_header}
 use Rattle.mc_timeline.specs.Timelines.{ClientNote, restricted}
 use Rattle.mc_linearize.specs.Claims.{ExplainsTimeline, TimelineClaim}
-use Rattle.mc_linearize.specs.Verdicts.{IsTrueOf, IsTrueOfAll}
+use Rattle.mc_linearize.specs.Verdicts.{IsTrueOf, IsTrueOfAll, IsUndecided}
 use Rattle.mc_linearize.specs.declared.verdict.{KeyVerdict.KeyVerdict, TimelineVerdict.TimelineVerdict}
 use Rattle.mc_linearize.specs.declared.verdict.KeyVerdict.TheVariants as of_key
 use Rattle.mc_linearize.specs.declared.verdict.TimelineVerdict.TheVariants as of_all
@@ -98,8 +98,8 @@ abbrev pub IsLimit : Option ℕ → ℕ → Type 0
 IsLimit None limit = 1000000 ≤ limit
 IsLimit (Some given) limit = limit ≡ given
 
--- a true verdict on the timeline that the text spells is written, found in at most `limit` turns for each key, and why nothing explains
--- a key, where that is so and `why` asks for it
+-- a true verdict on the timeline that the text spells is written, found in at most `limit` turns for each key, undecided only if all of
+-- them were used; and why nothing explains a key, where that is so and `why` asks for it
 pub record JudgesTimeline (given : Option ℕ) (why : Bool) (text : List ℕ) (notes : List ClientNote) (output : List ℕ) (ended : Status)
     : Type 0 where
   pub limit : ℕ
@@ -107,6 +107,7 @@ pub record JudgesTimeline (given : Option ℕ) (why : Bool) (text : List ℕ) (n
   pub found : TimelineVerdict
   pub turns : ℕ
   pub within : turns ≤ limit
+  pub decides : IsUndecided found → turns ≡ limit
   pub true_of : IsTrueOfAll notes found
   pub reasons : List ℕ
   pub reasons_are : AreReasons why text notes found reasons
@@ -121,6 +122,7 @@ pub record JudgesKey (given : Option ℕ) (why : Bool) (text : List ℕ) (notes 
   pub found : KeyVerdict
   pub turns : ℕ
   pub within : turns ≤ limit
+  pub decides : found ≡ of_key.Undecided → turns ≡ limit
   pub true_of : IsTrueOf (restricted key notes) found
   pub reasons : List ℕ
   pub reasons_are : AreReasonsOnKey why text notes key found reasons

@@ -1,6 +1,6 @@
 //! What `asm` answers to a text.
 ghost use Rattle.std.specs.Prelude.{◌≡◌, IfOk};
-ghost use Rattle.mc_code.specs.Image.{image_of};
+ghost use Rattle.mc_image.specs.Image.{image_of};
 ghost use Rattle.mc_answers.specs.AsmAnswers as answers;
 ghost use Rattle.mc_answers.specs.Refusing.{Gives};
 
@@ -8,8 +8,9 @@ use crate::answer::Answer;
 use crate::loading::load_script;
 use crate::refusal::{Unanswered, refuse};
 use crate::status::Status;
-use mc_code::{Code, encode};
+use mc_code::Code;
 use mc_hints::Refused;
+use mc_image::encode;
 use std::alloc::{AllocError, Global};
 
 /// Reads a script, which needn't be sound, and answers the image of its code.

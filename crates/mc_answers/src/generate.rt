@@ -8,7 +8,7 @@ use crate::status::Status;
 use crate::streams::Sink;
 use crate::writing::{write_fault, write_text};
 use mc_generate::generate_script;
-use mc_script::print;
+use mc_script_text::print;
 use std::alloc::{AllocError, Global};
 
 /// Writes the script that this seed and this job give, or that memory ran out.

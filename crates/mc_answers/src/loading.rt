@@ -1,16 +1,18 @@
 //! Reading code: a script's, which is assembled, or an image's; and whether it is sound.
 ghost use Rattle.std.specs.Prelude.{◌≡◌, ◌≢◌, IfErr, IfOk};
-ghost use Rattle.mc_script.specs.declared.fault.ScriptKind.TheVariants as script_kind;
+ghost use Rattle.mc_script_text.specs.declared.fault.ScriptKind.TheVariants as script_kind;
 ghost use Rattle.mc_verify.specs.Checked.{IsRightRefusal};
 ghost use Rattle.mc_verify.specs.Faults.{IsSound};
 ghost use Rattle.mc_answers.specs.Loading as loading;
 ghost use Rattle.mc_answers.specs.Refusing.{IfRefused};
 
 use crate::refusal::{Unanswered, refuse};
-use mc_code::{Code, assemble, decode};
+use mc_code::{Code, assemble};
 use mc_hints::{LoadFault, Refused};
+use mc_image::decode;
 use mc_protocol::fault_of_input;
-use mc_script::{Script, ScriptFault, parse, parse_front};
+use mc_script::Script;
+use mc_script_text::{ScriptFault, parse, parse_front};
 use mc_verify::{Checked, verify};
 use std::alloc::{AllocError, Global};
 

@@ -80,6 +80,7 @@ pub fn command<I: Source, O: Sink, F: Sink>(
         Ok(Request::Serve(_)) => Status::NoAnswer.number(),
         Ok(Request::Record(_)) => Status::NoAnswer.number(),
         Ok(Request::Campaign(_)) => Status::NoAnswer.number(),
+        Ok(Request::Stress(_)) => Status::NoAnswer.number(),
         Ok(Request::Selftest) => Status::NoAnswer.number(),
         Err(fault) => explain_fault(&fault, output, faults).number(),
     }

@@ -8,7 +8,7 @@ use Rattle.mc_model.specs.declared.sent.Sent.{Sent}
 use Rattle.mc_core.specs.Worlds.{World}
 use Rattle.mc_lane.specs.Lanes.{LaneRecord}
 use Rattle.mc_run.specs.Agreement.{Agree, AreRecorded, LaneRecords}
-use Rattle.mc_run.specs.Recorded.{IsRecordedBy}
+use Rattle.mc_recorded.specs.Recorded.{IsRecordedBy}
 use Rattle.mc_campaign.specs.Outcomes.{closed_lanes}
 
 recorded_closed : {requests : List Sent} {ended : Option Fault} {lane : LaneRecord} → IsRecordedBy requests ended lane

@@ -1,12 +1,13 @@
 -- A line asks for one thing at most, and what is answered to one that asks for nothing.
-use Rattle.std.proofs.Common.{◌≡◌, ◌∙◌, ap, sym, inl, inr, ℕ, List, [], Option, Some, unwrap_or}
+use Rattle.std.proofs.Common.{◌≡◌, ◌∙◌, ap, sym, inl, inr, ℕ, List, [], Option, Some, codes, unwrap_or}
 use Rattle.clap.specs.Words.{IsAmong, Text}
 use Rattle.clap.specs.declared.error.kind.ErrorKind.{ErrorKind}
 use Rattle.clap.specs.declared.error.kind.ErrorKind.TheVariants as kind
 use Rattle.mc_protocol.specs.Decimals.{MAX_64}
 use Rattle.mc_cli.proofs.Names as names
-use Rattle.mc_cli.proofs.Once.{check_once, convert_once, draw_once, judge_once, maybe_once, plan_once, search_once, service_once, value_once}
-use Rattle.mc_cli.specs.Args.{number}
+use Rattle.mc_cli.proofs.Once.{check_once, convert_once, draw_once, judge_once, maybe_once, plan_once, search_once, service_once}
+use Rattle.mc_cli.proofs.Once.{stress_once, value_once}
+use Rattle.mc_cli.specs.Args.{count, number}
 use Rattle.mc_cli.specs.Asking.{AsksFor, HasFault, IsAskedBy, IsAskedWith, IsFaultOf, IsLike, IsShown, Says, name_of}
 use Rattle.mc_cli.specs.Line.{line_command, line_faults, line_value}
 use Rattle.mc_cli.specs.declared.question.Question.TheVariants as question
@@ -24,42 +25,42 @@ one_name is also = ap (λ (o : Option Text). unwrap_or o []) (sym also ∙ is)
 with_once : (value : Text → Option Text) (one other : Request) → name_of other ≡ name_of one → IsAskedWith value one
     → IsAskedWith value other → IsLike one other
 with_once value (request.Question (question.Judge args)) other named is also =
-    let found = names.is_judge other named in
+    let found = names.of_name (codes "judge") other named in
     rw found.1 (ap (λ a. request.Question (question.Judge a)) (judge_once value args found.0 is (rw found.1 at also)))
 with_once value (request.Question (question.Check args)) other named is also =
-    let found = names.is_check other named in
+    let found = names.of_name (codes "check") other named in
     rw found.1 (ap (λ a. request.Question (question.Check a)) (check_once value args found.0 is (rw found.1 at also)))
 with_once value (request.Question (question.Asm why)) other named is also =
-    let found = names.is_asm other named in
+    let found = names.of_name (codes "asm") other named in
     rw found.1 (ap (λ b. request.Question (question.Asm b)) (is ∙ sym (rw found.1 at also)))
 with_once value (request.Question (question.Drive how)) other named is also =
-    let found = names.is_drive other named in
+    let found = names.of_name (codes "drive") other named in
     rw found.1 (ap (λ h. request.Question (question.Drive h)) (search_once value how found.0 is (rw found.1 at also)))
 with_once value (request.Question (question.Draw how)) other named is also =
-    let found = names.is_draw other named in
+    let found = names.of_name (codes "draw") other named in
     rw found.1 (ap (λ h. request.Question (question.Draw h)) (draw_once value how found.0 is (rw found.1 at also)))
 with_once value (request.Question (question.Convert args)) other named is also =
-    let found = names.is_convert other named in
+    let found = names.of_name (codes "convert") other named in
     rw found.1 (ap (λ a. request.Question (question.Convert a)) (convert_once value args found.0 is (rw found.1 at also)))
-with_once value (request.Question question.Join) other named is also = sym (names.is_join other named)
+with_once value (request.Question question.Join) other named is also = sym (names.of_name (codes "join") other named)
 with_once value (request.Run args) other named is also =
-    let found = names.is_run other named in
+    let found = names.of_name (codes "run") other named in
     let more = rw found.1 at also in
     (found.0, found.1, search_once value args.how found.0.how is.how more.how)
 with_once value (request.Test args) other named is also =
-    let found = names.is_test other named in
+    let found = names.of_name (codes "test") other named in
     let more = rw found.1 at also in
     (found.0, found.1, maybe_once (number MAX_64) _ args.seed found.0.seed is.seed more.seed)
 with_once value (request.Generate seed job) other named is also =
-    let found = names.is_generate other named in
+    let found = names.of_name (codes "generate") other named in
     let are = rw found.2 at also in
     rw found.2 (ap (λ n. request.Generate n job) (value_once (number MAX_64) _ _ seed found.0 is.seed are.seed)
     ∙ ap (request.Generate found.0) (value_once (number MAX_64) _ _ job found.1 is.job are.job))
 with_once value (request.Serve service) other named is also =
-    let found = names.is_serve other named in
+    let found = names.of_name (codes "serve") other named in
     rw found.1 (ap request.Serve (service_once value service found.0 is (rw found.1 at also)))
 with_once value (request.Record args) other named is also =
-    let found = names.is_record other named in
+    let found = names.of_name (codes "record") other named in
     let more = rw found.1 at also in (
       found.0,
       found.1,
@@ -69,10 +70,20 @@ with_once value (request.Record args) other named is also =
       is.judge ∙ sym more.judge,
     )
 with_once value (request.Campaign args) other named is also =
-    let found = names.is_campaign other named in
+    let found = names.of_name (codes "campaign") other named in
     let more = rw found.1 at also in
     (found.0, found.1, plan_once value args.plan found.0.plan is.plan more.plan)
-with_once value request.Selftest other named is also = sym (names.is_selftest other named)
+with_once value (request.Stress args) other named is also =
+    let found = names.of_name (codes "stress") other named in
+    let more = rw found.1 at also in (
+      found.0,
+      found.1,
+      stress_once value args.plan found.0.plan is.plan more.plan,
+      maybe_once (count 1000000) _ args.rounds found.0.rounds is.rounds more.rounds,
+      maybe_once kind_of.Time _ args.time found.0.time is.time more.time,
+      maybe_once (number 1000000000) _ args.limit found.0.limit is.limit more.limit,
+    )
+with_once value request.Selftest other named is also = sym (names.of_name (codes "selftest") other named)
 
 pub asks_once : (words : List (List ℕ)) (one other : Request) → AsksFor words one → AsksFor words other → IsLike one other
 asks_once words one other is also =

@@ -1,10 +1,13 @@
 -- The words of a line say one thing at most.
 use Rattle.std.proofs.Common.{◌≡◌, ◌∙◌, ◌||◌, ◌+◌, ◌-◌, ◌≤◌, ◌^◌, refl, ap, ap₂, sym, true, ℕ, nat_lt, List, [], Option, Some, None, codes}
-use Rattle.std.proofs.Common.{is_some, length, unwrap_or, if◌then◌else◌}
+use Rattle.std.proofs.Common.{bytes_eq, is_some, length, unwrap_or, if◌then◌else◌}
 use Rattle.std.proofs.lemmas.Bool.{false≢true}
 use Rattle.clap.specs.Words.{Text}
 use Rattle.mc_protocol.specs.Decimals.{MAX_64}
+use Rattle.mc_settings.specs.declared.mix.Mix.{Mix}
+use Rattle.mc_settings.specs.declared.mix.Mix.TheVariants as mix
 use Rattle.mc_cli.specs.Args.{AreJobs, GREATEST_JOBS, IsCheck, IsConvert, IsDraw, IsJudge, IsPlan, IsRepeat, IsSearch, IsService, IsUntil}
+use Rattle.mc_cli.specs.Args.{IsMix, IsStressPlan, mix_word}
 use Rattle.mc_cli.specs.Args.{MayBeName, count, notation_word, number}
 use Rattle.mc_cli.specs.Kinds.{IsValue, MayBeValue, reads}
 use Rattle.mc_cli.specs.Line.{is_set}
@@ -18,6 +21,7 @@ use Rattle.mc_cli.specs.declared.args.Plan.{Plan}
 use Rattle.mc_cli.specs.declared.args.Repeat.{Repeat}
 use Rattle.mc_cli.specs.declared.args.Search.{Search}
 use Rattle.mc_cli.specs.declared.args.ServeArgs.{ServeArgs}
+use Rattle.mc_cli.specs.declared.args.StressPlan.{StressPlan}
 use Rattle.mc_cli.specs.declared.args.Until.{Until}
 use Rattle.mc_cli.specs.declared.rows.Kind.{Kind}
 use Rattle.mc_cli.specs.declared.rows.Kind.TheVariants as kind
@@ -29,6 +33,7 @@ read_once : (k : Kind) (word : List ℕ) (one other : ℕ) → reads k word one 
 read_once (kind.Number least greatest) word one other is also = sym is.0.value ∙ also.0.value
 read_once kind.Time word one other is also = same one other (sym is ∙ also)
 read_once kind.Meeting word one other is also = absurd is
+read_once kind.Mix word one other is also = absurd is
 read_once kind.Notation word one other is also = absurd is
 read_once kind.Name word one other is also = absurd is
 read_once kind.Address word one other is also = absurd is
@@ -103,6 +108,32 @@ service_once value one other is also =
     ∙ (ap (λ n. record { port = other.port; connections = n; racy = one.racy })
     (value_once (number MAX_64) _ _ one.connections other.connections is.connections also.connections)
     ∙ ap (λ b. record { port = other.port; connections = other.connections; racy = b }) (is.racy ∙ sym also.racy))
+
+-- the mix with this word
+abbrev mix_of : Text → Mix
+mix_of word =
+    if bytes_eq word (codes "counters") then mix.Counters else if bytes_eq word (codes "cas") then mix.Cas
+    else if bytes_eq word (codes "bodies") then mix.Bodies else if bytes_eq word (codes "presence") then mix.Presence else mix.All
+
+of_its_word : (m : Mix) → mix_of (mix_word m) ≡ m
+of_its_word mix.All = refl
+of_its_word mix.Counters = refl
+of_its_word mix.Cas = refl
+of_its_word mix.Bodies = refl
+of_its_word mix.Presence = refl
+
+mix_once : (word : Option (List ℕ)) (one other : Mix) → IsMix word one → IsMix word other → one ≡ other
+mix_once None one other is also = is ∙ sym also
+mix_once (Some word) one other is also = sym (of_its_word one) ∙ (ap mix_of (sym is ∙ also) ∙ of_its_word other)
+
+pub stress_once : (value : Text → Option Text) (one other : StressPlan) → IsStressPlan value one → IsStressPlan value other → one ≡ other
+stress_once value one other is also =
+    ap (λ n. record one { clients = n }) (value_once (kind.Number 2 64) _ _ one.clients other.clients is.clients also.clients)
+    ∙ (ap (λ n. record other { requests = n; keys = one.keys; mix = one.mix; seed = one.seed })
+    (value_once (count 1000) _ _ one.requests other.requests is.requests also.requests)
+    ∙ (ap (λ n. record other { keys = n; mix = one.mix; seed = one.seed }) (value_once (count 16) _ _ one.keys other.keys is.keys also.keys)
+    ∙ (ap (λ m. record other { mix = m; seed = one.seed }) (mix_once _ one.mix other.mix is.mix also.mix)
+    ∙ ap (λ n. record other { seed = n }) (value_once (number MAX_64) _ _ one.seed other.seed is.seed also.seed))))
 
 pub repeat_once : (value : Text → Option Text) (one other : Option Repeat) → IsRepeat value one → IsRepeat value other → one ≡ other
 repeat_once value None None is also = refl

@@ -7,11 +7,14 @@ use Rattle.mc_settings.specs.JobKeys.{NameFits}
 use Rattle.mc_settings.specs.Namespaces.{is_namespace}
 use Rattle.mc_settings.specs.declared.meeting.Meeting.{Meeting}
 use Rattle.mc_settings.specs.declared.meeting.Meeting.TheVariants as meeting
+use Rattle.mc_settings.specs.declared.mix.Mix.{Mix}
+use Rattle.mc_settings.specs.declared.mix.Mix.TheVariants as mix
 use Rattle.mc_cli.specs.Kinds.{IsValue, MayBeValue}
 use Rattle.mc_cli.specs.Line.{is_set}
 use Rattle.mc_cli.specs.declared.args.{CampaignArgs.CampaignArgs, Plan.Plan, Repeat.Repeat, RunArgs.RunArgs, Search.Search}
 use Rattle.mc_cli.specs.declared.args.{CheckArgs.CheckArgs, ConvertArgs.ConvertArgs, DrawArgs.DrawArgs, JudgeArgs.JudgeArgs}
-use Rattle.mc_cli.specs.declared.args.{Notation.Notation, RecordArgs.RecordArgs, ServeArgs.ServeArgs, TestArgs.TestArgs, Until.Until}
+use Rattle.mc_cli.specs.declared.args.{Notation.Notation, RecordArgs.RecordArgs, ServeArgs.ServeArgs, StressArgs.StressArgs}
+use Rattle.mc_cli.specs.declared.args.{StressPlan.StressPlan, TestArgs.TestArgs, Until.Until}
 use Rattle.mc_cli.specs.declared.args.Notation.TheVariants as notation
 use Rattle.mc_cli.specs.declared.rows.Kind.{Kind}
 use Rattle.mc_cli.specs.declared.rows.Kind.TheVariants as kind
@@ -125,6 +128,41 @@ pub record IsTestArgs (value : Text → Option Text) (args : TestArgs) : Type 0 
   pub only : option_map (λ names. names.now) args.only ≡ value (codes "only")
   pub skip : option_map (λ names. names.now) args.skip ≡ value (codes "skip")
   pub out : option_map (λ folder. folder.now) args.out ≡ value (codes "out")
+
+-- the mix of verbs that a word names, or the default if there is no word
+abbrev pub mix_word : Mix → List ℕ
+mix_word mix.All = codes "all"
+mix_word mix.Counters = codes "counters"
+mix_word mix.Cas = codes "cas"
+mix_word mix.Bodies = codes "bodies"
+mix_word mix.Presence = codes "presence"
+
+abbrev pub IsMix : Option (List ℕ) → Mix → Type 0
+IsMix None wanted = wanted ≡ mix.All
+IsMix (Some word) wanted = word ≡ mix_word wanted
+
+-- the values of the options of `stress` say what the clients of each round send
+pub record IsStressPlan (value : Text → Option Text) (plan : StressPlan) : Type 0 where
+  pub clients : IsValue (kind.Number 2 64) (Some 8) (value (codes "clients")) plan.clients
+  pub requests : IsValue (count 1000) (Some 50) (value (codes "requests")) plan.requests
+  pub keys : IsValue (count 16) (Some 2) (value (codes "keys")) plan.keys
+  pub mix : IsMix (value (codes "mix")) plan.mix
+  pub seed : IsValue (number MAX_64) (Some 1) (value (codes "seed")) plan.seed
+
+-- and how many rounds there are
+pub record IsStressArgs (value : Text → Option Text) (args : StressArgs) : Type 0 where
+  pub server : value (codes "target") ≡ Some args.server.now
+  pub plan : IsStressPlan value args.plan
+  pub rounds : MayBeValue (count 1000000) (value (codes "rounds")) args.rounds
+  pub time : MayBeValue kind.Time (value (codes "for")) args.time
+  pub keep_going : args.keep_going ≡ is_set (value (codes "keep-going"))
+  pub whole : args.whole ≡ is_set (value (codes "whole"))
+  pub limit : MayBeValue (number 1000000000) (value (codes "limit")) args.limit
+  pub why : args.why ≡ is_set (value (codes "why"))
+  pub name : MayBeName (value (codes "name")) args.name
+  pub timeout : MayBeValue kind.Time (value (codes "timeout")) (option_map (λ time. time.milliseconds) args.timeout)
+  pub wait : MayBeValue kind.Time (value (codes "wait")) (option_map (λ time. time.milliseconds) args.wait)
+  pub quiet : args.quiet ≡ is_set (value (codes "quiet"))
 
 -- the values of the options of `campaign` say until when it runs in blocks, if they name a time or a number of unexplained jobs; a time
 -- doesn't stand beside a number of jobs

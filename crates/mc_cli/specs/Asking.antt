@@ -4,9 +4,10 @@ use Rattle.clap.specs.Words.{IsAmong, Text}
 use Rattle.clap.specs.declared.error.kind.ErrorKind.{ErrorKind}
 use Rattle.clap.specs.declared.error.kind.ErrorKind.TheVariants as kind
 use Rattle.mc_cli.specs.Args.{IsCampaignArgs, IsCheck, IsConvert, IsDraw, IsJob, IsJudge, IsRecordArgs, IsRunArgs}
-use Rattle.mc_cli.specs.Args.{IsSearch, IsService, IsTestArgs}
+use Rattle.mc_cli.specs.Args.{IsSearch, IsService, IsStressArgs, IsTestArgs}
 use Rattle.mc_cli.specs.Line.{is_set, line_command, line_faults, line_value}
-use Rattle.mc_cli.specs.declared.args.{CampaignArgs.CampaignArgs, RecordArgs.RecordArgs, RunArgs.RunArgs, TestArgs.TestArgs}
+use Rattle.mc_cli.specs.declared.args.{CampaignArgs.CampaignArgs, RecordArgs.RecordArgs, RunArgs.RunArgs, StressArgs.StressArgs}
+use Rattle.mc_cli.specs.declared.args.TestArgs.{TestArgs}
 use Rattle.mc_cli.specs.declared.question.Question.TheVariants as question
 use Rattle.mc_cli.specs.declared.request.{LineFault.LineFault, Request.Request}
 use Rattle.mc_cli.specs.declared.request.LineFault.TheVariants as line_fault
@@ -27,6 +28,7 @@ name_of (request.Generate seed job) = codes "generate"
 name_of (request.Serve service) = codes "serve"
 name_of (request.Record args) = codes "record"
 name_of (request.Campaign args) = codes "campaign"
+name_of (request.Stress args) = codes "stress"
 name_of request.Selftest = codes "selftest"
 
 -- what the values of its options ask for
@@ -44,6 +46,7 @@ IsAskedWith value (request.Generate seed job) = IsJob value seed job
 IsAskedWith value (request.Serve service) = IsService value service
 IsAskedWith value (request.Record args) = IsRecordArgs value args
 IsAskedWith value (request.Campaign args) = IsCampaignArgs value args
+IsAskedWith value (request.Stress args) = IsStressArgs value args
 IsAskedWith value request.Selftest = Unit {0}
 
 -- a subcommand asks for this with the values of its options
@@ -61,6 +64,8 @@ IsLike (request.Test args) other = (more : TestArgs) × (other ≡ request.Test 
 IsLike (request.Record args) other = (more : RecordArgs) × (other ≡ request.Record more) × (args.port ≡ more.port)
     × (args.connections ≡ more.connections) × (args.time ≡ more.time) × (args.judge ≡ more.judge)
 IsLike (request.Campaign args) other = (more : CampaignArgs) × (other ≡ request.Campaign more) × (args.plan ≡ more.plan)
+IsLike (request.Stress args) other = (more : StressArgs) × (other ≡ request.Stress more) × (args.plan ≡ more.plan)
+    × (args.rounds ≡ more.rounds) × (args.time ≡ more.time) × (args.limit ≡ more.limit)
 IsLike one other = one ≡ other
 
 -- the words have a fault: they ask for nothing

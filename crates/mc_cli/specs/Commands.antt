@@ -49,6 +49,13 @@ record_rules =
     argument (codes "port") ∷ argument (codes "target") ∷ valued (codes "connections") ∷ valued (codes "for") ∷
     valued (codes "out") ∷ switch (codes "judge") ∷ []
 
+abbrev pub stress_rules : List Rule
+stress_rules =
+    argument (codes "target") ∷ valued (codes "clients") ∷ valued (codes "requests") ∷ valued (codes "keys") ∷ valued (codes "mix") ∷
+    valued (codes "rounds") ∷ valued (codes "for") ∷ switch (codes "why") ∷ valued (codes "name") ∷ valued (codes "timeout") ∷
+    valued (codes "wait") ∷ valued (codes "seed") ∷ switch (codes "keep-going") ∷ switch (codes "whole") ∷ valued (codes "limit") ∷
+    switch (codes "quiet") ∷ []
+
 abbrev pub campaign_rules : List Rule
 campaign_rules =
     argument (codes "target") ∷ valued (codes "seed") ∷ switch (codes "random-seed") ∷ valued (codes "from") ∷
@@ -68,24 +75,24 @@ bare_app = record {
 abbrev pub and_with : App → List (Text × List Rule) → App
 and_with app subcommands = fold (λ whole sub. with_subcommand whole (app_with sub.0 sub.1).top) app subcommands
 
--- with those that answer to an input, and need no server
-abbrev pub reading_app : App
-reading_app = and_with bare_app ((
+-- with those that need a server, or are one, or make what one is asked
+abbrev pub playing_app : App
+playing_app = and_with bare_app ((codes "test", test_rules) ∷ (codes "run", run_rules) ∷ (codes "campaign", campaign_rules) ∷
+    (codes "stress", stress_rules) ∷ (codes "record", record_rules) ∷
+    (codes "serve", argument (codes "port") ∷ valued (codes "connections") ∷ switch (codes "racy") ∷ []) ∷ (codes "selftest", []) ∷
+    (codes "generate", valued (codes "seed") ∷ valued (codes "job") ∷ []) ∷ [])
+
+-- with all that ask for something
+abbrev pub asking_app : App
+asking_app = and_with playing_app ((
   codes "judge",
   valued (codes "limit") ∷ switch (codes "why") ∷ switch (codes "run") ∷
       valued (codes "job") ∷ valued (codes "key") ∷ switch (codes "json") ∷ [],
 ) ∷
-    (codes "check", switch (codes "why") ∷ switch (codes "json") ∷ []) ∷ (codes "asm", switch (codes "why") ∷ []) ∷
-    (codes "drive", valued (codes "limit") ∷ switch (codes "why") ∷ []) ∷
     (codes "draw", switch (codes "text") ∷ switch (codes "lines") ∷ valued (codes "job") ∷ valued (codes "limit") ∷ []) ∷
-    (codes "convert", valued (codes "to") ∷ valued (codes "job") ∷ []) ∷ (codes "join", []) ∷ [])
-
--- with all that ask for something
-abbrev pub asking_app : App
-asking_app = and_with reading_app ((codes "test", test_rules) ∷ (codes "run", run_rules) ∷
-    (codes "generate", valued (codes "seed") ∷ valued (codes "job") ∷ []) ∷
-    (codes "serve", argument (codes "port") ∷ valued (codes "connections") ∷ switch (codes "racy") ∷ []) ∷
-    (codes "record", record_rules) ∷ (codes "campaign", campaign_rules) ∷ (codes "selftest", []) ∷ [])
+    (codes "convert", valued (codes "to") ∷ valued (codes "job") ∷ []) ∷ (codes "join", []) ∷
+    (codes "check", switch (codes "why") ∷ switch (codes "json") ∷ []) ∷ (codes "asm", switch (codes "why") ∷ []) ∷
+    (codes "drive", valued (codes "limit") ∷ switch (codes "why") ∷ []) ∷ [])
 
 -- with the topics of help, which are subcommands that ask for nothing
 abbrev pub program_app : App

@@ -4,7 +4,7 @@ ghost use Rattle.std.specs.Duration.{as_nanos};
 ghost use Rattle.mc_cli.specs.Line.{section_server};
 
 use mc_protocol::Actor;
-use mc_settings::{Meeting, Namespace};
+use mc_settings::{Meeting, Mix, Namespace};
 use std::fmt::{Display, Error, Formatter, Write};
 use std::marker::Model;
 use std::time::Duration;
@@ -262,6 +262,49 @@ pub struct RecordArgs<'a> {
     pub out: Option<&'a str>,
     /// Whether each key is judged meanwhile.
     pub judge: bool,
+}
+
+/// What the clients of each round send.
+#[derive(Clone, Copy, Drop)]
+pub struct StressPlan {
+    /// How many clients there are, 2 to 64.
+    pub clients: u64,
+    /// How many requests each of them sends in a round, 1 to 1,000.
+    pub requests: u64,
+    /// How many keys they share, 1 to 16.
+    pub keys: u64,
+    /// Which verbs they send.
+    pub mix: Mix,
+    /// What the requests are made of, beside the numbers of the round and of the client.
+    pub seed: u64,
+}
+
+/// Rounds of many clients against a server.
+#[derive(Drop)]
+pub struct StressArgs<'a> {
+    /// The server, as HOST:PORT.
+    pub server: &'a str,
+    pub plan: StressPlan,
+    /// The most rounds, 1 to 1,000,000, if there is such a number.
+    pub rounds: Option<u64>,
+    /// For how many milliseconds rounds begin, 1 to 86,400,000, if there is such a time.
+    pub time: Option<u64>,
+    /// Whether there is a next round after one that isn't done and explained.
+    pub keep_going: bool,
+    /// Whether all keys of an unexplained round are shown.
+    pub whole: bool,
+    /// The most turns of the search for each key, if the line names a limit.
+    pub limit: Option<u64>,
+    /// Whether the answer says why nothing explains a round.
+    pub why: bool,
+    /// The name that the keys are put under, if they are.
+    pub name: Option<Namespace<'a>>,
+    /// The longest that one connect to one address, one read or one write may take, if there is such a time.
+    pub timeout: Option<Seconds<'a>>,
+    /// How long a connect may be tried again, if it may.
+    pub wait: Option<Seconds<'a>>,
+    /// Whether standard error doesn't say how many rounds there were.
+    pub quiet: bool,
 }
 
 /// Until when a campaign begins blocks of jobs. One of the two bounds is there.

@@ -19,7 +19,7 @@ pub fn number_in(kind: Kind, word: &[u8]) -> Option<u64>
             if number >= least { Some(number) } else { None }
         }
         Kind::Time => time_in(word),
-        Kind::Meeting | Kind::Notation | Kind::Name | Kind::Address => None,
+        Kind::Meeting | Kind::Mix | Kind::Notation | Kind::Name | Kind::Address => None,
         Kind::Key | Kind::Names | Kind::Path | Kind::Switch => None,
     }
 }

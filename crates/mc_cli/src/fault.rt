@@ -92,6 +92,7 @@ impl Display for Kind {
             Kind::Number(least, greatest) => write!(f, "a number from {least} to {greatest}"),
             Kind::Time => write!(f, "a time up to 24h, as 500ms, 2s, 10m, 2h or 0.5"),
             Kind::Meeting => write!(f, "drawn, each, first or never"),
+            Kind::Mix => write!(f, "all, counters, cas, bodies or presence"),
             Kind::Notation => write!(f, "json or edn"),
             Kind::Name => write!(f, "1 to {NAMESPACE_BYTES_LIMIT} of a to z, 0 to 9 and -"),
             Kind::Address => write!(f, "HOST:PORT"),

@@ -18,6 +18,7 @@ mod script;
 mod selftest;
 mod serve;
 mod steps;
+mod stress;
 mod test;
 
 pub use asm::ASM;
@@ -38,6 +39,7 @@ pub use script::SCRIPT;
 pub use selftest::SELFTEST;
 pub use serve::SERVE;
 pub use steps::STEPS;
+pub use stress::STRESS;
 pub use test::TEST;
 
 /// What help says of a subcommand, beside its options.
@@ -58,7 +60,7 @@ pub struct Help {
 /// The exit statuses of all subcommands in a line, and where to read on.
 pub const SHORT_STATUSES: &str =
     "Exit status: 0 all is right, 1 the server has a fault, 2 wrong command line,
-3 the input is refused, 4 otherwise.
+3 the input is refused, 4 otherwise, 5 the server failed during a test.
 Read on: mcrace help COMMAND, or mcrace help formats";
 
 /// The exit statuses of all subcommands, and the topics of help.
@@ -72,6 +74,7 @@ pub const STATUSES: &str = "Exit status:
      bytes
   4  undecided; a section isn't done; or out of memory; or input or output
      failed
+  5  test: the server failed, and nothing else was found
 
 Topics:
   mcrace help formats  what mcrace reads and writes
@@ -83,6 +86,6 @@ Topics:
 
 /// The names of the subcommands, in the order of their help.
 pub const NAMES: &[&str] = &[
-    "judge", "check", "asm", "drive", "draw", "convert", "join", "test", "run", "generate",
-    "serve", "record", "campaign", "selftest",
+    "test", "run", "campaign", "stress", "record", "serve", "selftest", "generate", "judge",
+    "draw", "convert", "join", "check", "asm", "drive",
 ];

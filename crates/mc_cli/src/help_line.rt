@@ -29,6 +29,7 @@ impl Row {
             Kind::Time => format!(in alloc; "{help}: 500ms, 2s, 10m or 2h"),
             Kind::Notation => format!(in alloc; "{help}: {}", self.kind),
             Kind::Meeting => format!(in alloc; "{help}: {} [default: drawn]", self.kind),
+            Kind::Mix => format!(in alloc; "{help}: {} [default: all]", self.kind),
             Kind::Name | Kind::Address => format!(in alloc; "{help}"),
             Kind::Key | Kind::Names | Kind::Path | Kind::Switch => format!(in alloc; "{help}"),
         }

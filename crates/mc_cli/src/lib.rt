@@ -15,6 +15,7 @@ mod options;
 mod question;
 mod read;
 mod read_campaign;
+mod read_stress;
 mod request;
 mod rows;
 mod subcommand;
@@ -22,8 +23,9 @@ mod value;
 
 pub use args::{
     CampaignArgs, CheckArgs, ConvertArgs, DrawArgs, GREATEST_JOBS, GREATEST_WORKERS, JudgeArgs,
-    Notation, Plan, RecordArgs, Repeat, RunArgs, Search, Seconds, ServeArgs, SoughtKey, TestArgs,
-    Until, has_last,
+    Notation, Plan, RecordArgs, Repeat, RunArgs, Search, Seconds, ServeArgs, SoughtKey, StressArgs,
+    StressPlan, TestArgs, Until, has_last,
 };
 pub use question::Question;
 pub use request::{LineFault, Request, long_key_text, read_request, unknown_race_text};
+pub use subcommand::VERSION;

@@ -113,6 +113,35 @@ pub const OUT_OF_RECORD: Row =
 
 pub const JUDGE: Row = row!(Daily "judge", "Judge each key meanwhile");
 
+pub const CLIENTS: Row =
+    row!(Daily "clients" "N" Kind::Number(2, 64) => Some(8), "How many clients send at once");
+
+pub const REQUESTS: Row =
+    row!(Daily "requests" "N" Kind::Number(1, 1_000) => Some(50), "How many requests each sends in a round");
+
+pub const KEYS: Row =
+    row!(Daily "keys" "N" Kind::Number(1, 16) => Some(2), "How many keys they share");
+
+pub const MIX: Row = row!(Daily "mix" "WORD" Kind::Mix, "Which verbs they send");
+
+pub const SEED_OF_STRESS: Row =
+    row!(Rare "seed" "N" Kind::Number(0, u64::MAX) => Some(1), "The seed of the requests");
+
+pub const ROUNDS: Row =
+    row!(Daily "rounds" "N" Kind::Number(1, 1_000_000), "Up to N rounds; 100 without --for");
+
+pub const FOR_OF_STRESS: Row = row!(Daily "for" "TIME" Kind::Time, "Start rounds for this long");
+
+pub const KEEP_GOING_OF_STRESS: Row =
+    row!(Rare "keep-going", "Go on after a round that isn't done and explained");
+
+pub const WHOLE: Row = row!(Rare "whole", "Show all keys of an unexplained round");
+
+pub const LIMIT_OF_STRESS: Row =
+    row!(Rare "limit" "N" Kind::Number(0, 1_000_000_000), "The most turns of a search");
+
+pub const WHY_OF_STRESS: Row = row!(Daily "why", "Say why a round is unexplained");
+
 pub const FROM: Row =
     row!(Rare "from" "N" Kind::Number(0, u64::MAX) => Some(0), "The first job's number");
 

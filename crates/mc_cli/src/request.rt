@@ -3,7 +3,7 @@ ghost use Rattle.std.specs.Prelude.{◌≡◌, map, string_bytes, IfErr, IfOk, S
 ghost use Rattle.clap.specs.Words.{first_value, found_of, kind_of};
 ghost use Rattle.mc_cli.specs.Asking.{AsksFor, IsAskedBy, IsFaultOf, IsLike, Says};
 
-use crate::args::{CampaignArgs, RecordArgs, RunArgs, ServeArgs, TestArgs};
+use crate::args::{CampaignArgs, RecordArgs, RunArgs, ServeArgs, StressArgs, TestArgs};
 use crate::fault::{OptionFault, long_key_message};
 use crate::help_line::help_text;
 use crate::hints::error_text;
@@ -13,6 +13,7 @@ use crate::read::{
     read_service, read_test,
 };
 use crate::read_campaign::read_campaign;
+use crate::read_stress::read_stress;
 use crate::subcommand::{program, usage_fault};
 use crate::{options as rows, value};
 use clap::error::ErrorKind;
@@ -37,6 +38,8 @@ pub enum Request<'a> {
     Record(RecordArgs<'a>),
     /// The jobs of a campaign against a server.
     Campaign(CampaignArgs<'a>),
+    /// Rounds of many clients against a server.
+    Stress(StressArgs<'a>),
     /// Whether a server that is right is explained, and one with a race isn't.
     Selftest,
 }
@@ -108,6 +111,7 @@ fn read_options<'a>(name: &str, options: &ArgMatches<'a>) -> Result<Request<'a>,
         "serve" => Ok(Request::Serve(read_service(options)?)),
         "record" => Ok(Request::Record(read_record(options)?)),
         "campaign" => Ok(Request::Campaign(read_campaign(options)?)),
+        "stress" => Ok(Request::Stress(read_stress(options)?)),
         "selftest" => Ok(Request::Selftest),
         _ => Err(OptionFault::NoSubcommand),
     }

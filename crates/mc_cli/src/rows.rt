@@ -9,6 +9,8 @@ pub enum Kind {
     Time,
     /// A word that says how the branches meet.
     Meeting,
+    /// A word that says which verbs many clients send.
+    Mix,
     /// A word that names a notation.
     Notation,
     /// A name that keys may be put under.

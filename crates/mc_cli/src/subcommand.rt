@@ -6,7 +6,7 @@ ghost use Rattle.mc_cli.specs.Commands.{rule_of_row};
 
 use crate::help::{
     ASM, CAMPAIGN, CHECK, CONVERT, DRAW, DRIVE, FORMATS, GENERATE, HISTORY, Help, IMAGE, JOIN,
-    JUDGE, RECORD, RUN, SCRIPT, SELFTEST, SERVE, SHORT_STATUSES, STATUSES, STEPS, TEST,
+    JUDGE, RECORD, RUN, SCRIPT, SELFTEST, SERVE, SHORT_STATUSES, STATUSES, STEPS, STRESS, TEST,
 };
 use crate::options as rows;
 use crate::rows::{Kind, Place, Row};
@@ -16,7 +16,8 @@ use std::alloc::{AllocError, Global};
 
 const ABOUT: &str = "Tests servers that speak memcached's text protocol";
 
-const VERSION: &str = "0.1.0";
+/// The version of the program.
+pub const VERSION: &str = "0.1.0";
 
 const JUDGE_ROWS: &[Row] = &[
     rows::LIMIT,
@@ -86,6 +87,25 @@ const RECORD_ROWS: &[Row] = &[
     rows::JUDGE,
 ];
 
+const STRESS_ROWS: &[Row] = &[
+    rows::TARGET,
+    rows::CLIENTS,
+    rows::REQUESTS,
+    rows::KEYS,
+    rows::MIX,
+    rows::ROUNDS,
+    rows::FOR_OF_STRESS,
+    rows::WHY_OF_STRESS,
+    rows::NAME,
+    rows::TIMEOUT,
+    rows::WAIT,
+    rows::SEED_OF_STRESS,
+    rows::KEEP_GOING_OF_STRESS,
+    rows::WHOLE,
+    rows::LIMIT_OF_STRESS,
+    rows::QUIET,
+];
+
 const CAMPAIGN_ROWS: &[Row] = &[
     rows::TARGET,
     rows::SEED,
@@ -134,28 +154,29 @@ pub fn program<'a>(alloc: Global) -> Result<Command<'a>, AllocError>
 fn asking_program<'a>(alloc: Global) -> Result<Command<'a>, AllocError>
     ensures { IfOk result (λ command. app_of command ≡ spec.asking_app) }
 {
-    reading_program(alloc)?
-        .subcommand(command_of(alloc, &TEST, TEST_ROWS)?)?
-        .subcommand(command_of(alloc, &RUN, RUN_ROWS)?)?
-        .subcommand(command_of(alloc, &GENERATE, GENERATE_ROWS)?)?
-        .subcommand(command_of(alloc, &SERVE, SERVE_ROWS)?)?
-        .subcommand(command_of(alloc, &RECORD, RECORD_ROWS)?)?
-        .subcommand(command_of(alloc, &CAMPAIGN, CAMPAIGN_ROWS)?)?
-        .subcommand(command_of(alloc, &SELFTEST, &[])?)
-}
-
-// The program with those subcommands alone that answer to an input, and need no server.
-fn reading_program<'a>(alloc: Global) -> Result<Command<'a>, AllocError>
-    ensures { IfOk result (λ command. app_of command ≡ spec.reading_app) }
-{
-    bare_program(alloc)
+    playing_program(alloc)?
         .subcommand(command_of(alloc, &JUDGE, JUDGE_ROWS)?)?
-        .subcommand(command_of(alloc, &CHECK, CHECK_ROWS)?)?
-        .subcommand(command_of(alloc, &ASM, ASM_ROWS)?)?
-        .subcommand(command_of(alloc, &DRIVE, DRIVE_ROWS)?)?
         .subcommand(command_of(alloc, &DRAW, DRAW_ROWS)?)?
         .subcommand(command_of(alloc, &CONVERT, CONVERT_ROWS)?)?
-        .subcommand(command_of(alloc, &JOIN, &[])?)
+        .subcommand(command_of(alloc, &JOIN, &[])?)?
+        .subcommand(command_of(alloc, &CHECK, CHECK_ROWS)?)?
+        .subcommand(command_of(alloc, &ASM, ASM_ROWS)?)?
+        .subcommand(command_of(alloc, &DRIVE, DRIVE_ROWS)?)
+}
+
+// The program with those subcommands alone that need a server, or are one, or make what one is asked.
+fn playing_program<'a>(alloc: Global) -> Result<Command<'a>, AllocError>
+    ensures { IfOk result (λ command. app_of command ≡ spec.playing_app) }
+{
+    bare_program(alloc)
+        .subcommand(command_of(alloc, &TEST, TEST_ROWS)?)?
+        .subcommand(command_of(alloc, &RUN, RUN_ROWS)?)?
+        .subcommand(command_of(alloc, &CAMPAIGN, CAMPAIGN_ROWS)?)?
+        .subcommand(command_of(alloc, &STRESS, STRESS_ROWS)?)?
+        .subcommand(command_of(alloc, &RECORD, RECORD_ROWS)?)?
+        .subcommand(command_of(alloc, &SERVE, SERVE_ROWS)?)?
+        .subcommand(command_of(alloc, &SELFTEST, &[])?)?
+        .subcommand(command_of(alloc, &GENERATE, GENERATE_ROWS)?)
 }
 
 // The program without its subcommands.
@@ -236,6 +257,7 @@ fn parts_of(name: &str) -> Option<(&'static Help, &'static [Row])> {
         "serve" => Some((&SERVE, SERVE_ROWS)),
         "record" => Some((&RECORD, RECORD_ROWS)),
         "campaign" => Some((&CAMPAIGN, CAMPAIGN_ROWS)),
+        "stress" => Some((&STRESS, STRESS_ROWS)),
         "selftest" => Some((&SELFTEST, &[])),
         _ => None,
     }

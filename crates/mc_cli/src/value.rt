@@ -2,7 +2,8 @@
 ghost use Rattle.std.specs.Prelude.{◌≡◌, ℕ, List, Option, Some, IfErr, IfOk, option_map};
 ghost use Rattle.clap.specs.Words.{first_value, found_of};
 ghost use Rattle.mc_settings.specs.declared.meeting.Meeting.{Meeting};
-ghost use Rattle.mc_cli.specs.Args.{IsMeeting, MayBeName, notation_word};
+ghost use Rattle.mc_settings.specs.declared.mix.Mix.{Mix};
+ghost use Rattle.mc_cli.specs.Args.{IsMeeting, IsMix, MayBeName, notation_word};
 ghost use Rattle.mc_cli.specs.Kinds.{IsValue, MayBeValue};
 ghost use Rattle.mc_cli.specs.Line as line;
 
@@ -11,7 +12,7 @@ use crate::decimal::number_in;
 use crate::fault::OptionFault;
 use crate::rows::Row;
 use clap::ArgMatches;
-use mc_settings::{Meeting, Namespace};
+use mc_settings::{Meeting, Mix, Namespace};
 
 /// Whether the switch is there.
 pub fn is_set(options: &ArgMatches, row: &Row) -> bool
@@ -106,6 +107,29 @@ pub fn meeting<'a>(options: &ArgMatches<'a>, row: &Row) -> Result<Meeting, Optio
         "first" => Ok(Meeting::First),
         "never" => Ok(Meeting::Never),
         _ => Err(OptionFault::Value(*row, word)),
+    }
+}
+
+/// The mix of verbs that the option names, or all of them.
+///
+/// # Errors
+///
+/// The word names none.
+pub fn mix<'a>(options: &ArgMatches<'a>, row: &Row) -> Result<Mix, OptionFault<'a>>
+    ensures value { IfOk result (IsMix (first_value (found_of options.now) row.now.name.now)) }
+    ensures none { IfErr result (λ _. (wanted : Mix)
+        → IsMix (first_value (found_of options.now) row.now.name.now) wanted → ⊥) }
+{
+    let Some(word) = options.get_str(row.name) else {
+        return Ok(Mix::All);
+    };
+    match word {
+        "all" => Ok(Mix::All),
+        "counters" => Ok(Mix::Counters),
+        "cas" => Ok(Mix::Cas),
+        "bodies" => Ok(Mix::Bodies),
+        "presence" => Ok(Mix::Presence),
+        other => Err(OptionFault::Value(*row, other)),
     }
 }
 

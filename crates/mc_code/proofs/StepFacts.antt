@@ -11,7 +11,7 @@ use Rattle.mc_script.specs.declared.section.Label.{Label}
 use Rattle.mc_script.specs.declared.step.Step.{Step}
 use Rattle.mc_script.specs.declared.step.Step.TheVariants as step
 use Rattle.mc_script.specs.declared.step.Template.{Template}
-use Rattle.mc_script.specs.Marks.{shows_numbers}
+use Rattle.mc_script.specs.WellFormed.{shows_numbers}
 use Rattle.mc_script.specs.WellFormed.{is_number_class}
 use Rattle.mc_code.specs.declared.instr.Instr.{Instr}
 use Rattle.mc_code.specs.declared.instr.Instr.TheVariants as instr

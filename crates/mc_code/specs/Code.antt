@@ -27,6 +27,11 @@ pub record Code : Type 0 where
   pub templates : List Template
   pub sections : Sections Section
 
+-- the code of these parts
+abbrev pub code_of : List Word → ℕ → ℕ → List Template → Sections Section → Code
+code_of keys flags vars templates sections =
+    record { keys = keys; flags = flags; vars = vars; templates = templates; sections = sections }
+
 abbrev pub section_of : Code → Actor → Section
 section_of c actor = sections.section_of c.sections actor
 

@@ -12,7 +12,6 @@ pub use Rattle.mc_script.specs.Versions
 pub use Rattle.mc_script.specs.WellFormed
 pub mod Code
 pub mod Requests
-pub mod Image
 pub mod Paths
 pub mod States
 pub mod Runs
@@ -26,8 +25,5 @@ pub mod StandingLaws
 pub mod NumberLaws
 pub mod LayoutLaws
 pub mod AsmKinds
-pub mod ImageKinds
 -- What private contracts cite.
 pub mod Assembling
-pub mod ImageReading
-pub mod ImageWriting

@@ -1,21 +1,21 @@
 //! Code, and the requests that it makes.
 ghost use Rattle.std.specs.Prelude.{◌≡◌, ◌<◌, Some, length, slice_get, IfOk};
 ghost use Rattle.mc_code.specs.Code as spec;
-ghost use Rattle.mc_code.specs.Image as image;
 ghost use Rattle.mc_code.specs.Requests as requests;
 
 use crate::{Call, Instr};
 use mc_protocol::{Actor, Bytes, OutOfMemory, Request, Sections};
-use mc_script::{Budget, Template, Version};
+use mc_script::{Budget, Template};
 use std::alloc::Global;
 use std::marker::Model;
 
 /// A section of code. Contracts see the vector as a list.
 #[derive(Debug, Drop)]
-pub(crate) struct Section {
+pub struct Section {
     /// The most that it may send.
-    pub(crate) budget: Budget,
-    pub(crate) instructions: Vec<Instr>,
+    pub budget: Budget,
+    /// It begins with the first.
+    pub instructions: Vec<Instr>,
 }
 
 impl Model for Section {
@@ -74,6 +74,26 @@ impl Model for Code {
 }
 
 impl Code {
+    /// The code of these parts, which must be within the limits of code.
+    pub fn new(
+        keys: Vec<Bytes>,
+        flags: u8,
+        vars: u8,
+        templates: Vec<Template>,
+        sections: Sections<Section>,
+    ) -> Self
+        requires { spec.IsCode (spec.code_of keys.items flags vars templates.items sections) }
+        ensures { result ≡ spec.code_of keys.items flags vars templates.items sections }
+    {
+        Code {
+            keys,
+            flags,
+            vars,
+            templates,
+            sections,
+        }
+    }
+
     /// The keys, in the order in which they were declared.
     pub fn keys(&self) -> &[Bytes]
         ensures keys { result.now ≡ self.now.keys }
@@ -151,15 +171,5 @@ impl Code {
             body: template.body.copy(alloc)?,
             number: call.number,
         })
-    }
-
-    /// The version of its image: the first one whose limits it keeps.
-    pub(crate) fn version(&self) -> Version
-        ensures { result ≡ image.version_of self.now }
-    {
-        let p = self.section(Actor::P).len();
-        let a = self.section(Actor::A).len();
-        let b = self.section(Actor::B).len();
-        Version::least(self.flags(), p.max(a.max(b)))
     }
 }

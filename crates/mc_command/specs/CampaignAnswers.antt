@@ -7,7 +7,7 @@ use Rattle.mc_protocol.specs.Lines.{Word}
 use Rattle.mc_model.specs.Notes.{History}
 use Rattle.mc_explain.specs.Verdicts.{IsTrueOf}
 use Rattle.mc_explain.specs.declared.verdict.Verdict.{Verdict}
-use Rattle.mc_script.specs.PrintedScript.{script_text}
+use Rattle.mc_script_text.specs.PrintedScript.{script_text}
 use Rattle.mc_script.specs.Script.{Script}
 use Rattle.mc_generate.specs.Generated.{generated}
 use Rattle.mc_settings.specs.JobKeys.{NameFits}

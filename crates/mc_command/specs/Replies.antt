@@ -6,7 +6,7 @@ use Rattle.mc_protocol.specs.Legal.{class_of}
 use Rattle.mc_protocol.specs.Words.{class_index}
 use Rattle.mc_protocol.specs.declared.reply.Class.{Class}
 use Rattle.mc_protocol.specs.declared.request.Verb.{Verb}
-use Rattle.mc_code.specs.Image.{verb_index}
+use Rattle.mc_image.specs.Image.{verb_index}
 use Rattle.mc_model.specs.declared.sent.Sent.{Sent}
 use Rattle.mc_command.specs.declared.replies.Answers.{Answers}
 use Rattle.mc_command.specs.declared.replies.Replies.{Replies}

@@ -25,7 +25,8 @@ use mc_cli::{CampaignArgs, GREATEST_JOBS, GREATEST_WORKERS, Plan, Search, has_la
 use mc_connect::Dialer;
 use mc_lane::Stream;
 use mc_run::FreeGate;
-use mc_script::{Script, print};
+use mc_script::Script;
+use mc_script_text::print;
 use mc_settings::{Meeting, Namespace};
 use std::alloc::{AllocError, Global};
 use std::io::Eprint;

@@ -108,7 +108,11 @@ pub fn failure_text<S: Stream>(
             no_reply_text(alloc, request, came, ": the server closed the connection")?
         }
         Some(Fault::TooMuch) => {
-            let why = "the connection has brought 262,144 bytes, the most that it may";
+            let why = match lane.got().len() {
+                // what a client of `stress` may receive in a round
+                16_777_216 => "the connection has brought 16,777,216 bytes, the most that it may",
+                _ => "the connection has brought 262,144 bytes, the most that it may",
+            };
             came_text(alloc, request, came, Some(why))?
         }
         Some(Fault::BadReply | Fault::ErrorLine) => {

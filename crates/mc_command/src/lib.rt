@@ -39,6 +39,7 @@ mod totals;
 mod watching;
 
 pub use campaigning::{campaign_answer, run_campaign_at};
+pub use evidence::failure_text;
 pub use keeping::play_kept;
 pub use meeting::seed_by;
 pub use playing::{run_command, run_target};

@@ -1,6 +1,6 @@
 //! How often requests were answered how.
 ghost use Rattle.std.specs.Prelude.{◌≡◌, ◌==◌, ◌+◌, List, Option, ◌∷◌, [], ◌++◌, if◌then◌else◌};
-ghost use Rattle.mc_code.specs.Image.{verb_index};
+ghost use Rattle.mc_image.specs.Image.{verb_index};
 ghost use Rattle.mc_model.specs.declared.sent.Sent.{Sent};
 ghost use Rattle.mc_protocol.specs.declared.reply.Class.{Class};
 ghost use Rattle.mc_command.specs.Replies as spec;

@@ -6,11 +6,12 @@ use mc_model::History;
 use mc_protocol::{OutOfMemory, Separator, append_all, is_word, read_decimal, words_in};
 use std::alloc::Global;
 
-// A section of the history: a process of the operations.
+// How many processes there may be: one for each number of a client.
+const PROCESSES: usize = 64;
+
+// A section of a history or a client of a timeline: a process of the operations.
 #[derive(Drop)]
 struct Process<'a> {
-    // The name of the section.
-    name: u8,
     number: usize,
     // The line of its request that has no reply yet.
     open: Option<&'a [u8]>,
@@ -24,26 +25,24 @@ pub fn append_operations(
 ) -> Result<(), OutOfMemory> {
     let mut text = Vec::new(alloc);
     print_history(history, &mut text)?;
-    append_text(alloc, out, text.as_slice())
+    let lines = lines_in(alloc, text.as_slice())?;
+    append_lines(alloc, out, lines.as_slice())
 }
 
-// The same of the history's text. The requests without a reply are lent from it.
-fn append_text(alloc: Global, out: &mut Vec<u8>, text: &[u8]) -> Result<(), OutOfMemory> {
+/// The same of the lines of a history or of a timeline, up to an order that it claims.
+pub fn append_lines(alloc: Global, out: &mut Vec<u8>, lines: &[&[u8]]) -> Result<(), OutOfMemory> {
     let mut processes = Vec::new(alloc);
-    'names: for (number, name) in [b'P', b'A', b'B'].iter().enumerate() {
-        processes.push(Process {
-            name: *name,
-            number,
-            open: None,
-        })?;
+    'numbers: for number in 0..PROCESSES {
+        processes.push(Process { number, open: None })?;
     }
     let mut count: usize = 0;
-    'lines: for line in lines_in(alloc, text)? {
-        'processes: for process in processes.iter_mut() {
-            if line.first().copied() == Some(process.name) {
-                append_note(alloc, out, count, process, line)?;
-                count = count.saturating_add(1);
-            }
+    'lines: for line in lines {
+        if is_word(line, b"explain") {
+            break;
+        }
+        if let Some(process) = processes.get_mut(process_of(line)) {
+            append_note(alloc, out, count, process, line)?;
+            count = count.saturating_add(1);
         }
     }
     'open: for process in &processes {
@@ -53,6 +52,23 @@ fn append_text(alloc: Global, out: &mut Vec<u8>, text: &[u8]) -> Result<(), OutO
         }
     }
     Ok(())
+}
+
+// The number of the process whose note the line is; none has that of another line.
+fn process_of(line: &[u8]) -> usize {
+    let word = match line.iter().position(|byte| *byte == b' ') {
+        Some(place) => line.split_at(place.min(line.len())).0,
+        None => line,
+    };
+    match word {
+        b"P" => 0,
+        b"A" => 1,
+        b"B" => 2,
+        _ => match read_decimal(PROCESSES as u64, word) {
+            Ok(number) => number as usize,
+            Err(_) => PROCESSES,
+        },
+    }
 }
 
 // Appends the operation of a begin or of a reply.

@@ -76,7 +76,9 @@ fn from_line_of_job<'a>(text: &'a [u8], job: Option<u64>) -> Excerpt<'a>
 }
 
 fn is_header(line: &[u8]) -> bool {
-    has_words(line, &[b"history", b"1"]) || has_words(line, &[b"history", b"2"])
+    has_words(line, &[b"history", b"1"])
+        || has_words(line, &[b"history", b"2"])
+        || has_words(line, &[b"history", b"3"])
 }
 
 // The text from the first line on that is such a one; what stands behind its last line if none is.

@@ -4,7 +4,10 @@ use crate::json_text::JsonText;
 use crate::printed::lines_in;
 use mc_history::{Explanation, print_explanation, print_history};
 use mc_model::History;
-use mc_protocol::{OutOfMemory, is_word};
+use mc_protocol::{OutOfMemory, is_word, read_decimal};
+
+// The greatest number of a client.
+const MOST_CLIENT: u64 = 63;
 
 /// Writes a member for a history, as it is printed, with the order that its text claims.
 pub fn write_history(
@@ -21,15 +24,36 @@ pub fn write_history(
     out.begin("history")?;
     out.count("version", version)?;
     out.strings("sections", &[b"P", b"A", b"B"])?;
-    out.begin_list(name)?;
-    'lines: for line in lines_in(out.alloc(), text.as_slice())? {
-        write_line(out, line)?;
-    }
-    out.end_list()?;
+    let lines = lines_in(out.alloc(), text.as_slice())?;
+    write_lines(out, name, lines.as_slice())?;
     if let Some(claim) = claim {
         write_claim(out, claim)?;
     }
     out.end()
+}
+
+/// Writes the same member for the lines of a timeline, with the order that they claim.
+pub fn write_timeline(out: &mut JsonText, lines: &[&[u8]]) -> Result<(), OutOfMemory> {
+    let claim = lines.iter().position(|line| is_word(line, b"explain"));
+    let (notes, moves) = lines.split_at(claim.unwrap_or(lines.len()).min(lines.len()));
+    out.begin("history")?;
+    out.count("version", 3)?;
+    write_lines(out, "notes", notes)?;
+    if claim.is_some() {
+        out.begin("claim")?;
+        write_order(out, moves)?;
+        out.end()?;
+    }
+    out.end()
+}
+
+// A list with an object for each line of a history.
+fn write_lines(out: &mut JsonText, name: &str, lines: &[&[u8]]) -> Result<(), OutOfMemory> {
+    out.begin_list(name)?;
+    'lines: for line in lines {
+        write_line(out, line)?;
+    }
+    out.end_list()
 }
 
 fn write_claim(out: &mut JsonText, claim: &Explanation) -> Result<(), OutOfMemory> {
@@ -45,9 +69,9 @@ fn write_claim(out: &mut JsonText, claim: &Explanation) -> Result<(), OutOfMemor
 fn write_line(out: &mut JsonText, line: &[u8]) -> Result<(), OutOfMemory> {
     let words = out.words_of(line)?;
     match words.as_slice() {
-        [section, event @ ..] if is_section(section) => {
+        [actor, event @ ..] if is_actor(actor) => {
             out.begin_item()?;
-            write_event(out, section, event)?;
+            write_event(out, actor, event)?;
             out.end()
         }
         _ => Ok(()),
@@ -59,9 +83,23 @@ pub fn is_section(word: &[u8]) -> bool {
     is_word(word, b"P") || is_word(word, b"A") || is_word(word, b"B")
 }
 
-// The section with the request that begins, the reply that comes, or in a `history 1` both.
-fn write_event(out: &mut JsonText, section: &[u8], event: &[&[u8]]) -> Result<(), OutOfMemory> {
-    out.text("section", section)?;
+/// Whether the word names a section, or is the number of a client.
+pub fn is_actor(word: &[u8]) -> bool {
+    is_section(word) || read_decimal(MOST_CLIENT, word).is_ok()
+}
+
+// A member for a section, or for the number of a client.
+fn write_actor(out: &mut JsonText, actor: &[u8]) -> Result<(), OutOfMemory> {
+    if is_section(actor) {
+        out.text("section", actor)
+    } else {
+        out.number("client", actor)
+    }
+}
+
+// The section or client with the request that begins, the reply that comes, or in a `history 1` both.
+fn write_event(out: &mut JsonText, actor: &[u8], event: &[&[u8]]) -> Result<(), OutOfMemory> {
+    write_actor(out, actor)?;
     match event {
         [word, request @ ..] if is_word(word, b"begin") => write_request(out, request),
         [word, reply @ ..] if is_word(word, b"reply") => write_reply(out, reply),
@@ -133,8 +171,8 @@ pub fn write_order(out: &mut JsonText, lines: &[&[u8]]) -> Result<(), OutOfMemor
     'moves: for line in lines {
         let words = out.words_of(line)?;
         match words.as_slice() {
-            [section, number, marks @ ..] if is_section(section) => {
-                write_move(out, section, number, marks)?
+            [actor, number, marks @ ..] if is_actor(actor) => {
+                write_move(out, actor, number, marks)?
             }
             _ => {}
         }
@@ -144,12 +182,12 @@ pub fn write_order(out: &mut JsonText, lines: &[&[u8]]) -> Result<(), OutOfMemor
 
 fn write_move(
     out: &mut JsonText,
-    section: &[u8],
+    actor: &[u8],
     number: &[u8],
     marks: &[&[u8]],
 ) -> Result<(), OutOfMemory> {
     out.begin_item()?;
-    out.text("section", section)?;
+    write_actor(out, actor)?;
     out.text("number", number)?;
     'marks: for name in ["pad", "refuse"] {
         if marks.iter().any(|mark| is_word(mark, name.as_bytes())) {
@@ -172,6 +210,7 @@ pub fn write_why(out: &mut JsonText, lines: &[&[u8]]) -> Result<(), OutOfMemory>
     }
     out.end_list()?;
     write_forms(out, lines)?;
+    write_overlap(out, lines)?;
     out.end()
 }
 
@@ -179,9 +218,9 @@ pub fn write_why(out: &mut JsonText, lines: &[&[u8]]) -> Result<(), OutOfMemory>
 fn write_place(out: &mut JsonText, line: &[u8]) -> Result<(), OutOfMemory> {
     let words = out.words_of(line)?;
     match words.as_slice() {
-        [word, number, section, event @ ..] if is_word(word, b"line") => {
+        [word, number, actor, event @ ..] if is_word(word, b"line") => {
             out.number("line", number)?;
-            write_event(out, section, event)
+            write_event(out, actor, event)
         }
         [word, _, _, number] if is_word(word, b"undecided") => {
             out.number("line", number)?;
@@ -214,4 +253,16 @@ fn write_forms(out: &mut JsonText, lines: &[&[u8]]) -> Result<(), OutOfMemory> {
         }
     }
     out.strings("would_be_explained", forms.as_slice())
+}
+
+// The lines on which the requests of a timeline began that had no reply before that line, if they are told.
+fn write_overlap(out: &mut JsonText, lines: &[&[u8]]) -> Result<(), OutOfMemory> {
+    'lines: for line in lines {
+        let words = out.words_of(line)?;
+        match words.as_slice() {
+            [word, numbers @ ..] if is_word(word, b"overlap") => out.numbers("overlap", numbers)?,
+            _ => {}
+        }
+    }
+    Ok(())
 }

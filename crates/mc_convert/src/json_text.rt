@@ -89,6 +89,10 @@ impl JsonText {
     /// A member that is a number, or a string if the word is no decimal of 64 bits.
     pub fn number(&mut self, name: &str, word: &[u8]) -> Result<(), OutOfMemory> {
         self.out.key(name)?;
+        self.number_or_string(word)
+    }
+
+    fn number_or_string(&mut self, word: &[u8]) -> Result<(), OutOfMemory> {
         match read_decimal(u64::MAX, word) {
             Ok(number) => self.out.u64(number),
             Err(_) => self.string(word),
@@ -129,6 +133,15 @@ impl JsonText {
         self.begin_list(name)?;
         'lines: for line in lines {
             self.string(line)?;
+        }
+        self.end_list()
+    }
+
+    /// A member that is a list of these numbers.
+    pub fn numbers(&mut self, name: &str, words: &[&[u8]]) -> Result<(), OutOfMemory> {
+        self.begin_list(name)?;
+        'words: for word in words {
+            self.number_or_string(word)?;
         }
         self.end_list()
     }

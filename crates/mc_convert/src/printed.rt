@@ -14,6 +14,8 @@ pub enum Kind {
     /// How a section ended: `A failed 3 Ended`.
     Ending,
     Verdict,
+    /// Which key of a timeline the verdict is about: `key a`.
+    Key,
     /// There is no verdict: `no connection A`, `not run`.
     Outcome,
     /// The greatest costs of a section: `P 2 26`.
@@ -54,7 +56,7 @@ enum Block {
 // The first words of a line, what it says, and what follows it.
 type Row = (&'static str, &'static str, Option<Kind>, Block);
 
-static ROWS: [Row; 15] = [
+static ROWS: [Row; 16] = [
     ("run", "", Some(Kind::Run), Block::None),
     ("runs", "", Some(Kind::Totals), Block::None),
     ("explained", "", Some(Kind::Verdict), Block::Order),
@@ -62,6 +64,7 @@ static ROWS: [Row; 15] = [
     ("undecided", "", Some(Kind::Verdict), Block::None),
     ("confirmed", "", Some(Kind::Verdict), Block::None),
     ("not", "confirmed", Some(Kind::Verdict), Block::None),
+    ("key", "", Some(Kind::Key), Block::None),
     ("accepted", "", Some(Kind::Verdict), Block::None),
     ("no", "connection", Some(Kind::Outcome), Block::None),
     ("not", "run", Some(Kind::Outcome), Block::None),
@@ -109,6 +112,7 @@ fn kind_of(block: Block, words: &[&[u8]]) -> (Option<Kind>, Block) {
         Block::Replies if is_reply(words) => (Some(Kind::Reply), Block::Replies),
         Block::Replies => (Some(Kind::Hint), Block::Hint),
         Block::Order | Block::Why | Block::Other if is_end => (None, Block::None),
+        Block::Order if is_key(words) => (Some(Kind::Key), Block::Order),
         Block::Order => (Some(Kind::Order), Block::Order),
         Block::Why => (Some(Kind::Why), Block::Why),
         Block::Other => (None, Block::Other),
@@ -120,6 +124,14 @@ fn is_reply(words: &[&[u8]]) -> bool {
     match words {
         [section, _] => is_section(section),
         _ => false,
+    }
+}
+
+// Whether this line names the key that is explained.
+fn is_key(words: &[&[u8]]) -> bool {
+    match words.first() {
+        Some(word) => is_word(word, b"key"),
+        None => false,
     }
 }
 

@@ -1,19 +1,13 @@
 //! What a run, a judgement or a check came to, as members in JSON.
 
-use crate::history_json::{write_history, write_order, write_why};
+use crate::history_json::{write_order, write_why};
 use crate::json_text::JsonText;
 use crate::printed::{Kind, Said, all_lines, first_line};
 use crate::refusal_json::{after_first_word, write_refusal};
-use mc_history::Explanation;
-use mc_model::History;
 use mc_protocol::{OutOfMemory, has_digits_alone, is_word};
 
-/// Writes the members for what a text says, and for its history with its claim if it has one.
-pub fn write_said(
-    out: &mut JsonText,
-    said: &[Said<'_>],
-    history: &Option<(History, Option<Explanation>)>,
-) -> Result<(), OutOfMemory> {
+/// Writes the members for what a text says beside its history.
+pub fn write_said(out: &mut JsonText, said: &[Said<'_>]) -> Result<(), OutOfMemory> {
     write_lines_alone(out, said)?;
     write_sections(out, said, Kind::Ending, "endings")?;
     write_sections(out, said, Kind::Budget, "budgets")?;
@@ -22,12 +16,10 @@ pub fn write_said(
         write_order(out, order.as_slice())?;
     }
     let why = all_lines(out.alloc(), said, Kind::Why)?;
-    if !why.is_empty() {
-        write_why(out, why.as_slice())?;
-    }
-    match history {
-        Some((history, claim)) => write_history(out, history, claim),
-        None => Ok(()),
+    if why.is_empty() {
+        Ok(())
+    } else {
+        write_why(out, why.as_slice())
     }
 }
 
@@ -46,6 +38,9 @@ fn write_lines_alone(out: &mut JsonText, said: &[Said<'_>]) -> Result<(), OutOfM
     }
     if let Some(line) = first_line(said, Kind::Verdict) {
         out.text("verdict", line)?;
+    }
+    if let Some(line) = first_line(said, Kind::Key) {
+        out.text("key", after_first_word(line))?;
     }
     match first_line(said, Kind::Refusal) {
         Some(line) => write_refusal(out, line, said),

@@ -5,7 +5,7 @@ use Rattle.std.proofs.lemmas.Bool.{ne_eqb, eq-eqb}
 use Rattle.std.proofs.lemmas.List.{append-nil}
 use Rattle.mc_script.specs.declared.section.Label.{Label}
 use Rattle.mc_script.specs.ScriptWords.{label_word}
-use Rattle.mc_script.specs.PrintedScript.{label_at, label_lines, step_words, step_lines}
+use Rattle.mc_script_text.specs.PrintedScript.{label_at, label_lines, step_words, step_lines}
 use Rattle.mc_generate.specs.declared.piece.Piece.{Piece}
 use Rattle.mc_generate.specs.declared.piece.Piece.TheVariants as piece
 use Rattle.mc_generate.specs.Generated.{label_name, names_of, steps_of, steps_of_all, labels_of_all}

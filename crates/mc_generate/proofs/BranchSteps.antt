@@ -12,7 +12,7 @@ use Rattle.mc_protocol.specs.declared.request.Verb.TheVariants as verb
 use Rattle.mc_script.specs.declared.section.Label.{Label}
 use Rattle.mc_script.specs.declared.step.Argument.{Argument}
 use Rattle.mc_script.specs.declared.step.Argument.TheVariants as argument
-use Rattle.mc_script.specs.SectionText.{label_names}
+use Rattle.mc_script.specs.WellFormed.{label_names}
 use Rattle.mc_script.specs.Templates.{has_fields, IsTemplate}
 use Rattle.mc_script.specs.WellFormed.{IsAfter, AreSteps, AreLabels}
 use Rattle.mc_generate.specs.declared.piece.Piece.{Piece}

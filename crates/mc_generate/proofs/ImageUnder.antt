@@ -9,8 +9,8 @@ use Rattle.mc_script.specs.declared.section.Budget.{Budget}
 use Rattle.mc_script.specs.declared.version.Version.{Version}
 use Rattle.mc_script.specs.declared.version.Version.TheVariants as version
 use Rattle.mc_code.specs.Code.{Code, IsCode}
-use Rattle.mc_code.specs.Image.{CodesHaveImages, IsImageOf, image_in, image_of, version_of, magic, with_count, with_length, budget_bytes}
-use Rattle.mc_code.specs.Image.{template_bytes, section_bytes}
+use Rattle.mc_image.specs.Image.{CodesHaveImages, IsImageOf, image_in, image_of, version_of, magic, with_count, with_length, budget_bytes}
+use Rattle.mc_image.specs.Image.{template_bytes, section_bytes}
 use Rattle.mc_generate.specs.ImageFronts.{front_bytes, budgets_of, counts_of}
 use Rattle.mc_settings.specs.Namespaces.{is_namespace, AreShort}
 use Rattle.mc_generate.specs.CodesUnder.{code_under}

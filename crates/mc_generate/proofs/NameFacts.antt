@@ -13,7 +13,7 @@ use Rattle.mc_protocol.proofs.Decimals.{decimal-spells, one_number}
 use Rattle.mc_protocol.specs.Decimals.{SpellsNumber, is_digit, are_digits, MAX_64}
 use Rattle.mc_protocol.specs.Lines.{Word}
 use Rattle.mc_protocol.specs.Names.{is_name_byte, are_name_bytes, is_name, are_distinct}
-use Rattle.mc_script.specs.PrintedScript.{name_at}
+use Rattle.mc_script_text.specs.PrintedScript.{name_at}
 use Rattle.mc_script.specs.Script.{AreDeclared}
 use Rattle.mc_script.specs.ScriptWords.{is_label_name, is_body_byte, are_body_bytes, is_body}
 use Rattle.mc_settings.specs.JobKeys.{key_name}

@@ -5,8 +5,8 @@ use Rattle.std.proofs.lemmas.Grind.{flat_map-append}
 use Rattle.std.proofs.lemmas.List.{append-nil}
 use Rattle.mc_protocol.specs.Lines.{Words}
 use Rattle.mc_protocol.specs.declared.actor.Actor.TheVariants as actor
-use Rattle.mc_script.specs.ScriptText.{header, names_lines, section_line, end_line, body_lines}
-use Rattle.mc_script.specs.PrintedScript.{line_text, lines_text, budget_line, section_lines, script_lines, script_text}
+use Rattle.mc_script_text.specs.ScriptText.{header, names_lines, section_line, end_line, body_lines}
+use Rattle.mc_script_text.specs.PrintedScript.{line_text, lines_text, budget_line, section_lines, script_lines, script_text}
 use Rattle.mc_script.specs.declared.version.Version.{Version}
 use Rattle.mc_script.specs.declared.version.Version.TheVariants as version
 use Rattle.rand_pcg.specs.Lcg.{Lcg, started, increment_of}

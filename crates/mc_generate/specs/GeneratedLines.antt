@@ -5,9 +5,9 @@ use Rattle.mc_protocol.specs.Words.{verb_word}
 use Rattle.mc_protocol.specs.declared.actor.Actor.TheVariants as actor
 use Rattle.mc_protocol.specs.declared.request.Verb.{Verb}
 use Rattle.mc_protocol.specs.declared.request.Verb.TheVariants as verb
-use Rattle.mc_script.specs.ScriptText.{header, names_lines}
+use Rattle.mc_script_text.specs.ScriptText.{header, names_lines}
 use Rattle.mc_script.specs.ScriptWords.{body_word}
-use Rattle.mc_script.specs.PrintedScript.{budget_line}
+use Rattle.mc_script_text.specs.PrintedScript.{budget_line}
 use Rattle.mc_script.specs.declared.version.Version.TheVariants as version
 use Rattle.mc_generate.specs.declared.piece.Piece.{Piece}
 use Rattle.mc_generate.specs.declared.piece.Piece.TheVariants as piece

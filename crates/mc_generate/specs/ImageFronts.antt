@@ -5,7 +5,7 @@ use Rattle.mc_protocol.specs.declared.limits.TheConstants.{REQUESTS_LIMIT, REQUE
 use Rattle.mc_protocol.specs.declared.sections.Sections.{Sections}
 use Rattle.mc_script.specs.declared.section.Budget.{Budget}
 use Rattle.mc_code.specs.Code.{Code}
-use Rattle.mc_code.specs.Image.{budget_bytes, with_count, with_length}
+use Rattle.mc_image.specs.Image.{budget_bytes, with_count, with_length}
 
 -- the budget of each section
 abbrev pub budgets_of : Code → Sections Budget

@@ -8,8 +8,9 @@ use crate::GenFault;
 use crate::script_text::text_of;
 use mc_code::{AsmFault, Code, assemble};
 use mc_protocol::OutOfMemory;
-use mc_script::{
-    Script, ScriptKind, parse, printed_scripts_are_read_again, printed_scripts_are_spelled,
+use mc_script::Script;
+use mc_script_text::{
+    ScriptKind, parse, printed_scripts_are_read_again, printed_scripts_are_spelled,
 };
 use mc_verify::{Checked, RefusalKind, verify};
 use rand_pcg::Lcg64Xsh32;

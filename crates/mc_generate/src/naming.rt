@@ -2,13 +2,14 @@
 ghost use Rattle.std.specs.Prelude.{◌≡◌, ◌≤◌, ◌∷◌, ◌++◌, [], drop, length, IfErr, IfNone, IfOk, OnOk};
 ghost use Rattle.std.specs.List.{All, position};
 ghost use Rattle.mc_protocol.specs.declared.limits.TheConstants.{KEY_BYTES_LIMIT, KEYS_LIMIT};
-ghost use Rattle.mc_code.specs.Image as image;
-ghost use Rattle.mc_code.specs.Image.{image_of};
+ghost use Rattle.mc_image.specs.Image as image;
+ghost use Rattle.mc_image.specs.Image.{image_of};
 ghost use Rattle.mc_settings.specs.Namespaces as names;
 ghost use Rattle.mc_generate.specs.CodesUnder as spec;
 ghost use Rattle.mc_generate.specs.ImageFronts as fronts;
 
-use mc_code::{Code, ImageKind, codes_have_images, decode, encode};
+use mc_code::Code;
+use mc_image::{ImageKind, codes_have_images, decode, encode};
 use mc_protocol::{
     Actor, Bytes, KEY_BYTES_LIMIT, OutOfMemory, REQUEST_BYTES_LIMIT, Sections, append_all,
 };

@@ -1,6 +1,6 @@
 //! The lines of the pieces of a branch.
 ghost use Rattle.std.specs.Prelude.{◌≡◌, ◌++◌, ◌∷◌, [], OnOk, map};
-ghost use Rattle.mc_script.specs.PrintedScript.{line_text, lines_text};
+ghost use Rattle.mc_script_text.specs.PrintedScript.{line_text, lines_text};
 ghost use Rattle.mc_generate.specs.GeneratedLines as lines;
 
 use crate::piece::Piece;

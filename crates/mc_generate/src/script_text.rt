@@ -1,7 +1,7 @@
 //! The text of a generated script.
 ghost use Rattle.std.specs.Prelude.{◌≡◌, ◌++◌, ◌∷◌, [], IfOk, OnOk};
-ghost use Rattle.mc_script.specs.PrintedScript as printed;
-ghost use Rattle.mc_script.specs.ScriptText.{section_line};
+ghost use Rattle.mc_script_text.specs.PrintedScript as printed;
+ghost use Rattle.mc_script_text.specs.ScriptText.{section_line};
 ghost use Rattle.mc_protocol.specs.declared.actor.Actor.{Actor};
 ghost use Rattle.mc_generate.specs.Outputs.{outputs_of, rest, draw};
 ghost use Rattle.mc_generate.specs.Pieces.{branch_in};

@@ -1,6 +1,6 @@
 //! The words and the lines of a generated script, as they are written.
 ghost use Rattle.std.specs.Prelude.{◌≡◌, ◌++◌, ◌∷◌, IfOk, OnOk, codes, decimal, map};
-ghost use Rattle.mc_script.specs.PrintedScript.{line_text, spaced_text};
+ghost use Rattle.mc_script_text.specs.PrintedScript.{line_text, spaced_text};
 ghost use Rattle.mc_script.specs.ScriptWords as words;
 ghost use Rattle.mc_settings.specs.JobKeys as keys;
 ghost use Rattle.mc_generate.specs.Generated as generated;

@@ -7,9 +7,9 @@ use Rattle.mc_model.specs.Kinds as history_kinds
 use Rattle.mc_model.specs.declared.rules.HistoryKind.{HistoryKind}
 use Rattle.mc_history.specs.StepKinds as steps_kinds
 use Rattle.mc_history.specs.declared.steps_fault.StepsKind.{StepsKind}
-use Rattle.mc_script.specs.Kinds as script_kinds
+use Rattle.mc_script_text.specs.Kinds as script_kinds
 use Rattle.mc_code.specs.AsmKinds as asm_kinds
-use Rattle.mc_code.specs.ImageKinds as image_kinds
+use Rattle.mc_image.specs.ImageKinds as image_kinds
 use Rattle.mc_code.specs.declared.fault.AsmFault.{AsmFault}
 use Rattle.mc_code.specs.declared.fault.AsmFault.TheVariants as asm_fault
 use Rattle.mc_verify.specs.Refusals as code_kinds

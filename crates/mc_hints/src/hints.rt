@@ -10,7 +10,7 @@ use crate::spot::Spot;
 use crate::unsound::unsound_hint;
 use crate::{history_sentence, script_sentence};
 use mc_protocol::Separator;
-use mc_script::ScriptFault;
+use mc_script_text::ScriptFault;
 use std::alloc::{AllocError, Global};
 
 /// What stands after the refusal of this input, if `why` asks for it. It is empty if `why` doesn't, and for an image. The input is the
@@ -62,7 +62,7 @@ fn recorded_hint(
 
 // The line of a script, with the sentence.
 fn script_hint(alloc: Global, text: &[u8], fault: ScriptFault) -> Result<String, AllocError> {
-    let Some(mc_script::Misread { word, expected }) = fault.misread else {
+    let Some(mc_script_text::Misread { word, expected }) = fault.misread else {
         return Ok(String::new(alloc));
     };
     let spot = Spot::of_word(alloc, text, Separator::SpaceOrTab, fault.line, word)?;

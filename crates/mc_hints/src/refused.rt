@@ -1,8 +1,9 @@
 //! Why an input is refused: what its reader found, or what the verifier found of its code.
 
-use mc_code::{AsmFault, ImageFault};
+use mc_code::AsmFault;
 use mc_history::{HistoryFault, StepsFault};
-use mc_script::ScriptFault;
+use mc_image::ImageFault;
+use mc_script_text::ScriptFault;
 
 /// Why an input has no code.
 #[derive(Clone, Copy, Debug, Drop, PartialEq, Eq)]

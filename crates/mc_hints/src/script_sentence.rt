@@ -4,7 +4,7 @@ use crate::sentence::{END_OF_TEXT, KEY, KEY_BYTE, NO_LENGTH, before_faulty_byte,
 use crate::spot::Spot;
 use mc_code::AsmFault;
 use mc_protocol::{Actor, Verb, has_digits_alone, is_word};
-use mc_script::{Expected, Sort};
+use mc_script_text::{Expected, Sort};
 
 // A word that was written with a space inside.
 const PARTED_BEFORE: &str = "`{previous}` and `{word}` are one word: `{previous}{word}`";

@@ -24,3 +24,4 @@ pub mod Placing
 pub mod Walking
 pub mod Joints
 pub mod KeyList
+pub mod Undecided

@@ -6,6 +6,7 @@ pub use Rattle.mc_timeline.specs.Queues
 pub use Rattle.mc_timeline.specs.Rules
 pub use Rattle.mc_timeline.specs.Timelines
 pub mod Claims
+pub mod Keys
 pub mod Standing
 pub mod Held
 pub mod Points

@@ -1,7 +1,8 @@
 //! What a connection waits for.
 use crate::frames::Frame;
-use mc_protocol::{Bytes, Verb};
+use mc_protocol::{Bytes, OutOfMemory, Verb};
 use std::alloc::Global;
+use std::collections::VecDeque;
 
 /// Where a request was noted.
 #[derive(Clone, Copy, Drop)]
@@ -43,5 +44,43 @@ impl Awaited {
             flushes: true,
             ..Awaited::aside(alloc, frame)
         }
+    }
+}
+
+/// What a connection waits for, in the order of its requests.
+#[derive(Drop)]
+pub(crate) struct Waiting {
+    queue: VecDeque<Awaited>,
+    // How many of them have a reply.
+    replies: u64,
+}
+
+impl Waiting {
+    /// It waits for nothing.
+    pub(crate) fn new(alloc: Global) -> Self {
+        Waiting {
+            queue: VecDeque::new(alloc),
+            replies: 0,
+        }
+    }
+
+    /// It waits for one more. Answers whether this one was pipelined: it has a reply, and another one was waited for already.
+    pub(crate) fn push(&mut self, awaited: Awaited) -> Result<bool, OutOfMemory> {
+        let is_answered = awaited.frame != Frame::Silent;
+        self.queue.push_back(awaited)?;
+        if !is_answered {
+            return Ok(false);
+        }
+        self.replies = self.replies.saturating_add(1);
+        Ok(self.replies > 1)
+    }
+
+    /// What it waited for first.
+    pub(crate) fn pop(&mut self) -> Option<Awaited> {
+        let awaited = self.queue.pop_front()?;
+        if awaited.frame != Frame::Silent {
+            self.replies = self.replies.saturating_sub(1);
+        }
+        Some(awaited)
     }
 }

@@ -37,26 +37,26 @@ impl<'a> ClientEar<'a> {
         }
     }
 
-    // Hears some of the bytes, and answers how many.
-    fn hear_next(&mut self, notebook: &mut Notebook, unread: &[u8]) -> usize {
+    // Hears some of the bytes, and answers how many. Other connections wait only while something is noted.
+    fn hear_next<R: Wait>(&mut self, rt: &R, unread: &[u8]) -> usize {
         if self.block > 0 {
             return self.skip(unread);
         }
         match self.reader.feed(unread) {
             Ok(Asked::Done { ask, used }) => {
-                self.keep(notebook, unread.get(..used).unwrap_or(unread));
+                self.keep(rt, unread.get(..used).unwrap_or(unread));
                 if self.is_lost {
                     return used;
                 }
-                self.ask(notebook, ask);
+                self.ask(rt, ask);
                 used
             }
             Ok(Asked::More) => {
-                self.keep(notebook, unread);
+                self.keep(rt, unread);
                 unread.len()
             }
             Err(AskFault::OutOfMemory) | Err(AskFault::Failed) => {
-                self.lose(notebook);
+                self.lose(rt);
                 unread.len()
             }
         }
@@ -74,24 +74,25 @@ impl<'a> ClientEar<'a> {
     }
 
     // Notes what is asked.
-    fn ask(&mut self, notebook: &mut Notebook, ask: Ask) {
+    fn ask<R: Wait>(&mut self, rt: &R, ask: Ask) {
         self.is_lost = ask.closes();
-        self.block = notebook.ask(self.connection, ask, line_of(self.front.as_slice()));
+        let line = line_of(self.front.as_slice());
+        self.block = self.notebook.lock(rt).ask(self.connection, ask, line);
         self.front.clear();
     }
 
     // Keeps the bytes of a request, as far as there is room.
-    fn keep(&mut self, notebook: &mut Notebook, bytes: &[u8]) {
+    fn keep<R: Wait>(&mut self, rt: &R, bytes: &[u8]) {
         let room = FRONT_BYTES.saturating_sub(self.front.len());
         let kept = bytes.get(..room).unwrap_or(bytes);
         if self.front.extend_from_slice(kept).is_err() {
-            self.lose(notebook);
+            self.lose(rt);
         }
     }
 
-    fn lose(&mut self, notebook: &mut Notebook) {
+    fn lose<R: Wait>(&mut self, rt: &R) {
         self.is_lost = true;
-        notebook.misunderstand(self.connection);
+        self.notebook.lock(rt).misunderstand(self.connection);
     }
 }
 
@@ -102,16 +103,13 @@ impl<'a> Ear for ClientEar<'a> {
         if self.is_lost {
             return;
         }
-        let shared = self.notebook;
-        let mut held = shared.lock(rt);
-        let notebook = &mut *held;
         let mut unread = bytes;
         // each round hears a byte at least
         for _ in 0..bytes.len() {
             if unread.is_empty() || self.is_lost {
                 break;
             }
-            let used = self.hear_next(notebook, unread);
+            let used = self.hear_next(rt, unread);
             unread = unread.get(used..).unwrap_or(&[]);
         }
     }

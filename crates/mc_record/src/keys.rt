@@ -18,10 +18,11 @@ use std::collections::{HashMap, VecDeque};
 /// How many timelines may wait to be judged; another one isn't judged.
 const PIECES_LIMIT: usize = 65_536;
 
-/// What is kept of a key, and the number of its name.
+/// What is kept of a key, and its name in the text with the number of that.
 #[derive(Drop)]
 struct Named {
     name: u64,
+    label: Bytes,
     record: KeyRecord,
 }
 
@@ -109,6 +110,10 @@ impl Keys {
 
     /// A request acts on the key from now on.
     pub(crate) fn act(&mut self, key: &Bytes) -> Result<(), OutOfMemory> {
+        if let Some(named) = self.named.get_mut(key) {
+            named.record.act();
+            return Ok(());
+        }
         self.keep(key)?;
         if let Some(named) = self.named.get_mut(key) {
             named.record.act();
@@ -172,7 +177,7 @@ impl Keys {
             return Ok(None);
         };
         let name = named.name;
-        let (key, request) = renamed(self.alloc, request, name)?;
+        let (key, request) = renamed(request, named.label.copy(self.alloc)?);
         let line = begin_line(self.alloc, client, &request)?;
         match named.record.begin(self.alloc, client, request) {
             Ok(()) => {
@@ -196,10 +201,11 @@ impl Keys {
         let Some(named) = self.named.get_mut(&request.key) else {
             return Ok(None);
         };
-        let (key, request) = renamed(self.alloc, request, name)?;
+        named.name = name;
+        named.label = key_name(self.alloc, name)?;
+        let (key, request) = renamed(request, named.label.copy(self.alloc)?);
         let named_line = name_line(self.alloc, &request.key, &key)?;
         let line = begin_line(self.alloc, client, &request)?;
-        named.name = name;
         if !has_started(self.alloc, &mut named.record, client, request) {
             self.numbers.answer(client);
             self.left_out.add(Reason::AgainstRules);
@@ -344,6 +350,7 @@ impl Keys {
             key.copy(self.alloc)?,
             Named {
                 name: 0,
+                label: Bytes::new(Vec::new(self.alloc)),
                 record: KeyRecord::new(),
             },
         )?;
@@ -357,7 +364,7 @@ fn has_started(alloc: Global, record: &mut KeyRecord, client: u8, request: Reque
 }
 
 // The request under the name of its key in the text, and the key itself.
-fn renamed(alloc: Global, request: Request, name: u64) -> Result<(Bytes, Request), OutOfMemory> {
+fn renamed(request: Request, label: Bytes) -> (Bytes, Request) {
     let Request {
         verb,
         key,
@@ -365,14 +372,12 @@ fn renamed(alloc: Global, request: Request, name: u64) -> Result<(Bytes, Request
         body,
         number,
     } = request;
-    Ok((
-        key,
-        Request {
-            verb,
-            key: key_name(alloc, name)?,
-            flags,
-            body,
-            number,
-        },
-    ))
+    let renamed = Request {
+        verb,
+        key: label,
+        flags,
+        body,
+        number,
+    };
+    (key, renamed)
 }

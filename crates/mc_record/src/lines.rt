@@ -7,10 +7,16 @@ use std::alloc::Global;
 /// The digits of a byte in base 16.
 static DIGITS: [u8; 16] = *b"0123456789abcdef";
 
+/// How many bytes a name has at most.
+const NAME_BYTES: usize = 21;
+
+/// How many bytes a line has beside a body, mostly: room for more is made where it is needed.
+const LINE_BYTES: usize = 64;
+
 /// The name of a key in the text: `k` and a number.
 pub(crate) fn key_name(alloc: Global, number: u64) -> Result<Bytes, OutOfMemory> {
     let mut digits = Buffer::new();
-    let mut name = Vec::new(alloc);
+    let mut name = Vec::with_capacity(alloc, NAME_BYTES)?;
     append_all(
         &mut name,
         &[b"k".as_slice(), digits.format(number).as_bytes()],
@@ -25,7 +31,7 @@ pub(crate) fn begin_line(
     request: &Request,
 ) -> Result<Vec<u8>, OutOfMemory> {
     let mut digits = Buffer::new();
-    let mut line = Vec::new(alloc);
+    let mut line = line_with(alloc, request.body.as_slice())?;
     append_all(
         &mut line,
         &[digits.format(u64::from(client)).as_bytes(), b" begin "],
@@ -38,7 +44,11 @@ pub(crate) fn begin_line(
 /// The line of a reply.
 pub(crate) fn reply_line(alloc: Global, client: u8, reply: &Reply) -> Result<Vec<u8>, OutOfMemory> {
     let mut digits = Buffer::new();
-    let mut line = Vec::new(alloc);
+    let body = match reply {
+        Reply::Hit { body, .. } => body.as_slice(),
+        _ => &[],
+    };
+    let mut line = line_with(alloc, body)?;
     append_all(
         &mut line,
         &[digits.format(u64::from(client)).as_bytes(), b" reply "],
@@ -46,6 +56,11 @@ pub(crate) fn reply_line(alloc: Global, client: u8, reply: &Reply) -> Result<Vec
     print_reply_words(reply, &mut line)?;
     line.push(b'\n')?;
     Ok(line)
+}
+
+// Room for a line with the body.
+fn line_with(alloc: Global, body: &[u8]) -> Result<Vec<u8>, OutOfMemory> {
+    Ok(Vec::with_capacity(alloc, body.len().saturating_add(LINE_BYTES))?)
 }
 
 /// A comment that says which key a name stands for.

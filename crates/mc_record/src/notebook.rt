@@ -1,6 +1,6 @@
 //! What is noted of all connections.
 use crate::asides::{Aside, Effect, read_aside};
-use crate::awaited::Awaited;
+use crate::awaited::{Awaited, Waiting};
 use crate::frames::Frame;
 use crate::judging::Count;
 use crate::keys::Keys;
@@ -9,7 +9,6 @@ use crate::piece::Piece;
 use mc_protocol::{Bytes, OutOfMemory, Reply, Request, Verb};
 use mc_reader::{Ask, Refuse};
 use std::alloc::Global;
-use std::collections::VecDeque;
 
 /// How many connections there may be at once.
 pub(crate) const CONNECTIONS_LIMIT: usize = 64;
@@ -20,7 +19,9 @@ pub struct Notebook {
     alloc: Global,
     keys: Keys,
     // For each connection that there may be, what it waits for, if it is there.
-    connections: Vec<Option<VecDeque<Awaited>>>,
+    connections: Vec<Option<Waiting>>,
+    // How many requests were sent before the reply to an earlier one of their connection had begun.
+    pipelined: u64,
     // Whether nothing is noted any more.
     is_over: bool,
 }
@@ -36,6 +37,7 @@ impl Notebook {
             alloc,
             keys: Keys::new(alloc, judges)?,
             connections,
+            pipelined: 0,
             is_over: false,
         })
     }
@@ -44,7 +46,7 @@ impl Notebook {
     pub fn open(&mut self) -> Option<u8> {
         let place = self.connections.iter().position(|found| found.is_none())?;
         let number = u8::try_from(place).ok()?;
-        *self.connections.get_mut(place)? = Some(VecDeque::new(self.alloc));
+        *self.connections.get_mut(place)? = Some(Waiting::new(self.alloc));
         Some(number)
     }
 
@@ -79,6 +81,11 @@ impl Notebook {
     /// The timelines that nobody judges, since too many waited.
     pub(crate) fn unjudged(&self) -> Count {
         self.keys.unjudged()
+    }
+
+    /// How many requests were sent before the reply to an earlier one of their connection had begun.
+    pub(crate) fn pipelined(&self) -> u64 {
+        self.pipelined
     }
 
     /// How many requests were left out, and why.
@@ -164,14 +171,16 @@ impl Notebook {
     }
 
     fn pop(&mut self, connection: u8) -> Option<Awaited> {
-        let queue = self.connections.get_mut(usize::from(connection))?;
-        queue.as_mut()?.pop_front()
+        let waiting = self.connections.get_mut(usize::from(connection))?;
+        waiting.as_mut()?.pop()
     }
 
     // Keeps what the connection waits for.
     fn wait_for(&mut self, connection: u8, awaited: Awaited) -> Result<(), OutOfMemory> {
-        if let Some(Some(queue)) = self.connections.get_mut(usize::from(connection)) {
-            queue.push_back(awaited)?;
+        if let Some(Some(waiting)) = self.connections.get_mut(usize::from(connection)) {
+            if waiting.push(awaited)? {
+                self.pipelined = self.pipelined.saturating_add(1);
+            }
         }
         Ok(())
     }

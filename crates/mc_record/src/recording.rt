@@ -42,6 +42,8 @@ pub struct Recorded {
     /// Whether all of the text was written, and memory sufficed for it.
     pub is_whole: bool,
     pub noted: Count,
+    /// How many requests were sent before the reply to an earlier one of their connection had begun.
+    pub pipelined: u64,
     pub left_out: LeftOut,
     pub judged: Judged,
 }
@@ -82,6 +84,7 @@ where
     let is_written = is_written && write_out(rt, &shared, page);
     tell_news(rt, &shared, page);
     let noted = shared.notebook.lock(rt).noted();
+    let pipelined = shared.notebook.lock(rt).pipelined();
     let left_out = shared.notebook.lock(rt).left_out();
     let unjudged = shared.notebook.lock(rt).unjudged();
     let is_short = shared.notebook.lock(rt).is_short();
@@ -92,6 +95,7 @@ where
         refused,
         is_whole: is_written && !is_short,
         noted,
+        pipelined,
         left_out,
         judged,
     })

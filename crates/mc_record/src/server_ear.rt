@@ -44,15 +44,38 @@ impl<'a> ServerEar<'a> {
         }
     }
 
-    // Hears some of the bytes, and answers how many.
-    fn hear_next(&mut self, notebook: &mut Notebook, unread: &[u8]) -> usize {
+    // Hears some of the bytes, and answers how many. Other connections wait only while something is noted.
+    fn hear_next<R: Wait>(&mut self, rt: &R, unread: &[u8]) -> usize {
         if self.awaited.is_none() {
-            self.expect(notebook);
+            self.expect(rt);
         }
+        match self.answer_at_once(rt, unread) {
+            Some(used) => used,
+            None => self.hear_piece(rt, unread),
+        }
+    }
+
+    // Notes the reply with which the bytes begin, if nothing of it came before, all of it is there and the request may have it.
+    // Answers its length.
+    fn answer_at_once<R: Wait>(&mut self, rt: &R, unread: &[u8]) -> Option<usize> {
+        if !self.reply.is_empty() || !self.is_whole {
+            return None;
+        }
+        let awaited = self.awaited.take()?;
+        let Some((reply, used)) = reply_in(self.alloc, &awaited, unread) else {
+            self.awaited = Some(awaited);
+            return None;
+        };
+        self.notebook.lock(rt).answer(awaited, Some(reply));
+        Some(used)
+    }
+
+    // Hears what is a piece of a reply, or one that no timeline has words for.
+    fn hear_piece<R: Wait>(&mut self, rt: &R, unread: &[u8]) -> usize {
         match self.framer.feed(unread) {
             Ok(Framed::Done(used)) => {
                 let last = unread.get(..used).unwrap_or(unread);
-                self.answer(notebook, last);
+                self.answer(rt, last);
                 used
             }
             Ok(Framed::More) => {
@@ -61,15 +84,15 @@ impl<'a> ServerEar<'a> {
             }
             Ok(Framed::Unknown) | Err(_) => {
                 self.is_lost = true;
-                notebook.misunderstand(self.connection);
+                self.notebook.lock(rt).misunderstand(self.connection);
                 unread.len()
             }
         }
     }
 
     // A reply begins. If nothing is awaited, its first byte isn't understood.
-    fn expect(&mut self, notebook: &mut Notebook) {
-        self.awaited = notebook.next_awaited(self.connection);
+    fn expect<R: Wait>(&mut self, rt: &R) {
+        self.awaited = self.notebook.lock(rt).next_awaited(self.connection);
         let frame = match &self.awaited {
             Some(awaited) => awaited.frame,
             None => Frame::Silent,
@@ -88,18 +111,16 @@ impl<'a> ServerEar<'a> {
     }
 
     // Notes the reply that ends with these bytes.
-    fn answer(&mut self, notebook: &mut Notebook, last: &[u8]) {
+    fn answer<R: Wait>(&mut self, rt: &R, last: &[u8]) {
         let Some(awaited) = self.awaited.take() else {
             return;
         };
-        let reply = if self.reply.is_empty() {
-            reply_in(self.alloc, &awaited, last)
-        } else {
-            self.keep(last);
-            reply_in(self.alloc, &awaited, self.reply.as_slice())
+        self.keep(last);
+        let reply = match reply_in(self.alloc, &awaited, self.reply.as_slice()) {
+            Some((reply, _len)) if self.is_whole => Some(reply),
+            _ => None,
         };
-        let reply = if self.is_whole { reply } else { None };
-        notebook.answer(awaited, reply);
+        self.notebook.lock(rt).answer(awaited, reply);
     }
 }
 
@@ -110,23 +131,20 @@ impl<'a> Ear for ServerEar<'a> {
         if self.is_lost {
             return;
         }
-        let shared = self.notebook;
-        let mut held = shared.lock(rt);
-        let notebook = &mut *held;
         let mut unread = bytes;
         // each round hears a byte at least
         for _ in 0..bytes.len() {
             if unread.is_empty() || self.is_lost {
                 break;
             }
-            let used = self.hear_next(notebook, unread);
+            let used = self.hear_next(rt, unread);
             unread = unread.get(used..).unwrap_or(&[]);
         }
     }
 }
 
-// The reply that the bytes spell, if they spell one to a request of one key.
-fn reply_in(alloc: Global, awaited: &Awaited, bytes: &[u8]) -> Option<Reply> {
+// The reply with which the bytes begin, and its length, if they begin with one to a request of one key.
+fn reply_in(alloc: Global, awaited: &Awaited, bytes: &[u8]) -> Option<(Reply, usize)> {
     let verb = awaited.verb?;
     let key = awaited.keys.as_slice().first()?;
     let shape = Shape {
@@ -134,7 +152,7 @@ fn reply_in(alloc: Global, awaited: &Awaited, bytes: &[u8]) -> Option<Reply> {
         key: key.as_slice(),
     };
     match ReplyReader::new(alloc, shape).feed(bytes) {
-        Ok(Fed::Done { reply, .. }) => Some(reply),
+        Ok(Fed::Done { reply, used }) => Some((reply, used)),
         _ => None,
     }
 }

@@ -13,7 +13,7 @@ use Rattle.mc_core.specs.Worlds.{World, log_of, IsEnding}
 use Rattle.mc_core.specs.declared.ending.Ending.{Ending}
 use Rattle.mc_core.specs.declared.ending.Ending.TheVariants as ending
 use Rattle.mc_run.specs.Agreement.{LaneRecords, Agree, AgreesIn}
-use Rattle.mc_run.specs.Recorded.{IsRecordedBy}
+use Rattle.mc_recorded.specs.Recorded.{IsRecordedBy}
 
 -- ---- one section
 

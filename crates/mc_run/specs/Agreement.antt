@@ -11,7 +11,7 @@ use Rattle.mc_core.specs.Histories.{sent_in}
 use Rattle.mc_core.specs.Steps.{IsWorldOf}
 use Rattle.mc_core.specs.Worlds.{World, log_of, IsEnding}
 use Rattle.mc_lane.specs.Lanes.{LaneRecord}
-use Rattle.mc_run.specs.Recorded.{IsRecordedBy}
+use Rattle.mc_recorded.specs.Recorded.{IsRecordedBy}
 
 -- the lane of each section
 abbrev pub LaneRecords : Type 0

@@ -7,12 +7,10 @@ pub use Rattle.mc_core.specs.Worlds
 pub use Rattle.mc_claims.specs.Explains
 pub use Rattle.mc_explain.specs.Verdicts
 pub use Rattle.mc_lane.specs.Lanes
+pub use Rattle.mc_recorded.specs.Recorded
 pub mod Agreement
 pub mod Books
 pub mod Headline
 pub mod Judged
 pub mod Laws
-pub mod Recorded
 pub mod Running
--- What private contracts cite.
-pub mod Fronts

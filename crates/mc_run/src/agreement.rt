@@ -4,11 +4,11 @@ ghost use Rattle.mc_protocol.specs.Sections.{section_of};
 ghost use Rattle.mc_run.specs.Agreement as spec;
 
 use crate::Lanes;
-use crate::recorded::is_recorded;
 use mc_core::{Ending, World};
 use mc_lane::Stream;
 use mc_model::History;
 use mc_protocol::{Actor, OutOfMemory};
+use mc_recorded::is_recorded;
 use mc_verify::Checked;
 use std::alloc::Global;
 

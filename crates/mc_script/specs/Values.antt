@@ -11,19 +11,7 @@ pub use Rattle.mc_protocol.specs.declared.request.Fields.{Fields}
 pub use Rattle.mc_protocol.specs.declared.request.Fields.TheVariants as fields
 pub use Rattle.mc_protocol.specs.declared.request.Verb.{Verb}
 pub use Rattle.mc_protocol.specs.Lines.{Word, Words}
-pub use Rattle.mc_script.specs.declared.entry.Entry.{Entry}
-pub use Rattle.mc_script.specs.declared.entry.Entry.TheVariants as entry
-pub use Rattle.mc_script.specs.declared.entry.Mark.{Mark}
-pub use Rattle.mc_script.specs.declared.entry.Mark.TheVariants as mark
-pub use Rattle.mc_script.specs.declared.entry.Sign.{Sign}
-pub use Rattle.mc_script.specs.declared.entry.Sign.TheVariants as sign
-pub use Rattle.mc_script.specs.declared.fault.ScriptFault.{ScriptFault}
-pub use Rattle.mc_script.specs.declared.fault.ScriptKind.{ScriptKind}
-pub use Rattle.mc_script.specs.declared.fault.ScriptKind.TheVariants as kind
-pub use Rattle.mc_script.specs.declared.fields.Parts.{Parts}
 pub use Rattle.mc_script.specs.declared.limits.TheConstants.{FLAGS_LIMIT, NAME_BYTES_LIMIT, STEPS_LIMIT, VARIABLES_LIMIT}
-pub use Rattle.mc_script.specs.declared.read_entry.Keyword.{Keyword}
-pub use Rattle.mc_script.specs.declared.read_entry.Keyword.TheVariants as keyword
 pub use Rattle.mc_script.specs.declared.section.Budget.{Budget}
 pub use Rattle.mc_script.specs.declared.section.Label.{Label}
 pub use Rattle.mc_script.specs.declared.step.Argument.{Argument}
@@ -33,4 +21,3 @@ pub use Rattle.mc_script.specs.declared.step.Step.TheVariants as step
 pub use Rattle.mc_script.specs.declared.step.Template.{Template}
 pub use Rattle.mc_script.specs.declared.version.Version.{Version}
 pub use Rattle.mc_script.specs.declared.version.Version.TheVariants as version
-pub use Rattle.mc_script.specs.declared.word_fault.WordFault.{WordFault}

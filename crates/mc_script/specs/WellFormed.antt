@@ -1,12 +1,13 @@
 -- Which values are scripts, whatever text spells them. The limits are those of the last version.
-use Rattle.std.specs.Prelude.{◌≡◌, ℕ, ◌+◌, ◌<◌, ◌≤◌, Bool, true, false, Option, Some, None, List, [], ◌∷◌, length, slice_get}
+use Rattle.std.specs.Prelude.{◌≡◌, ℕ, ◌+◌, ◌<◌, ◌≤◌, Bool, true, false, Option, Some, None, List, [], ◌∷◌, map, length, slice_get}
 use Rattle.std.specs.List.{list_any}
 use Rattle.mc_protocol.specs.{Legal.is_legal, Names.are_distinct, Words.class_index}
-use Rattle.mc_script.specs.Values.{Verb, Class, REQUESTS_LIMIT, REQUEST_BYTES_LIMIT, STEPS_LIMIT, Label, Step}
+use Rattle.mc_script.specs.Values.{Verb, Class, Word, REQUESTS_LIMIT, REQUEST_BYTES_LIMIT, STEPS_LIMIT, Label, Step}
 use Rattle.mc_script.specs.Values.class
+use Rattle.mc_protocol.specs.declared.request.Verb.TheVariants as verb
 use Rattle.mc_script.specs.Values.step
 use Rattle.mc_script.specs.Script.{Names, Section, Script, AreDeclared}
-use Rattle.mc_script.specs.{ScriptWords.is_label_name, Marks.shows_numbers, SectionText.label_names, Templates.IsTemplate}
+use Rattle.mc_script.specs.{ScriptWords.is_label_name, Templates.IsTemplate}
 
 -- the label with this index stands after the step at this place
 abbrev pub IsAfter : List Label → ℕ → ℕ → Type 0
@@ -19,6 +20,13 @@ AreJumps verb labels place least [] = Unit {0}
 AreJumps verb labels place least (jump ∷ jumps) =
     (least ≤ class_index jump.0) × (is_legal verb jump.0 ≡ true) × IsAfter labels place jump.1
     × AreJumps verb labels place (class_index jump.0 + 1) jumps
+
+-- the verb's replies may show a number
+abbrev pub shows_numbers : Verb → Bool
+shows_numbers verb.Gets = true
+shows_numbers verb.Incr = true
+shows_numbers verb.Decr = true
+shows_numbers _ = false
 
 -- a reply of this class shows a number, where the verb's replies may show one
 abbrev pub is_number_class : Class → Bool
@@ -54,6 +62,9 @@ abbrev pub AreLabels : ℕ → ℕ → List Label → Type 0
 AreLabels steps place [] = Unit {0}
 AreLabels steps place (label ∷ labels) =
     (is_label_name label.name ≡ true) × (place ≤ label.place) × (label.place ≤ steps) × AreLabels steps label.place labels
+
+abbrev pub label_names : List Label → List Word
+label_names labels = map (λ label. label.name) labels
 
 pub record IsSection (names : Names) (s : Section) : Type 0 where
   pub requests : s.budget.requests ≤ REQUESTS_LIMIT

@@ -40,6 +40,14 @@ impl Model for Script {
 }
 
 impl Script {
+    /// The script of these names and sections, which must be one.
+    pub fn new(names: Names, sections: Sections<Section>) -> Self
+        requires { IsScript (record { names = names; sections = sections }) }
+        ensures { result ≡ record { names = names; sections = sections } }
+    {
+        Script { names, sections }
+    }
+
     /// The keys, in the order of their declaration.
     pub fn keys(&self) -> &[Bytes]
         ensures keys { result.now ≡ self.now.names.keys }
@@ -84,14 +92,16 @@ impl Script {
         self.section(actor).labels.as_slice()
     }
 
-    pub(crate) fn names(&self) -> &Names
+    /// All the names that it declares.
+    pub fn names(&self) -> &Names
         ensures names { result.now ≡ self.now.names }
         ensures kept { IsScript self.now }
     {
         &self.names
     }
 
-    pub(crate) fn section(&self, actor: Actor) -> &Section
+    /// The section of a client, or of the prefix.
+    pub fn section(&self, actor: Actor) -> &Section
         ensures section { result.now ≡ spec.section_of self.now actor }
         ensures kept { IsScript self.now }
     {

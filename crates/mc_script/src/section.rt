@@ -23,11 +23,13 @@ pub struct Label {
 
 /// One section of a script. Contracts see both vectors as lists.
 #[derive(Debug, Drop)]
-pub(crate) struct Section {
-    pub(crate) budget: Budget,
-    pub(crate) steps: Vec<Step>,
+pub struct Section {
+    /// The most that it may send.
+    pub budget: Budget,
+    /// In the order in which they stand.
+    pub steps: Vec<Step>,
     /// In the order of the text.
-    pub(crate) labels: Vec<Label>,
+    pub labels: Vec<Label>,
 }
 
 impl Model for Section {

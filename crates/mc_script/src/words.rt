@@ -1,12 +1,11 @@
-//! The words of a script that stand for numbers and declared names, and the bytes of a body.
+//! The words of a script that stand for declared names, and the bytes of a body.
 
 ghost use Rattle.std.specs.Prelude.{◌≡◌, ◌<◌, ◌≤◌, length};
 ghost use Rattle.std.specs.Option.{MatchOption};
 ghost use Rattle.mc_protocol.specs.Names as names;
 ghost use Rattle.mc_script.specs.ScriptWords as spec;
-ghost use Rattle.mc_script.specs.Reading as reading;
 
-use mc_protocol::{Bytes, SCRIPT_BODY_LIMIT, read_decimal};
+use mc_protocol::{Bytes, SCRIPT_BODY_LIMIT};
 
 /// Whether the bytes may be the body of an item: at most [`SCRIPT_BODY_LIMIT`], each a letter or a digit.
 pub fn is_body(bytes: &[u8]) -> bool
@@ -25,17 +24,6 @@ fn is_body_byte(byte: u8) -> bool
     ensures { result ≡ spec.is_body_byte byte }
 {
     byte.is_ascii_alphanumeric()
-}
-
-/// Reads a decimal, for a number of at most `greatest`.
-pub(crate) fn read_number(greatest: u64, word: &[u8]) -> Option<u64>
-    ensures exact { result ≡ reading.number_in greatest word.now }
-    ensures small { MatchOption result (greatest ≡ greatest) (λ n. n ≤ greatest) }
-{
-    match read_decimal(greatest, word) {
-        Ok(number) => Some(number),
-        Err(_) => None,
-    }
 }
 
 /// The index of the name among these, which are at most 255.

@@ -71,12 +71,12 @@ pub(crate) struct State<'a> {
 }
 
 impl State<'_> {
-    /// How many runs the scripts of the race had, if it is tried.
-    pub(crate) fn runs_of(&self, race: &Race) -> Option<u64> {
-        let mut runs = None;
+    /// How many runs the scripts of the race had. If none, it wasn't tried.
+    pub(crate) fn runs_of(&self, race: &Race) -> u64 {
+        let mut runs = 0u64;
         'turns: for turn in self.turns {
             if turn.race.name == race.name {
-                runs = Some(runs.unwrap_or(0u64).saturating_add(turn.runs));
+                runs = runs.saturating_add(turn.runs);
             }
         }
         runs

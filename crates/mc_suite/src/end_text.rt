@@ -3,20 +3,32 @@
 use crate::book::{Book, State};
 use crate::numbers::{Grouped, Milliseconds, Tenths};
 use crate::race::races;
-use crate::text::push_all;
+use crate::text::{push_all, push_lines};
 use crate::told::Kind;
 use std::alloc::{AllocError, Global};
 use std::fmt::Write;
 
+// What this program is called.
+const NAME: &str = "mcrace";
+
 /// What tests which server, with the version that the server answers, the seed, and how long.
 pub(crate) fn begin_text(alloc: Global, book: &Book<'_>) -> Result<String, AllocError> {
+    let words = begin_words(alloc, book)?;
     let mut text = String::new(alloc);
-    push_all(&mut text, &["mcrace ", book.program, " on ", book.server])?;
-    if let Some(version) = &book.version {
-        push_all(&mut text, &[" (version ", version.as_str(), ")"])?;
-    }
-    write!(text, ", seed {}, {}\n\n", book.seed, Tenths(book.time))?;
+    text.push_str(NAME)?;
+    push_lines(&mut text, NAME.len(), words.as_str())?;
+    text.push_str("\n")?;
     Ok(text)
+}
+
+fn begin_words(alloc: Global, book: &Book<'_>) -> Result<String, AllocError> {
+    let mut words = String::new(alloc);
+    push_all(&mut words, &[book.program, " on ", book.server])?;
+    if let Some(version) = &book.version {
+        push_all(&mut words, &[" (version ", version.as_str(), ")"])?;
+    }
+    write!(words, ", seed {}, {}", book.seed, Tenths(book.time))?;
+    Ok(words)
 }
 
 /// What was tried, what failed, and what was found. `failures` has a line for the first of each kind of failure.
@@ -78,12 +90,12 @@ fn push_tried(text: &mut String, book: &Book<'_>, state: &State<'_>) -> Result<(
     'races: for race in races() {
         if book.selection.has(race) {
             wanted = wanted.saturating_add(1);
-            tried = tried.saturating_add(usize::from(state.runs_of(race).is_some()));
+            tried = tried.saturating_add(usize::from(state.runs_of(race) > 0));
         }
     }
     write!(text, "races tried: {tried} of {wanted}")?;
     if let Some(least) = state.least_runs() {
-        write!(text, ", each script at least {} runs", Grouped(least))?;
+        write!(text, ", fewest runs of a script: {}", Grouped(least))?;
     }
     write!(
         text,
@@ -92,26 +104,30 @@ fn push_tried(text: &mut String, book: &Book<'_>, state: &State<'_>) -> Result<(
     )
 }
 
-// How long the slowest run took, and how many connections failed.
+// How long the slowest reply took, and whether no connection failed.
 fn push_connections(text: &mut String, state: &State<'_>) -> Result<(), AllocError> {
     let slowest = Milliseconds(state.tally.slowest);
-    write!(text, "slowest run {slowest}, ")?;
-    match state.tally.failed.saturating_add(state.tally.unconnected) {
-        0 => text.push_str("no failed connection\n"),
-        1 => text.push_str("1 failed connection\n"),
-        failed => write!(text, "{} failed connections\n", Grouped(failed)),
-    }
+    let failed = state.tally.failed.saturating_add(state.tally.unconnected);
+    let end = if failed == 0 {
+        ", no failed connection"
+    } else {
+        ""
+    };
+    write!(text, "slowest reply {slowest}{end}\n")
 }
 
-// How many runs were left undecided, or weren't made, and whether the server is gone.
+// How many runs were left undecided, or weren't made, and whether the server is gone, or is none.
 fn push_left(text: &mut String, state: &State<'_>) -> Result<(), AllocError> {
     push_count(text, "wrong replies", state.tally.wrong)?;
     push_count(text, "undecided runs", state.tally.undecided)?;
     push_count(text, "runs without a thread", state.tally.not_run)?;
     if state.tally.is_gone {
-        text.push_str("the server was gone before the time was over\n")?;
+        text.push_str("the server was gone before the time was over\n")
+    } else if state.tally.is_strange() {
+        text.push_str("no verb was answered as memcached would: is the address right?\n")
+    } else {
+        Ok(())
     }
-    Ok(())
 }
 
 // A line for this many, unless there are none.

@@ -48,7 +48,7 @@ pub(crate) fn tell_found<R: Threads + Wait + Clock + Sync + Eprint, N: Network, 
     let found = evidence_of(player, script, seen, runs, until)?;
     report.spend(player.passed().saturating_sub(begun));
     player.give_way();
-    report.tell_found(player.target, kind, name, sentence, found)
+    report.tell_found(&player.target, kind, name, sentence, found)
 }
 
 /// Keeps the reports of what is known before the end, if anything was told since there were this many findings.

@@ -158,6 +158,9 @@ fn command_of(alloc: Global, target: &RunArgs<'_>) -> Result<String, AllocError>
     if let Some(server) = target.b {
         push_all(&mut text, &[" --b ", server])?;
     }
+    if target.reconnect {
+        text.push_str(" --reconnect")?;
+    }
     text.push_str(" --for 1m --why")?;
     Ok(text)
 }

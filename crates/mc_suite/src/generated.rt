@@ -6,7 +6,7 @@ use crate::player::{Player, Tries};
 use crate::prepared::Prepared;
 use crate::report::Report;
 use crate::told::Kind;
-use crate::turns::Turn;
+use crate::turns::{Turn, tell_plain};
 use crate::verbs::Unsupported;
 use crate::wide::wide_script;
 use mc_answers::{InputFault, Sink, verify_code};
@@ -61,7 +61,7 @@ pub(crate) fn play_generated<
     player: &mut Player<'_, R, N>,
     report: &mut Report<'_, O, F>,
     generated: &mut Generated,
-    turns: &[Turn],
+    turns: &mut Vec<Turn>,
     round: Duration,
 ) -> Result<(), InputFault> {
     let until = player.passed().saturating_add(round);
@@ -70,8 +70,9 @@ pub(crate) fn play_generated<
             break;
         }
         let told = report.book.told.len();
-        play_next(player, report, generated)?;
-        keep_new(player, report, turns, generated, told)?;
+        player.target.reconnect = false;
+        play_next(player, report, generated, turns)?;
+        keep_new(player, report, turns.as_slice(), generated, told)?;
     }
     Ok(())
 }
@@ -81,11 +82,12 @@ fn play_next<R: Threads + Wait + Clock + Sync + Eprint, N: Network, O: Sink, F: 
     player: &mut Player<'_, R, N>,
     report: &mut Report<'_, O, F>,
     generated: &mut Generated,
+    turns: &mut Vec<Turn>,
 ) -> Result<(), InputFault> {
     let job = generated.job;
     generated.job = generated.job.saturating_add(1);
     match script_of(player.alloc, generated.seed, job)? {
-        Some(script) => play_script(player, report, generated, script, job),
+        Some(script) => play_script(player, report, generated, turns, script, job),
         None => Ok(()),
     }
 }
@@ -95,6 +97,7 @@ fn play_script<R: Threads + Wait + Clock + Sync + Eprint, N: Network, O: Sink, F
     player: &mut Player<'_, R, N>,
     report: &mut Report<'_, O, F>,
     generated: &mut Generated,
+    turns: &mut Vec<Turn>,
     script: Script,
     job: u64,
 ) -> Result<(), InputFault> {
@@ -120,7 +123,7 @@ fn play_script<R: Threads + Wait + Clock + Sync + Eprint, N: Network, O: Sink, F
         seen,
         runs,
     };
-    tell_first(player, report, generated, finding)
+    tell_first(player, report, generated, turns, finding)
 }
 
 // Plays a script a few times, if it is sound and the server knows its verbs.
@@ -141,12 +144,15 @@ fn tell_first<R: Threads + Wait + Clock + Sync + Eprint, N: Network, O: Sink, F:
     player: &mut Player<'_, R, N>,
     report: &mut Report<'_, O, F>,
     generated: &mut Generated,
+    turns: &mut Vec<Turn>,
     finding: Finding<'_>,
 ) -> Result<(), InputFault> {
     generated.unexplained = generated.unexplained.saturating_add(1);
     if generated.unexplained > 1 {
         return Ok(());
     }
+    tell_plain(player, report, turns, None)?;
+    player.target.reconnect = false;
     tell_found(player, report, finding)
 }
 

@@ -127,7 +127,7 @@ fn add_races(cases: &mut Cases, book: &Book<'_>, state: &State<'_>) -> Result<()
         let came = match told_of(book, Kind::Race, race.name) {
             Some(told) => Came::Failure(told),
             None if !book.unsupported.allows(race) => Came::Skipped("not supported"),
-            None if state.runs_of(race).unwrap_or(0) == 0 => Came::Skipped("not played"),
+            None if state.runs_of(race) == 0 => Came::Skipped("not played"),
             None => Came::Passed,
         };
         cases.add("race", race.name, came)?;
@@ -167,15 +167,24 @@ fn add_server(cases: &mut Cases, book: &Book<'_>, state: &State<'_>) -> Result<(
     if status == 0 || status == 1 {
         return Ok(());
     }
-    let tally = &state.tally;
-    let why = match &book.fault {
-        Some(fault) => fault.as_str(),
-        None => "",
-    };
-    let message = format!(in cases.alloc;
-        "exit status {status}: {why}{} runs failed, {} without a connection, {} undecided",
-        tally.failed, tally.unconnected, tally.undecided
-    )?;
+    let message = message_of(cases.alloc, status, book, state)?;
     let message = escaped(cases.alloc, message.as_bytes())?;
     cases.add("test", "server", Came::Error(message.as_str()))
+}
+
+// Why the test ended with this status.
+fn message_of(
+    alloc: Global,
+    status: u8,
+    book: &Book<'_>,
+    state: &State<'_>,
+) -> Result<String, AllocError> {
+    let tally = &state.tally;
+    match &book.fault {
+        Some(fault) => format!(in alloc; "exit status {status}: {fault}"),
+        None => format!(in alloc;
+            "exit status {status}: {} runs failed, {} without a connection, {} undecided",
+            tally.failed, tally.unconnected, tally.undecided
+        ),
+    }
 }

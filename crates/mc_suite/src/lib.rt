@@ -9,6 +9,7 @@
 mod alone;
 mod blame;
 mod book;
+mod clocked;
 mod end_text;
 mod evidence;
 mod finding;
@@ -40,5 +41,6 @@ mod version;
 mod wide;
 
 pub use list::{list_text, scripts_text};
+pub use names::LONGEST_NAME;
 pub use selection::unknown_race;
 pub use testing::test_server;

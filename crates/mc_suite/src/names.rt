@@ -11,6 +11,9 @@ const LENGTH: usize = 13;
 
 const CHARACTERS: &[u8; 32] = b"abcdefghijklmnopqrstuvwxyz234567";
 
+/// The most bytes of a name that the line gives. With it, the name here and two dashes the key of a generated script has 40 bytes at most.
+pub const LONGEST_NAME: usize = 16;
+
 // The generator's sequence.
 const SEQUENCE: u64 = 117;
 

@@ -1,5 +1,6 @@
 //! Plays scripts against the server, one run after another.
 
+use crate::clocked::Slowest;
 use crate::health::Health;
 use crate::names::Names;
 use crate::numbers::Grouped;
@@ -8,6 +9,7 @@ use crate::prepared::Prepared;
 use crate::progress::Progress;
 use crate::seen::Seen;
 use crate::tally::Tally;
+use crate::text::{COLUMNS, push_lines};
 use mc_cli::RunArgs;
 use mc_command::{leaves_request, play_kept};
 use mc_connect::{Kept, Network};
@@ -25,9 +27,11 @@ use std::time::{Duration, Instant};
 pub(crate) struct Player<'a, R, N: Network> {
     pub(crate) rt: &'a R,
     pub(crate) alloc: Global,
-    pub(crate) target: &'a RunArgs<'a>,
+    // Its `reconnect` says whether each run has new connections.
+    pub(crate) target: RunArgs<'a>,
     network: &'a mut N,
     kept: Kept<N::Connection>,
+    slowest: &'a Slowest,
     names: Names,
     begun: Instant,
     /// How long the test may take.
@@ -60,22 +64,25 @@ impl<'a, R: Threads + Wait + Clock + Sync + Eprint, N: Network> Player<'a, R, N>
     pub(crate) fn new(
         rt: &'a R,
         alloc: Global,
-        target: &'a RunArgs<'a>,
+        target: RunArgs<'a>,
         network: &'a mut N,
+        slowest: &'a Slowest,
         begun: Instant,
         time: Duration,
         columns: Option<usize>,
     ) -> Self {
+        let limit = limit_of(&target);
         Player {
             rt,
             alloc,
             target,
             network,
             kept: Kept::new(alloc),
+            slowest,
             names: Names::new(rt),
             begun,
             time,
-            limit: limit_of(target),
+            limit,
             health: Health::new(),
             tally: Tally::new(),
             found: 0,
@@ -95,6 +102,11 @@ impl<'a, R: Threads + Wait + Clock + Sync + Eprint, N: Network> Player<'a, R, N>
         self.health.is_gone() || self.passed() >= self.time
     }
 
+    /// Whether what is there answers no requests as a cache does.
+    pub(crate) fn is_strange(&self) -> bool {
+        self.tally.is_strange()
+    }
+
     /// Plays the code once. After a request without a reply the keys get another name, since the server may still act on it.
     pub(crate) fn play(&mut self, prepared: &mut Prepared) -> Result<Outcome, AllocError> {
         let before = self.passed();
@@ -104,7 +116,7 @@ impl<'a, R: Threads + Wait + Clock + Sync + Eprint, N: Network> Player<'a, R, N>
         let (played, remarks) = play_kept(
             self.rt,
             self.alloc,
-            self.target,
+            &self.target,
             code,
             &mut *self.network,
             &mut self.kept,
@@ -116,7 +128,7 @@ impl<'a, R: Threads + Wait + Clock + Sync + Eprint, N: Network> Player<'a, R, N>
         let passed = self.passed();
         let took = passed.saturating_sub(before);
         self.health.note(self.rt, &outcome, took, self.limit);
-        self.tally.add(&outcome, took);
+        self.tally.add(&outcome);
         self.keep_first(&outcome)?;
         self.tell_progress(passed);
         Ok(outcome)
@@ -148,6 +160,7 @@ impl<'a, R: Threads + Wait + Clock + Sync + Eprint, N: Network> Player<'a, R, N>
         Tally {
             passed: self.passed(),
             is_gone: self.health.is_gone(),
+            slowest: self.slowest.time(),
             ..self.tally
         }
     }
@@ -157,7 +170,8 @@ impl<'a, R: Threads + Wait + Clock + Sync + Eprint, N: Network> Player<'a, R, N>
         let mut text = String::new(self.alloc);
         if let Some(first) = &self.first_failure {
             let failed = Grouped(self.tally.failed);
-            write!(text, "failed runs: {failed}; the first: {first}\n")?;
+            write!(text, "failed runs: {failed}; the first:")?;
+            push_lines(&mut text, COLUMNS, first.as_str())?;
         }
         if let Some(first) = &self.first_unconnected {
             let failed = Grouped(self.tally.unconnected);

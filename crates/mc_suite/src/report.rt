@@ -8,6 +8,7 @@ use crate::found_text::{alone_text, found_text, shell_word};
 use crate::junit::report_junit;
 use crate::report_json::report_json;
 use crate::seen::Shown;
+use crate::text::{COLUMNS, push_lines};
 use crate::told::{Evidence, Kind, Told, file_name};
 use mc_answers::{InputFault, Sink, write_fault};
 use mc_cli::RunArgs;
@@ -126,7 +127,7 @@ impl<'a, O: Sink, F: Folder> Report<'a, O, F> {
         if self.wrong > MOST_TOLD {
             return Ok(());
         }
-        let text = format!(in self.alloc; "wrong reply: {name}\n  {what}\n\n")?.into_bytes();
+        let text = wrong_text(self.alloc, name, what)?.into_bytes();
         let told = told_as(self.alloc, Kind::Reply, name, text, None)?;
         self.tell(0, told)
     }
@@ -211,6 +212,13 @@ impl<'a, O: Sink, F: Folder> Report<'a, O, F> {
         }
         self.book.status(state)
     }
+}
+
+fn wrong_text(alloc: Global, name: &str, what: &str) -> Result<String, AllocError> {
+    let mut text = format!(in alloc; "wrong reply: {name}")?;
+    push_lines(&mut text, COLUMNS, what)?;
+    text.push_str("\n")?;
+    Ok(text)
 }
 
 fn told_as(

@@ -68,8 +68,8 @@ fn write_race(
     let told = book.told_of(Kind::Race, race.name);
     out.begin_object()?;
     write_text(out, "name", race.name)?;
-    write_flag(out, "tried", runs.is_some())?;
-    write_number(out, "runs", runs.unwrap_or(0))?;
+    write_flag(out, "tried", runs > 0)?;
+    write_number(out, "runs", runs)?;
     write_flag(out, "found", told.is_some())?;
     if let Some(told) = told {
         write_evidence(out, told.evidence.as_ref())?;

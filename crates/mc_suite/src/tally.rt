@@ -13,17 +13,22 @@ const UNTESTED: u8 = 4;
 
 const FAILED: u8 = 5;
 
+// After this many runs of which none was answered, the server isn't asked further.
+const MOST_UNANSWERED: u64 = 3;
+
 /// How many runs there were, and how many came to each end.
 #[derive(Clone, Copy)]
 pub(crate) struct Tally {
     pub(crate) runs: u64,
+    /// Those whose requests all have replies.
+    pub(crate) answered: u64,
     pub(crate) failed: u64,
     pub(crate) unconnected: u64,
     pub(crate) not_run: u64,
     pub(crate) undecided: u64,
     /// What came was no reply, or more than replies.
     pub(crate) wrong: u64,
-    /// The time of the slowest run whose requests all have replies.
+    /// The time of the slowest reply.
     pub(crate) slowest: Duration,
     /// The time of all.
     pub(crate) passed: Duration,
@@ -36,6 +41,7 @@ impl Tally {
     pub(crate) fn new() -> Tally {
         Tally {
             runs: 0,
+            answered: 0,
             failed: 0,
             unconnected: 0,
             not_run: 0,
@@ -47,17 +53,25 @@ impl Tally {
         }
     }
 
-    /// Counts a run that took this time.
-    pub(crate) fn add(&mut self, outcome: &Outcome, took: Duration) {
+    /// Counts a run.
+    pub(crate) fn add(&mut self, outcome: &Outcome) {
         self.runs = self.runs.saturating_add(1);
         match outcome {
-            Outcome::Explained | Outcome::Unexplained(_) => self.slowest = self.slowest.max(took),
+            Outcome::Explained | Outcome::Unexplained(_) => {
+                self.answered = self.answered.saturating_add(1);
+            }
             Outcome::Failed(_) => self.failed = self.failed.saturating_add(1),
             Outcome::Wrong(_) => self.wrong = self.wrong.saturating_add(1),
             Outcome::Undecided => self.undecided = self.undecided.saturating_add(1),
             Outcome::Unconnected(_) => self.unconnected = self.unconnected.saturating_add(1),
             Outcome::NotRun => self.not_run = self.not_run.saturating_add(1),
         }
+    }
+
+    /// Whether what is there answers no requests as a cache does, and isn't to be asked further.
+    pub(crate) fn is_strange(&self) -> bool {
+        let left_out = self.unconnected.saturating_add(self.not_run);
+        self.answered == 0 && self.runs.saturating_sub(left_out) >= MOST_UNANSWERED
     }
 
     /// The exit status: a finding goes before a server that failed, and that before what wasn't tested.

@@ -1,6 +1,7 @@
 //! The command `test`.
 
 use crate::book::{Book, State};
+use crate::clocked::{ClockedNetwork, Slowest};
 use crate::finding::keep_reports;
 use crate::folder::{DiskFolder, Folder};
 use crate::generated::Generated;
@@ -62,8 +63,18 @@ where
     let mut report = Report::new(alloc, output, args.run.json, folder, book);
     match reached {
         Ok(true) => {
-            let mut network = TcpNetwork::new(rt, servers_of(&target));
-            run_test(rt, alloc, &target, &mut network, columns, &mut report)
+            let slowest = Slowest::new();
+            let network = TcpNetwork::new(rt, servers_of(&target));
+            let mut network = ClockedNetwork::new(rt, network, &slowest);
+            run_test(
+                rt,
+                alloc,
+                target,
+                &mut network,
+                &slowest,
+                columns,
+                &mut report,
+            )
         }
         Ok(false) => end_untested(&mut report, Ok(())),
         Err(error) => end_untested(&mut report, Err(error)),
@@ -81,7 +92,7 @@ where
     R: Net<Stream = TcpStream> + Clock + Sync + Eprint,
 {
     let mut network = TcpNetwork::new(rt, servers_of(target));
-    match connect(alloc, &mut network, target.wait.is_some()) {
+    match connect(rt, alloc, &mut network, target.wait.is_some()) {
         Ok(version) => {
             book.version = version?;
             Ok(true)
@@ -94,12 +105,13 @@ where
 }
 
 // Asks for the version, and connects to the servers of A and B too if they may have to be waited for.
-fn connect<N: Network>(
+fn connect<R: Clock, N: Network>(
+    rt: &R,
     alloc: Global,
     network: &mut N,
     waits: bool,
 ) -> Result<Result<Option<String>, AllocError>, Unconnected> {
-    let version = version_of(alloc, network)?;
+    let version = version_of(rt, alloc, network)?;
     if waits {
         let _a = network.reconnect(Actor::A)?;
         let _b = network.reconnect(Actor::B)?;
@@ -204,8 +216,9 @@ fn generated_of(book: &Book<'_>) -> Generated {
 fn run_test<R: Threads + Wait + Clock + Sync + Eprint, N: Network, O: Sink, F: Folder>(
     rt: &R,
     alloc: Global,
-    target: &RunArgs<'_>,
+    target: RunArgs<'_>,
     network: &mut N,
+    slowest: &Slowest,
     columns: Option<usize>,
     report: &mut Report<'_, O, F>,
 ) -> u8 {
@@ -213,7 +226,7 @@ fn run_test<R: Threads + Wait + Clock + Sync + Eprint, N: Network, O: Sink, F: F
         return end_untested(report, Ok(()));
     };
     let time = report.book.time;
-    let mut player = Player::new(rt, alloc, target, network, begun, time, columns);
+    let mut player = Player::new(rt, alloc, target, network, slowest, begun, time, columns);
     let status = play_all(&mut player, report);
     player.quit();
     status
@@ -251,6 +264,9 @@ fn play_scripts<R: Threads + Wait + Clock + Sync + Eprint, N: Network, O: Sink, 
     report.say_begin()?;
     keep_reports(player, report, &[], generated)?;
     ask_verbs(player, report, generated)?;
+    if player.is_strange() {
+        return Ok(());
+    }
     let book = &report.book;
     add_turns(player.alloc, book.selection, &book.unsupported, turns)?;
     take_turns(player, report, turns, generated)

@@ -2,6 +2,25 @@
 
 use std::alloc::AllocError;
 
+/// The widest line, as far as words allow.
+pub(crate) const COLUMNS: usize = 80;
+
+/// Appends these words, in lines of two spaces and what has room. The line that stands there has this width.
+pub(crate) fn push_lines(text: &mut String, begun: usize, words: &str) -> Result<(), AllocError> {
+    let mut width = begun;
+    'words: for word in words.split(' ') {
+        width = width.saturating_add(word.len()).saturating_add(1);
+        if width > COLUMNS {
+            width = word.len().saturating_add(2);
+            text.push_str("\n  ")?;
+        } else {
+            text.push_str(" ")?;
+        }
+        text.push_str(word)?;
+    }
+    text.push_str("\n")
+}
+
 /// Appends the pieces, one after another.
 pub(crate) fn push_all(text: &mut String, pieces: &[&str]) -> Result<(), AllocError> {
     'pieces: for piece in pieces {

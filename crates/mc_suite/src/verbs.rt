@@ -78,14 +78,14 @@ impl Unsupported {
     }
 }
 
-/// Asks the server each verb alone, and tells what it answers wrongly.
+/// Asks the server each verb alone, unless it answers none, and tells what it answers wrongly.
 pub(crate) fn ask_verbs<R: Threads + Wait + Clock + Sync + Eprint, N: Network, O: Sink, F: Folder>(
     player: &mut Player<'_, R, N>,
     report: &mut Report<'_, O, F>,
     generated: &Generated,
 ) -> Result<(), InputFault> {
     'verbs: for alone in verbs_alone() {
-        if player.is_over() {
+        if player.is_over() || player.is_strange() {
             break;
         }
         let told = report.book.told.len();

@@ -5,7 +5,8 @@
 
 use crate::text::push_all;
 use mc_generate::draw;
-use mc_script::{Script, parse};
+use mc_script::Script;
+use mc_script_text::parse;
 use rand_pcg::Pcg32;
 use std::alloc::{AllocError, Global};
 

@@ -4,6 +4,7 @@
 mod forms;
 mod recording;
 mod sources;
+mod stressing;
 mod suite;
 
 ghost use Rattle.std.specs.Prelude.{◌≡◌, false, true};
@@ -18,6 +19,7 @@ ghost use Rattle.mc_command.specs.ServeAnswers.{Serves};
 use crate::forms::{Form, write_in};
 use crate::recording::record_server;
 use crate::sources::SOURCES;
+use crate::stressing::stress_server;
 use crate::suite::{answer_of_races, test_races};
 use mc_answers::{
     Reader, Sink, Source, Status, Writer, answer_question, explain_fault, unread_line,
@@ -176,6 +178,7 @@ where
         }
         Request::Serve(service) => host(rt, alloc, service, output),
         Request::Record(args) => record_server(rt, &args, output, faults),
+        Request::Stress(args) => stress_server(rt, args, columns, output, faults),
         Request::Campaign(target) => campaign(rt, alloc, target, columns, output),
         Request::Selftest => test(rt, alloc, output),
         Request::Test(args) => test_races(rt, &args, columns, output, faults),

@@ -214,6 +214,13 @@ fn tell_totals<R: Eprint>(rt: &R, judges: bool, recorded: &Recorded) {
         "mcrace: noted {} requests in {} timelines",
         noted.requests, noted.timelines
     );
+    if recorded.pipelined > 0 {
+        // There is nowhere else to say that this could not be said.
+        let _ = eprintln!(rt;
+            "mcrace: pipelined {}: sent while their connection waited for a reply",
+            recorded.pipelined
+        );
+    }
     if judges {
         tell_count(rt, "explained", recorded.judged.explained);
         tell_count(rt, "unexplained", recorded.judged.unexplained);

@@ -2,4 +2,4 @@
 
 /// The SHA-256 of all sources, definitions and proofs but of this file.
 pub const SOURCES: &[u8] =
-    b"sources 569051b73d33095120b7c9bb80ee6bfdd39142040bf3e75f39ece03e8e1d62cc\n";
+    b"sources 0b63d9db8af4ad16fa3abf2545701c1cbd7ccb110cab234aa502a7e92acd3a8c\n";

@@ -1,17 +1,14 @@
 //! What `test` is asked: its races, their scripts, or a test of a server.
 
 use mc_answers::{InputFault, Sink, Status, explain_fault, write_fault, write_text};
-use mc_cli::{LineFault, TestArgs, unknown_race_text};
-use mc_suite::{list_text, scripts_text, test_server, unknown_race};
-use std::alloc::Global;
+use mc_cli::{LineFault, TestArgs, VERSION, unknown_race_text};
+use mc_suite::{LONGEST_NAME, list_text, scripts_text, test_server, unknown_race};
+use std::alloc::{AllocError, Global};
 use std::io::Eprint;
 use std::net::{Net, TcpStream};
 use std::rt::{Clock, Files};
 use std::sync::Wait;
 use std::thread::Threads;
-
-// As `--version` says.
-const VERSION: &str = "0.1.0";
 
 /// Writes the races that `test` looks for, or the scripts of one, if the line asks for these; and answers the exit status.
 pub fn answer_of_races<O: Sink, F: Sink>(
@@ -41,14 +38,31 @@ pub fn answer_of_races<O: Sink, F: Sink>(
 
 // Says that there is no race of this name.
 fn refuse_race<O: Sink, F: Sink>(alloc: Global, name: &str, output: &mut O, faults: &mut F) -> u8 {
-    let fault = match unknown_race_text(alloc, name) {
+    refuse(unknown_race_text(alloc, name), output, faults)
+}
+
+fn refuse<O: Sink, F: Sink>(
+    text: Result<String, AllocError>,
+    output: &mut O,
+    faults: &mut F,
+) -> u8 {
+    let fault = match text {
         Ok(text) => LineFault::Wrong(text),
         Err(_) => LineFault::OutOfMemory,
     };
     explain_fault(&fault, output, faults).number()
 }
 
-/// Tests the server, if all races that the line names are known. How far it is stands in a line of `columns` columns.
+// What is said of a name that leaves no room for the test's own in a key.
+fn long_name_text(alloc: Global) -> Result<String, AllocError> {
+    format!(in alloc;
+        "error: the name of a test has at most {LONGEST_NAME} bytes: its own follows in each key\n\n\
+         For more information, try '--help'.\n"
+    )
+}
+
+/// Tests the server, if all races that the line names are known, and its name is short enough. How far it is stands in a line of `columns`
+/// columns.
 pub fn test_races<R, O: Sink, F: Sink>(
     rt: &R,
     args: &TestArgs<'_>,
@@ -69,6 +83,11 @@ where
         && let Some(name) = unknown_race(names)
     {
         return refuse_race(alloc, name, output, faults);
+    }
+    if let Some(name) = &args.run.name
+        && name.as_slice().len() > LONGEST_NAME
+    {
+        return refuse(long_name_text(alloc), output, faults);
     }
     let columns = if args.run.quiet { None } else { columns };
     test_server(rt, alloc, VERSION, args, columns, output)

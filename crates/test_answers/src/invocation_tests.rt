@@ -150,7 +150,7 @@ fn asked_by(request: &Request<'_>) -> Option<Asked> {
             args.time,
             args.judge,
         )),
-        Request::Test(_) | Request::Campaign(_) => None,
+        Request::Test(_) | Request::Campaign(_) | Request::Stress(_) => None,
         Request::Selftest => Some(Asked::Selftest),
     }
 }
@@ -182,7 +182,7 @@ Usage: mcrace run HOST:PORT [OPTIONS] < FILE
 
 For more information, try '--help'.
 
-mcrace: --seed is an option of test, generate, campaign
+mcrace: --seed is an option of test, campaign, stress, generate
 ";
 
 #[test]

@@ -5,7 +5,7 @@ use mc_answers::run_status;
 use mc_code::assemble;
 use mc_core::parse_steps;
 use mc_run::trial;
-use mc_script::parse;
+use mc_script_text::parse;
 use mc_verify::{Checked, verify};
 use std::alloc::Global;
 use std::test::Fail;

@@ -4,7 +4,8 @@ use crate::images::{COUNTER_IMAGE, image_after};
 use crate::memory::again;
 use crate::parts::{COUNTER, Parts, has_parts};
 use mc_code::{Code, assemble};
-use mc_script::{Script, parse};
+use mc_script::Script;
+use mc_script_text::parse;
 use std::alloc::Global;
 use std::test::Fail;
 

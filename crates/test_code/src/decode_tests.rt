@@ -3,7 +3,8 @@
 use crate::images::{COUNTER_IMAGE, EVERYTHING_IMAGE, LAST_FLAG_IMAGE, LONGEST_BODY, image_after};
 use crate::memory::again;
 use crate::parts::{COUNTER, Parts, has_parts};
-use mc_code::{Call, Code, ImageFault, ImageKind, decode};
+use mc_code::{Call, Code};
+use mc_image::{ImageFault, ImageKind, decode};
 use mc_protocol::{Request, Verb};
 use std::alloc::Global;
 use std::test::Fail;

@@ -1,7 +1,8 @@
 //! Images that were written by hand, and images that are written by `encode`.
 
 use crate::memory::again;
-use mc_code::{Code, encode};
+use mc_code::Code;
+use mc_image::encode;
 use mc_protocol::OutOfMemory;
 use std::alloc::Global;
 

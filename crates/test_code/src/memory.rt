@@ -1,6 +1,7 @@
 //! Calls that find no memory.
 
-use mc_code::{AsmFault, ImageFault, ImageKind};
+use mc_code::AsmFault;
+use mc_image::{ImageFault, ImageKind};
 use mc_protocol::OutOfMemory;
 
 /// Why a call failed.

@@ -2,7 +2,7 @@
 
 use mc_code::{assemble, step_at};
 use mc_protocol::Actor;
-use mc_script::parse;
+use mc_script_text::parse;
 use std::alloc::Global;
 use std::test::Fail;
 

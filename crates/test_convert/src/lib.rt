@@ -13,3 +13,5 @@ mod memory;
 mod memory_tests;
 #[cfg(test)]
 mod report_tests;
+#[cfg(test)]
+mod timeline_tests;

@@ -2,7 +2,8 @@
 
 use crate::memory::again;
 use mc_convert::{
-    Converted, Form, campaign_json, campaign_junit, convert, escaped, find_history, report_json,
+    Converted, Form, campaign_json, campaign_junit, convert, convert_timeline, escaped,
+    find_history, report_json,
 };
 use mc_protocol::OutOfMemory;
 use std::alloc::Global;
@@ -29,6 +30,19 @@ fn converts_a_short_history(rt: HostRuntime) -> Result<(), Fail> {
             "{\"history\":{\"version\":2,\"sections\":[\"P\",\"A\",\"B\"],\
         \"notes\":[{\"section\":\"P\",\"request\":{\"verb\":\"delete\",\"key\":\"a\"}}]}}\n"
         )?
+    );
+    Ok(())
+}
+
+#[test]
+fn converts_a_short_timeline(rt: HostRuntime) -> Result<(), Fail> {
+    let alloc = rt.alloc();
+    let printed = b"history 3\n7 begin delete a\nend\n";
+    let json = again(|| convert_timeline(alloc, printed, Form::Json, None, printed))?;
+    assert!(rt;
+        json.as_slice().ends_with(
+            b"\"notes\":[{\"client\":7,\"request\":{\"verb\":\"delete\",\"key\":\"a\"}}]}}\n"
+        )
     );
     Ok(())
 }

@@ -6,7 +6,7 @@ ghost use Rattle.mc_core.specs.Held.{IsHeldBy};
 use mc_code::{Code, assemble};
 use mc_core::{Ending, Event, World, drive};
 use mc_protocol::{Actor, Fault, OutOfMemory, Reply};
-use mc_script::parse;
+use mc_script_text::parse;
 use mc_verify::{Checked, verify};
 use std::alloc::{AllocError, Global};
 use std::test::Fail;

@@ -11,7 +11,7 @@ ghost use Rattle.mc_flow.specs.Structure.{IsStructured};
 use mc_code::{Code, Kind, assemble};
 use mc_flow::{CostTables, FlagTables, KindTables, all_flag_tables, all_kind_tables, kind_index};
 use mc_protocol::{Actor, OutOfMemory, Sections};
-use mc_script::parse;
+use mc_script_text::parse;
 use mc_verify::{Checked, Refusal, RefusalKind, verify};
 use std::alloc::{AllocError, Global};
 use std::test::Fail;

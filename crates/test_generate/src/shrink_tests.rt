@@ -2,7 +2,8 @@
 
 use crate::testers::{Answers, Needs};
 use mc_generate::{Shrinker, Tester, shrink};
-use mc_script::{Script, parse, print};
+use mc_script::Script;
+use mc_script_text::{parse, print};
 use std::alloc::{AllocError, Global};
 use std::test::Fail;
 

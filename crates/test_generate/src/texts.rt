@@ -3,7 +3,7 @@
 use crate::memory::again;
 use mc_generate::generate_script;
 use mc_protocol::OutOfMemory;
-use mc_script::print;
+use mc_script_text::print;
 use std::alloc::Global;
 
 /// The text of a job's script.

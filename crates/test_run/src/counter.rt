@@ -3,7 +3,7 @@
 use mc_code::{Code, assemble};
 use mc_core::Event;
 use mc_protocol::{Actor, Fault, OutOfMemory, Reply};
-use mc_script::parse;
+use mc_script_text::parse;
 use mc_verify::{Checked, verify};
 use std::alloc::Global;
 use std::test::Fail;

@@ -2,7 +2,8 @@
 
 use crate::memory::again;
 use crate::printed::text_of;
-use mc_script::{Script, parse_front};
+use mc_script::Script;
+use mc_script_text::parse_front;
 use std::alloc::Global;
 use std::test::Fail;
 

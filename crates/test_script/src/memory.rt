@@ -1,7 +1,7 @@
 //! Calls that find no memory.
 
 use mc_protocol::OutOfMemory;
-use mc_script::{ScriptFault, ScriptKind};
+use mc_script_text::{ScriptFault, ScriptKind};
 
 /// Why a call failed.
 pub(crate) trait Failure {

@@ -1,7 +1,7 @@
 //! Which word a fault is about, and what was expected there. `cases/asm/misread-words.cases` has more of it.
 
-use mc_script::Expected::{CommentAlone, OneBind, OneMarkOfFlag, ReplyWithNumber};
-use mc_script::{Expected, Misread, ScriptKind, parse};
+use mc_script_text::Expected::{CommentAlone, OneBind, OneMarkOfFlag, ReplyWithNumber};
+use mc_script_text::{Expected, Misread, ScriptKind, parse};
 use std::alloc::Global;
 use std::test::Fail;
 

@@ -1,7 +1,8 @@
 //! Scripts as texts, and what is printed of them.
 
 use crate::memory::again;
-use mc_script::{Script, parse, print};
+use mc_script::Script;
+use mc_script_text::{parse, print};
 use std::alloc::Global;
 use std::test::Fail;
 

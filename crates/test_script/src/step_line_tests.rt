@@ -2,7 +2,7 @@
 
 use crate::memory::again;
 use mc_protocol::Actor;
-use mc_script::parse_lines;
+use mc_script_text::parse_lines;
 use std::alloc::Global;
 use std::test::Fail;
 

@@ -4,7 +4,8 @@ use crate::memory::again;
 use crate::print_tests::MARKS_PRINTED;
 use crate::printed::{is_printed_as, text_of};
 use mc_protocol::{Actor, OutOfMemory};
-use mc_script::{Script, parse, without};
+use mc_script::{Script, without};
+use mc_script_text::parse;
 use std::alloc::{AllocError, Global};
 use std::test::Fail;
 

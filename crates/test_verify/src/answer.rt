@@ -1,6 +1,7 @@
 //! An image of sound code, and what `verify` answers to the code of an image.
 
-use mc_code::{Code, ImageFault, decode};
+use mc_code::Code;
+use mc_image::{ImageFault, decode};
 use mc_protocol::Actor;
 use mc_verify::{Checked, Refusal, RefusalKind, verify};
 use std::alloc::Global;

@@ -1,7 +1,7 @@
 //! Each byte of an image takes each value in turn.
 
 use crate::answer::{Answer, COUNTER, answer_to};
-use mc_code::{ImageFault, ImageKind};
+use mc_image::{ImageFault, ImageKind};
 use mc_verify::RefusalKind;
 use std::alloc::{AllocError, Global};
 use std::test::Fail;

@@ -9,7 +9,7 @@ use mc_code::{Code, assemble};
 use mc_protocol::Actor::{self, *};
 use mc_protocol::Class::{self, *};
 use mc_protocol::FaultKind;
-use mc_script::parse;
+use mc_script_text::parse;
 use mc_verify::RefusalKind::*;
 use mc_verify::{Refusal, shows, verify};
 use std::alloc::Global;

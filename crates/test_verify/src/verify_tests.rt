@@ -1,7 +1,8 @@
 //! What `verify` hands out: sound code with its greatest costs, or the refusal with the code as it was.
 
 use crate::answer::{Answer, COUNTER, Fault, answer_to, fault_of};
-use mc_code::{Code, encode};
+use mc_code::Code;
+use mc_image::encode;
 use mc_protocol::{Actor, Class, FaultKind};
 use mc_verify::{Checked, RefusalKind};
 use std::alloc::{AllocError, Global};

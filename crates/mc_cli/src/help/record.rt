@@ -42,8 +42,8 @@ explains.
 
 `--for` ends it after a time and closes what is open; `--connections` ends it
 when as many have come and are closed. Standard error then says how many
-requests were noted and left out, and why. Ctrl-C ends it at any time: what was
-written by then can be judged.
+requests were noted and left out, and why. Ctrl-C ends it at any time: with
+`--out`, what was written by then can be judged.
 
 An example:
 

@@ -1,8 +1,8 @@
 use Rattle.std.proofs.Common.{◌≡◌, ℕ, ◌≤◌, List, sym, subst, ◌∙◌, arith}
 use Rattle.mc_protocol.specs.Decimals.{MAX_64}
 use Rattle.mc_script.specs.Script.{version_of}
-use Rattle.mc_script.specs.ScriptText.{SpellsInVersion, SpellsScript}
-use Rattle.mc_script.specs.PrintedScript.{script_text}
+use Rattle.mc_script_text.specs.ScriptText.{SpellsInVersion, SpellsScript}
+use Rattle.mc_script_text.specs.PrintedScript.{script_text}
 use Rattle.mc_generate.specs.Generated.{generated}
 use Rattle.mc_generate.proofs.Formed.{generated-formed}
 use Rattle.mc_generate.proofs.Texts.{generated-text}

@@ -1,6 +1,6 @@
 use Rattle.std.proofs.Common.{◌≡◌, ◌++◌, take}
 use Rattle.std.specs.List.{flat_map}
-use Rattle.mc_code.specs.Image.{with_length}
+use Rattle.mc_image.specs.Image.{with_length}
 use Rattle.mc_generate.proofs.naming.push_keys.Given as goal
 
 abbrev pub invariant-keys : goal.invariant-keys

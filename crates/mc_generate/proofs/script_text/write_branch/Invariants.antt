@@ -1,5 +1,5 @@
 use Rattle.std.proofs.Common.{◌≡◌, ◌++◌, ◌-◌}
-use Rattle.mc_script.specs.PrintedScript.{lines_text}
+use Rattle.mc_script_text.specs.PrintedScript.{lines_text}
 use Rattle.mc_generate.specs.Outputs.{outputs_of}
 use Rattle.mc_generate.specs.Pieces.{pieces_in}
 use Rattle.mc_generate.specs.GeneratedLines.{pieces_lines}

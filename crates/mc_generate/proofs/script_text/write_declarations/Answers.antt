@@ -1,8 +1,8 @@
 use Rattle.std.proofs.Common.{[], ◌∷◌, codes}
 use Rattle.std.proofs.lemmas.Result.{on_ok_weaker}
 use Rattle.mc_protocol.specs.declared.actor.Actor.TheVariants as actor
-use Rattle.mc_script.specs.ScriptText.{header}
-use Rattle.mc_script.specs.PrintedScript.{budget_line}
+use Rattle.mc_script_text.specs.ScriptText.{header}
+use Rattle.mc_script_text.specs.PrintedScript.{budget_line}
 use Rattle.mc_script.specs.declared.version.Version.TheVariants as version
 use Rattle.mc_settings.specs.JobKeys.{key_name}
 use Rattle.mc_generate.specs.Generated.{budget}

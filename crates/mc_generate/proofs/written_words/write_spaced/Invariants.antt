@@ -1,5 +1,5 @@
 use Rattle.std.proofs.Common.{◌≡◌, ◌++◌, drop, map}
-use Rattle.mc_script.specs.PrintedScript.{spaced_text}
+use Rattle.mc_script_text.specs.PrintedScript.{spaced_text}
 use Rattle.mc_generate.proofs.written_words.write_spaced.Given as goal
 
 abbrev pub invariant-words : goal.invariant-words

@@ -1,5 +1,0 @@
-use Rattle.mc_code.proofs.ImageRoom.{codes_have_images}
-use Rattle.mc_code.proofs.image_laws.codes_have_images.Goals as goal
-
-pub returns : goal.returns
-returns c = codes_have_images

@@ -1,5 +1,0 @@
-use Rattle.mc_code.proofs.ImageRoom.{written_again}
-use Rattle.mc_code.proofs.image_laws.images_are_written_again.Goals as goal
-
-pub returns : goal.returns
-returns c = written_again

@@ -1,8 +1,0 @@
-use Rattle.std.proofs.Common.{◌≡◌, ◌++◌, take}
-use Rattle.std.specs.List.{flat_map}
-use Rattle.mc_code.specs.Image.{instr_bytes}
-use Rattle.mc_code.proofs.image_writer.push_section.Given as goal
-
-abbrev pub invariant-instructions : goal.invariant-instructions
-invariant-instructions l =
-    l.out.items ≡ l.initial.out.items ++ flat_map instr_bytes (take l.instr-index l.section.instructions)

@@ -1,0 +1,10 @@
+mod Items
+mod FieldLaws
+mod ItemLaws
+mod KeyLaws
+mod TemplateFields
+mod TemplateLaws
+mod SectionLaws
+mod ImageRoom
+mod ImageLaws
+mod WrittenImage

@@ -1,0 +1,4 @@
+pub mod KeysMore
+pub mod WishFacts
+pub mod Fitting
+pub mod Alike

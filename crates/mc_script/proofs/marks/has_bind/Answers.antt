@@ -1,8 +1,0 @@
-use Rattle.std.proofs.Common.{List, ℕ, Bor, sym, ◌∙◌}
-use Rattle.mc_script.specs.Reading.{binds}
-use Rattle.mc_script.proofs.Lists.{any_over_map}
-use Rattle.mc_script.proofs.marks.has_bind.Goals as goal
-
-pub returns : goal.returns
-returns c =
-    c.any_binds.ensures ∙ sym (any_over_map binds (λ (w : Bor (List ℕ)). w.now) c.args.words.now)

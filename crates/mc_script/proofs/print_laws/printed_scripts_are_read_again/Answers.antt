@@ -1,5 +1,0 @@
-use Rattle.mc_script.proofs.PrintedScripts.{read_again}
-use Rattle.mc_script.proofs.print_laws.printed_scripts_are_read_again.Goals as goal
-
-pub returns : goal.returns
-returns c = read_again

@@ -1,5 +1,0 @@
-use Rattle.mc_script.proofs.PrintedScripts.{printed_scripts}
-use Rattle.mc_script.proofs.print_laws.printed_scripts_are_spelled.Goals as goal
-
-pub returns : goal.returns
-returns c = printed_scripts

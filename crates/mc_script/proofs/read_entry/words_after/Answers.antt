@@ -1,7 +1,0 @@
-use Rattle.std.proofs.Common.{ℕ, List, Bor, sym}
-use Rattle.std.proofs.lemmas.List.{take_rest, drop-map}
-use Rattle.mc_script.proofs.read_entry.words_after.Goals as goal
-
-pub returns-then-count-words : goal.returns-then-count-words
-returns-then-count-words c =
-    rw (take_rest c.args.words.now c.args.count) (sym (drop-map (λ (w : Bor (List ℕ)). w.now) c.args.count c.args.words.now))

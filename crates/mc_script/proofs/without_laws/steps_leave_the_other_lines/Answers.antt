@@ -1,5 +1,0 @@
-use Rattle.mc_script.proofs.WithoutStep.{steps_leave}
-use Rattle.mc_script.proofs.without_laws.steps_leave_the_other_lines.Goals as goal
-
-pub returns : goal.returns
-returns c = steps_leave

@@ -1,0 +1,2 @@
+-- What these proofs alone cite.
+pub mod Sent

@@ -1,0 +1,7 @@
+use Rattle.std.specs.Prelude.{take}
+use Rattle.std.specs.List.{All}
+use Rattle.mc_stress.specs.Agreement.{IsRecorded}
+use Rattle.mc_stress.proofs.agreement.are_recorded.Given as goal
+
+abbrev pub invariant-clients : goal.invariant-clients
+invariant-clients g l = All (IsRecorded l.notes) (take l.one-index l.played)

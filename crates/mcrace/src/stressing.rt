@@ -1,0 +1,275 @@
+//! What `stress` is asked: rounds of many clients at a server.
+
+use mc_answers::{InputFault, Sink, Status, explain_fault, write_fault};
+use mc_cli::{LineFault, Seconds, StressArgs};
+use mc_command::{Progress, failure_text};
+use mc_connect::{Servers, TcpNetwork, Unreached};
+use mc_lane::{Lane, Stream};
+use mc_model::Sent;
+use mc_protocol::{Actor, Bytes, KEY_BYTES_LIMIT, is_key};
+use mc_rounds::{Plan, keys_of};
+use mc_stress::{Judging, Network, Page, Standing, Stress, play_rounds};
+use std::alloc::{AllocError, Global};
+use std::io;
+use std::io::Eprint;
+use std::net::{Net, TcpStream};
+use std::rt::Clock;
+use std::sync::Wait;
+use std::thread::Threads;
+use std::time::Duration;
+
+// So many rounds are played if the line names neither a number nor a time.
+const ROUNDS: u64 = 100;
+
+// At most so many remarks on rounds are written to standard error.
+const MOST_REMARKS: u32 = 10;
+
+// Waiting for less than this many milliseconds isn't told.
+const LEAST_WAIT: u64 = 100;
+
+// What follows the message of a fault of the line.
+const USAGE: &str = "
+
+Usage: mcrace stress HOST:PORT [OPTIONS]
+
+For more information, try '--help'.
+";
+
+// What clears a line of a terminal, and goes back to its begin.
+const CLEAR: &str = "\r\x1b[K";
+
+// What connects the clients: the first looks for the server, and the others connect to the address that took it.
+#[derive(Drop)]
+struct Clients<'a, R> {
+    network: TcpNetwork<'a, R>,
+}
+
+impl<'a, R: Net<Stream = TcpStream> + Clock + Sync> Network for Clients<'a, R> {
+    type Connection = <TcpNetwork<'a, R> as mc_connect::Network>::Connection;
+
+    fn connect(
+        &mut self,
+        client: u8,
+    ) -> io::Result<<TcpNetwork<'a, R> as mc_connect::Network>::Connection> {
+        let section = if client == 0 { Actor::P } else { Actor::A };
+        mc_connect::Network::reconnect(&mut self.network, section).map_err(|none| none.error)
+    }
+}
+
+// Writes the answer to the output, and what is told beside it to standard error.
+#[derive(Drop)]
+struct Paper<'a, 'b, 'c, R, O> {
+    rt: &'a R,
+    alloc: Global,
+    server: &'b str,
+    timeout: Option<Seconds<'b>>,
+    output: &'c mut O,
+    progress: Option<Progress<'a, R>>,
+    // What goes before a line of standard error, so that it doesn't stand beside a line of progress.
+    lead: &'static str,
+    counted: u64,
+    unexplained: u64,
+    remarks: u32,
+}
+
+impl<R: Eprint + Clock, O: Sink> Page for Paper<'_, '_, '_, R, O> {
+    fn put(&mut self, text: &[u8]) -> bool {
+        if let Some(progress) = &self.progress {
+            progress.clear();
+        }
+        self.output.write_all(text).is_ok()
+    }
+
+    fn count(&mut self, rounds: u64, unexplained: u64) {
+        let Some(progress) = &mut self.progress else {
+            return;
+        };
+        for _ in self.counted..rounds {
+            let is_unexplained = self.unexplained < unexplained;
+            self.unexplained = self.unexplained.saturating_add(u64::from(is_unexplained));
+            progress.add(is_unexplained);
+        }
+        self.counted = rounds;
+    }
+
+    fn tell_unreached(&mut self, error: &io::Error) {
+        if self.remarks >= MOST_REMARKS {
+            return;
+        }
+        self.remarks += 1;
+        let unreached = Unreached {
+            server: self.server,
+            error: *error,
+        };
+        let lead = self.lead;
+        // There is nowhere else to say that this could not be said.
+        let _ = eprintln!(self.rt; "{lead}mcrace: {unreached}");
+    }
+
+    fn tell_client<S: Stream>(
+        &mut self,
+        round: u64,
+        client: u8,
+        sent: &[Sent],
+        lane: &Lane<S>,
+        error: Option<io::Error>,
+    ) {
+        if self.remarks >= MOST_REMARKS {
+            return;
+        }
+        // Without memory for it, it isn't told.
+        if let Ok(Some(said)) = failure_text(self.alloc, sent, lane, error, self.timeout) {
+            self.remarks += 1;
+            let lead = self.lead;
+            // There is nowhere else to say that this could not be said.
+            let _ = eprintln!(self.rt; "{lead}mcrace: round {round}: client {client}: {said}");
+        }
+    }
+
+    fn tell_stop(&mut self, round: u64) {
+        let lead = self.lead;
+        // There is nowhere else to say that this could not be said.
+        let _ = eprintln!(self.rt;
+            "{lead}mcrace: no round follows round {round}: the server may still act on a request of it, and no new name fits its keys"
+        );
+    }
+
+    fn tell_wait(&mut self, time: Duration) {
+        let milliseconds = time.as_millis();
+        if milliseconds >= u128::from(LEAST_WAIT) {
+            let lead = self.lead;
+            // There is nowhere else to say that this could not be said.
+            let _ = eprintln!(self.rt;
+                "{lead}mcrace: clients waited {milliseconds} ms for rounds to be judged"
+            );
+        }
+    }
+}
+
+/// Plays rounds of many clients at the server, and answers the exit status. How far it is stands in a line of `columns` columns.
+pub fn stress_server<R, O: Sink, F: Sink>(
+    rt: &R,
+    args: StressArgs<'_>,
+    columns: Option<usize>,
+    output: &mut O,
+    faults: &mut F,
+) -> u8
+where
+    R: Net<Stream = TcpStream> + Threads + Wait + Clock + Sync + Eprint + AllocGlobal,
+{
+    match stress_with(rt, rt.alloc(), args, columns, output, faults) {
+        Ok(status) => status.number(),
+        Err(AllocError) => write_fault(InputFault::OutOfMemory, output).number(),
+    }
+}
+
+fn stress_with<R, O: Sink, F: Sink>(
+    rt: &R,
+    alloc: Global,
+    args: StressArgs<'_>,
+    columns: Option<usize>,
+    output: &mut O,
+    faults: &mut F,
+) -> Result<Status, AllocError>
+where
+    R: Net<Stream = TcpStream> + Threads + Wait + Clock + Sync + Eprint,
+{
+    let timeout = args.timeout;
+    let columns = if args.quiet { None } else { columns };
+    let times = (duration_of(timeout), duration_of(args.wait));
+    let server = args.server;
+    let stress = stress_of(args);
+    if let Some(key) = long_key(alloc, &stress)? {
+        return refuse_name(alloc, &stress, &key, output, faults);
+    }
+    let mut clients = Clients {
+        network: TcpNetwork::new(rt, Servers::one(server, times.0, times.1)),
+    };
+    let mut paper = Paper {
+        rt,
+        alloc,
+        server,
+        timeout,
+        output,
+        progress: columns.map(|columns| Progress::new(rt, alloc, columns, "rounds", stress.rounds)),
+        lead: if columns.is_some() { CLEAR } else { "" },
+        counted: 0,
+        unexplained: 0,
+        remarks: 0,
+    };
+    Ok(
+        match play_rounds(rt, alloc, &stress, &mut clients, &mut paper)? {
+            Standing::Good => Status::Success,
+            Standing::Unexplained => Status::Unexplained,
+            Standing::NoAnswer => Status::NoAnswer,
+        },
+    )
+}
+
+// The rounds that the line asks for.
+fn stress_of<'a>(args: StressArgs<'a>) -> Stress<'a> {
+    let StressArgs {
+        plan,
+        rounds,
+        time,
+        keep_going,
+        whole,
+        limit,
+        why,
+        name,
+        ..
+    } = args;
+    Stress {
+        plan: Plan {
+            seed: plan.seed,
+            clients: u8::try_from(plan.clients).unwrap_or(u8::MAX),
+            requests: u16::try_from(plan.requests).unwrap_or(u16::MAX),
+            keys: u8::try_from(plan.keys).unwrap_or(u8::MAX),
+            mix: plan.mix,
+        },
+        name,
+        rounds: match (rounds, time) {
+            (None, None) => Some(ROUNDS),
+            (rounds, _) => rounds,
+        },
+        time: time.map(Duration::from_millis),
+        keep_going,
+        judging: Judging { limit, why, whole },
+    }
+}
+
+// The first key that is too long under the name, if there is one.
+fn long_key(alloc: Global, stress: &Stress<'_>) -> Result<Option<Bytes>, AllocError> {
+    for key in keys_of(alloc, stress.plan.keys, stress.name.as_ref())? {
+        if !is_key(key.as_slice()) {
+            return Ok(Some(key));
+        }
+    }
+    Ok(None)
+}
+
+// Says that a key is too long under the name.
+fn refuse_name<O: Sink, F: Sink>(
+    alloc: Global,
+    stress: &Stress<'_>,
+    key: &Bytes,
+    output: &mut O,
+    faults: &mut F,
+) -> Result<Status, AllocError> {
+    let name = match &stress.name {
+        Some(name) => name.as_slice(),
+        None => &[],
+    };
+    let length = key.as_slice().len();
+    let short = key.as_slice().get(name.len() + 1..).unwrap_or(&[]);
+    let (name, short) = (name.escape_ascii(), short.escape_ascii());
+    let most = KEY_BYTES_LIMIT;
+    let text = format!(in alloc;
+        "error: invalid value '{name}' for '--name <NAME>': the key '{short}' has {length} bytes with it, and may have {most}{USAGE}"
+    )?;
+    Ok(explain_fault(&LineFault::Wrong(text), output, faults))
+}
+
+fn duration_of(time: Option<Seconds<'_>>) -> Option<Duration> {
+    time.map(|time| time.duration())
+}
