@@ -61,8 +61,8 @@ def status_of_sections(found):
 
 
 def status_of_report(found):
-    """The status of a report."""
-    if re.search('unexplained"|^\\d+ unexplained|BadReply', found[0], re.M):
+    """The status of a report. In JSON `unexplained` is also the name of a total."""
+    if re.search('"verdict":"unexplained"|^\\d+ unexplained|BadReply', found[0], re.M):
         return 1
     return 0 if re.fullmatch(r"(?:\d+ explained\n)*jobs [^\n]*\n|\{[^\n]*\n", found[0]) else 4
 
