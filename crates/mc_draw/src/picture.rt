@@ -1,45 +1,15 @@
-//! What a picture shows of a history, whichever form it has.
+//! What a picture shows of a history.
 
 use crate::known::Known;
-use crate::rows::{Row, SECTIONS, lane_of, row_at, rows_of};
+use crate::rows::{SECTIONS, lane_of, row_at, rows_of};
+use crate::sentences::{remarks_of, verdict_of};
 use mc_convert::Excerpt;
 use mc_explain::{Explanation, Move};
-use mc_model::{Choice, History};
-use mc_protocol::{Bytes, OutOfMemory, Reply};
+use mc_model::History;
+use mc_picture::{Blame, Picture, Row, Step};
+use mc_protocol::{Bytes, OutOfMemory};
 use mc_why::{Answer, Cause, Finding};
 use std::alloc::Global;
-
-/// What a picture shows.
-#[derive(Drop)]
-pub struct Picture<'a> {
-    pub known: &'a Known,
-    /// Whether the history claims an order that doesn't explain it.
-    pub claim_fails: bool,
-    /// Whether the order of the begins and of the replies is known.
-    pub is_ordered: bool,
-    pub rows: Vec<Row<'a>>,
-    /// The items that were there before, by an order that explains the history or its beginning.
-    pub start: &'a [(Bytes, u64)],
-    /// That order.
-    pub steps: Vec<Step>,
-    /// The reply that nothing explains.
-    pub blame: Option<Blame<'a>>,
-}
-
-/// A request takes effect.
-#[derive(Clone, Copy, Debug, Drop)]
-pub struct Step {
-    pub row: usize,
-    pub choice: Choice,
-}
-
-/// A reply that nothing explains.
-#[derive(Clone, Copy, Debug, Drop)]
-pub struct Blame<'a> {
-    pub row: usize,
-    /// What a correct server answers after the steps, or at the request's own step.
-    pub correct: Option<&'a Reply>,
-}
 
 /// The picture of the history that this excerpt spells, with or without a claim, and of which this is known.
 pub fn picture_of<'a>(
@@ -57,16 +27,28 @@ pub fn picture_of<'a>(
         ),
         None => (&[] as &[(Bytes, u64)], Vec::new(alloc)),
     };
+    let is_ordered = history.notes().is_some();
     let blame = blame_in(rows.as_slice(), known);
     Ok(Picture {
-        known,
-        claim_fails: has_claim && !matches!(known, Known::Confirmed(_)),
-        is_ordered: history.notes().is_some(),
+        headline: String::from_str(alloc, verdict_of(known).sentence())?,
+        remarks: remarks_of(alloc, known, is_ordered, has_claim)?,
+        lanes: lane_names(alloc)?,
+        is_ordered,
         rows,
+        first: 1,
         start,
         steps,
         blame,
     })
+}
+
+// The names of the sections.
+fn lane_names(alloc: Global) -> Result<Vec<String>, OutOfMemory> {
+    let mut names = Vec::new(alloc);
+    'sections: for section in SECTIONS {
+        names.push(String::from_str(alloc, section.word())?)?;
+    }
+    Ok(names)
 }
 
 // What explains the history, or if nothing does what stands before the place of its cause.
@@ -116,19 +98,4 @@ fn stands_at(row: &Row<'_>, place: usize) -> bool {
         None => false,
     };
     is_answered || row.begin == place
-}
-
-impl Picture<'_> {
-    /// Whether nothing explains the reply to the row's request.
-    pub fn is_wrong(&self, row: usize) -> bool {
-        match self.blame {
-            Some(blame) => blame.row == row,
-            None => false,
-        }
-    }
-
-    /// What a correct server answers in place of the reply that nothing explains.
-    pub fn correct(&self) -> Option<&Reply> {
-        self.blame?.correct
-    }
 }

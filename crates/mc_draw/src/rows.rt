@@ -2,45 +2,12 @@
 
 use mc_convert::Excerpt;
 use mc_model::{History, Note};
-use mc_protocol::{Actor, Lines, OutOfMemory, Reply, Request, Separator};
+use mc_picture::{Answered, Row, numbered_lines};
+use mc_protocol::{Actor, OutOfMemory};
 use std::alloc::Global;
 
 /// The sections of a history: each has a lane of a picture.
 pub const SECTIONS: [Actor; 3] = [Actor::P, Actor::A, Actor::B];
-
-/// A request of a history, as a picture shows it.
-#[derive(Debug, Drop)]
-pub struct Row<'a> {
-    /// The lane of its section, counted from 0.
-    pub lane: usize,
-    /// Its place in its section, counted from 0.
-    pub index: usize,
-    pub request: &'a Request,
-    /// The place at which it begins: of the notes, or if there are none of all requests.
-    pub begin: usize,
-    /// The line on which it begins.
-    pub line: u32,
-    pub answer: Option<Answered<'a>>,
-}
-
-/// The reply to a request.
-#[derive(Clone, Copy, Debug, Drop)]
-pub struct Answered<'a> {
-    pub reply: &'a Reply,
-    /// The place at which it comes, as that of a begin.
-    pub place: usize,
-    pub line: u32,
-}
-
-impl Row<'_> {
-    /// The name of its section.
-    pub fn section(&self) -> &'static str {
-        match SECTIONS.get(self.lane) {
-            Some(section) => section.word(),
-            None => "",
-        }
-    }
-}
 
 /// The lane of a section.
 pub fn lane_of(section: Actor) -> usize {
@@ -68,19 +35,6 @@ pub fn rows_of<'a>(
         Some(notes) => rows_of_notes(alloc, notes, lines.as_slice()),
         None => rows_of_sections(alloc, history, lines.as_slice()),
     }
-}
-
-// The lines after the header: the first byte of the section's name, and the number.
-fn numbered_lines(alloc: Global, excerpt: Excerpt<'_>) -> Result<Vec<(u8, u32)>, OutOfMemory> {
-    let mut numbered = Vec::new(alloc);
-    let mut lines = Lines::new(excerpt.text, Separator::Space);
-    let _header = lines.next();
-    'lines: while let Some(line) = lines.next() {
-        let initial = line.text.iter().copied().find(|byte| *byte != b' ');
-        let number = excerpt.lines_before.saturating_add(line.number);
-        numbered.push((initial.unwrap_or(b' '), number))?;
-    }
-    Ok(numbered)
 }
 
 fn rows_of_notes<'a>(

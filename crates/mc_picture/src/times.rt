@@ -18,7 +18,8 @@ const BETWEEN_MARKS: usize = 24;
 const TO_MARK: usize = 14;
 
 /// Places the bars in bands from left to right, and answers where the widest band ends. If times were recorded, what happens later stands
-/// further to the right, with room for the marks of all steps. Otherwise all bars have one width, and A's and B's stand below one another.
+/// further to the right, with room for the marks of all steps. Otherwise all bars have one width; those of the first lane come first, and
+/// those of the others stand below one another.
 pub fn place_bars(
     alloc: Global,
     picture: &Picture<'_>,

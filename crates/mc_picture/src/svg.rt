@@ -1,9 +1,8 @@
 //! A picture as SVG.
 
-use crate::bars::{Bar, bars_of};
+use crate::bars::{Bar, COLUMN, bars_of};
 use crate::picture::Picture;
-use crate::rows::SECTIONS;
-use crate::sentences::{headline, legend_of, remarks_of, start_text};
+use crate::sentences::{legend_of, start_text};
 use crate::shapes::{BAR, LINE, append_bar, append_captions, append_line, append_marks};
 use crate::style::STYLE;
 use crate::text::append_text;
@@ -24,13 +23,17 @@ pub fn append_svg(out: &mut Vec<u8>, picture: &Picture<'_>) -> Result<(), OutOfM
     let alloc = *out.allocator();
     let mut bars = bars_of(alloc, picture)?;
     let end = place_bars(alloc, picture, &mut bars)?.saturating_add(SIDE);
-    let width = end.saturating_add(SIDE).max(LEAST_WIDTH);
+    let width = end
+        .saturating_add(SIDE)
+        .max(LEAST_WIDTH)
+        .max(width_of_sentences(picture));
     let mut shapes = Vec::new(alloc);
     let base = append_sentences(&mut shapes, picture)?;
-    let bottom = append_bands(&mut shapes, &mut bars, base, width)?;
+    let bottom = append_bands(&mut shapes, picture, &mut bars, (base, width))?;
     'bars: for (place, row) in picture.rows.iter().enumerate() {
         if let Some(bar) = bars.as_slice().get(place) {
-            append_bar(&mut shapes, row, bar, end, picture.is_wrong(place))?;
+            let name = picture.name(row.lane);
+            append_bar(&mut shapes, name, row, bar, end, picture.is_wrong(place))?;
         }
     }
     let marks = marks_of(alloc, picture, bars.as_slice())?;
@@ -42,6 +45,15 @@ pub fn append_svg(out: &mut Vec<u8>, picture: &Picture<'_>) -> Result<(), OutOfM
     out.extend_from_slice(b"</svg>\n")
 }
 
+// The width that the sentences need.
+fn width_of_sentences(picture: &Picture<'_>) -> usize {
+    let mut most = picture.headline.len();
+    'remarks: for remark in &picture.remarks {
+        most = remark.len().max(most);
+    }
+    most.saturating_mul(COLUMN).saturating_add(SIDE * 2)
+}
+
 fn append_head(
     out: &mut Vec<u8>,
     picture: &Picture<'_>,
@@ -51,7 +63,7 @@ fn append_head(
     let alloc = *out.allocator();
     let mut text = Vec::new(alloc);
     append_text(&mut text, picture, false)?;
-    let title = headline(picture.known);
+    let title = escaped(alloc, picture.headline.as_bytes())?;
     let description = escaped(alloc, text.as_slice())?;
     let head = format!(in alloc;
         "<svg xmlns=\"http://www.w3.org/2000/svg\" width=\"{width}\" height=\"{height}\" viewBox=\"0 0 {width} {height}\" \
@@ -65,30 +77,30 @@ fn append_head(
 // Appends the verdict and the remarks on it, and answers the base of the last of them.
 fn append_sentences(out: &mut Vec<u8>, picture: &Picture<'_>) -> Result<usize, OutOfMemory> {
     let mut base = LINE * 2;
-    append_line(out, "head", SIDE, base, headline(picture.known).as_bytes())?;
-    'remarks: for remark in remarks_of(*out.allocator(), picture)? {
+    append_line(out, "head", SIDE, base, picture.headline.as_bytes())?;
+    'remarks: for remark in &picture.remarks {
         base = base.saturating_add(LINE);
         append_line(out, "remark", SIDE, base, remark.as_bytes())?;
     }
     Ok(base)
 }
 
-// Appends the bands below one another, and answers where they end.
+// Appends the bands below one another, from a base on in this width, and answers where they end.
 fn append_bands(
     out: &mut Vec<u8>,
+    picture: &Picture<'_>,
     bars: &mut Vec<Bar>,
-    base: usize,
-    width: usize,
+    room: (usize, usize),
 ) -> Result<usize, OutOfMemory> {
+    let (base, width) = room;
     let mut bands: usize = 0;
     'bands: for bar in bars.iter() {
         bands = bar.band.saturating_add(1).max(bands);
     }
     let mut now = base.saturating_add(BETWEEN);
     'below: for band in 0..bands {
-        'lanes: for (lane, section) in SECTIONS.iter().enumerate() {
-            let name = section.word().as_bytes();
-            now = append_lane(out, bars, (band, lane), name, (now, width))?;
+        'lanes: for (lane, name) in picture.lanes.iter().enumerate() {
+            now = append_lane(out, bars, (band, lane), name.as_bytes(), (now, width))?;
         }
     }
     Ok(now)

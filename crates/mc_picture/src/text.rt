@@ -3,7 +3,7 @@
 use crate::overlaps::overlaps_text;
 use crate::picture::{Picture, Step};
 use crate::rows::Row;
-use crate::sentences::{choice_text, headline, order_heading, remarks_of, start_text};
+use crate::sentences::{choice_text, order_heading, start_text};
 use crate::table::{Cells, append_cells, append_spaces, start_of_last, widths_of};
 use crate::words::{answer_text, reply_text, request_text};
 use mc_protocol::{OutOfMemory, append_all};
@@ -20,8 +20,8 @@ pub fn append_text(
     picture: &Picture<'_>,
     has_lines: bool,
 ) -> Result<(), OutOfMemory> {
-    append_all(out, &[headline(picture.known).as_bytes(), b"\n"])?;
-    'remarks: for remark in remarks_of(*out.allocator(), picture)? {
+    append_all(out, &[picture.headline.as_bytes(), b"\n"])?;
+    'remarks: for remark in &picture.remarks {
         append_all(out, &[remark.as_bytes(), b"\n"])?;
     }
     out.push(b'\n')?;
@@ -77,24 +77,24 @@ fn cells_of(
         Vec::new(alloc)
     };
     let overlaps = if picture.is_ordered {
-        overlaps_text(alloc, picture.rows.as_slice(), place)?
+        overlaps_text(alloc, picture, place)?
     } else {
         Vec::new(alloc)
     };
     Ok(vec![in alloc;
         number_text(alloc, picture, place)?,
         lines,
-        Vec::from_slice(alloc, row.section().as_bytes())?,
+        Vec::from_slice(alloc, picture.name(row.lane).as_bytes())?,
         request_text(alloc, row.request, MOST_BODY)?,
         overlaps,
         answer_text(alloc, row, MOST_BODY)?,
     ]?)
 }
 
-// The number of a row, counted from 1, as wide as that of the last one.
+// The number of a row, as wide as that of the last one.
 fn number_text(alloc: Global, picture: &Picture<'_>, place: usize) -> Result<Vec<u8>, OutOfMemory> {
-    let number = place.saturating_add(1);
-    let most = picture.rows.len();
+    let number = picture.number(place);
+    let most = picture.number(picture.rows.len().saturating_sub(1));
     let digits = format!(in alloc; "{number}")?;
     let width = format!(in alloc; "{most}")?.len();
     let mut text = Vec::new(alloc);
@@ -156,10 +156,8 @@ fn append_step(out: &mut Vec<u8>, picture: &Picture<'_>, step: Step) -> Result<(
     };
     let number = number_text(alloc, picture, step.row)?;
     let words = request_text(alloc, row.request, MOST_BODY)?;
-    append_all(
-        out,
-        &[number.as_slice(), b"  ", row.section().as_bytes(), b"  "],
-    )?;
+    let name = picture.name(row.lane).as_bytes();
+    append_all(out, &[number.as_slice(), b"  ", name, b"  "])?;
     append_all(
         out,
         &[words.as_slice(), choice_text(step).as_bytes(), b"\n"],

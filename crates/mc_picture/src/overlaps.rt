@@ -1,23 +1,25 @@
 //! Which requests were outstanding at once.
 
+use crate::picture::Picture;
 use crate::rows::Row;
 use mc_protocol::OutOfMemory;
 use std::alloc::Global;
 
-/// The numbers of the rows, counted from 1, that overlap with the one at this place: as ranges, such as `3,5-7`.
+/// The numbers of the rows that overlap with the one at this place: as ranges, such as `3,5-7`.
 pub fn overlaps_text(
     alloc: Global,
-    rows: &[Row<'_>],
+    picture: &Picture<'_>,
     place: usize,
 ) -> Result<Vec<u8>, OutOfMemory> {
     let mut text = Vec::new(alloc);
+    let rows = picture.rows.as_slice();
     let Some(row) = rows.get(place) else {
         return Ok(text);
     };
     let mut range: Option<(usize, usize)> = None;
     'rows: for (index, other) in rows.iter().enumerate() {
         if index != place && overlap(row, other) {
-            let number = index.saturating_add(1);
+            let number = picture.number(index);
             range = match range {
                 Some((first, _)) => Some((first, number)),
                 None => Some((number, number)),

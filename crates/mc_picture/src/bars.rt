@@ -8,7 +8,7 @@ use std::alloc::Global;
 /// The most columns of a line.
 const COLUMNS: usize = 20;
 /// The width of a column.
-const COLUMN: usize = 8;
+pub const COLUMN: usize = 8;
 
 /// The bar of a request.
 #[derive(Drop)]

@@ -33,17 +33,18 @@ pub fn append_line(
     out.extend_from_slice(line.as_bytes())
 }
 
-/// Appends a bar, with a title that shows more of its bodies. If no reply came it goes on, without an end, up to `end`. If nothing explains
+/// Appends the bar of a lane of this name, with a title that shows more of its bodies. If no reply came it goes on, without an end, up to `end`. If nothing explains
 /// the reply it ends with a cross.
 pub fn append_bar(
     out: &mut Vec<u8>,
+    name: &str,
     row: &Row<'_>,
     bar: &Bar,
     end: usize,
     is_wrong: bool,
 ) -> Result<(), OutOfMemory> {
     let alloc = *out.allocator();
-    let title = title_of(alloc, row)?;
+    let title = title_of(alloc, name, row)?;
     let Bar {
         left,
         right,
@@ -66,14 +67,14 @@ pub fn append_bar(
     Ok(())
 }
 
-// The request and its reply, with more of their bodies.
-fn title_of(alloc: Global, row: &Row<'_>) -> Result<String, OutOfMemory> {
+// The name, the request and its reply, with more of their bodies.
+fn title_of(alloc: Global, name: &str, row: &Row<'_>) -> Result<String, OutOfMemory> {
     let request = request_text(alloc, row.request, TITLE_BODY)?;
     let answer = answer_text(alloc, row, TITLE_BODY)?;
     let request = escaped(alloc, request.as_slice())?;
     let answer = escaped(alloc, answer.as_slice())?;
-    let section = row.section();
-    format!(in alloc; "{section} {request}: {answer}")
+    let name = escaped(alloc, name.as_bytes())?;
+    format!(in alloc; "{name} {request}: {answer}")
 }
 
 // Appends a cross at the end of a bar.
