@@ -156,10 +156,22 @@ fn append_step(out: &mut Vec<u8>, picture: &Picture<'_>, step: Step) -> Result<(
     };
     let number = number_text(alloc, picture, step.row)?;
     let words = request_text(alloc, row.request, MOST_BODY)?;
-    let name = picture.name(row.lane).as_bytes();
-    append_all(out, &[number.as_slice(), b"  ", name, b"  "])?;
+    let name = name_text(alloc, picture, row)?;
+    append_all(out, &[number.as_slice(), b"  ", name.as_slice(), b"  "])?;
     append_all(
         out,
         &[words.as_slice(), choice_text(step).as_bytes(), b"\n"],
     )
+}
+
+// The name of the row's lane, as wide as the widest one of all rows.
+fn name_text(alloc: Global, picture: &Picture<'_>, row: &Row<'_>) -> Result<Vec<u8>, OutOfMemory> {
+    let name = picture.name(row.lane);
+    let mut width = 0;
+    'rows: for other in &picture.rows {
+        width = picture.name(other.lane).len().max(width);
+    }
+    let mut text = Vec::from_slice(alloc, name.as_bytes())?;
+    append_spaces(&mut text, width.saturating_sub(name.len()))?;
+    Ok(text)
 }
