@@ -7,10 +7,11 @@ use Rattle.mc_protocol.specs.declared.fault.Fault.{Fault}
 use Rattle.mc_lane.specs.Lanes.{LaneRecord}
 use Rattle.mc_timeline.specs.Timelines.{ClientNote, restricted}
 use Rattle.mc_timeline.specs.TimelineText.{timeline_text}
-use Rattle.mc_linearize.specs.Verdicts.{IsTrueOfAll}
+use Rattle.mc_linearize.specs.Verdicts.{IsTrueOfAll, IsUnexplained}
 use Rattle.mc_linearize.specs.declared.verdict.TimelineVerdict.{TimelineVerdict}
 use Rattle.mc_linearize.specs.declared.verdict.TimelineVerdict.TheVariants as verdict
 use Rattle.mc_stress.specs.Agreement.{Agree}
+use Rattle.mc_stress.specs.declared.evidence.Evidence.{Evidence}
 use Rattle.mc_stress.specs.declared.played.Played.{Played}
 
 -- the clients that failed
@@ -70,3 +71,15 @@ pub record IsJudged (whole : Bool) (played : List (Played LaneRecord)) (text : L
   pub notes : List ClientNote
   pub agree : Agree notes played
   pub written : IsWritten whole notes (failed_of played) text
+
+-- it has the requests of these notes on its key alone, and nothing explains them, nor all of these notes
+pub record IsEvidenceOf (notes : List ClientNote) (e : Evidence) : Type 0 where
+  pub timeline : e.timeline ≡ restricted e.key notes
+  pub alone : IsUnexplained e.timeline
+  pub together : IsUnexplained notes
+
+-- It is evidence of a timeline, and what that tells of each client is what its lane recorded.
+pub record IsFound (played : List (Played LaneRecord)) (e : Evidence) : Type 0 where
+  pub notes : List ClientNote
+  pub agree : Agree notes played
+  pub evidence : IsEvidenceOf notes e

@@ -10,14 +10,14 @@ use mc_protocol::{OutOfMemory, append_all};
 use std::alloc::{AllocError, Global};
 use std::sync::{Condvar, Mutex, Wait};
 
-/// So many rounds wait at most before the clients wait.
+/// At most this many rounds wait to be judged; then the clients wait.
 const MOST_WAITING: usize = 2;
 
 /// What the round with this number came to.
 #[derive(Drop)]
-struct Numbered {
-    number: u64,
-    report: Report,
+pub(crate) struct Numbered {
+    pub(crate) number: u64,
+    pub(crate) report: Report,
 }
 
 /// What the desk has.
@@ -29,10 +29,10 @@ struct Papers<S: Stream> {
     /// Reports that wait for one of an earlier round.
     early: Vec<Numbered>,
     totals: Totals,
-    /// The first round that isn't explained and done, and how it stands.
-    found: Option<(u64, Standing)>,
-    /// What is written of it, until that is taken.
-    text: Option<Vec<u8>>,
+    /// How the rounds stand that were counted.
+    standing: Standing,
+    /// The first of those that stand so, unless all are good, until it is taken.
+    found: Option<Numbered>,
     /// Whether memory ran out.
     is_short: bool,
 }
@@ -41,8 +41,7 @@ struct Papers<S: Stream> {
 #[derive(Clone, Copy, Debug, PartialEq, Eq)]
 pub(crate) struct Summary {
     pub(crate) totals: Totals,
-    /// The first round that isn't explained and done, and how it stands.
-    pub(crate) found: Option<(u64, Standing)>,
+    pub(crate) standing: Standing,
 }
 
 /// A desk at which rounds are judged while others are played.
@@ -67,8 +66,8 @@ impl<S: Stream> Desk<S> {
                 is_closed: false,
                 early: Vec::new(alloc),
                 totals: Totals::new(),
+                standing: Standing::Good,
                 found: None,
-                text: None,
                 is_short: false,
             }),
             news: Condvar::new(),
@@ -154,12 +153,20 @@ impl<S: Stream> Desk<S> {
         }
     }
 
-    /// What is written of the first round that isn't explained and done, if it was found and this wasn't taken before.
-    pub(crate) fn take_text<R: Wait>(&self, rt: &R) -> Option<(u64, Vec<u8>)> {
+    /// Takes the round that is shown: the first of those that stand worst, unless all are good. A round that nothing explains is taken
+    /// once, and no other follows it.
+    pub(crate) fn take_found<R: Wait>(&self, rt: &R) -> Option<Numbered> {
+        self.papers.lock(rt).found.take()
+    }
+
+    /// Takes the first round that nothing explains, if it was found and not taken before.
+    pub(crate) fn take_unexplained<R: Wait>(&self, rt: &R) -> Option<Numbered> {
         let mut papers = self.papers.lock(rt);
-        let (number, _) = papers.found?;
-        let text = papers.text.take()?;
-        Some((number, text))
+        if papers.standing == Standing::Unexplained {
+            papers.found.take()
+        } else {
+            None
+        }
     }
 
     /// What all rounds came to so far.
@@ -174,7 +181,7 @@ impl<S: Stream> Desk<S> {
         }
         Ok(Summary {
             totals: papers.totals,
-            found: papers.found,
+            standing: papers.standing,
         })
     }
 }
@@ -182,7 +189,12 @@ impl<S: Stream> Desk<S> {
 impl<S: Stream> Papers<S> {
     // Whether no other round is judged or played.
     fn are_over(&self, keep_going: bool) -> bool {
-        self.is_short || (self.found.is_some() && !keep_going)
+        self.is_short || self.is_last(keep_going)
+    }
+
+    // Whether the last round that was counted ends them.
+    fn is_last(&self, keep_going: bool) -> bool {
+        self.standing.is_end() && !keep_going
     }
 
     // Counts a report, and those that waited for it.
@@ -207,20 +219,15 @@ impl<S: Stream> Papers<S> {
     }
 
     // Counts the report on the next round, unless an earlier one was the last.
-    fn count(&mut self, report: Numbered, keep_going: bool) {
-        if self.found.is_some() && !keep_going {
+    fn count(&mut self, next: Numbered, keep_going: bool) {
+        if self.is_last(keep_going) {
             return;
         }
-        let Numbered { number, report } = report;
-        let Report {
-            class,
-            standing,
-            text,
-        } = report;
-        self.totals.add(class);
-        if self.found.is_none() && standing != Standing::Good {
-            self.found = Some((number, standing));
-            self.text = Some(text);
+        self.totals.add(next.report.class);
+        let standing = next.report.standing;
+        if standing.is_worse_than(self.standing) {
+            self.standing = standing;
+            self.found = Some(next);
         }
     }
 }
@@ -260,6 +267,7 @@ fn without_verdict(alloc: Global, pieces: &[&[u8]]) -> Result<Report, OutOfMemor
     Ok(Report {
         class: RoundClass::Other,
         standing: Standing::NoAnswer,
+        evidence: None,
         text,
     })
 }

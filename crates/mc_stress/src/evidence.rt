@@ -2,6 +2,7 @@
 ghost use Rattle.std.specs.Prelude.{◌≡◌, ◌++◌, List, ℕ, IfOk, IfSome, OnOk};
 ghost use Rattle.std.specs.Option.{option_copied};
 ghost use Rattle.mc_timeline.specs.TimelineText.{timeline_text};
+ghost use Rattle.mc_linearize.specs.Verdicts.{IsTrueOfAll};
 ghost use Rattle.mc_stress.specs.Evidence as spec;
 
 use crate::agreement::agreed;
@@ -16,11 +17,20 @@ use mc_timeline::{Timeline, print_timeline, restrict};
 use mc_timeline_why::{print_timeline_why, why_key_unexplained};
 use std::alloc::Global;
 
+/// The key of a round whose requests nothing explains, and the timeline of these requests alone.
+#[derive(Debug, Drop)]
+pub struct Evidence {
+    pub key: Bytes,
+    pub timeline: Timeline,
+}
+
 /// What a judged round counts as, how it stands, and what is written of it.
 #[derive(Debug, Drop)]
 pub struct Report {
     pub class: RoundClass,
     pub standing: Standing,
+    /// What is there if nothing explains the round.
+    pub evidence: Option<Evidence>,
     /// A line for each client that failed, the verdict, and unless the round is explained and done the timeline that it is on.
     pub text: Vec<u8>,
 }
@@ -36,7 +46,8 @@ pub fn judge_round<S: Stream>(
     round: Round<S>,
     judging: Judging,
 ) -> Result<Option<Report>, OutOfMemory>
-    ensures { IfOk result (λ found. IfSome found (λ report. spec.IsJudged judging.whole round.played.items report.text.items)) }
+    ensures judged { IfOk result (λ found. IfSome found (λ report. spec.IsJudged judging.whole round.played.items report.text.items)) }
+    ensures evidence { IfOk result (λ found. IfSome found (λ report. IfSome report.evidence (spec.IsFound round.played.items))) }
 {
     let Round { notes, played } = round;
     match agreed(alloc, notes, played.as_slice())? {
@@ -71,7 +82,8 @@ fn write_of(
     failed: Vec<(u8, Fault)>,
     judging: Judging,
 ) -> Result<Report, OutOfMemory>
-    ensures { IfOk result (λ report. spec.IsWritten judging.whole timeline failed.items report.text.items) }
+    ensures written { IfOk result (λ report. spec.IsWritten judging.whole timeline failed.items report.text.items) }
+    ensures evidence { IfOk result (λ report. IfSome report.evidence (spec.IsEvidenceOf timeline)) }
 {
     let round = JudgedRound::new(alloc, timeline, failed, judging.limit)?;
     let mut text = Vec::new(alloc);
@@ -79,8 +91,22 @@ fn write_of(
     Ok(Report {
         class: round.class(),
         standing: round.standing(),
+        evidence: evidence_of(alloc, &round)?,
         text,
     })
+}
+
+// The requests on the key that the verdict names, if nothing explains them.
+fn evidence_of(alloc: Global, round: &JudgedRound) -> Result<Option<Evidence>, OutOfMemory>
+    ensures { IsTrueOfAll round.now.timeline round.now.verdict → IfOk result (λ found. IfSome found (spec.IsEvidenceOf round.now.timeline)) }
+{
+    match &round.verdict {
+        TimelineVerdict::Unexplained(key) => Ok(Some(Evidence {
+            key: key.copy(alloc)?,
+            timeline: restrict(alloc, &round.timeline, key)?,
+        })),
+        TimelineVerdict::Explained(_) | TimelineVerdict::Undecided(_) => Ok(None),
+    }
 }
 
 // Appends a line for each client that failed, the verdict, and the timeline of the key that it names, or of all keys. Nothing follows

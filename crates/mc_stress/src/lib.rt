@@ -19,7 +19,7 @@ mod stressing;
 mod totals;
 
 pub use agreement::agreed;
-pub use evidence::{Report, judge_round};
+pub use evidence::{Evidence, Report, judge_round};
 pub use laws::closed_lanes_send_nothing;
 pub use outcome::{RoundClass, Standing};
 pub use page::{Network, Page};

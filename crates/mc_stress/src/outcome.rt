@@ -59,15 +59,42 @@ pub enum RoundClass {
     Failed,
 }
 
-/// How rounds stand.
+/// How rounds stand, from the best to the worst. Several stand as the worst of them.
 #[derive(Clone, Copy, Debug, PartialEq, Eq)]
 pub enum Standing {
-    /// All are explained and done.
+    /// All are explained, and all clients got all replies.
     Good,
-    /// Nothing explains one, or a client got what is no reply.
-    Unexplained,
-    /// One isn't decided or done.
+    /// One is undecided, and all clients got all replies.
+    Undecided,
+    /// A client failed, a round was not played or has no verdict, or not all could be written.
     NoAnswer,
+    /// A client got what is no reply to its request.
+    BadReply,
+    /// Nothing explains one.
+    Unexplained,
+}
+
+impl Standing {
+    // Its place among them, from the best.
+    fn rank(self) -> u8 {
+        match self {
+            Standing::Good => 0,
+            Standing::Undecided => 1,
+            Standing::NoAnswer => 2,
+            Standing::BadReply => 3,
+            Standing::Unexplained => 4,
+        }
+    }
+
+    /// Whether it is worse than the other.
+    pub(crate) fn is_worse_than(self, other: Standing) -> bool {
+        self.rank() > other.rank()
+    }
+
+    /// Whether it ends the rounds, unless they are to go on.
+    pub(crate) fn is_end(self) -> bool {
+        self.is_worse_than(Standing::Undecided)
+    }
 }
 
 impl JudgedRound {
@@ -105,10 +132,10 @@ impl JudgedRound {
     pub(crate) fn standing(&self) -> Standing {
         match &self.verdict {
             TimelineVerdict::Unexplained(_) => Standing::Unexplained,
-            _ if has_bad_reply(self.failed.as_slice()) => Standing::Unexplained,
-            TimelineVerdict::Undecided(_) => Standing::NoAnswer,
-            TimelineVerdict::Explained(_) if self.failed.is_empty() => Standing::Good,
-            TimelineVerdict::Explained(_) => Standing::NoAnswer,
+            _ if has_bad_reply(self.failed.as_slice()) => Standing::BadReply,
+            _ if !self.failed.is_empty() => Standing::NoAnswer,
+            TimelineVerdict::Undecided(_) => Standing::Undecided,
+            TimelineVerdict::Explained(_) => Standing::Good,
         }
     }
 }

@@ -1,7 +1,8 @@
 //! What the program gives to rounds: connections, and what takes their answer.
+use crate::evidence::Evidence;
 use mc_connect::Connection;
 use mc_lane::{Lane, Stream};
-use mc_model::Sent;
+use mc_model::{Note, Sent};
 use std::io;
 use std::time::Duration;
 
@@ -18,13 +19,20 @@ pub trait Network {
     fn connect(&mut self, client: u8) -> io::Result<Self::Connection>;
 }
 
-/// What takes the answer, and what is told beside it.
+/// Where the answer and remarks are written.
 pub trait Page {
     /// Writes all the bytes, keeps none of them back, and answers whether that was done.
     fn put(&mut self, text: &[u8]) -> bool;
 
-    /// So many rounds were judged, and nothing explains so many of them.
+    /// Tells how many rounds were judged, and how many of these are unexplained.
     fn count(&mut self, rounds: u64, unexplained: u64);
+
+    /// Tells what was noted in the round with this number. It is over, and isn't judged yet. Rounds that weren't played are left out.
+    fn tell_played(&mut self, round: u64, notes: &[(u8, Note)]);
+
+    /// Hands out the evidence of the round with this number, the first that nothing explains, just before its text is written. This
+    /// happens at most once: with `keep_going` as soon as the round is judged, otherwise at the end.
+    fn tell_unexplained(&mut self, round: u64, evidence: Evidence);
 
     /// Tells why a client got no connection.
     fn tell_unreached(&mut self, error: &io::Error);

@@ -158,6 +158,7 @@ impl<'p, 'a, C: Connection + Send> Player<'p, 'a, C> {
         mut round: Round<Wire<Socket<C>>>,
         page: &mut P,
     ) -> Result<Outcome<Wire<Socket<C>>>, OutOfMemory> {
+        page.tell_played(number, round.notes.as_slice());
         let mut has_failed = false;
         'clients: for one in round.played.iter_mut() {
             let client = one.client;

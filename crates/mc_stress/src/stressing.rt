@@ -1,6 +1,6 @@
 //! Rounds of many clients, one after another, each judged while later ones are played.
 
-use crate::desk::{Desk, Summary};
+use crate::desk::{Desk, Numbered, Summary};
 use crate::outcome::Standing;
 use crate::page::{Network, Page};
 use crate::player::Player;
@@ -19,9 +19,10 @@ use std::time::{Duration, Instant};
 /// How many threads judge.
 const JUDGES: u32 = 2;
 
-/// Plays rounds until one isn't explained and done, or there are as many as are wanted, or their time is over, and writes that round and
-/// what all came to. With `keep_going` the first such round is written as soon as it is known, and others follow it. A round that has
-/// begun isn't cut off. Answers how the rounds stand.
+/// Plays rounds until one is unexplained or a client fails, or there are as many as are wanted, or their time is over. An undecided round
+/// doesn't end them, and with `keep_going` none does. A round that has begun isn't cut off. Writes the first of the rounds that stand
+/// worst, unless all are good, and what all came to; with `keep_going` the first one that nothing explains as soon as it is known. Answers
+/// how the rounds stand.
 ///
 /// # Errors
 ///
@@ -46,10 +47,7 @@ where
     if !is_written {
         return Ok(Standing::NoAnswer);
     }
-    match summary.found {
-        Some((_, standing)) => Ok(standing),
-        None => Ok(Standing::Good),
-    }
+    Ok(summary.standing)
 }
 
 // Plays round after round while threads judge, and answers whether all was written that there was to write meanwhile.
@@ -137,7 +135,7 @@ where
     Ok(true)
 }
 
-// Writes the first round that isn't explained and done, if others follow it and it was found. Answers whether that could be done.
+// Writes the first round that nothing explains, if others follow it and it was found. Answers whether that could be done.
 fn write_news<S: Stream, R: Wait, P: Page>(
     rt: &R,
     stress: &Stress<'_>,
@@ -149,17 +147,25 @@ fn write_news<S: Stream, R: Wait, P: Page>(
     if !stress.keep_going {
         return Ok(true);
     }
-    match desk.take_text(rt) {
-        Some((number, text)) => {
-            let mut lines = round_line(*text.allocator(), stress, number)?;
-            lines.extend_from_slice(text.as_slice())?;
+    match desk.take_unexplained(rt) {
+        Some(found) => {
+            let mut lines = round_line(*found.report.text.allocator(), stress, found.number)?;
+            lines.extend_from_slice(found.report.text.as_slice())?;
+            hand_out(found, page);
             Ok(page.put(lines.as_slice()))
         }
         None => Ok(true),
     }
 }
 
-// Writes what all rounds came to, and the first that isn't explained and done unless it was written. Answers whether that could be done.
+// Hands out the evidence of a round, if there is any.
+fn hand_out<P: Page>(found: Numbered, page: &mut P) {
+    if let Some(evidence) = found.report.evidence {
+        page.tell_unexplained(found.number, evidence);
+    }
+}
+
+// Writes what all rounds came to, and the round that is shown unless it was written. Answers whether that could be done.
 fn write_last<S: Stream, R: Wait, P: Page>(
     rt: &R,
     alloc: Global,
@@ -168,26 +174,26 @@ fn write_last<S: Stream, R: Wait, P: Page>(
     summary: &Summary,
     page: &mut P,
 ) -> Result<bool, OutOfMemory> {
-    let text = desk.take_text(rt);
     let mut lines = Vec::new(alloc);
-    match (summary.found, text) {
-        // it was written as soon as it was found
-        (Some(_), None) => summary.totals.print(&mut lines)?,
-        (_, Some((number, text))) => {
-            lines = round_line(alloc, stress, number)?;
+    match desk.take_found(rt) {
+        Some(found) => {
+            lines = round_line(alloc, stress, found.number)?;
             if stress.keep_going {
-                lines.extend_from_slice(text.as_slice())?;
+                lines.extend_from_slice(found.report.text.as_slice())?;
                 summary.totals.print(&mut lines)?;
             } else {
                 summary.totals.print(&mut lines)?;
-                lines.extend_from_slice(text.as_slice())?;
+                lines.extend_from_slice(found.report.text.as_slice())?;
             }
+            hand_out(found, page);
         }
-        (None, None) => {
+        None if summary.standing == Standing::Good => {
             lines = round_line(alloc, stress, summary.totals.rounds)?;
             summary.totals.print(&mut lines)?;
             lines.extend_from_slice(b"explained\n")?;
         }
+        // it was written as soon as it was found
+        None => summary.totals.print(&mut lines)?,
     }
     Ok(page.put(lines.as_slice()))
 }

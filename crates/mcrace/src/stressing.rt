@@ -5,10 +5,10 @@ use mc_cli::{LineFault, Seconds, StressArgs};
 use mc_command::{Progress, failure_text};
 use mc_connect::{Servers, TcpNetwork, Unreached};
 use mc_lane::{Lane, Stream};
-use mc_model::Sent;
+use mc_model::{Note, Sent};
 use mc_protocol::{Actor, Bytes, KEY_BYTES_LIMIT, is_key};
 use mc_rounds::{Plan, keys_of};
-use mc_stress::{Judging, Network, Page, Standing, Stress, play_rounds};
+use mc_stress::{Evidence, Judging, Network, Page, Standing, Stress, play_rounds};
 use std::alloc::{AllocError, Global};
 use std::io;
 use std::io::Eprint;
@@ -91,6 +91,11 @@ impl<R: Eprint + Clock, O: Sink> Page for Paper<'_, '_, '_, R, O> {
         }
         self.counted = rounds;
     }
+
+    fn tell_played(&mut self, _round: u64, _notes: &[(u8, Note)]) {}
+
+    // What is written shows it.
+    fn tell_unexplained(&mut self, _round: u64, _evidence: Evidence) {}
 
     fn tell_unreached(&mut self, error: &io::Error) {
         if self.remarks >= MOST_REMARKS {
@@ -200,8 +205,8 @@ where
     Ok(
         match play_rounds(rt, alloc, &stress, &mut clients, &mut paper)? {
             Standing::Good => Status::Success,
-            Standing::Unexplained => Status::Unexplained,
-            Standing::NoAnswer => Status::NoAnswer,
+            Standing::BadReply | Standing::Unexplained => Status::Unexplained,
+            Standing::Undecided | Standing::NoAnswer => Status::NoAnswer,
         },
     )
 }

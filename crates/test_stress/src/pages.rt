@@ -1,7 +1,7 @@
 //! What takes the answer, and keeps what it is told.
 use mc_lane::{Lane, Stream};
-use mc_model::Sent;
-use mc_stress::Page;
+use mc_model::{Note, Sent};
+use mc_stress::{Evidence, Page};
 use std::alloc::Global;
 use std::io;
 use std::time::Duration;
@@ -17,6 +17,10 @@ pub(crate) struct Sheet {
     pub(crate) told: Vec<(u64, u8, usize)>,
     pub(crate) unreached: u64,
     pub(crate) stopped: u64,
+    /// How many rounds were told, and how many requests they had.
+    pub(crate) played: (u64, usize),
+    /// The first round that nothing explains, with its evidence.
+    pub(crate) evidence: Option<(u64, Evidence)>,
 }
 
 impl Sheet {
@@ -28,6 +32,8 @@ impl Sheet {
             told: Vec::new(alloc),
             unreached: 0,
             stopped: 0,
+            played: (0, 0),
+            evidence: None,
         }
     }
 }
@@ -39,6 +45,18 @@ impl Page for Sheet {
 
     fn count(&mut self, rounds: u64, unexplained: u64) {
         self.counted = (rounds, unexplained);
+    }
+
+    fn tell_played(&mut self, _round: u64, notes: &[(u8, Note)]) {
+        let begun = notes
+            .iter()
+            .filter(|(_client, note)| matches!(note, Note::Begin(_)));
+        self.played.0 = self.played.0.saturating_add(1);
+        self.played.1 = self.played.1.saturating_add(begun.count());
+    }
+
+    fn tell_unexplained(&mut self, round: u64, evidence: Evidence) {
+        self.evidence = Some((round, evidence));
     }
 
     fn tell_unreached(&mut self, _error: &io::Error) {

@@ -85,7 +85,9 @@ fn rounds_of_a_right_server_are_explained(rt: HostRuntime) {
             && came.sheet.text.as_slice()
                 == b"round 3 of 3\nrounds 3 explained 3 unexplained 0 other 0 failed 0\nexplained\n".as_slice()
             && came.connected == 8
-            && came.sheet.counted == (3, 0))
+            && came.sheet.counted == (3, 0)
+            && came.sheet.played.0 == 3
+            && came.sheet.evidence.is_none())
     );
 }
 
@@ -97,7 +99,10 @@ fn the_first_unexplained_round_ends_them(rt: HostRuntime) {
             && came.sheet.text.starts_with(
                 b"round 1 of 5\nrounds 1 explained 0 unexplained 1 other 0 failed 0\nunexplained\nkey k1\nhistory 3\n0 begin delete k1\n"
             )
-            && came.sheet.text.ends_with(b"\nend\n"))
+            && came.sheet.text.ends_with(b"\nend\n")
+            && came.sheet.evidence.is_some_and(|(round, evidence)| round == 1
+                && evidence.key.as_slice() == b"k1".as_slice()
+                && evidence.timeline.notes().len() > 2))
     );
 }
 
@@ -150,7 +155,7 @@ fn one_key_is_shown_or_all(rt: HostRuntime) {
 fn what_is_no_reply_ends_a_client(rt: HostRuntime) {
     let came = play(&rt, rt.alloc(), Manner::Garbling(1), None, &asked(3, 2));
     assert!(rt;
-        came.is_ok_and(|came| came.standing == Standing::Unexplained
+        came.is_ok_and(|came| came.standing == Standing::BadReply
             && came.sheet.text.starts_with(
                 b"round 1 of 2\nrounds 1 explained 0 unexplained 0 other 0 failed 1\nclient 1 failed 4 BadReply\nexplained\nhistory 3\n"
             )
