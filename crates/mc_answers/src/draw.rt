@@ -11,7 +11,7 @@ use mc_hints::Refused;
 use std::alloc::Global;
 
 /// Draws the first history of the text, or that of a job.
-pub fn draw(alloc: Global, how: DrawArgs, text: &[u8]) -> Result<Answer, Unanswered>
+pub fn draw(alloc: Global, how: DrawArgs<'_>, text: &[u8]) -> Result<Answer, Unanswered>
     ensures { Gives answers.Draws result }
 {
     let form = if how.text {

@@ -97,10 +97,11 @@ convert_once value one other is also =
 pub draw_once : (value : Text → Option Text) (one other : DrawArgs) → IsDraw value one → IsDraw value other → one ≡ other
 draw_once value one other is also =
     ap (λ b. record one { text = b }) (is.text ∙ sym also.text)
-    ∙ (ap (λ b. record other { lines = b; limit = one.limit; job = one.job }) (is.lines ∙ sym also.lines)
-    ∙ (ap (λ n. record other { limit = n; job = one.job })
+    ∙ (ap (λ b. record other { lines = b; limit = one.limit; job = one.job; key = one.key }) (is.lines ∙ sym also.lines)
+    ∙ (ap (λ n. record other { limit = n; job = one.job; key = one.key })
     (value_once (number 1000000000) _ _ one.limit other.limit is.limit also.limit)
-    ∙ ap (λ n. record other { job = n }) (maybe_once (number MAX_64) _ one.job other.job is.job also.job)))
+    ∙ (ap (λ n. record other { job = n; key = one.key }) (maybe_once (number MAX_64) _ one.job other.job is.job also.job)
+    ∙ ap (λ k. record other { key = k }) (is.key ∙ sym also.key))))
 
 pub service_once : (value : Text → Option Text) (one other : ServeArgs) → IsService value one → IsService value other → one ≡ other
 service_once value one other is also =

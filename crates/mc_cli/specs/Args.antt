@@ -62,6 +62,7 @@ pub record IsDraw (value : Text → Option Text) (how : DrawArgs) : Type 0 where
   pub lines : how.lines ≡ is_set (value (codes "lines"))
   pub limit : IsValue (number 1000000000) (Some 1000000) (value (codes "limit")) how.limit
   pub job : MayBeValue (number MAX_64) (value (codes "job")) how.job
+  pub key : how.key ≡ value (codes "key")
 
 pub record IsJob (value : Text → Option Text) (n m : ℕ) : Type 0 where
   pub seed : IsValue (number MAX_64) (Some 1) (value (codes "seed")) n
@@ -163,6 +164,8 @@ pub record IsStressArgs (value : Text → Option Text) (args : StressArgs) : Typ
   pub timeout : MayBeValue kind.Time (value (codes "timeout")) (option_map (λ time. time.milliseconds) args.timeout)
   pub wait : MayBeValue kind.Time (value (codes "wait")) (option_map (λ time. time.milliseconds) args.wait)
   pub quiet : args.quiet ≡ is_set (value (codes "quiet"))
+  pub stats : args.stats ≡ is_set (value (codes "stats"))
+  pub json : args.json ≡ is_set (value (codes "json"))
 
 -- the values of the options of `campaign` say until when it runs in blocks, if they name a time or a number of unexplained jobs; a time
 -- doesn't stand beside a number of jobs

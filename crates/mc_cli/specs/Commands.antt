@@ -54,7 +54,7 @@ stress_rules =
     argument (codes "target") ∷ valued (codes "clients") ∷ valued (codes "requests") ∷ valued (codes "keys") ∷ valued (codes "mix") ∷
     valued (codes "rounds") ∷ valued (codes "for") ∷ switch (codes "why") ∷ valued (codes "name") ∷ valued (codes "timeout") ∷
     valued (codes "wait") ∷ valued (codes "seed") ∷ switch (codes "keep-going") ∷ switch (codes "whole") ∷ valued (codes "limit") ∷
-    switch (codes "quiet") ∷ []
+    switch (codes "quiet") ∷ switch (codes "stats") ∷ switch (codes "json") ∷ []
 
 abbrev pub campaign_rules : List Rule
 campaign_rules =
@@ -89,7 +89,10 @@ asking_app = and_with playing_app ((
   valued (codes "limit") ∷ switch (codes "why") ∷ switch (codes "run") ∷
       valued (codes "job") ∷ valued (codes "key") ∷ switch (codes "json") ∷ [],
 ) ∷
-    (codes "draw", switch (codes "text") ∷ switch (codes "lines") ∷ valued (codes "job") ∷ valued (codes "limit") ∷ []) ∷
+    (
+  codes "draw",
+  switch (codes "text") ∷ switch (codes "lines") ∷ valued (codes "job") ∷ valued (codes "key") ∷ valued (codes "limit") ∷ [],
+) ∷
     (codes "convert", valued (codes "to") ∷ valued (codes "job") ∷ []) ∷ (codes "join", []) ∷
     (codes "check", switch (codes "why") ∷ switch (codes "json") ∷ []) ∷ (codes "asm", switch (codes "why") ∷ []) ∷
     (codes "drive", valued (codes "limit") ∷ switch (codes "why") ∷ []) ∷ [])

@@ -98,8 +98,8 @@ pub struct ConvertArgs {
 }
 
 /// How a history is drawn.
-#[derive(Clone, Copy, Drop, PartialEq, Eq)]
-pub struct DrawArgs {
+#[derive(Drop)]
+pub struct DrawArgs<'a> {
     /// Whether the picture is text, and not SVG.
     pub text: bool,
     /// Whether a text has the numbers of the lines of the input.
@@ -108,6 +108,8 @@ pub struct DrawArgs {
     pub limit: u64,
     /// The number of the campaign's job whose history is drawn, if it isn't the first one.
     pub job: Option<u64>,
+    /// The one key of a timeline that is drawn, if the line names it.
+    pub key: Option<SoughtKey<'a>>,
 }
 
 /// A time of 0.001 to 86,400 seconds.
@@ -289,7 +291,7 @@ pub struct StressArgs<'a> {
     pub rounds: Option<u64>,
     /// For how many milliseconds rounds begin, 1 to 86,400,000, if there is such a time.
     pub time: Option<u64>,
-    /// Whether there is a next round after one that isn't done and explained.
+    /// Whether there is a next round after one that is unexplained, or in which a client failed.
     pub keep_going: bool,
     /// Whether all keys of an unexplained round are shown.
     pub whole: bool,
@@ -305,6 +307,10 @@ pub struct StressArgs<'a> {
     pub wait: Option<Seconds<'a>>,
     /// Whether standard error doesn't say how many rounds there were.
     pub quiet: bool,
+    /// Whether standard error says at the end how requests were answered.
+    pub stats: bool,
+    /// Whether the output is JSON.
+    pub json: bool,
 }
 
 /// Until when a campaign begins blocks of jobs. One of the two bounds is there.

@@ -38,6 +38,8 @@ pub const SHOWN_JOB: Row =
 
 pub const KEY: Row = row!(Daily "key" "KEY" Kind::Key, "Judge this key of a history 3 alone");
 
+pub const KEY_OF_DRAW: Row = row!(Daily "key" "KEY" Kind::Key, "Draw this key of a history 3");
+
 pub const TO: Row = row!(Daily "to" "NOTATION" Kind::Notation, "Write it in this notation");
 
 pub const RUN: Row = row!(Daily "run", "Pass over what run or campaign printed before it");
@@ -133,12 +135,16 @@ pub const ROUNDS: Row =
 pub const FOR_OF_STRESS: Row = row!(Daily "for" "TIME" Kind::Time, "Start rounds for this long");
 
 pub const KEEP_GOING_OF_STRESS: Row =
-    row!(Rare "keep-going", "Go on after a round that isn't done and explained");
+    row!(Rare "keep-going", "Go on after a round that would end it");
 
 pub const WHOLE: Row = row!(Rare "whole", "Show all keys of an unexplained round");
 
 pub const LIMIT_OF_STRESS: Row =
     row!(Rare "limit" "N" Kind::Number(0, 1_000_000_000), "The most turns of a search");
+
+pub const STATS_OF_STRESS: Row = row!(Rare "stats", "Say at the end how requests were answered");
+
+pub const JSON_OF_STRESS: Row = row!(Rare "json", "Answer in JSON");
 
 pub const WHY_OF_STRESS: Row = row!(Daily "why", "Say why a round is unexplained");
 

@@ -14,7 +14,7 @@ pub enum Question<'a> {
     /// What the steps after a script come to, judged by this search.
     Drive(Search),
     /// A picture of a history.
-    Draw(DrawArgs),
+    Draw(DrawArgs<'a>),
     /// A history in another notation.
     Convert(ConvertArgs),
     /// The report of a campaign that ran in parts.

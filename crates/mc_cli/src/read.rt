@@ -68,7 +68,7 @@ pub fn read_convert<'a>(options: &ArgMatches<'a>) -> Result<ConvertArgs, OptionF
 }
 
 /// The picture that `draw` asks for.
-pub fn read_draw<'a>(options: &ArgMatches<'a>) -> Result<DrawArgs, OptionFault<'a>>
+pub fn read_draw<'a>(options: &ArgMatches<'a>) -> Result<DrawArgs<'a>, OptionFault<'a>>
     ensures how { IfOk result (IsDraw (first_value (found_of options.now))) }
     ensures none { IfErr result (λ _. (how : DrawArgs) → IsDraw (first_value (found_of options.now)) how → ⊥) }
 {
@@ -79,6 +79,7 @@ pub fn read_draw<'a>(options: &ArgMatches<'a>) -> Result<DrawArgs, OptionFault<'
         lines: value::is_set(options, &rows::LINES),
         limit,
         job,
+        key: value::key(options, &rows::KEY_OF_DRAW),
     })
 }
 

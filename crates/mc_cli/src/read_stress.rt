@@ -34,6 +34,8 @@ pub fn read_stress<'a>(options: &ArgMatches<'a>) -> Result<StressArgs<'a>, Optio
         timeout,
         wait,
         quiet: value::is_set(options, &rows::QUIET),
+        stats: value::is_set(options, &rows::STATS_OF_STRESS),
+        json: value::is_set(options, &rows::JSON_OF_STRESS),
     })
 }
 

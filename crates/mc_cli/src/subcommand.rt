@@ -34,7 +34,13 @@ const DRIVE_ROWS: &[Row] = &[rows::LIMIT, rows::WHY];
 
 const ASM_ROWS: &[Row] = &[rows::REFUSED];
 
-const DRAW_ROWS: &[Row] = &[rows::TEXT, rows::LINES, rows::SHOWN_JOB, rows::LIMIT];
+const DRAW_ROWS: &[Row] = &[
+    rows::TEXT,
+    rows::LINES,
+    rows::SHOWN_JOB,
+    rows::KEY_OF_DRAW,
+    rows::LIMIT,
+];
 
 const CONVERT_ROWS: &[Row] = &[rows::TO, rows::SHOWN_JOB];
 
@@ -104,6 +110,8 @@ const STRESS_ROWS: &[Row] = &[
     rows::WHOLE,
     rows::LIMIT_OF_STRESS,
     rows::QUIET,
+    rows::STATS_OF_STRESS,
+    rows::JSON_OF_STRESS,
 ];
 
 const CAMPAIGN_ROWS: &[Row] = &[

@@ -5,7 +5,7 @@ use mc_answers::{
     Reader, Status, Writer, answer_question, command, explain_fault, unread_line, write_generated,
 };
 use mc_cli::{
-    CheckArgs, ConvertArgs, DrawArgs, JudgeArgs, LineFault, Notation, Question, Repeat, Request,
+    CheckArgs, ConvertArgs, JudgeArgs, LineFault, Notation, Question, Repeat, Request,
     RunArgs, Search, Seconds, ServeArgs, SoughtKey, read_request,
 };
 use mc_settings::Meeting;
@@ -29,7 +29,7 @@ const CONVERTED: ConvertArgs = ConvertArgs {
     job: Some(31),
 };
 
-const DRAWN: DrawArgs = DrawArgs {
+const DRAWN: Drawn = Drawn {
     text: true,
     lines: false,
     limit: 7,
@@ -42,6 +42,15 @@ const SERVICE: ServeArgs = ServeArgs {
     racy: false,
 };
 
+/// How a line asks for a picture, without its key.
+#[derive(Clone, Copy, Drop, PartialEq, Eq)]
+struct Drawn {
+    text: bool,
+    lines: bool,
+    limit: u64,
+    job: Option<u64>,
+}
+
 /// What a line asks for, without its server, its form of an answer and its key.
 #[derive(Clone, Copy, Drop, PartialEq, Eq)]
 enum Asked {
@@ -49,7 +58,7 @@ enum Asked {
     Check(CheckArgs),
     Asm(bool),
     Drive(Search),
-    Draw(DrawArgs),
+    Draw(Drawn),
     Convert(ConvertArgs),
     Join,
     Run(Search),
@@ -161,7 +170,12 @@ fn asked_of_input(question: &Question<'_>) -> Asked {
         Question::Check(args) => Asked::Check(*args),
         Question::Asm(why) => Asked::Asm(*why),
         Question::Drive(how) => Asked::Drive(*how),
-        Question::Draw(args) => Asked::Draw(*args),
+        Question::Draw(args) => Asked::Draw(Drawn {
+            text: args.text,
+            lines: args.lines,
+            limit: args.limit,
+            job: args.job,
+        }),
         Question::Convert(args) => Asked::Convert(*args),
         Question::Join => Asked::Join,
     }

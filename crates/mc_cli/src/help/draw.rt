@@ -3,7 +3,7 @@ use crate::help::Help;
 
 pub const DRAW: Help = Help {
     name: "draw",
-    usage: "mcrace draw [--text [--lines]] [--job N] [--limit N] < FILE",
+    usage: "mcrace draw [--text [--lines]] [--job N] [--key KEY] [--limit N] < FILE",
     about: "Draws the history on standard input",
     long_about: "Draws the history on standard input, as SVG or as text. What stands before and
 after the history is skipped, so `run` and `campaign --show` can be piped in:
@@ -17,6 +17,9 @@ the replies. If no order does, the bar of the first reply that nothing explains
 is dashed and ends with a cross, below it stands what a correct server answers,
 and the marks are an order for what came before.
 
+Of a `history 3` one key is drawn: that of `--key`; or the first unexplained
+one, else the first undecided one, else the first.
+
 With `--text` a row is a request, in the order in which they began, with the
 rows that it overlaps and its reply; the order stands below.
 
@@ -27,6 +30,6 @@ Read on: mcrace draw --help, mcrace help history",
     statuses: "Exit status:
   0  drawn, whatever the verdict is
   2  the command line is wrong
-  3  refused: the input has no history, or more than 1,048,576 bytes
+  3  refused: the input has no history, or no such key, or is too long
   4  out of memory; or input or output failed",
 };

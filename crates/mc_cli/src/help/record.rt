@@ -24,13 +24,14 @@ that it pipelines have different ones. Keys are k1, k2 and so on:
   0 reply STORED
 
 A key is noted from a set or delete on that was answered before any other
-request of the key began. These requests end it until the next such start:
-  - one with noreply or an expiry, gat and gats, and meta commands;
+request of the key began. These end it until the next such start:
+  - a request with noreply or an expiry, gat and gats, and meta commands;
+  - a body above 65,536 bytes, and an error as its reply;
   - a cas by a number that no gets showed since the start;
   - flush_all, which ends every key.
-Lines that begin with # say so. Bytes that aren't understood end every key, and
-nothing is noted after them. A get of several keys, stats, version and
-verbosity are left out and end nothing.
+Lines that begin with # say so. An unknown command, a line above 2,048 bytes and
+bytes that aren't understood end every key, and nothing is noted after them. A
+get of several keys, stats, version and verbosity are left out and end nothing.
 
 Other clients of these keys must come through it too: what they change, or what
 the server evicts, looks like a fault. A recording has at most 100,000 requests
@@ -42,8 +43,10 @@ explains.
 
 `--for` ends it after a time and closes what is open; `--connections` ends it
 when as many have come and are closed. Standard error then says how many
-requests were noted and left out, and why. Ctrl-C ends it at any time: with
-`--out`, what was written by then can be judged.
+requests were noted and left out, and why, and how many were `pipelined`: sent
+while their connection waited for a reply. A client that means to wait for each
+reply has a fault then. Ctrl-C ends it at any time. With `--out`, what the file
+has by then can be judged; without, the output lacks its last line, `end`.
 
 An example:
 

@@ -23,8 +23,11 @@ cas takes the number that this client saw last.
   presence  add, delete, replace, get and touch
 
 Each key of a round is judged by itself while the next round runs. The first
-round that isn't done and explained ends the command; with `--keep-going` all
-rounds are made and counted, and the first such round is shown.
+round that is unexplained, or in which a client fails, ends the command and is
+shown. An undecided round doesn't end it, and is shown if no other one does.
+With `--keep-going` all rounds are made and counted. The first unexplained one
+is shown as soon as it is known; if there is none, another that isn't explained
+and done is shown at the end.
 
   round 17 of 100
   rounds 17 explained 16 unexplained 1 other 0 failed 0
@@ -52,7 +55,9 @@ get another name, and the clients new connections.
 written, and what `--timeout` and `--wait` do. On a terminal standard error
 shows how many rounds there were; `--quiet` turns that off. Without `--limit` a
 search has 1,000,000 turns, or 100 for each request of the key if those are
-more. Ctrl-C ends it.
+more. With `--stats`, standard error ends with how many requests the rounds had,
+in how many seconds, and for each verb how they were answered. With `--json`,
+the output is JSON, once all rounds are over. Ctrl-C ends it.
 
 An example:
 
