@@ -69,7 +69,7 @@ impl Meeting {
 impl Seat<'_> {
     /// Comes with the branch's request of this index, counted from 0, which is ready; and waits for the other branch as the manner
     /// of the meeting says, and after that once more where this branch is late.
-    pub(crate) fn come<R: Wait>(&self, rt: &R, index: u32) {
+    fn come<R: Wait>(&self, rt: &R, index: u32) {
         match (self.meeting.meet.manner, index) {
             (Manner::Never, _) => {}
             (Manner::First | Manner::Each, 0) => {
@@ -81,6 +81,16 @@ impl Seat<'_> {
             (Manner::First, _) => {}
             (Manner::Each, _) => self.look(AWAKE + u64::from(index)),
         }
+    }
+
+    /// Whether the request of this index is noted to begin before the branch comes with it: the first one, unless the branch is late.
+    /// No reply has come by then, so the recorded order loses nothing, and after the meeting the branch has only to send.
+    fn notes_begin_first(&self, index: u32) -> bool {
+        let is_late = match self.meeting.meet.late {
+            Some(late) => late.branch == self.branch,
+            None => false,
+        };
+        index == 0 && !is_late
     }
 
     /// Says that the branch has no more requests, so that the other one doesn't wait for it.
@@ -174,6 +184,24 @@ impl Seat<'_> {
         match self.branch {
             Branch::A => &self.meeting.b_at,
             Branch::B => &self.meeting.a_at,
+        }
+    }
+}
+
+/// Comes with the request of this index, unless its begin is noted first.
+pub(crate) fn come_before_begin<R: Wait>(rt: &R, seat: Option<&Seat<'_>>, index: u32) {
+    if let Some(seat) = seat {
+        if !seat.notes_begin_first(index) {
+            seat.come(rt, index);
+        }
+    }
+}
+
+/// Comes with the request of this index, whose begin was noted, if that was first.
+pub(crate) fn come_after_begin<R: Wait>(rt: &R, seat: Option<&Seat<'_>>, index: u32) {
+    if let Some(seat) = seat {
+        if seat.notes_begin_first(index) {
+            seat.come(rt, index);
         }
     }
 }

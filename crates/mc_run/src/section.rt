@@ -4,7 +4,7 @@ ghost use Rattle.mc_run.specs.Running.{Grew};
 
 use crate::Gate;
 use crate::carrying::{Prepared, carry, prepare};
-use crate::meeting::Seat;
+use crate::meeting::{Seat, come_after_begin, come_before_begin};
 use crate::notebook::Notebook;
 use mc_history::Event;
 use mc_lane::{Lane, Stream};
@@ -65,10 +65,15 @@ pub(crate) fn run_section<S: Stream, G: Gate, R: Wait>(
         let Some(prepared) = prepare_next(rt, alloc, book, actor, &mut lane) else {
             break;
         };
-        if let Some(seat) = &seat {
-            seat.come(rt, index);
-        }
-        if !run_call(rt, book, gate, (actor, index), &prepared, &mut lane) {
+        if !run_call(
+            rt,
+            book,
+            gate,
+            seat.as_ref(),
+            (actor, index),
+            &prepared,
+            &mut lane,
+        ) {
             break;
         }
     }
@@ -99,12 +104,14 @@ fn prepare_next<S: Stream, R: Wait>(
     }
 }
 
-/// Makes a call that is ready, and answers whether the section may go on. The book is locked for one note at a time, and never
-/// while the lane or the gate is called. What the call was made of is freed by the caller, after the reply is noted.
+/// Makes a call that is ready, and answers whether the section may go on. It meets the other branch, if it has a seat. The book is
+/// locked for one note at a time, and never while the lane or the gate is called. What the call was made of is freed by the caller,
+/// after the reply is noted.
 fn run_call<S: Stream, G: Gate, R: Wait>(
     rt: &R,
     book: &Mutex<Notebook<'_>>,
     gate: &G,
+    seat: Option<&Seat<'_>>,
     place: (Actor, u32),
     prepared: &Prepared,
     lane: &mut Lane<S>,
@@ -112,10 +119,12 @@ fn run_call<S: Stream, G: Gate, R: Wait>(
     ensures { Grew lane.old lane.new }
 {
     let (actor, index) = place;
+    come_before_begin(rt, seat, index);
     let begins = book.lock(rt).note_begin(actor, prepared);
     if !begins {
         return false;
     }
+    come_after_begin(rt, seat, index);
     gate.before(actor, index);
     let event = carry(prepared, lane);
     let noted = book.lock(rt).note_result(actor, event);

@@ -11,16 +11,16 @@ pub calls-preserved : goal.calls-preserved
 calls-preserved g c = grew_twice c.calls.invariant (rw c.prepare_next.ensures at c.run_call.ensures)
 
 -- however the loop ended
-pub returns-in-Some-seat-2 : goal.returns-in-Some-seat-2
-returns-in-Some-seat-2 g c = elim c.calls-test.branch [
+pub returns-in-Some-seat : goal.returns-in-Some-seat
+returns-in-Some-seat g c = elim c.calls-test.branch [
   | else-calls-test w ↦ rw w.lane-is c.calls.invariant
   | then-calls-test+in_default w ↦ rw (w.lane-is, w.prepare_next.ensures) c.calls.invariant
   | then-calls-test+in-Some+then-not-run_call w ↦
       rw w.lane-is (grew_twice c.calls.invariant (rw w.prepare_next.ensures at w.run_call.ensures))
 ]
 
-pub returns-in_default-seat-2 : goal.returns-in_default-seat-2
-returns-in_default-seat-2 g c = elim c.calls-test.branch [
+pub returns-in_default-seat : goal.returns-in_default-seat
+returns-in_default-seat g c = elim c.calls-test.branch [
   | else-calls-test w ↦ rw w.lane-is c.calls.invariant
   | then-calls-test+in_default w ↦ rw (w.lane-is, w.prepare_next.ensures) c.calls.invariant
   | then-calls-test+in-Some+then-not-run_call w ↦
