@@ -88,8 +88,7 @@ asking_app = and_with playing_app ((
   codes "judge",
   valued (codes "limit") ∷ switch (codes "why") ∷ switch (codes "run") ∷
       valued (codes "job") ∷ valued (codes "key") ∷ switch (codes "json") ∷ [],
-) ∷
-    (
+) ∷ (
   codes "draw",
   switch (codes "text") ∷ switch (codes "lines") ∷ valued (codes "job") ∷ valued (codes "key") ∷ valued (codes "limit") ∷ [],
 ) ∷

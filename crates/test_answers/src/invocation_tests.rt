@@ -5,8 +5,8 @@ use mc_answers::{
     Reader, Status, Writer, answer_question, command, explain_fault, unread_line, write_generated,
 };
 use mc_cli::{
-    CheckArgs, ConvertArgs, JudgeArgs, LineFault, Notation, Question, Repeat, Request,
-    RunArgs, Search, Seconds, ServeArgs, SoughtKey, read_request,
+    CheckArgs, ConvertArgs, JudgeArgs, LineFault, Notation, Question, Repeat, Request, RunArgs,
+    Search, Seconds, ServeArgs, SoughtKey, read_request,
 };
 use mc_settings::Meeting;
 use std::alloc::{AllocError, Global};
