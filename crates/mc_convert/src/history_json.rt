@@ -88,8 +88,8 @@ pub fn is_actor(word: &[u8]) -> bool {
     is_section(word) || read_decimal(MOST_CLIENT, word).is_ok()
 }
 
-// A member for a section, or for the number of a client.
-fn write_actor(out: &mut JsonText, actor: &[u8]) -> Result<(), OutOfMemory> {
+/// Writes a member for a section, or for the number of a client.
+pub fn write_actor(out: &mut JsonText, actor: &[u8]) -> Result<(), OutOfMemory> {
     if is_section(actor) {
         out.text("section", actor)
     } else {

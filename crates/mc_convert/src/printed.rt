@@ -7,12 +7,14 @@ use std::alloc::Global;
 /// What a line says.
 #[derive(Clone, Copy, Debug, Drop, PartialEq, Eq)]
 pub enum Kind {
-    /// Which run is printed: `run 7 of 1000`.
+    /// Which run or round is printed: `run 7 of 1000`.
     Run,
-    /// How many runs came to which verdict: `runs 7 ..`.
+    /// How many runs or rounds came to which verdict: `runs 7 ..`.
     Totals,
     /// How a section ended: `A failed 3 Ended`.
     Ending,
+    /// How a client of a round failed: `client 3 failed 2 ReadFailed`.
+    Failure,
     Verdict,
     /// Which key of a timeline the verdict is about: `key a`.
     Key,
@@ -56,9 +58,12 @@ enum Block {
 // The first words of a line, what it says, and what follows it.
 type Row = (&'static str, &'static str, Option<Kind>, Block);
 
-static ROWS: [Row; 16] = [
+static ROWS: [Row; 19] = [
     ("run", "", Some(Kind::Run), Block::None),
     ("runs", "", Some(Kind::Totals), Block::None),
+    ("round", "", Some(Kind::Run), Block::None),
+    ("rounds", "", Some(Kind::Totals), Block::None),
+    ("client", "", Some(Kind::Failure), Block::None),
     ("explained", "", Some(Kind::Verdict), Block::Order),
     ("unexplained", "", Some(Kind::Verdict), Block::None),
     ("undecided", "", Some(Kind::Verdict), Block::None),
@@ -112,7 +117,9 @@ fn kind_of(block: Block, words: &[&[u8]]) -> (Option<Kind>, Block) {
         Block::Replies if is_reply(words) => (Some(Kind::Reply), Block::Replies),
         Block::Replies => (Some(Kind::Hint), Block::Hint),
         Block::Order | Block::Why | Block::Other if is_end => (None, Block::None),
-        Block::Order if is_key(words) => (Some(Kind::Key), Block::Order),
+        Block::Order if begins(words, b"key") => (Some(Kind::Key), Block::Order),
+        // a round that is explained has no order
+        Block::Order if begins(words, b"history") => (None, Block::Other),
         Block::Order => (Some(Kind::Order), Block::Order),
         Block::Why => (Some(Kind::Why), Block::Why),
         Block::Other => (None, Block::Other),
@@ -127,10 +134,10 @@ fn is_reply(words: &[&[u8]]) -> bool {
     }
 }
 
-// Whether this line names the key that is explained.
-fn is_key(words: &[&[u8]]) -> bool {
+// Whether this is the first word of the line.
+fn begins(words: &[&[u8]], first: &[u8]) -> bool {
     match words.first() {
-        Some(word) => is_word(word, b"key"),
+        Some(word) => is_word(word, first),
         None => false,
     }
 }

@@ -1,6 +1,6 @@
 //! What a run, a judgement or a check came to, as members in JSON.
 
-use crate::history_json::{write_order, write_why};
+use crate::history_json::{write_actor, write_order, write_why};
 use crate::json_text::JsonText;
 use crate::printed::{Kind, Said, all_lines, first_line};
 use crate::refusal_json::{after_first_word, write_refusal};
@@ -10,6 +10,7 @@ use mc_protocol::{OutOfMemory, has_digits_alone, is_word};
 pub fn write_said(out: &mut JsonText, said: &[Said<'_>]) -> Result<(), OutOfMemory> {
     write_lines_alone(out, said)?;
     write_sections(out, said, Kind::Ending, "endings")?;
+    write_failures(out, said)?;
     write_sections(out, said, Kind::Budget, "budgets")?;
     let order = all_lines(out.alloc(), said, Kind::Order)?;
     if !order.is_empty() {
@@ -56,12 +57,12 @@ pub fn write_totals(out: &mut JsonText, line: &[u8]) -> Result<(), OutOfMemory> 
     out.end()
 }
 
-/// Writes the members for `no connection A`, `not run` or `not made`.
+/// Writes the members for `no connection A`, `no connection 3`, `not run` or `not made`.
 pub fn write_outcome(out: &mut JsonText, words: &[&[u8]]) -> Result<(), OutOfMemory> {
     match words {
-        [word, _, section] if is_word(word, b"no") => {
+        [word, _, actor] if is_word(word, b"no") => {
             out.text("outcome", b"no connection")?;
-            out.text("section", section)
+            write_actor(out, actor)
         }
         [_, word] if is_word(word, b"made") => out.text("outcome", b"not made"),
         _ => out.text("outcome", b"not run"),
@@ -91,6 +92,34 @@ fn write_sections(
         }
     }
     out.end()
+}
+
+// A list of the clients that failed, if there are any.
+fn write_failures(out: &mut JsonText, said: &[Said<'_>]) -> Result<(), OutOfMemory> {
+    let lines = all_lines(out.alloc(), said, Kind::Failure)?;
+    if lines.is_empty() {
+        return Ok(());
+    }
+    out.begin_list("failed")?;
+    'clients: for line in lines {
+        out.begin_item()?;
+        write_failure(out, line)?;
+        out.end()?;
+    }
+    out.end_list()
+}
+
+// The client, and the fault with which it failed.
+fn write_failure(out: &mut JsonText, line: &[u8]) -> Result<(), OutOfMemory> {
+    let words = out.words_of(line)?;
+    match words.as_slice() {
+        [_, client, _, number, fault] => {
+            out.number("client", client)?;
+            out.number("code", number)?;
+            out.text("fault", fault)
+        }
+        _ => Ok(()),
+    }
 }
 
 // How a section ended, or what it costs at most.

@@ -6,7 +6,7 @@ use std::alloc::Global;
 use std::test::Fail;
 
 // What was printed, and its JSON.
-static ROWS: [(&str, &str); 12] = [
+static ROWS: [(&str, &str); 15] = [
     ("confirmed\n", "{\"verdict\":\"confirmed\"}\n"),
     ("not confirmed\n", "{\"verdict\":\"not confirmed\"}\n"),
     ("undecided\n", "{\"verdict\":\"undecided\"}\n"),
@@ -14,6 +14,10 @@ static ROWS: [(&str, &str); 12] = [
     (
         "no connection B\n",
         "{\"outcome\":\"no connection\",\"section\":\"B\"}\n",
+    ),
+    (
+        "no connection 3\n",
+        "{\"outcome\":\"no connection\",\"client\":3}\n",
     ),
     (
         "explained\nstart key 18446744073709551615\nP 0\nA 2 pad\nend\n",
@@ -60,6 +64,21 @@ static ROWS: [(&str, &str); 12] = [
          \"reply\":{\"word\":\"NUMBER\",\"number\":\"7\"}}],\
          \"would_be_explained\":[\"MISS\",\"HIT 0 =%20%22 (a new number)\"]},\
          \"history\":{\"version\":2,\"sections\":[\"P\",\"A\",\"B\"],\"notes\":[]}}\n",
+    ),
+    // Rounds of many clients.
+    (
+        "round 17 of 100\nrounds 17 explained 16 unexplained 1 other 0 failed 0\nclient 3 failed 2 ReadFailed\nunexplained\nkey k1\n\
+         history 3\n0 begin delete k1\n0 reply NOT_FOUND\nend\n",
+        "{\"round\":17,\"of\":100,\"totals\":{\"rounds\":17,\"explained\":16,\"unexplained\":1,\"other\":0,\"failed\":0},\
+         \"verdict\":\"unexplained\",\"key\":\"k1\",\"failed\":[{\"client\":3,\"code\":2,\"fault\":\"ReadFailed\"}],\
+         \"history\":{\"version\":3,\"notes\":[{\"client\":0,\"request\":{\"verb\":\"delete\",\"key\":\"k1\"}},\
+         {\"client\":0,\"reply\":{\"word\":\"NOT_FOUND\"}}]}}\n",
+    ),
+    (
+        "round 2 of 3\nclient 1 failed 3 Ended\nexplained\nhistory 3\nend\nrounds 3 explained 2 unexplained 0 other 0 failed 1\n",
+        "{\"round\":2,\"of\":3,\"totals\":{\"rounds\":3,\"explained\":2,\"unexplained\":0,\"other\":0,\"failed\":1},\
+         \"verdict\":\"explained\",\"failed\":[{\"client\":1,\"code\":3,\"fault\":\"Ended\"}],\
+         \"history\":{\"version\":3,\"notes\":[]}}\n",
     ),
 ];
 
