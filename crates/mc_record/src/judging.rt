@@ -37,7 +37,7 @@ impl Count {
         self.requests = self.requests.saturating_add(requests);
     }
 
-    // So many more.
+    // The timelines and requests of another count more.
     pub(crate) fn add_all(&mut self, more: Count) {
         self.timelines = self.timelines.saturating_add(more.timelines);
         self.requests = self.requests.saturating_add(more.requests);

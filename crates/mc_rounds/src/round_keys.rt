@@ -8,7 +8,7 @@ use mc_protocol::{Bytes, OutOfMemory, append_all};
 use mc_settings::Namespace;
 use std::alloc::Global;
 
-/// The keys of rounds: `k1`, `k2`, .. behind the name and a dash, if there is a name.
+/// The keys of rounds: `k1`, `k2` and so on, with the name and a dash in front if there is a name.
 pub fn keys_of(
     alloc: Global,
     count: u8,

@@ -4,7 +4,7 @@ ghost use Rattle.std.specs.List.{All, list_all, list_any};
 ghost use Rattle.mc_stress.specs.Agreement as spec;
 
 use crate::Played;
-use crate::sent_by::sent_by;
+use crate::requests::sent_by;
 use mc_lane::{Lane, Stream};
 use mc_model::{HistoryKind, Note, Sent};
 use mc_protocol::{Fault, OutOfMemory};

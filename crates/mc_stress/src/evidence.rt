@@ -98,7 +98,8 @@ fn write_of(
 
 // The requests on the key that the verdict names, if nothing explains them.
 fn evidence_of(alloc: Global, round: &JudgedRound) -> Result<Option<Evidence>, OutOfMemory>
-    ensures { IsTrueOfAll round.now.timeline round.now.verdict → IfOk result (λ found. IfSome found (spec.IsEvidenceOf round.now.timeline)) }
+    ensures { IsTrueOfAll round.now.timeline round.now.verdict
+        → IfOk result (λ found. IfSome found (spec.IsEvidenceOf round.now.timeline)) }
 {
     match &round.verdict {
         TimelineVerdict::Unexplained(key) => Ok(Some(Evidence {

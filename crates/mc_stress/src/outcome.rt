@@ -1,6 +1,7 @@
 //! What rounds came to.
-ghost use Rattle.std.specs.Prelude.{◌≡◌, IfOk};
+ghost use Rattle.std.specs.Prelude.{◌≡◌, ℕ, true, IfOk};
 ghost use Rattle.mc_linearize.specs.Verdicts.{IsTrueOfAll};
+ghost use Rattle.mc_stress.specs.declared.outcome.Outcome.TheVariants.{NoConnection, NotPlayed};
 
 use crate::Round;
 use mc_lane::Stream;
@@ -29,7 +30,10 @@ pub(crate) enum Outcome<S: Stream> {
 
 impl<S: Stream> Outcome<S> {
     /// Whether all clients got all replies.
-    pub(crate) fn is_done(&self) -> bool {
+    pub(crate) fn is_done(&self) -> bool
+        ensures connected { result ≡ true → (client : ℕ) → self.now ≡ NoConnection client → ⊥ }
+        ensures played { result ≡ true → self.now ≡ NotPlayed → ⊥ }
+    {
         match self {
             Outcome::Played(round) => round.played.iter().all(|one| one.ended.is_none()),
             Outcome::NoConnection(_) | Outcome::NotPlayed => false,

@@ -3,7 +3,7 @@
 use crate::outcome::Outcome;
 use crate::page::{Network, Page};
 use crate::playing::{Round, RoundError, play_round};
-use crate::sent_by::sent_by;
+use crate::requests::sent_by;
 use crate::settings::Stress;
 use crate::socket::Socket;
 use itoa::Buffer;
@@ -68,7 +68,7 @@ impl<'p, 'a, C: Connection + Send> Player<'p, 'a, C> {
         }
     }
 
-    // The keys behind this number, which stands behind the name if there is one; or nothing if they are too long.
+    // The keys with the number, after the name if there is one, in front; none if they are too long.
     fn keys_under(&self, number: u64) -> Result<Option<Vec<Bytes>>, OutOfMemory> {
         let mut number_text = Buffer::new();
         let digits = number_text.format(number).as_bytes();

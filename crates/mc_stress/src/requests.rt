@@ -8,12 +8,12 @@ use mc_protocol::{OutOfMemory, Reply, Request};
 use std::alloc::Global;
 
 /// The requests of the client in a timeline, in their order, each with its reply if one came. They are copies.
+///
+/// # Errors
+///
+/// That memory ran out.
 #[tactic(auto, using(crate::proofs::Sent::sent_is))]
-pub(crate) fn sent_by(
-    alloc: Global,
-    client: u8,
-    notes: &[(u8, Note)],
-) -> Result<Vec<Sent>, OutOfMemory>
+pub fn sent_by(alloc: Global, client: u8, notes: &[(u8, Note)]) -> Result<Vec<Sent>, OutOfMemory>
     ensures { IfOk result (λ sent. sent.items ≡ spec.sent_by client notes.now) }
 {
     sent_from(alloc, client, notes)

@@ -22,6 +22,21 @@ pub(crate) enum Manner {
     Ending(u8),
     /// As the first, and this client's replies aren't replies.
     Garbling(u8),
+    /// This client's first connection ends at its first request. All that are made after it forget what they are sent.
+    EndingThenForgetful(u8),
+}
+
+impl Manner {
+    // How the connection with this number, from 1, answers if the first clients have one each.
+    fn of_connection(self, number: u64) -> Manner {
+        match self {
+            Manner::EndingThenForgetful(client) if number <= u64::from(client) + 1 => {
+                Manner::Ending(client)
+            }
+            Manner::EndingThenForgetful(_) => Manner::Forgetful,
+            _ => self,
+        }
+    }
 }
 
 /// A server in memory.
@@ -38,6 +53,7 @@ pub(crate) struct Line<'a, R> {
     rt: &'a R,
     server: &'a Server,
     client: u8,
+    manner: Manner,
     state: Mutex<State>,
 }
 
@@ -69,8 +85,8 @@ impl Server {
     }
 
     // The reply to the request.
-    fn reply<R: Wait>(&self, rt: &R, request: &Request) -> io::Result<Reply> {
-        let answered = match self.manner {
+    fn reply<R: Wait>(&self, rt: &R, manner: Manner, request: &Request) -> io::Result<Reply> {
+        let answered = match manner {
             Manner::Forgetful => Store::new(self.alloc).call(request),
             _ => self.store.lock(rt).call(request),
         };
@@ -81,11 +97,11 @@ impl Server {
     fn answer<R: Wait>(
         &self,
         rt: &R,
-        client: u8,
+        (manner, client): (Manner, u8),
         asked: &[u8],
         out: &mut Vec<u8>,
     ) -> io::Result<()> {
-        if self.manner == Manner::Garbling(client) {
+        if manner == Manner::Garbling(client) {
             out.extend_from_slice(b"what?\r\n")?;
             return Ok(());
         }
@@ -96,7 +112,7 @@ impl Server {
                     ..
                 },
             ) => {
-                let reply = self.reply(rt, &request)?;
+                let reply = self.reply(rt, manner, &request)?;
                 render_reply(request.key.as_slice(), &reply, out)?;
                 Ok(())
             }
@@ -129,12 +145,12 @@ impl<'a, R: Wait + Sync> Connection for Line<'a, R> {
     fn send(&self, bytes: &[u8]) -> io::Result<usize>
         ensures { IfOk result (λ count. count ≤ length bytes.now) }
     {
-        if self.server.manner == Manner::Ending(self.client) {
+        if self.manner == Manner::Ending(self.client) {
             return Ok(bytes.len());
         }
         let mut answers = Vec::new(self.server.alloc);
         self.server
-            .answer(self.rt, self.client, bytes, &mut answers)?;
+            .answer(self.rt, (self.manner, self.client), bytes, &mut answers)?;
         let mut state = self.state.lock(self.rt);
         state.answers.extend_from_slice(answers.as_slice())?;
         Ok(bytes.len())
@@ -158,6 +174,7 @@ impl<'a, R: Wait + Sync> Network for Lines<'a, R> {
             rt: self.rt,
             server: self.server,
             client,
+            manner: self.server.manner.of_connection(self.connected),
             state: Mutex::new(State {
                 answers: Vec::new(self.server.alloc),
                 given: 0,

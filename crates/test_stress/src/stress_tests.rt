@@ -87,6 +87,7 @@ fn rounds_of_a_right_server_are_explained(rt: HostRuntime) {
             && came.connected == 8
             && came.sheet.counted == (3, 0)
             && came.sheet.played.0 == 3
+            && came.sheet.played.1 >= 3 * (8 * 20 + 1)
             && came.sheet.evidence.is_none())
     );
 }
@@ -121,6 +122,44 @@ fn others_follow_it_if_that_is_asked_for(rt: HostRuntime) {
                 b"\nend\nrounds 3 explained 0 unexplained 3 other 0 failed 0\n"
             )
             && came.connected == 4)
+    );
+}
+
+#[test]
+fn an_undecided_round_does_not_end_them(rt: HostRuntime) {
+    let mut stress = asked(4, 3);
+    stress.judging.limit = Some(0);
+    let came = play(&rt, rt.alloc(), Manner::Right, None, &stress);
+    assert!(rt;
+        came.is_ok_and(|came| came.standing == Standing::Undecided
+            && came.sheet.text.starts_with(
+                b"round 1 of 3\nrounds 3 explained 0 unexplained 0 other 3 failed 0\nundecided\nkey k1\nhistory 3\n"
+            )
+            && came.sheet.played.0 == 3)
+    );
+}
+
+#[test]
+fn an_unexplained_round_is_shown_before_one_that_failed(rt: HostRuntime) {
+    let mut stress = asked(3, 3);
+    stress.keep_going = true;
+    let came = play(
+        &rt,
+        rt.alloc(),
+        Manner::EndingThenForgetful(2),
+        None,
+        &stress,
+    );
+    assert!(rt;
+        came.is_ok_and(|came| came.standing == Standing::Unexplained
+            && came
+                .sheet
+                .text
+                .starts_with(b"round 2 of 3\nunexplained\nkey 2-k1\nhistory 3\n")
+            && came.sheet.text.ends_with(
+                b"\nend\nrounds 3 explained 0 unexplained 2 other 0 failed 1\n"
+            )
+            && came.sheet.evidence.is_some_and(|(round, _)| round == 2))
     );
 }
 

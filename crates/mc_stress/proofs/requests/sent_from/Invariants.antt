@@ -1,6 +1,6 @@
 use Rattle.std.specs.Prelude.{◌≡◌, ◌++◌, drop}
 use Rattle.mc_stress.specs.SentFrom.{sent_from}
-use Rattle.mc_stress.proofs.sent_by.sent_from.Given as goal
+use Rattle.mc_stress.proofs.requests.sent_from.Given as goal
 
 abbrev pub invariant-notes : goal.invariant-notes
 invariant-notes l = record {
