@@ -45,6 +45,7 @@ pub use meeting::seed_by;
 pub use playing::{run_command, run_target};
 pub use progress::Progress;
 pub use renaming::leaves_request;
+pub use replies::Replies;
 pub use run::{Played, Remarks};
 pub use run_teller::{RunObserver, RunTeller, Unobserved};
 pub use selftest::run_selftest;

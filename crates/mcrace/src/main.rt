@@ -3,6 +3,7 @@
 
 mod forms;
 mod recording;
+mod round_statistics;
 mod sources;
 mod stressing;
 mod suite;

@@ -1,6 +1,8 @@
 //! What `stress` is asked: rounds of many clients at a server.
 
-use mc_answers::{InputFault, Sink, Status, explain_fault, write_fault};
+use crate::forms::{Form, write_in};
+use crate::round_statistics::RoundStatistics;
+use mc_answers::{InputFault, Sink, Status, Writer, explain_fault, write_fault};
 use mc_cli::{LineFault, Seconds, StressArgs};
 use mc_command::{Progress, failure_text};
 use mc_connect::{Servers, TcpNetwork, Unreached};
@@ -16,12 +18,12 @@ use std::net::{Net, TcpStream};
 use std::rt::Clock;
 use std::sync::Wait;
 use std::thread::Threads;
-use std::time::Duration;
+use std::time::{Duration, Instant};
 
-// So many rounds are played if the line names neither a number nor a time.
+// How many rounds are played if the line names neither a number nor a time.
 const ROUNDS: u64 = 100;
 
-// At most so many remarks on rounds are written to standard error.
+// At most this many remarks on rounds are written to standard error.
 const MOST_REMARKS: u32 = 10;
 
 // Waiting for less than this many milliseconds isn't told.
@@ -37,6 +39,17 @@ For more information, try '--help'.
 
 // What clears a line of a terminal, and goes back to its begin.
 const CLEAR: &str = "\r\x1b[K";
+
+// How the rounds are played, beside what the clients send.
+#[derive(Clone, Copy, Drop)]
+struct Circumstances<'a> {
+    server: &'a str,
+    timeout: Option<Seconds<'a>>,
+    wait: Option<Seconds<'a>>,
+    // How many columns a line of progress has, if there is one.
+    columns: Option<usize>,
+    stats: bool,
+}
 
 // What connects the clients: the first looks for the server, and the others connect to the address that took it.
 #[derive(Drop)]
@@ -65,6 +78,9 @@ struct Paper<'a, 'b, 'c, R, O> {
     timeout: Option<Seconds<'b>>,
     output: &'c mut O,
     progress: Option<Progress<'a, R>>,
+    // How many clients a round has, and what was counted of all rounds, if that is wanted.
+    clients: u8,
+    statistics: Option<RoundStatistics>,
     // What goes before a line of standard error, so that it doesn't stand beside a line of progress.
     lead: &'static str,
     counted: u64,
@@ -92,7 +108,12 @@ impl<R: Eprint + Clock, O: Sink> Page for Paper<'_, '_, '_, R, O> {
         self.counted = rounds;
     }
 
-    fn tell_played(&mut self, _round: u64, _notes: &[(u8, Note)]) {}
+    fn tell_played(&mut self, _round: u64, notes: &[(u8, Note)]) {
+        if let Some(statistics) = &mut self.statistics {
+            // Without memory for it, a request isn't counted.
+            let _ = statistics.add(self.alloc, self.clients, notes);
+        }
+    }
 
     // What is written shows it.
     fn tell_unexplained(&mut self, _round: u64, _evidence: Evidence) {}
@@ -151,6 +172,21 @@ impl<R: Eprint + Clock, O: Sink> Page for Paper<'_, '_, '_, R, O> {
     }
 }
 
+impl<R: Eprint + Clock, O: Sink> Paper<'_, '_, '_, R, O> {
+    // Says what was counted of the rounds since then, if that is wanted.
+    fn tell_statistics(&mut self, begun: &io::Result<Instant>) {
+        let Some(statistics) = &mut self.statistics else {
+            return;
+        };
+        if let Ok(begun) = begun {
+            statistics.end(begun.elapsed(self.rt).unwrap_or(Duration::ZERO));
+        }
+        let lead = self.lead;
+        // There is nowhere else to say that this could not be said.
+        let _ = eprint!(self.rt; "{lead}{statistics}");
+    }
+}
+
 /// Plays rounds of many clients at the server, and answers the exit status. How far it is stands in a line of `columns` columns.
 pub fn stress_server<R, O: Sink, F: Sink>(
     rt: &R,
@@ -163,7 +199,7 @@ where
     R: Net<Stream = TcpStream> + Threads + Wait + Clock + Sync + Eprint + AllocGlobal,
 {
     match stress_with(rt, rt.alloc(), args, columns, output, faults) {
-        Ok(status) => status.number(),
+        Ok(status) => status,
         Err(AllocError) => write_fault(InputFault::OutOfMemory, output).number(),
     }
 }
@@ -175,20 +211,70 @@ fn stress_with<R, O: Sink, F: Sink>(
     columns: Option<usize>,
     output: &mut O,
     faults: &mut F,
+) -> Result<u8, AllocError>
+where
+    R: Net<Stream = TcpStream> + Threads + Wait + Clock + Sync + Eprint,
+{
+    let circumstances = Circumstances {
+        server: args.server,
+        timeout: args.timeout,
+        wait: args.wait,
+        columns: if args.quiet { None } else { columns },
+        stats: args.stats,
+    };
+    let json = args.json;
+    let stress = stress_of(args);
+    if let Some(key) = long_key(alloc, &stress)? {
+        return Ok(refuse_name(alloc, &stress, &key, output, faults)?.number());
+    }
+    if json {
+        return play_in_json(rt, alloc, &stress, circumstances, output);
+    }
+    Ok(play(rt, alloc, &stress, circumstances, output)?.number())
+}
+
+// Plays the rounds, and writes in JSON what they come to.
+fn play_in_json<R, O: Sink>(
+    rt: &R,
+    alloc: Global,
+    stress: &Stress<'_>,
+    circumstances: Circumstances<'_>,
+    output: &mut O,
+) -> Result<u8, AllocError>
+where
+    R: Net<Stream = TcpStream> + Threads + Wait + Clock + Sync + Eprint,
+{
+    let mut text = Vec::new(alloc);
+    let mut sink = Writer::new(&mut text);
+    let status = play(rt, alloc, stress, circumstances, &mut sink)?.number();
+    let is_whole = sink.error().is_none();
+    let text = is_whole.then_some(text.as_slice());
+    Ok(write_in(alloc, Form::Run, text, status, output))
+}
+
+// Plays the rounds.
+fn play<R, O: Sink>(
+    rt: &R,
+    alloc: Global,
+    stress: &Stress<'_>,
+    circumstances: Circumstances<'_>,
+    output: &mut O,
 ) -> Result<Status, AllocError>
 where
     R: Net<Stream = TcpStream> + Threads + Wait + Clock + Sync + Eprint,
 {
-    let timeout = args.timeout;
-    let columns = if args.quiet { None } else { columns };
-    let times = (duration_of(timeout), duration_of(args.wait));
-    let server = args.server;
-    let stress = stress_of(args);
-    if let Some(key) = long_key(alloc, &stress)? {
-        return refuse_name(alloc, &stress, &key, output, faults);
-    }
+    let Circumstances {
+        server,
+        timeout,
+        wait,
+        columns,
+        stats,
+    } = circumstances;
     let mut clients = Clients {
-        network: TcpNetwork::new(rt, Servers::one(server, times.0, times.1)),
+        network: TcpNetwork::new(
+            rt,
+            Servers::one(server, duration_of(timeout), duration_of(wait)),
+        ),
     };
     let mut paper = Paper {
         rt,
@@ -197,18 +283,21 @@ where
         timeout,
         output,
         progress: columns.map(|columns| Progress::new(rt, alloc, columns, "rounds", stress.rounds)),
+        clients: stress.plan.clients,
+        statistics: stats.then_some(RoundStatistics::new()),
         lead: if columns.is_some() { CLEAR } else { "" },
         counted: 0,
         unexplained: 0,
         remarks: 0,
     };
-    Ok(
-        match play_rounds(rt, alloc, &stress, &mut clients, &mut paper)? {
-            Standing::Good => Status::Success,
-            Standing::BadReply | Standing::Unexplained => Status::Unexplained,
-            Standing::Undecided | Standing::NoAnswer => Status::NoAnswer,
-        },
-    )
+    let begun = Instant::now(rt);
+    let standing = play_rounds(rt, alloc, stress, &mut clients, &mut paper)?;
+    paper.tell_statistics(&begun);
+    Ok(match standing {
+        Standing::Good => Status::Success,
+        Standing::BadReply | Standing::Unexplained => Status::Unexplained,
+        Standing::Undecided | Standing::NoAnswer => Status::NoAnswer,
+    })
 }
 
 // The rounds that the line asks for.
