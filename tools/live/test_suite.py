@@ -101,6 +101,16 @@ class Right(ScriptTest):
         line = rf"{re.escape(version)} on \S+ \(version 1\.[\d.]+\), seed 7, 4\.0 s\n"
         self.assertRegex(found.text, rf"\A{line}")
 
+    def test_wrapped(self):
+        """Where the first line is too long, the time stays with its unit."""
+        port = self.enter(servers.serving()).port
+        head = lambda seed: tested(port, "--for", "1s", "--only", "add-twice", "--seed",
+                                   seed).text.split("\n\n")[0]
+        short = head("1")
+        # With this seed the line would have 81 columns.
+        seed = "1" * (82 - len(short))
+        self.assertEqual(head(seed), short.replace(" 1, 1.0 s", f" {seed},\n  1.0 s"))
+
     def test_left_out(self):
         port = self.enter(servers.serving()).port
         found = tested(port, "--for", "1s", "--skip", "lost-increment,torn-gets")

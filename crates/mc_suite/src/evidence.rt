@@ -25,7 +25,7 @@ const LEAST_TRIES: u64 = 20;
 // How often the race is to be seen.
 const TIMES: u64 = 3;
 
-/// What is told of a race.
+/// What is told about a race.
 #[derive(Drop)]
 pub(crate) struct Found {
     /// The text of the smallest script.

@@ -5,12 +5,14 @@ use std::alloc::AllocError;
 /// The widest line, as far as words allow.
 pub(crate) const COLUMNS: usize = 80;
 
-/// Appends these words, in lines of two spaces and what has room. The line that stands there has this width.
+/// Appends these words, in lines of two spaces and what has room. A unit stays with its number. The line that stands there has this width.
 pub(crate) fn push_lines(text: &mut String, begun: usize, words: &str) -> Result<(), AllocError> {
     let mut width = begun;
+    let mut rest = words;
     'words: for word in words.split(' ') {
+        rest = rest.get(word.len().saturating_add(1)..).unwrap_or("");
         width = width.saturating_add(word.len()).saturating_add(1);
-        if width > COLUMNS {
+        if width.saturating_add(unit_width(rest)) > COLUMNS {
             width = word.len().saturating_add(2);
             text.push_str("\n  ")?;
         } else {
@@ -19,6 +21,16 @@ pub(crate) fn push_lines(text: &mut String, begun: usize, words: &str) -> Result
         text.push_str(word)?;
     }
     text.push_str("\n")
+}
+
+// The columns of the unit that these words begin with, and of the space before it.
+fn unit_width(words: &str) -> usize {
+    let first = words.split(' ').next().unwrap_or("");
+    if matches!(first, "s" | "ms") {
+        first.len().saturating_add(1)
+    } else {
+        0
+    }
 }
 
 /// Appends the pieces, one after another.

@@ -10,6 +10,16 @@ use std::rt::{Clock, Files};
 use std::sync::Wait;
 use std::thread::Threads;
 
+// What follows the message of a fault of the line.
+const USAGE: &str = "
+
+Usage: mcrace test HOST:PORT [OPTIONS]
+       mcrace test --list
+       mcrace test --print RACE
+
+For more information, try '--help'.
+";
+
 /// Writes the races that `test` looks for, or the scripts of one, if the line asks for these; and answers the exit status.
 pub fn answer_of_races<O: Sink, F: Sink>(
     alloc: Global,
@@ -56,8 +66,7 @@ fn refuse<O: Sink, F: Sink>(
 // What is said of a name that leaves no room for the test's own in a key.
 fn long_name_text(alloc: Global) -> Result<String, AllocError> {
     format!(in alloc;
-        "error: the name of a test has at most {LONGEST_NAME} bytes: its own follows in each key\n\n\
-         For more information, try '--help'.\n"
+        "error: the name of a test has at most {LONGEST_NAME} bytes: a name of its own stands before it in each key{USAGE}"
     )
 }
 
