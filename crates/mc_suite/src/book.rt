@@ -36,7 +36,7 @@ impl Book<'_> {
     pub(crate) fn races(&self) -> u64 {
         let mut races = 0u64;
         'told: for told in &self.told {
-            if matches!(told.kind, Kind::Race | Kind::Generated) {
+            if matches!(told.kind, Kind::Race | Kind::Generated | Kind::Rounds) {
                 races = races.saturating_add(1);
             }
         }
@@ -56,7 +56,9 @@ impl Book<'_> {
     /// The exit status, if the test ends in this state.
     pub(crate) fn status(&self, state: &State<'_>) -> u8 {
         let is_tested = !self.has_failed && !state.turns.is_empty();
-        let has_found = !self.told.is_empty() || state.generated.unexplained > 0;
+        let generated = &state.generated;
+        let has_unexplained = generated.unexplained > 0 || generated.rounds.is_found;
+        let has_found = !self.told.is_empty() || has_unexplained;
         state.tally.status(has_found, is_tested)
     }
 }

@@ -2,6 +2,7 @@
 
 use mc_connect::{Connection, Network, TcpNetwork, Unconnected};
 use mc_protocol::{Actor, Sections};
+use mc_stress::Network as Clients;
 use std::io;
 use std::net::{Net, TcpStream};
 use std::rt::Clock;
@@ -11,7 +12,7 @@ use std::time::{Duration, Instant};
 /// The time of the slowest reply of each section.
 #[derive(Drop)]
 pub(crate) struct Slowest {
-    // In microseconds. One connection of a section is read at a time.
+    // In microseconds.
     times: Sections<AtomicU64>,
 }
 
@@ -107,6 +108,25 @@ impl<'a, R: Net<Stream = TcpStream> + Clock + Sync> Network for ClockedNetwork<'
     }
 }
 
+impl<'a, R: Net<Stream = TcpStream> + Clock + Sync> Clients for ClockedNetwork<'a, R> {
+    type Connection = Clocked<'a, R, <TcpNetwork<'a, R> as Network>::Connection>;
+
+    /// The first client connects to P's server, and the others in turn to A's and B's.
+    fn connect(
+        &mut self,
+        client: u8,
+    ) -> io::Result<Clocked<'a, R, <TcpNetwork<'a, R> as Network>::Connection>> {
+        let section = if client == 0 {
+            Actor::P
+        } else if client % 2 == 1 {
+            Actor::A
+        } else {
+            Actor::B
+        };
+        Network::reconnect(self, section).map_err(|none| none.error)
+    }
+}
+
 /// A connection that notes it: what a read waits for is a reply.
 #[derive(Drop)]
 pub(crate) struct Clocked<'a, R, C> {
@@ -126,9 +146,7 @@ impl<'a, R: Clock, C> Clocked<'a, R, C> {
     fn note(&self, begun: Instant) {
         let took = begun.elapsed(self.rt).unwrap_or(Duration::ZERO);
         let took = u64::try_from(took.as_micros()).unwrap_or(u64::MAX);
-        if took > self.slowest.load(Ordering::SeqCst) {
-            self.slowest.store(took, Ordering::SeqCst);
-        }
+        self.slowest.fetch_max(took, Ordering::SeqCst);
     }
 }
 

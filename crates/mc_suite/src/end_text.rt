@@ -3,6 +3,7 @@
 use crate::book::{Book, State};
 use crate::numbers::{Grouped, Milliseconds, Tenths};
 use crate::race::races;
+use crate::rounds::CLIENTS;
 use crate::text::{push_all, push_lines};
 use crate::told::Kind;
 use std::alloc::{AllocError, Global};
@@ -52,6 +53,7 @@ fn push_end(
     push_wrong(text, book)?;
     push_unsupported(text, book)?;
     push_tried(text, book, state)?;
+    push_rounds(text, state)?;
     push_connections(text, state)?;
     text.push_str(failures)?;
     push_left(text, state)?;
@@ -102,6 +104,12 @@ fn push_tried(text: &mut String, book: &Book<'_>, state: &State<'_>) -> Result<(
         "; generated scripts: {}\n",
         Grouped(state.generated.count)
     )
+}
+
+// How many rounds were played.
+fn push_rounds(text: &mut String, state: &State<'_>) -> Result<(), AllocError> {
+    let count = Grouped(state.generated.rounds.count);
+    write!(text, "rounds of {CLIENTS} clients: {count}\n")
 }
 
 // How long the slowest reply took, and whether no connection failed.

@@ -2,7 +2,7 @@
 
 use crate::numbers::Grouped;
 use crate::text::push_all;
-use crate::told::Evidence;
+use crate::told::{Again, Evidence};
 use mc_cli::RunArgs;
 use mc_draw::{Drawing, Form, draw};
 use std::alloc::{AllocError, Global};
@@ -22,7 +22,7 @@ pub(crate) fn found_text(
     evidence: &Evidence,
     file: Option<&str>,
 ) -> Result<Vec<u8>, AllocError> {
-    let mut text = head_text(alloc, name, sentence, evidence)?.into_bytes();
+    let mut text = head_text(alloc, name, sentence, evidence, "runs")?.into_bytes();
     let proved = "no order of these requests gives these replies.";
     append_shown(alloc, target.how.limit, evidence, proved, &mut text)?;
     append_again(alloc, target, file, evidence, &mut text)?;
@@ -76,8 +76,8 @@ fn append_picture(
     append_indented(picture.strip_prefix(HEADLINE).unwrap_or(picture), text)
 }
 
-// Appends the lines, of which empty ones stand alone and never first.
-fn append_indented(lines: &[u8], text: &mut Vec<u8>) -> Result<(), AllocError> {
+/// Appends the lines, of which empty ones stand alone and never first.
+pub(crate) fn append_indented(lines: &[u8], text: &mut Vec<u8>) -> Result<(), AllocError> {
     let mut is_empty = true;
     'lines: for line in lines.split(|byte| *byte == b'\n') {
         if !line.is_empty() {
@@ -92,17 +92,18 @@ fn append_indented(lines: &[u8], text: &mut Vec<u8>) -> Result<(), AllocError> {
     Ok(())
 }
 
-// The lines above the picture of a race, with how often it was seen.
-fn head_text(
+/// The lines above the picture of a race, with how often it was seen in runs or in rounds.
+pub(crate) fn head_text(
     alloc: Global,
     name: &str,
     sentence: &str,
     evidence: &Evidence,
+    unit: &str,
 ) -> Result<String, AllocError> {
     let (times, runs) = (Grouped(evidence.times), Grouped(evidence.runs));
     let width = name.len().saturating_add(sentence.len());
     let lead = if width > COLUMNS - 10 { "\n  " } else { " " };
-    format!(in alloc; "found: {name} -{lead}{sentence}\n  seen in {times} of {runs} runs\n\n")
+    format!(in alloc; "found: {name} -{lead}{sentence}\n  seen in {times} of {runs} {unit}\n\n")
 }
 
 // Appends how the race is seen again: by the script in this file, or by the one that follows.
@@ -116,10 +117,10 @@ fn append_again(
     let command = command_of(alloc, target)?;
     let again = again_text(alloc, command.as_str(), file)?;
     text.extend_from_slice(again.as_bytes())?;
-    if file.is_none() {
-        text.extend_from_slice(evidence.script.as_slice())?;
+    match &evidence.again {
+        Again::Script(script) if file.is_none() => text.extend_from_slice(script.as_slice()),
+        _ => Ok(()),
     }
-    Ok(())
 }
 
 // The lines that say by which command, on one line if it fits.
@@ -152,17 +153,23 @@ fn again_text<'x>(
 fn command_of(alloc: Global, target: &RunArgs<'_>) -> Result<String, AllocError> {
     let mut text = String::new(alloc);
     push_all(&mut text, &["mcrace run ", target.server])?;
-    if let Some(server) = target.a {
-        push_all(&mut text, &[" --a ", server])?;
-    }
-    if let Some(server) = target.b {
-        push_all(&mut text, &[" --b ", server])?;
-    }
+    push_branches(&mut text, target)?;
     if target.reconnect {
         text.push_str(" --reconnect")?;
     }
     text.push_str(" --for 1m --why")?;
     Ok(text)
+}
+
+/// Appends the servers that A and B have for themselves.
+pub(crate) fn push_branches(text: &mut String, target: &RunArgs<'_>) -> Result<(), AllocError> {
+    if let Some(server) = target.a {
+        push_all(text, &[" --a ", server])?;
+    }
+    if let Some(server) = target.b {
+        push_all(text, &[" --b ", server])?;
+    }
+    Ok(())
 }
 
 /// The path of a file as a shell takes it.

@@ -1,10 +1,11 @@
-//! Generated scripts, played between the turns of the races.
+//! What is drawn from the seed, and played between the turns of the races: generated scripts, and rounds.
 
 use crate::finding::{Finding, keep_new, tell_found};
 use crate::folder::Folder;
 use crate::player::{Player, Tries};
 use crate::prepared::Prepared;
 use crate::report::Report;
+use crate::rounds::Rounds;
 use crate::told::Kind;
 use crate::turns::{Turn, tell_plain};
 use crate::verbs::Unsupported;
@@ -24,7 +25,7 @@ use std::time::Duration;
 // How often a generated script is played.
 const RUNS: u64 = 10;
 
-/// The generated scripts.
+/// The generated scripts, and the rounds.
 #[derive(Clone, Copy, Drop)]
 pub(crate) struct Generated {
     pub(crate) seed: u64,
@@ -36,6 +37,7 @@ pub(crate) struct Generated {
     pub(crate) count: u64,
     /// How many of them had a run that nothing explains.
     pub(crate) unexplained: u64,
+    pub(crate) rounds: Rounds,
 }
 
 impl Generated {
@@ -47,11 +49,12 @@ impl Generated {
             job: 0,
             count: 0,
             unexplained: 0,
+            rounds: Rounds::new(seed),
         }
     }
 }
 
-/// Plays generated scripts for as long as a round of turns takes.
+/// Plays generated scripts for this long.
 pub(crate) fn play_generated<
     R: Threads + Wait + Clock + Sync + Eprint,
     N: Network,
@@ -62,9 +65,9 @@ pub(crate) fn play_generated<
     report: &mut Report<'_, O, F>,
     generated: &mut Generated,
     turns: &mut Vec<Turn>,
-    round: Duration,
+    time: Duration,
 ) -> Result<(), InputFault> {
-    let until = player.passed().saturating_add(round);
+    let until = player.passed().saturating_add(time);
     'scripts: for _script in 0..u64::MAX {
         if player.is_over() || player.passed() >= until {
             break;

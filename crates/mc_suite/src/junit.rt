@@ -2,6 +2,7 @@
 
 use crate::book::{Book, State};
 use crate::race::{races, verbs_alone};
+use crate::rounds::STRESS;
 use crate::text::push_all;
 use crate::told::{Kind, Told};
 use mc_convert::escaped;
@@ -30,7 +31,8 @@ enum Came<'a> {
     Skipped(&'a str),
 }
 
-/// The XML: a test case for each verb alone, for each race, and for the generated scripts; and one for the server if it failed.
+/// The XML: a test case for each verb alone, for each race, for the generated scripts and for the rounds; and one for the server if it
+/// failed.
 pub(crate) fn report_junit(
     alloc: Global,
     book: &Book<'_>,
@@ -103,6 +105,7 @@ fn add_all(cases: &mut Cases, book: &Book<'_>, state: &State<'_>) -> Result<(), 
     add_verbs(cases, book)?;
     add_races(cases, book, state)?;
     cases.add("generated", "generated scripts", generated(book, state))?;
+    cases.add("stress", "rounds of many clients", rounds(book, state))?;
     add_server(cases, book, state)
 }
 
@@ -155,6 +158,15 @@ fn generated<'a>(book: &'a Book<'_>, state: &State<'_>) -> Came<'a> {
         Came::Skipped("not played")
     } else {
         Came::Passed
+    }
+}
+
+// What the rounds came to.
+fn rounds<'a>(book: &'a Book<'_>, state: &State<'_>) -> Came<'a> {
+    match told_of(book, Kind::Rounds, STRESS) {
+        Some(told) => Came::Failure(told),
+        None if state.generated.rounds.count == 0 => Came::Skipped("not played"),
+        None => Came::Passed,
     }
 }
 

@@ -1,15 +1,18 @@
 //! The command `test`: it asks a server each verb alone, plays scripts of races and generated ones in turns, and tells a person what it
 //! found, with evidence.
 //!
-//! Below it stands `mc_command`, whose `play_kept` plays a script and judges what came. The crate above uses `test_server`. A race that is
-//! told was a `Seen`: by its type, nothing explains its history. The replies of a correct server come from a `Shown`: by its type, they
-//! would be explained.
+//! Below it stand `mc_command`, whose `play_kept` plays a script and judges what came, and `mc_stress`, whose `play_rounds` does so with
+//! many clients. The crate above uses `test_server`. A race that is told was a `Seen`: by its type, nothing explains its history; or a
+//! `Clash`: by its type, nothing explains the requests on a key of its timeline. The replies of a correct server come from a `Shown`: by
+//! its type, they would be explained.
 #![tactic(auto)]
 
 mod alone;
 mod blame;
 mod book;
+mod clash;
 mod clocked;
+mod crowd;
 mod end_text;
 mod evidence;
 mod finding;
@@ -29,6 +32,8 @@ mod race;
 mod races;
 mod report;
 mod report_json;
+mod rounds;
+mod rounds_text;
 mod seen;
 mod selection;
 mod tally;

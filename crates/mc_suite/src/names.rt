@@ -4,6 +4,7 @@ use mc_command::seed_by;
 use mc_generate::draw;
 use mc_settings::Namespace;
 use rand_pcg::Pcg32;
+use std::alloc::{AllocError, Global};
 use std::rt::Clock;
 
 // The characters of a name. Each has five bits, all have 65.
@@ -48,6 +49,20 @@ impl Names {
         'characters: for character in self.characters.iter_mut() {
             *character = CHARACTERS[(draw(&mut self.generator, 32) % 32) as usize];
         }
+    }
+
+    /// The name, and behind it the one that was given.
+    pub(crate) fn with(
+        &self,
+        alloc: Global,
+        given: Option<&Namespace<'_>>,
+    ) -> Result<Vec<u8>, AllocError> {
+        let mut name = Vec::from_slice(alloc, &self.characters)?;
+        if let Some(given) = given {
+            name.push(b'-')?;
+            name.extend_from_slice(given.as_slice())?;
+        }
+        Ok(name)
     }
 
     /// The name.

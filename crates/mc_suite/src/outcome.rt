@@ -28,6 +28,16 @@ pub(crate) enum Outcome {
     NotRun,
 }
 
+impl Outcome {
+    /// What came that is no reply, or more than replies.
+    pub(crate) fn into_wrong(self) -> Option<String> {
+        match self {
+            Outcome::Wrong(text) => Some(text),
+            _ => None,
+        }
+    }
+}
+
 /// How a section failed.
 #[derive(Drop)]
 pub(crate) struct Failure {

@@ -1,6 +1,8 @@
 //! Plays scripts against the server, one run after another.
 
+use crate::clash::Clash;
 use crate::clocked::Slowest;
+use crate::crowd::{Crowd, Gathered};
 use crate::health::Health;
 use crate::names::Names;
 use crate::numbers::Grouped;
@@ -13,6 +15,9 @@ use crate::text::{COLUMNS, push_lines};
 use mc_cli::RunArgs;
 use mc_command::{leaves_request, play_kept};
 use mc_connect::{Kept, Network};
+use mc_rounds::Plan;
+use mc_settings::Namespace;
+use mc_stress::{Judging, Network as Clients, Stress, play_rounds};
 use std::alloc::{AllocError, Global};
 use std::fmt::Write;
 use std::io;
@@ -234,6 +239,62 @@ impl<'a, R: Threads + Wait + Clock + Sync + Eprint, N: Network> Player<'a, R, N>
     pub(crate) fn quit(self) {
         let Player { kept, network, .. } = self;
         kept.quit(network);
+    }
+}
+
+impl<R: Threads + Wait + Clock + Sync + Eprint, N: Network + Clients> Player<'_, R, N> {
+    /// Plays rounds of many clients for this long, or until nothing explains one, or one fails. After a request without a reply the keys
+    /// get another name.
+    pub(crate) fn play_rounds(
+        &mut self,
+        plan: &Plan,
+        time: Duration,
+    ) -> Result<Gathered, AllocError> {
+        let name = self.names.with(self.alloc, self.target.name.as_ref())?;
+        let limit = self.target.how.limit;
+        let stress = Stress {
+            plan: *plan,
+            name: Namespace::new(name.as_slice()),
+            rounds: None,
+            time: Some(time),
+            keep_going: false,
+            judging: Judging {
+                limit: Some(limit),
+                why: false,
+                whole: false,
+            },
+        };
+        let mut crowd = Crowd::new(self.alloc, self.target.timeout);
+        let standing = play_rounds(self.rt, self.alloc, &stress, &mut *self.network, &mut crowd)?;
+        let outcome = crowd.take_outcome(standing);
+        self.note_rounds(&crowd, &outcome)?;
+        let clash = match crowd.evidence.take() {
+            Some(evidence) => Clash::of(self.alloc, evidence, limit)?,
+            None => None,
+        };
+        Ok(Gathered {
+            rounds: crowd.rounds,
+            clash,
+            wrong: outcome.into_wrong(),
+        })
+    }
+
+    // Notes what rounds came to.
+    fn note_rounds(&mut self, crowd: &Crowd<'_>, outcome: &Outcome) -> Result<(), AllocError> {
+        if crowd.leaves_request || matches!(outcome, Outcome::NotRun) {
+            self.names.renew();
+        }
+        let took = if crowd.is_late {
+            self.limit
+        } else {
+            Duration::ZERO
+        };
+        self.health.note(self.rt, outcome, took, self.limit);
+        self.tally.note(outcome);
+        self.keep_first(outcome)?;
+        let passed = self.passed();
+        self.tell_progress(passed);
+        Ok(())
     }
 }
 

@@ -7,12 +7,15 @@ use crate::folder::Folder;
 use crate::found_text::{alone_text, found_text, shell_word};
 use crate::junit::report_junit;
 use crate::report_json::report_json;
+use crate::rounds::{FoundRounds, STRESS};
+use crate::rounds_text::rounds_text;
 use crate::seen::Shown;
 use crate::text::{COLUMNS, push_lines};
-use crate::told::{Evidence, Kind, Told, file_name};
+use crate::told::{Again, Evidence, Kind, Told, file_name};
 use mc_answers::{InputFault, Sink, write_fault};
 use mc_cli::RunArgs;
 use mc_draw::{Drawing, Form, draw};
+use mc_timeline_draw::draw_key;
 use std::alloc::{AllocError, Global};
 use std::time::Duration;
 
@@ -91,6 +94,25 @@ impl<'a, O: Sink, F: Folder> Report<'a, O, F> {
         self.tell(target.how.limit, told)
     }
 
+    /// Tells a race that rounds show.
+    pub(crate) fn tell_rounds(
+        &mut self,
+        target: &RunArgs<'_>,
+        found: FoundRounds,
+    ) -> Result<(), InputFault> {
+        let limit = target.how.limit;
+        let evidence = Evidence::of_rounds(self.alloc, &found)?;
+        if self.folder.path().is_some() {
+            let (timeline, key) = (&found.clash.timeline, &found.clash.key);
+            let picture = draw_key(self.alloc, timeline, key, Form::Svg, limit)?;
+            let base = file_name(self.alloc, Kind::Rounds, STRESS)?;
+            self.keep(base.as_str(), ".svg", picture.as_slice());
+        }
+        let text = rounds_text(self.alloc, target, self.book.seed, &found, &evidence)?;
+        let told = told_as(self.alloc, Kind::Rounds, STRESS, text, Some(evidence))?;
+        self.tell(limit, told)
+    }
+
     // The file of the script that shows a finding, as a shell takes it, if files are kept.
     fn script_file(&self, kind: Kind, name: &str) -> Result<Option<String>, AllocError> {
         let Some(path) = self.folder.path() else {
@@ -161,9 +183,12 @@ impl<'a, O: Sink, F: Folder> Report<'a, O, F> {
         let base = file_name(self.alloc, told.kind, told.name.as_str())?;
         let base = base.as_str();
         let history = evidence.history.as_slice();
-        self.keep(base, ".script", evidence.script.as_slice());
         self.keep(base, ".history", history);
         self.keep(base, ".txt", told.text.as_slice());
+        let Again::Script(script) = &evidence.again else {
+            return Ok(());
+        };
+        self.keep(base, ".script", script.as_slice());
         if let Drawing::Drawn(picture) = draw(self.alloc, history, Form::Svg, limit, None)? {
             self.keep(base, ".svg", picture.as_slice());
         }

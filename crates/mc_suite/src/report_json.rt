@@ -3,8 +3,10 @@
 use crate::blame::Blame;
 use crate::book::{Book, State};
 use crate::race::{Race, races};
-use crate::told::{Evidence, Kind, Told};
+use crate::rounds::mix_word;
+use crate::told::{Again, Evidence, Kind, Told};
 use json::Writer;
+use mc_rounds::Plan;
 use std::alloc::{AllocError, Global};
 use std::str;
 use std::time::Duration;
@@ -27,6 +29,7 @@ fn write_report(out: &mut Writer, book: &Book<'_>, state: &State<'_>) -> Result<
     write_head(out, book, state)?;
     write_races(out, book, state)?;
     write_generated(out, book, state)?;
+    write_rounds(out, book, state)?;
     write_told(out, "wrong_alone", book, Kind::Alone)?;
     write_told(out, "wrong_replies", book, Kind::Reply)?;
     write_unsupported(out, book)?;
@@ -86,6 +89,14 @@ fn write_generated(out: &mut Writer, book: &Book<'_>, state: &State<'_>) -> Resu
     out.end_object()
 }
 
+fn write_rounds(out: &mut Writer, book: &Book<'_>, state: &State<'_>) -> Result<(), AllocError> {
+    out.key("stress")?;
+    out.begin_object()?;
+    write_number(out, "rounds", state.generated.rounds.count)?;
+    write_told(out, "found", book, Kind::Rounds)?;
+    out.end_object()
+}
+
 // What was told of this kind.
 fn write_told(out: &mut Writer, name: &str, book: &Book<'_>, kind: Kind) -> Result<(), AllocError> {
     out.key(name)?;
@@ -114,12 +125,25 @@ fn write_evidence(out: &mut Writer, evidence: Option<&Evidence>) -> Result<(), A
     };
     write_number(out, "seen", evidence.times)?;
     write_number(out, "of", evidence.runs)?;
-    write_bytes(out, "script", evidence.script.as_slice())?;
+    match &evidence.again {
+        Again::Script(script) => write_bytes(out, "script", script.as_slice())?,
+        Again::Rounds(plan) => write_plan(out, plan)?,
+    }
     write_bytes(out, "history", evidence.history.as_slice())?;
     match &evidence.blame {
         Some(blame) => write_blame(out, blame),
         None => Ok(()),
     }
+}
+
+// What rounds are played by.
+fn write_plan(out: &mut Writer, plan: &Plan) -> Result<(), AllocError> {
+    out.key("seed")?;
+    out.quoted_u64(plan.seed)?;
+    write_text(out, "mix", mix_word(plan.mix))?;
+    write_number(out, "clients", u64::from(plan.clients))?;
+    write_number(out, "requests", u64::from(plan.requests))?;
+    write_number(out, "keys", u64::from(plan.keys))
 }
 
 // The reply that nothing explains, and those that would be explained.

@@ -16,7 +16,7 @@ const FAILED: u8 = 5;
 // After this many runs of which none was answered, the server isn't asked further.
 const MOST_UNANSWERED: u64 = 3;
 
-/// How many runs there were, and how many came to each end.
+/// How many runs of scripts there were, and how many of them, and of the plays of rounds, came to each end.
 #[derive(Clone, Copy)]
 pub(crate) struct Tally {
     pub(crate) runs: u64,
@@ -53,9 +53,14 @@ impl Tally {
         }
     }
 
-    /// Counts a run.
+    /// Counts a run of a script.
     pub(crate) fn add(&mut self, outcome: &Outcome) {
         self.runs = self.runs.saturating_add(1);
+        self.note(outcome);
+    }
+
+    /// Counts how a run, or several rounds, ended.
+    pub(crate) fn note(&mut self, outcome: &Outcome) {
         match outcome {
             Outcome::Explained | Outcome::Unexplained(_) => {
                 self.answered = self.answered.saturating_add(1);

@@ -18,6 +18,7 @@ use mc_command::{seed_by, servers_of};
 use mc_connect::{Network, TcpNetwork, Unconnected, Unreached};
 use mc_protocol::Actor;
 use mc_settings::Namespace;
+use mc_stress::Network as Clients;
 use std::alloc::{AllocError, Global};
 use std::io::Eprint;
 use std::net::{Net, TcpStream};
@@ -213,7 +214,7 @@ fn generated_of(book: &Book<'_>) -> Generated {
     Generated::new(book.seed, book.selection.only.is_none())
 }
 
-fn run_test<R: Threads + Wait + Clock + Sync + Eprint, N: Network, O: Sink, F: Folder>(
+fn run_test<R: Threads + Wait + Clock + Sync + Eprint, N: Network + Clients, O: Sink, F: Folder>(
     rt: &R,
     alloc: Global,
     target: RunArgs<'_>,
@@ -233,7 +234,7 @@ fn run_test<R: Threads + Wait + Clock + Sync + Eprint, N: Network, O: Sink, F: F
 }
 
 // Plays all, tells what was found, and answers the exit status.
-fn play_all<R: Threads + Wait + Clock + Sync + Eprint, N: Network, O: Sink, F: Folder>(
+fn play_all<R: Threads + Wait + Clock + Sync + Eprint, N: Network + Clients, O: Sink, F: Folder>(
     player: &mut Player<'_, R, N>,
     report: &mut Report<'_, O, F>,
 ) -> u8 {
@@ -255,7 +256,12 @@ fn play_all<R: Threads + Wait + Clock + Sync + Eprint, N: Network, O: Sink, F: F
 }
 
 // Asks each verb alone, and plays the scripts in turns. The first reports are kept at once, for whoever stops the test.
-fn play_scripts<R: Threads + Wait + Clock + Sync + Eprint, N: Network, O: Sink, F: Folder>(
+fn play_scripts<
+    R: Threads + Wait + Clock + Sync + Eprint,
+    N: Network + Clients,
+    O: Sink,
+    F: Folder,
+>(
     player: &mut Player<'_, R, N>,
     report: &mut Report<'_, O, F>,
     turns: &mut Vec<Turn>,

@@ -2,7 +2,10 @@
 
 use crate::blame::Blame;
 use crate::evidence::Found;
+use crate::rounds::FoundRounds;
 use mc_history::print_history;
+use mc_rounds::Plan;
+use mc_timeline::print_timeline;
 use std::alloc::{AllocError, Global};
 
 /// What was found.
@@ -12,6 +15,8 @@ pub(crate) enum Kind {
     Race,
     /// A race that a generated script shows.
     Generated,
+    /// A race that a round of many clients shows.
+    Rounds,
     /// A verb that is answered wrongly without a race.
     Alone,
     /// What is no reply.
@@ -21,7 +26,7 @@ pub(crate) enum Kind {
 /// What was told of a finding.
 pub(crate) struct Told {
     pub(crate) kind: Kind,
-    /// The name of the race or of the verb, or `generated-JOB`.
+    /// The name of the race or of the verb, `generated-JOB` or `stress`.
     pub(crate) name: String,
     /// What was printed.
     pub(crate) text: Vec<u8>,
@@ -40,12 +45,29 @@ impl Drop for Told {
     }
 }
 
+/// What is played to see a finding again.
+pub(crate) enum Again {
+    /// The text of a script.
+    Script(Vec<u8>),
+    /// Rounds.
+    Rounds(Plan),
+}
+
+// One call drops its parts.
+impl Drop for Again {
+    fn drop(self) {
+        match self {
+            Again::Script(_) | Again::Rounds(_) => {}
+        }
+    }
+}
+
 /// What shows a finding.
 pub(crate) struct Evidence {
-    pub(crate) script: Vec<u8>,
-    /// The text of a run's history.
+    pub(crate) again: Again,
+    /// The text of a run's history, or of the timeline of a key.
     pub(crate) history: Vec<u8>,
-    /// How many of the runs showed it.
+    /// How many of the runs, or of the rounds, showed it.
     pub(crate) times: u64,
     pub(crate) runs: u64,
     pub(crate) blame: Option<Blame>,
@@ -55,7 +77,7 @@ pub(crate) struct Evidence {
 impl Drop for Evidence {
     fn drop(self) {
         let Evidence {
-            script: _,
+            again: _,
             history: _,
             times: _,
             runs: _,
@@ -77,11 +99,24 @@ impl Evidence {
         let mut history = Vec::new(alloc);
         print_history(&shown.history, &mut history)?;
         Ok(Evidence {
-            script,
+            again: Again::Script(script),
             history,
             times,
             runs,
             blame,
+        })
+    }
+
+    /// The evidence of rounds.
+    pub(crate) fn of_rounds(alloc: Global, found: &FoundRounds) -> Result<Evidence, AllocError> {
+        let mut history = Vec::new(alloc);
+        print_timeline(&found.clash.timeline, &mut history)?;
+        Ok(Evidence {
+            again: Again::Rounds(found.plan),
+            history,
+            times: found.times,
+            runs: found.rounds,
+            blame: None,
         })
     }
 }
@@ -89,7 +124,7 @@ impl Evidence {
 /// The name of such a finding's files, without their extensions.
 pub(crate) fn file_name(alloc: Global, kind: Kind, name: &str) -> Result<String, AllocError> {
     let (before, after) = match kind {
-        Kind::Race => ("", "-1"),
+        Kind::Race | Kind::Rounds => ("", "-1"),
         Kind::Generated | Kind::Reply => ("", ""),
         Kind::Alone => ("alone-", ""),
     };

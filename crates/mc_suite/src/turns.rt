@@ -8,6 +8,7 @@ use crate::player::Player;
 use crate::prepared::Prepared;
 use crate::race::{Race, races};
 use crate::report::Report;
+use crate::rounds::play_rounds;
 use crate::seen::Seen;
 use crate::selection::Selection;
 use crate::told::Kind;
@@ -15,6 +16,7 @@ use crate::verbs::Unsupported;
 use mc_answers::{InputFault, Sink};
 use mc_connect::Network;
 use mc_script_text::parse;
+use mc_stress::Network as Clients;
 use std::alloc::{AllocError, Global};
 use std::io::Eprint;
 use std::rt::Clock;
@@ -129,8 +131,13 @@ fn has_numbers(script: &str) -> bool {
     script.contains("\ngets ") || script.contains("\ncas ")
 }
 
-/// Plays the turns, and between them generated scripts for as long, if they are wanted, until the time is over.
-pub(crate) fn take_turns<R: Threads + Wait + Clock + Sync + Eprint, N: Network, O: Sink, F: Folder>(
+/// Plays the turns, and after them for as long what is drawn from the seed, if that is wanted, until the time is over.
+pub(crate) fn take_turns<
+    R: Threads + Wait + Clock + Sync + Eprint,
+    N: Network + Clients,
+    O: Sink,
+    F: Folder,
+>(
     player: &mut Player<'_, R, N>,
     report: &mut Report<'_, O, F>,
     turns: &mut Vec<Turn>,
@@ -144,14 +151,32 @@ pub(crate) fn take_turns<R: Threads + Wait + Clock + Sync + Eprint, N: Network, 
         take_each(player, report, turns, generated, slice)?;
         let left = slices_left(turns.as_slice());
         if generated.is_wanted {
-            // A slice more, so that they are played once all races were found.
-            let round = slice.saturating_mul(left.saturating_add(1));
-            play_generated(player, report, generated, turns, round)?;
+            // A slice more, so that it is played once all races were found.
+            let time = slice.saturating_mul(left.saturating_add(1));
+            play_drawn(player, report, turns, generated, time)?;
         } else if left == 0 {
             break;
         }
     }
     Ok(())
+}
+
+// Plays generated scripts, and for a third of this time rounds of many clients.
+fn play_drawn<R: Threads + Wait + Clock + Sync + Eprint, N: Network + Clients, O: Sink, F: Folder>(
+    player: &mut Player<'_, R, N>,
+    report: &mut Report<'_, O, F>,
+    turns: &mut Vec<Turn>,
+    generated: &mut Generated,
+    time: Duration,
+) -> Result<(), InputFault> {
+    let of_rounds = if generated.rounds.is_found {
+        Duration::ZERO
+    } else {
+        time / 3
+    };
+    let of_scripts = time.saturating_sub(of_rounds);
+    play_generated(player, report, generated, turns, of_scripts)?;
+    play_rounds(player, report, generated, turns, of_rounds)
 }
 
 // How long a slice is, so that each turn comes twice at least.
