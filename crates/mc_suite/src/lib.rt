@@ -8,6 +8,7 @@
 #![tactic(auto)]
 
 mod alone;
+mod beside;
 mod blame;
 mod book;
 mod clash;
