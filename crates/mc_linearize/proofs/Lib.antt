@@ -7,6 +7,7 @@ pub mod Versions
 pub mod Alike
 pub mod EachVerb
 pub mod ShownNumbers
+pub mod ShownPlaces
 pub mod Seen
 pub mod Simulating
 pub mod Nexts

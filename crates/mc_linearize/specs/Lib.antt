@@ -15,6 +15,7 @@ pub mod Verdicts
 -- What private contracts cite.
 pub mod Trials
 pub mod Searching
+pub mod Shown
 pub mod Ways
 pub mod Finding
 pub mod Starts

@@ -21,6 +21,7 @@ mod operation;
 mod point;
 mod queues;
 mod search;
+mod shown;
 mod standing;
 mod trial;
 mod verdict;
