@@ -11,6 +11,7 @@ pub mod ShownPlaces
 pub mod Seen
 pub mod Simulating
 pub mod Nexts
+pub mod Choosing
 pub mod Tracing
 pub mod Reaching
 pub mod Finishing
