@@ -33,8 +33,8 @@ pub fn append_line(
     out.extend_from_slice(line.as_bytes())
 }
 
-/// Appends the bar of a lane of this name, with a title that shows more of its bodies. If no reply came it goes on, without an end, up to `end`. If nothing explains
-/// the reply it ends with a cross.
+/// Appends the bar of a lane of this name, with a title that shows more of its bodies. If no reply came it goes on, without an end, up to
+/// `end`. If nothing explains the reply it ends with a cross.
 pub fn append_bar(
     out: &mut Vec<u8>,
     name: &str,

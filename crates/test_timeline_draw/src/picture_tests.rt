@@ -26,6 +26,18 @@ static OF_A_JOB: (&str, &str) = (
      3  1   incr a 1\n",
 );
 
+// Nothing explains b, on which client 1 has its second and third request.
+static OF_THE_SECOND_KEY: (&str, &str) = (
+    "history 3\n1 begin delete a\n1 reply NOT_FOUND\n1 begin set b 0 =1\n1 reply STORED\n1 begin get b\n1 reply MISS\nend\n",
+    "unexplained: no order of these requests gives these replies (key b)\n\n\
+     #  lines     request     reply\n\
+     1  4-5    1  set b 0 =1  STORED\n\
+     2  6-7    1  get b       MISS\n\
+     \x20                        ^ no order explains this\n\
+     \nWhat came before is explained if the requests took effect in this order:\n\
+     1  1  set b 0 =1\n",
+);
+
 // As in the picture of a history: the first bar begins at 48 and is as wide as `NOT_FOUND`; the second begins 16 later, and goes on 16
 // beyond its 14 columns.
 static SHAPES: (&str, &[&str]) = (
@@ -43,15 +55,14 @@ fn has(text: &[u8], part: &[u8]) -> bool {
     (0..text.len()).any(|start| text.split_at(start.min(text.len())).1.starts_with(part))
 }
 
-fn is_job_drawn(alloc: Global) -> Result<bool, OutOfMemory> {
-    let (text, wanted) = OF_A_JOB;
-    match draw(
-        alloc,
-        text.as_bytes(),
-        Form::Text { lines: true },
-        LIMIT,
-        Some(31),
-    )? {
+fn is_drawn(
+    alloc: Global,
+    text: &str,
+    job: Option<u64>,
+    wanted: &str,
+) -> Result<bool, OutOfMemory> {
+    let form = Form::Text { lines: true };
+    match draw(alloc, text.as_bytes(), form, LIMIT, job)? {
         Drawing::Drawn(picture) => Ok(picture.as_slice() == wanted.as_bytes()),
         Drawing::Refused(_) => Ok(false),
     }
@@ -71,7 +82,15 @@ fn are_shapes_drawn(alloc: Global) -> Result<bool, OutOfMemory> {
 
 #[test]
 fn draws_the_timeline_of_a_job_with_lines(rt: HostRuntime) -> Result<(), Fail> {
-    assert!(rt; is_job_drawn(rt.alloc())?);
+    let (text, wanted) = OF_A_JOB;
+    assert!(rt; is_drawn(rt.alloc(), text, Some(31), wanted)?);
+    Ok(())
+}
+
+#[test]
+fn counts_the_moves_of_a_key(rt: HostRuntime) -> Result<(), Fail> {
+    let (text, wanted) = OF_THE_SECOND_KEY;
+    assert!(rt; is_drawn(rt.alloc(), text, None, wanted)?);
     Ok(())
 }
 
