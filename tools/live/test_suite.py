@@ -10,7 +10,7 @@ import unittest
 from xml.etree import ElementTree
 
 from . import servers
-from .program import LiveTest, rows, run, three_times
+from .program import LiveTest, on_processors, rows, run, three_times
 from .test_scripts import RACES, SCRIPTS, ScriptTest, race_of
 
 # Each race, with the bug of examples/faulty_server.c that it finds.
@@ -144,20 +144,19 @@ class AtOnce(LiveTest):
 
     def names_on(self, processors):
         proxy = self.enter(Naming(self.enter(servers.serving()).port))
-        found = run(["test", f"127.0.0.1:{proxy.port}", "--for", "2s"],
-                    preexec_fn=lambda: os.sched_setaffinity(0, processors))
+        with on_processors(processors):
+            found = tested(proxy.port, "--for", "2s")
         self.assertEqual(found.status, 0, found.text)
         self.assertRegex(found.text, r"generated scripts: [1-9]")
         return len(proxy.names)
 
     def test_one(self):
-        self.assertEqual(self.names_on({min(os.sched_getaffinity(0))}), 1)
+        self.assertEqual(self.names_on(1), 1)
 
     def test_two(self):
-        processors = os.sched_getaffinity(0)
-        if len(processors) < 4 or any(map(is_limited, QUOTAS)):
+        if len(os.sched_getaffinity(0)) < 4 or any(map(is_limited, QUOTAS)):
             self.skipTest("less than four processors")
-        self.assertEqual(self.names_on(processors), 2)
+        self.assertEqual(self.names_on(4), 2)
 
 
 class Folders(ScriptTest):

@@ -317,7 +317,7 @@ fn play_scripts<
     let book = &report.book;
     add_turns(player.alloc, book.selection, &book.unsupported, turns)?;
     match second {
-        Some(second) if generated.is_wanted => {
+        Some(second) if generated.is_wanted && !player.is_over() => {
             play_both(player, second, report, turns, generated)
         }
         _ => take_turns(player, report, turns, generated, None),
