@@ -6,7 +6,8 @@ from dataclasses import dataclass
 from itertools import combinations
 
 SVG = "{http://www.w3.org/2000/svg}"
-MOST_BYTES = 200_000
+# Of 72 requests, the most of a history; and of 200.
+MOST_BYTES, MOST_OF_MANY = 200_000, 600_000
 # The widest character of the fonts that are named, in parts of the size, and how far a line of text
 # reaches above and below its base.
 ADVANCE, ABOVE, BELOW = 0.605, 0.78, 0.24
@@ -76,7 +77,7 @@ def faults_in_boxes(root, is_ordered):
 
 def faults_of(picture, requests, is_ordered):
     """All that is wrong with a picture of a history with this many requests."""
-    if len(picture) > MOST_BYTES:
+    if len(picture) > (MOST_BYTES if requests <= 72 else MOST_OF_MANY):
         yield f"{len(picture)} bytes"
     if not picture.isascii():
         yield "not ASCII"

@@ -10,6 +10,8 @@ KEYS = ["k" * 39 + end for end in "01"]
 # A longest body of each sort of byte, as a history writes it.
 WIDE = "=" + "%00<&'\"%7f>" * 9362
 BODIES = ["=", "=9%20", WIDE]
+# At most so many requests of a timeline are drawn.
+MOST_DRAWN = 200
 
 
 def lines_of(who, requests):
@@ -38,11 +40,30 @@ def one_without_a_reply(body):
     yield from ("B begin get k", f"B reply HIT 0 {body}", "B begin get k", "B reply MISS", "end")
 
 
+def many_clients():
+    """A timeline of 257 requests: 64 clients read the widest words at once, and again."""
+    body, number = "=" + "\"" * 250, 2**64 - 1
+    yield from ("history 3", f"0 begin set {KEYS[0]} {2**32 - 1} {body}", "0 reply STORED")
+    for _ in range(4):
+        yield from (f"{client} begin gets {KEYS[0]}" for client in range(64))
+        yield from (f"{client} reply HIT {2**32 - 1} {body} {number}" for client in range(64))
+    yield "end"
+
+
+def clients_in_turns():
+    """Of 64 clients each overlaps the one before it and the one after it; the last reply is wrong."""
+    yield from ("history 3", "0 begin set k 0 =5", "0 reply STORED", "0 begin incr k 1")
+    for client in range(1, 64):
+        yield from (f"{client} begin incr k 1", f"{client - 1} reply NUMBER {client + 5}")
+    yield from ("63 reply NUMBER 70", "end")
+
+
 def text(lines):
     return "".join(line + "\n" for line in lines).encode()
 
 
-MADE = [("full sections", text(full_history())),
+MADE = [("full sections", text(full_history())), ("many clients", text(many_clients())),
+        ("clients in turns", text(clients_in_turns())),
         *((f"a body of {len(body)}", text(one_without_a_reply(body))) for body in BODIES)]
 
 
@@ -56,9 +77,9 @@ class Pictures(LiveTest):
             self.assertEqual(ran.output, run(["judge"], given).output)
             return
         self.assertEqual(ran.status, 0)
-        is_ordered = b"history 2\n" in given
-        begin = rb"^[PAB] begin " if is_ordered else rb"^[PAB] [a-z]+ [a-z0-9-]+"
-        requests = len(re.findall(begin, given.split(b"explain\n")[0], re.M))
+        is_ordered = b"history 1\n" not in given
+        begin = rb"^\w+ begin " if is_ordered else rb"^[PAB] [a-z]+ [a-z0-9-]+"
+        requests = min(MOST_DRAWN, len(re.findall(begin, given.split(b"explain\n")[0], re.M)))
         self.assertEqual([*faults_of(ran.output, requests, is_ordered)], [])
 
     @rows((name, given) for name, _, given in examples("history"))
