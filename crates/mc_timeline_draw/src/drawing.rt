@@ -2,8 +2,10 @@
 
 use crate::known::find_out;
 use crate::picture::{Given, picture_of};
+use crate::walk::Walk;
 use mc_convert::find_history;
 use mc_linearize::TimelineExplanation;
+use mc_model::Note;
 use mc_picture::{Drawing, Form, numbered_lines, render};
 use mc_protocol::{Bytes, OutOfMemory, fault_of_input};
 use mc_timeline::{Timeline, restrict};
@@ -40,6 +42,70 @@ pub fn draw(
             Ok(Drawing::Refused(excerpt.fault_in_whole(fault)))
         }
     }
+}
+
+/// The same of the requests on a key, or nothing if the timeline has none, or comes with an explanation.
+///
+/// # Errors
+///
+/// That memory ran out.
+pub fn draw_only(
+    alloc: Global,
+    text: &[u8],
+    form: Form,
+    limit: u64,
+    job: Option<u64>,
+    key: &[u8],
+) -> Result<Option<Drawing>, OutOfMemory> {
+    let excerpt = find_history(text, job);
+    match parse_timeline(alloc, excerpt.text) {
+        Ok((timeline, None)) => {
+            let lines = numbered_lines(alloc, excerpt)?;
+            let drawn = draw_alone(alloc, &timeline, key, lines.as_slice(), form, limit)?;
+            Ok(drawn.map(Drawing::Drawn))
+        }
+        Ok((_timeline, Some(_claim))) => Ok(None),
+        Err(fault) => {
+            fault_of_input(fault.kind)?;
+            Ok(Some(Drawing::Refused(excerpt.fault_in_whole(fault))))
+        }
+    }
+}
+
+// The picture of the requests on a key, if there are any.
+fn draw_alone(
+    alloc: Global,
+    timeline: &Timeline,
+    key: &[u8],
+    lines: &[(u8, u32)],
+    form: Form,
+    limit: u64,
+) -> Result<Option<Vec<u8>>, OutOfMemory> {
+    let key = Bytes::new(Vec::from_slice(alloc, key)?);
+    let alone = restrict(alloc, timeline, &key)?;
+    if alone.notes().is_empty() {
+        return Ok(None);
+    }
+    let lines = lines_on(alloc, timeline.notes(), &key, lines)?;
+    let drawn = draw_known(alloc, &alone, None, lines.as_slice(), form, limit)?;
+    Ok(Some(drawn))
+}
+
+// The lines of the notes of requests on the key.
+fn lines_on(
+    alloc: Global,
+    notes: &[(u8, Note)],
+    key: &Bytes,
+    lines: &[(u8, u32)],
+) -> Result<Vec<(u8, u32)>, OutOfMemory> {
+    let mut kept = Vec::new(alloc);
+    let mut walk = Walk::new(Some(key));
+    'notes: for ((client, note), line) in notes.iter().zip(lines.iter()) {
+        if walk.take(*client, note).is_some() {
+            kept.push(*line)?;
+        }
+    }
+    Ok(kept)
 }
 
 /// The picture of the timeline's requests on the key. A search for what explains them takes at most `limit` turns. At most 200 requests
