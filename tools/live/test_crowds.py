@@ -146,8 +146,8 @@ class Folders(CrowdTest):
         self.assertEqual((found.status, found.faults), (1, ""), found.text)
         names = {*(f"stress-1.{end}" for end in ("history", "svg", "txt"))}
         self.assertEqual({*files}, {*names, "report.json", "junit.xml"})
-        self.assertRegex(judged(files["stress-1.history"].encode()),
-                         r"\Aunexplained\nkey \S+k[12]\n\Z")
+        verdict = judged(files["stress-1.history"].encode())
+        self.assertRegex(verdict, r"\Aunexplained\nkey \S+k[12]\n\Z")
         self.assertTrue(ElementTree.fromstring(files["stress-1.svg"]).tag.endswith("}svg"))
         self.assertIn(files["stress-1.txt"], found.text)
         self.check_report(json.loads(files["report.json"]), files["stress-1.history"])
@@ -178,7 +178,7 @@ class Failing(CrowdTest):
         ("hangs", lambda _: b"", 5,
          r"failed runs: [1-9]\d*; the first: stress: client \d: no reply to [^:]+ within 300ms"),
         ("closes", closing, 5,
-         r"failed runs: [1-9]\d*; the first: stress: client \d: no reply to [^:]+: the server closed"),
+         r"failed runs: [1-9]\d*; the first: stress: client \d: no reply [^:]+: the server closed"),
         ("garbles", lambda _: b"garbage\r\n", 1, r"wrong reply: stress client \d: [^:]+garbage"),
     ])
     @three_times

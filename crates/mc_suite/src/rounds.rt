@@ -213,22 +213,27 @@ fn play_plan<R: Threads + Wait + Clock + Sync + Eprint, N: Network + Clients, O:
         times: 1,
         rounds,
     };
-    tell_found(player, report, first)
+    let again = tell_found(player, report, first)?;
+    generated.rounds.count = generated.rounds.count.saturating_add(again);
+    Ok(())
 }
 
-// Finds evidence, and tells it.
+// Finds evidence, tells it, and answers how many rounds were played for it.
 fn tell_found<R: Threads + Wait + Clock + Sync + Eprint, N: Network + Clients, O: Sink, F: Folder>(
     player: &mut Player<'_, R, N>,
     report: &mut Report<'_, O, F>,
     first: FoundRounds,
-) -> Result<(), InputFault> {
+) -> Result<u64, InputFault> {
     player.count_found();
+    let before = first.rounds;
     let begun = player.passed();
     let until = begun.saturating_add(report.time_for_evidence());
     let found = see_again(player, first, until)?;
     report.spend(player.passed().saturating_sub(begun));
     player.give_way();
-    report.tell_rounds(&player.target, found)
+    let again = found.rounds.saturating_sub(before);
+    report.tell_rounds(&player.target, found)?;
+    Ok(again)
 }
 
 // Plays rounds of the same plan until it was seen often enough. Answers the one that is unexplained soonest.
