@@ -158,6 +158,7 @@ pub record IsStressArgs (value : Text → Option Text) (args : StressArgs) : Typ
   pub time : MayBeValue kind.Time (value (codes "for")) args.time
   pub keep_going : args.keep_going ≡ is_set (value (codes "keep-going"))
   pub whole : args.whole ≡ is_set (value (codes "whole"))
+  pub smallest : args.smallest ≡ is_set (value (codes "smallest"))
   pub limit : MayBeValue (number 1000000000) (value (codes "limit")) args.limit
   pub why : args.why ≡ is_set (value (codes "why"))
   pub name : MayBeName (value (codes "name")) args.name

@@ -53,8 +53,8 @@ abbrev pub stress_rules : List Rule
 stress_rules =
     argument (codes "target") ∷ valued (codes "clients") ∷ valued (codes "requests") ∷ valued (codes "keys") ∷ valued (codes "mix") ∷
     valued (codes "rounds") ∷ valued (codes "for") ∷ switch (codes "why") ∷ valued (codes "name") ∷ valued (codes "timeout") ∷
-    valued (codes "wait") ∷ valued (codes "seed") ∷ switch (codes "keep-going") ∷ switch (codes "whole") ∷ valued (codes "limit") ∷
-    switch (codes "quiet") ∷ switch (codes "stats") ∷ switch (codes "json") ∷ []
+    valued (codes "wait") ∷ valued (codes "seed") ∷ switch (codes "keep-going") ∷ switch (codes "whole") ∷ switch (codes "smallest") ∷
+    valued (codes "limit") ∷ switch (codes "quiet") ∷ switch (codes "stats") ∷ switch (codes "json") ∷ []
 
 abbrev pub campaign_rules : List Rule
 campaign_rules =

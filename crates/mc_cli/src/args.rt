@@ -295,6 +295,8 @@ pub struct StressArgs<'a> {
     pub keep_going: bool,
     /// Whether all keys of an unexplained round are shown.
     pub whole: bool,
+    /// Whether an unexplained key is shown without requests that changed nothing. All keys are shown whole.
+    pub smallest: bool,
     /// The most turns of the search for each key, if the line names a limit.
     pub limit: Option<u64>,
     /// Whether the answer says why nothing explains a round.

@@ -28,6 +28,7 @@ pub fn read_stress<'a>(options: &ArgMatches<'a>) -> Result<StressArgs<'a>, Optio
         time,
         keep_going: value::is_set(options, &rows::KEEP_GOING_OF_STRESS),
         whole: value::is_set(options, &rows::WHOLE),
+        smallest: value::is_set(options, &rows::SMALLEST),
         limit,
         why: value::is_set(options, &rows::WHY_OF_STRESS),
         name,

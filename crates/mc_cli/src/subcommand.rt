@@ -108,6 +108,7 @@ const STRESS_ROWS: &[Row] = &[
     rows::SEED_OF_STRESS,
     rows::KEEP_GOING_OF_STRESS,
     rows::WHOLE,
+    rows::SMALLEST,
     rows::LIMIT_OF_STRESS,
     rows::QUIET,
     rows::STATS_OF_STRESS,

@@ -41,11 +41,13 @@ and done is shown at the end.
   end
 
 The history is that of the one key: `mcrace help history` describes it, and
-`mcrace judge --why` reads it. `--whole` shows all keys of the round. With
-`--why`, the first line that no order can explain comes before it. A client that
-failed has a line with its fault, as a section of `mcrace run` has; then the
-history ends there. Each round counts once: as unexplained; else as failed, if a
-client failed; else as explained; else as other, which is undecided.
+`mcrace judge --why` reads it. `--whole` shows all keys of the round. Otherwise
+`--smallest` leaves out requests that changed nothing, as their replies say, if
+what is left is unexplained too. With `--why`, the first line that no order can
+explain comes before it. A client that failed has a line with its fault, as a
+section of `mcrace run` has; then the history ends there. Each round counts
+once: as unexplained; else as failed, if a client failed; else as explained;
+else as other, which is undecided.
 
 The keys are k1, k2 and so on. Nobody else may use them meanwhile: `--name` puts
 a name and a dash before each. After a round with a request without reply they
