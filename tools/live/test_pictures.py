@@ -51,7 +51,7 @@ def many_clients():
 
 
 def clients_in_turns():
-    """Of 64 clients each overlaps the one before it and the one after it; the last reply is wrong."""
+    """Each of 64 clients overlaps the one before it and the next; the last reply is wrong."""
     yield from ("history 3", "0 begin set k 0 =5", "0 reply STORED", "0 begin incr k 1")
     for client in range(1, 64):
         yield from (f"{client} begin incr k 1", f"{client - 1} reply NUMBER {client + 5}")

@@ -139,7 +139,7 @@ pub const KEEP_GOING_OF_STRESS: Row =
 
 pub const WHOLE: Row = row!(Rare "whole", "Show all keys of an unexplained round");
 
-pub const SMALLEST: Row = row!(Rare "smallest", "Show only requests that it takes");
+pub const SMALLEST: Row = row!(Rare "smallest", "Leave out requests that changed nothing");
 
 pub const LIMIT_OF_STRESS: Row =
     row!(Rare "limit" "N" Kind::Number(0, 1_000_000_000), "The most turns of a search");

@@ -1,9 +1,9 @@
 //! Pictures of timelines: of the requests on one key, with a lane for each client.
 //!
 //! Below it stand `mc_timeline_text`, which reads the text of a timeline, `mc_linearize` and `mc_timeline_why`, which find out what
-//! explains it, and `mc_picture`, which makes the picture. The crates above use `draw` and `draw_only`, which find a timeline in a text, and
-//! `draw_key`, which draws the requests of a timeline on a key. A picture may show any words; of what it rests on, `find_out` says that
-//! it is true of the timeline (`specs/Known.antt`).
+//! explains it, and `mc_picture`, which makes the picture. The crates above use `draw` and `draw_only`, which find a timeline in a text,
+//! and `draw_key`, which draws the requests of a timeline on a key. A picture may show any words; of what it rests on, `find_out` says
+//! that it is true of the timeline (`specs/Known.antt`).
 #![tactic(auto)]
 
 mod drawing;
