@@ -1,6 +1,7 @@
 """`mcrace stress`: rounds of right servers are explained, races are found, and it is told how
 servers fail."""
 
+import json
 import re
 import signal
 import time
@@ -17,6 +18,9 @@ MIXES = {"all": 6, "counters": 2, "cas": 4, "bodies": 4, "presence": 6}
 # A bug of examples/faulty_server.c, and a mix that finds it.
 BUGS = {"lost-increment": "counters", "cas-two-winners": "cas", "lost-append": "bodies",
         "add-twice": "presence", "torn-body": "all"}
+# What standard error says with --stats: a line of the rounds, and one of each verb.
+STATS = re.compile(r"^mcrace: (\d+) rounds, (\d+) requests in \d+ ms, \d+ a second\n"
+                   r"((?:mcrace: \w+: .*\n)+)\Z", re.M)
 # What is written of an unexplained round.
 FOUND = re.compile(r"round (\d+) of \d+\n"
                    r"rounds (\d+) explained (\d+) unexplained 1 other 0 failed 0\n"
@@ -86,8 +90,60 @@ class Right(StressTest):
         self.assertEqual(answer.status, 0)
 
 
+    @three_times
+    def test_json(self):
+        port = self.enter(servers.serving()).port
+        answer = stressed(port, "--rounds", "5", "--json")
+        totals = {"rounds": 5, "explained": 5, "unexplained": 0, "other": 0, "failed": 0}
+        self.assertEqual(json.loads(answer.text),
+                         {"round": 5, "of": 5, "totals": totals, "verdict": "explained"})
+        self.assertEqual((answer.status, answer.text.count("\n")), (0, 1))
+
+    @three_times
+    def test_stats(self):
+        """Each request is counted once: those of the clients, and those that begin a round."""
+        port = self.enter(servers.serving()).port
+        options = "--clients 4 --requests 10 --keys 1 --mix counters --rounds 30 --stats"
+        answer = stressed(port, *options.split())
+        self.assert_explained(answer, 30)
+        found = STATS.search(answer.faults)
+        self.assertTrue(found, answer.faults)
+        rounds, requests, replies = found.groups()
+        counted = {verb: sum(int(it) for it in re.findall(r"(\d+) ", counts))
+                   for verb, counts in re.findall(r"mcrace: (\w+): (.*)", replies)}
+        self.assertEqual(sum(counted.values()), int(requests))
+        self.assertEqual((int(rounds), counted["delete"]), (30, 30))
+        self.assertIn(int(requests), range(30 * 41, 30 * 42 + 1))
+        self.assertLessEqual({*counted}, {"set", "cas", "gets", "incr", "decr", "delete"})
+
+    @three_times
+    def test_undecided(self):
+        """Undecided rounds don't end it, and the first of them is shown."""
+        port = self.enter(servers.serving()).port
+        for more in [], ["--keep-going"]:
+            answer = stressed(port, "--limit", "0", "--rounds", "3", "--keys", "1", *more)
+            totals = "rounds 3 explained 0 unexplained 0 other 3 failed 0\n"
+            self.assertTrue(answer.text.startswith("round 1 of 3\n"), answer.text)
+            self.assertEqual(answer.text.count(totals), 1, answer.text)
+            self.assertIn("undecided\nkey k1\nhistory 3\n0 begin delete k1\n", answer.text)
+            self.assertEqual(answer.status, 4)
+
+
 class Races(ScriptTest, StressTest):
     """Servers with races."""
+
+    @three_times
+    def test_json(self):
+        port = self.enter(servers.serving("--racy")).port
+        answer = stressed(port, "--mix", "counters", "--json")
+        found = json.loads(answer.text)
+        self.assertEqual((found["verdict"], answer.status), ("unexplained", 1), answer.text)
+        self.assertEqual(found["totals"]["unexplained"], 1)
+        history = found["history"]
+        self.assertEqual(history["version"], 3)
+        asked = [it["request"]["key"] for it in history["notes"] if "request" in it]
+        self.assertEqual({*asked}, {found["key"]})
+        self.assertLess(1, len({it["client"] for it in history["notes"]}))
 
     @three_times
     def test_racy(self):
@@ -150,6 +206,16 @@ class Failing(StressTest):
                                       "failed 0\nno connection 0\n")
         self.assertEqual(answer.status, 4)
         self.assertIn("Connection refused", answer.faults)
+        found = json.loads(stressed(servers.free_port(), "--json").text)
+        self.assertEqual((found["outcome"], found["client"]), ("no connection", 0))
+
+    def test_json(self):
+        with servers.Replying([Step.READ, Step.END], []) as server:
+            answer = stressed(server.port, "--clients", "2", "--json")
+        found = json.loads(answer.text)
+        self.assertEqual(found["failed"], [{"client": 0, "code": 3, "fault": "Ended"}])
+        self.assertEqual((found["verdict"], found["history"]["version"]), ("explained", 3))
+        self.assertEqual(answer.status, 4)
 
     def test_names(self):
         """After a round that failed the keys have another name, and the clients new connections."""
