@@ -95,24 +95,20 @@ impl<'a> Crowd<'a> {
         }
     }
 
-    // Keeps what is said of a client whose lane this fault closed, or on whose connection more came than replies.
-    fn keep(&mut self, fault: Option<Fault>, error: Option<io::Error>, text: String) {
-        match fault {
-            None | Some(Fault::BadReply | Fault::TooMuch) => {
-                if self.wrong.is_none() {
-                    self.wrong = Some(text);
-                }
-            }
-            Some(fault) => {
-                if self.failure.is_none() {
-                    self.is_late = is_late(error);
-                    self.failure = Some(Failure {
-                        fault,
-                        verb: None,
-                        text,
-                    });
-                }
-            }
+    fn keep_wrong(&mut self, text: String) {
+        if self.wrong.is_none() {
+            self.wrong = Some(text);
+        }
+    }
+
+    fn keep_failure(&mut self, fault: Fault, error: Option<io::Error>, text: String) {
+        if self.failure.is_none() {
+            self.is_late = is_late(error);
+            self.failure = Some(Failure {
+                fault,
+                verb: None,
+                text,
+            });
         }
     }
 }
@@ -150,8 +146,18 @@ impl Page for Crowd<'_> {
         let Ok(Some(said)) = failure_text(self.alloc, sent, lane, error, self.timeout) else {
             return;
         };
-        if let Ok(text) = format!(in self.alloc; "stress: client {client}: {said}") {
-            self.keep(fault, error, text);
+        match fault {
+            None | Some(Fault::BadReply | Fault::TooMuch) => {
+                if let Ok(text) = format!(in self.alloc; "client {client}: {said}") {
+                    self.keep_wrong(text);
+                }
+            }
+            Some(fault) => {
+                // It is told among failed runs.
+                if let Ok(text) = format!(in self.alloc; "stress: client {client}: {said}") {
+                    self.keep_failure(fault, error, text);
+                }
+            }
         }
     }
 

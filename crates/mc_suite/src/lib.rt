@@ -37,6 +37,7 @@ mod rounds;
 mod rounds_text;
 mod seen;
 mod selection;
+mod shortened;
 mod tally;
 mod testing;
 mod text;

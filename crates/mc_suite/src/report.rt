@@ -10,6 +10,7 @@ use crate::report_json::report_json;
 use crate::rounds::{FoundRounds, STRESS};
 use crate::rounds_text::rounds_text;
 use crate::seen::Shown;
+use crate::shortened::Shortened;
 use crate::text::{COLUMNS, push_lines};
 use crate::told::{Again, Evidence, Kind, Told, file_name};
 use mc_answers::{InputFault, Sink, write_fault};
@@ -102,13 +103,15 @@ impl<'a, O: Sink, F: Folder> Report<'a, O, F> {
     ) -> Result<(), InputFault> {
         let limit = target.how.limit;
         let evidence = Evidence::of_rounds(self.alloc, &found)?;
+        let shown = Shortened::of(self.alloc, &found.clash)?;
         if self.folder.path().is_some() {
-            let (timeline, key) = (&found.clash.timeline, &found.clash.key);
+            let (timeline, key) = (&shown.timeline, &shown.key);
             let picture = draw_key(self.alloc, timeline, key, Form::Svg, limit)?;
             let base = file_name(self.alloc, Kind::Rounds, STRESS)?;
             self.keep(base.as_str(), ".svg", picture.as_slice());
         }
-        let text = rounds_text(self.alloc, target, self.book.seed, &found, &evidence)?;
+        let (plan, seed) = (&found.plan, self.book.seed);
+        let text = rounds_text(self.alloc, target, seed, plan, &shown, &evidence)?;
         let told = told_as(self.alloc, Kind::Rounds, STRESS, text, Some(evidence))?;
         self.tell(limit, told)
     }

@@ -2,7 +2,8 @@
 
 use crate::found_text::{head_text, push_branches};
 use crate::numbers::Grouped;
-use crate::rounds::{FoundRounds, STRESS, mix_word};
+use crate::rounds::{STRESS, mix_word};
+use crate::shortened::Shortened;
 use crate::text::push_all;
 use crate::told::Evidence;
 use mc_cli::RunArgs;
@@ -26,15 +27,15 @@ pub(crate) fn rounds_text(
     alloc: Global,
     target: &RunArgs<'_>,
     seed: u64,
-    found: &FoundRounds,
+    plan: &Plan,
+    shown: &Shortened,
     evidence: &Evidence,
 ) -> Result<Vec<u8>, AllocError> {
-    let (plan, clash) = (&found.plan, &found.clash);
     let clients = plan.clients;
     let sentence = format!(in alloc; "no order explains what {clients} clients sent and received")?;
     let mut text = head_text(alloc, STRESS, sentence.as_str(), evidence, "rounds")?.into_bytes();
     let form = Form::Text { lines: false };
-    let picture = draw_key(alloc, &clash.timeline, &clash.key, form, target.how.limit)?;
+    let picture = draw_key(alloc, &shown.timeline, &shown.key, form, target.how.limit)?;
     let picture = str::from_utf8(picture.as_slice()).unwrap_or("");
     text.extend_from_slice(window_of(alloc, picture)?.as_bytes())?;
     text.extend_from_slice(b"\n  Proved: no order of these requests gives these replies.\n")?;
