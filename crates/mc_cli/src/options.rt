@@ -178,7 +178,7 @@ pub const FOR_OF_TEST: Row =
     row!(Daily "for" "TIME" Kind::Time, "How long the test takes, by default 30 s");
 
 pub const SEED_OF_TEST: Row =
-    row!(Rare "seed" "N" Kind::Number(0, u64::MAX), "The seed of generated scripts");
+    row!(Rare "seed" "N" Kind::Number(0, u64::MAX), "The seed of generated scripts and rounds");
 
 pub const ONLY: Row = row!(Daily "only" "RACES" Kind::Names, "Look for these races alone");
 

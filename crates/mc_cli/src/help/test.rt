@@ -12,19 +12,20 @@ what it finds as it finds it.
 
 First it asks each of the twelve verbs alone. A verb that the server doesn't
 know is not supported, and races that need it are left out. Then it plays
-scripts of the races that it knows, in turns, and generated scripts between
-them. Two clients race; a run that no order of their requests explains is a
-race.
+scripts of the races that it knows, in turns, and between them generated scripts
+and rounds of eight clients, as `mcrace stress` does. If no order of their
+requests explains what the clients of a run or a round received, that is a race.
 
 Of each race it makes the script smaller, as long as the race is seen again,
 and plays it until it was seen three times; a tenth of the time at most. It
 prints how often the race was seen, the requests and replies of one run, which
-reply nothing explains, and the script. `mcrace run` plays that again.
+reply nothing explains, and the script. `mcrace run` plays that again. A race
+that rounds show is called stress. In place of a script it has a command.
 
 The races have names, which `mcrace test --list` prints; `--print RACE` prints
 the scripts of one. `--only RACES` and `--skip RACES` take names with commas
-between. With `--only` it plays no generated scripts, and ends once each of these
-races was found.
+between. With `--only` it plays nothing else, and ends once each of these races
+was found.
 
 All keys are under a name of the test's own, which no other test has, and under
 NAME before that. After a request without a reply the name is another one. A
@@ -34,14 +35,14 @@ replies in a row didn't come in time.
 
 `--a` and `--b` name other servers for the two clients, as proxies before the
 same cache. `--wait` waits for a server that is starting. `--seed` makes the
-generated scripts those of an earlier test; their seed stands in the first
-line.
+generated scripts and the rounds those of an earlier test; their seed stands in
+the first line.
 
 `--out DIR` makes the folder and writes into it, as soon as a race is found, its
 script, its history, its picture and what was printed, as RACE-1.script,
-RACE-1.history, RACE-1.svg and RACE-1.txt; and report.json and junit.xml, which
-are written again at each finding and at the end. `--json` prints what
-report.json has, in place of the text.
+RACE-1.history, RACE-1.svg and RACE-1.txt (stress-1 has no script); and
+report.json and junit.xml, which are written again at each finding and at the
+end. `--json` prints what report.json has, in place of the text.
 
 On a terminal standard error shows the progress; `--quiet` turns that off.
 
