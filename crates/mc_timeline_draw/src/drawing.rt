@@ -57,17 +57,17 @@ pub fn draw_only(
     job: Option<u64>,
     key: &[u8],
 ) -> Result<Option<Drawing>, OutOfMemory> {
-    let excerpt = find_history(text, job);
-    match parse_timeline(alloc, excerpt.text) {
+    let found = find_history(text, job);
+    match parse_timeline(alloc, found.text) {
         Ok((timeline, None)) => {
-            let lines = numbered_lines(alloc, excerpt)?;
+            let lines = numbered_lines(alloc, found)?;
             let drawn = draw_alone(alloc, &timeline, key, lines.as_slice(), form, limit)?;
             Ok(drawn.map(Drawing::Drawn))
         }
         Ok((_timeline, Some(_claim))) => Ok(None),
         Err(fault) => {
             fault_of_input(fault.kind)?;
-            Ok(Some(Drawing::Refused(excerpt.fault_in_whole(fault))))
+            Ok(Some(Drawing::Refused(found.fault_in_whole(fault))))
         }
     }
 }

@@ -13,3 +13,5 @@ mod memory_tests;
 mod picture_tests;
 #[cfg(test)]
 mod refusal_tests;
+#[cfg(test)]
+mod sought_tests;

@@ -2,7 +2,7 @@
 
 use crate::memory::again;
 use mc_protocol::{Bytes, OutOfMemory, fault_of_input};
-use mc_timeline_draw::{Drawing, Form, TimelineKnown, draw, draw_key, find_out};
+use mc_timeline_draw::{Drawing, Form, TimelineKnown, draw, draw_key, draw_only, find_out};
 use mc_timeline_text::parse_timeline;
 use std::alloc::Global;
 use std::test::Fail;
@@ -21,6 +21,15 @@ fn ends_with(alloc: Global, form: Form, end: &[u8]) -> Result<bool, OutOfMemory>
     match again(|| draw(alloc, TEXT, form, 100, None))? {
         Drawing::Drawn(picture) => Ok(picture.as_slice().ends_with(end)),
         Drawing::Refused(_) => Ok(false),
+    }
+}
+
+// Whether what is drawn of the key ends so.
+fn is_only_drawn(alloc: Global, end: &[u8]) -> Result<bool, OutOfMemory> {
+    let form = Form::Text { lines: true };
+    match again(|| draw_only(alloc, TEXT, form, 100, None, b"a"))? {
+        Some(Drawing::Drawn(picture)) => Ok(picture.as_slice() == end),
+        _ => Ok(false),
     }
 }
 
@@ -60,6 +69,12 @@ fn draws_a_short_text(rt: HostRuntime) -> Result<(), Fail> {
 #[test]
 fn draws_a_short_svg(rt: HostRuntime) -> Result<(), Fail> {
     assert!(rt; ends_with(rt.alloc(), Form::Svg, b"</svg>\n")?);
+    Ok(())
+}
+
+#[test]
+fn draws_only_a_key_of_a_short_text(rt: HostRuntime) -> Result<(), Fail> {
+    assert!(rt; is_only_drawn(rt.alloc(), DRAWN)?);
     Ok(())
 }
 
