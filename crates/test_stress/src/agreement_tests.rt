@@ -4,10 +4,10 @@ ghost use Rattle.mc_lane.specs.MemoryStreams.{state_of};
 ghost use Rattle.mc_lane.specs.Streams.{CanFail};
 
 use mc_lane::{Lane, MemoryStream};
-use mc_model::Note;
+use mc_model::{Note, Sent};
 use mc_protocol::{Bytes, Fault, OutOfMemory, Reply, Request, Verb};
 use mc_reader::Shape;
-use mc_stress::{Played, agreed};
+use mc_stress::{Played, agreed, sent_by};
 use std::alloc::{AllocError, Global};
 use std::test::Fail;
 
@@ -204,16 +204,21 @@ fn clients(
     Ok(played)
 }
 
+fn notes_of(alloc: Global, steps: &[Step]) -> Result<Vec<(u8, Note)>, OutOfMemory> {
+    let mut notes = Vec::new(alloc);
+    for step in steps {
+        notes.push(note(alloc, *step)?)?;
+    }
+    Ok(notes)
+}
+
 // How many notes the timeline has, if the notes agree with what the clients' lanes recorded.
 fn agree(
     alloc: Global,
     steps: &[Step],
     ended: Option<Fault>,
 ) -> Result<Option<usize>, OutOfMemory> {
-    let mut notes = Vec::new(alloc);
-    for step in steps {
-        notes.push(note(alloc, *step)?)?;
-    }
+    let notes = notes_of(alloc, steps)?;
     let played = clients(alloc, ended)?;
     match agreed(alloc, notes, played.as_slice())? {
         Some(timeline) => Ok(Some(timeline.notes().len())),
@@ -246,4 +251,33 @@ fn nothing_else_does(rt: HostRuntime) {
 #[test]
 fn a_fault_that_the_lane_has_not_does_not(rt: HostRuntime) {
     assert!(rt; agree(rt.alloc(), &NOTED, Some(Fault::Ended)) == Ok(None));
+}
+
+// What the first client asked, and was answered.
+fn asked_first(alloc: Global) -> Result<Vec<Sent>, OutOfMemory> {
+    let notes = notes_of(alloc, &NOTED)?;
+    sent_by(alloc, 0, notes.as_slice())
+}
+
+// Whether these are its requests with their replies.
+fn are_of_the_first(sent: &[Sent]) -> bool {
+    match sent {
+        [first, second] => {
+            first.request.verb == Verb::Delete
+                && first.reply == Some(Reply::NotFound)
+                && second.request.verb == Verb::Get
+                && second.reply == Some(Reply::Miss)
+        }
+        _ => false,
+    }
+}
+
+#[test]
+fn requests_of_one_client_are_found(rt: HostRuntime) -> Result<(), Fail> {
+    let sent = match asked_first(rt.alloc()) {
+        Err(AllocError) => asked_first(rt.alloc())?,
+        Ok(sent) => sent,
+    };
+    assert!(rt; are_of_the_first(sent.as_slice()));
+    Ok(())
 }
