@@ -59,12 +59,15 @@ pub fn draw_only(
 ) -> Result<Option<Drawing>, OutOfMemory> {
     let found = find_history(text, job);
     match parse_timeline(alloc, found.text) {
-        Ok((timeline, None)) => {
+        Ok(parsed) => {
+            let (timeline, claim) = parsed;
+            if claim.is_some() {
+                return Ok(None);
+            }
             let lines = numbered_lines(alloc, found)?;
             let drawn = draw_alone(alloc, &timeline, key, lines.as_slice(), form, limit)?;
             Ok(drawn.map(Drawing::Drawn))
         }
-        Ok((_timeline, Some(_claim))) => Ok(None),
         Err(fault) => {
             fault_of_input(fault.kind)?;
             Ok(Some(Drawing::Refused(found.fault_in_whole(fault))))
