@@ -1,6 +1,7 @@
 //! Rounds of many clients, one after another, each judged while later ones are played.
 
 use crate::desk::{Desk, Numbered, Summary};
+use crate::evidence::Report;
 use crate::outcome::Standing;
 use crate::page::{Network, Page};
 use crate::player::Player;
@@ -160,8 +161,10 @@ fn write_news<S: Stream, R: Wait, P: Page>(
 
 // Hands out the evidence of a round, if there is any.
 fn hand_out<P: Page>(found: Numbered, page: &mut P) {
-    if let Some(evidence) = found.report.evidence {
-        page.tell_unexplained(found.number, evidence);
+    let Numbered { number, report } = found;
+    let Report { evidence, .. } = report;
+    if let Some(evidence) = evidence {
+        page.tell_unexplained(number, evidence);
     }
 }
 
