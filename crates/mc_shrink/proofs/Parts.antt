@@ -60,20 +60,20 @@ explained_part stays operations may e = record {
 later_part : (place : ℕ) (waits : Waiting) (stays : ℕ → Bool) (ts : List Placed) → AllAfter place ts → AllAfter place (placed_part waits stays ts)
 later_part place waits stays [] after = tt
 later_part place waits stays (t ∷ ts) after =
-    by (note_stays waits stays t.0 t.1) (later_part place (staying_after waits stays t.0 t.1) stays ts after.1)
+    by (note_stays waits (stays t.0) t.1) (later_part place (staying_after waits (stays t.0) t.1) stays ts after.1)
   where
-    by : (b : Bool) → AllAfter place (placed_part (staying_after waits stays t.0 t.1) stays ts)
-        → AllAfter place (cond b (t ∷ placed_part (staying_after waits stays t.0 t.1) stays ts) (placed_part (staying_after waits stays t.0 t.1) stays ts))
+    by : (b : Bool) → AllAfter place (placed_part (staying_after waits (stays t.0) t.1) stays ts)
+        → AllAfter place (cond b (t ∷ placed_part (staying_after waits (stays t.0) t.1) stays ts) (placed_part (staying_after waits (stays t.0) t.1) stays ts))
     by true rest = (after.0, rest)
     by false rest = rest
 
 part_rises : (waits : Waiting) (stays : ℕ → Bool) (ts : List Placed) → Rises ts → Rises (placed_part waits stays ts)
 part_rises waits stays [] r = tt
-part_rises waits stays (t ∷ ts) r = by (note_stays waits stays t.0 t.1) (part_rises (staying_after waits stays t.0 t.1) stays ts r.1)
+part_rises waits stays (t ∷ ts) r = by (note_stays waits (stays t.0) t.1) (part_rises (staying_after waits (stays t.0) t.1) stays ts r.1)
   where
-    by : (b : Bool) → Rises (placed_part (staying_after waits stays t.0 t.1) stays ts)
-        → Rises (cond b (t ∷ placed_part (staying_after waits stays t.0 t.1) stays ts) (placed_part (staying_after waits stays t.0 t.1) stays ts))
-    by true rest = (later_part t.0 (staying_after waits stays t.0 t.1) stays ts r.0, rest)
+    by : (b : Bool) → Rises (placed_part (staying_after waits (stays t.0) t.1) stays ts)
+        → Rises (cond b (t ∷ placed_part (staying_after waits (stays t.0) t.1) stays ts) (placed_part (staying_after waits (stays t.0) t.1) stays ts))
+    by true rest = (later_part t.0 (staying_after waits (stays t.0) t.1) stays ts r.0, rest)
     by false rest = rest
 
 same_notes : (from : ℕ) (ts : List Placed) → SameNotes ts (placed from (notes_of ts))

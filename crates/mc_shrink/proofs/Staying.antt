@@ -12,22 +12,22 @@ use Rattle.mc_shrink.specs.Parts.{note_stays, staying_after, part_after}
 abbrev pub placed_part : Waiting → (ℕ → Bool) → List Placed → List Placed
 placed_part waits stays [] = []
 placed_part waits stays (n ∷ notes) =
-    let others = placed_part (staying_after waits stays n.0 n.1) stays notes in
-    cond (note_stays waits stays n.0 n.1) (n ∷ others) others
+    let others = placed_part (staying_after waits (stays n.0) n.1) stays notes in
+    cond (note_stays waits (stays n.0) n.1) (n ∷ others) others
 
 pub notes_staying : (waits : Waiting) (stays : ℕ → Bool) (place : ℕ) (notes : List ClientNote)
     → notes_of (placed_part waits stays (placed place notes)) ≡ part_after waits stays place notes
 notes_staying waits stays place [] = refl
 notes_staying waits stays place (n ∷ notes) =
-    by (note_stays waits stays place n) (notes_staying (staying_after waits stays place n) stays (suc place) notes)
+    by (note_stays waits (stays place) n) (notes_staying (staying_after waits (stays place) n) stays (suc place) notes)
   where
     by : (b : Bool)
-        → notes_of (placed_part (staying_after waits stays place n) stays (placed (suc place) notes))
-        ≡ part_after (staying_after waits stays place n) stays (suc place) notes
-        → notes_of (cond b ((place, n) ∷ placed_part (staying_after waits stays place n) stays (placed (suc place) notes))
-        (placed_part (staying_after waits stays place n) stays (placed (suc place) notes)))
-        ≡ cond b (n ∷ part_after (staying_after waits stays place n) stays (suc place) notes)
-        (part_after (staying_after waits stays place n) stays (suc place) notes)
+        → notes_of (placed_part (staying_after waits (stays place) n) stays (placed (suc place) notes))
+        ≡ part_after (staying_after waits (stays place) n) stays (suc place) notes
+        → notes_of (cond b ((place, n) ∷ placed_part (staying_after waits (stays place) n) stays (placed (suc place) notes))
+        (placed_part (staying_after waits (stays place) n) stays (placed (suc place) notes)))
+        ≡ cond b (n ∷ part_after (staying_after waits (stays place) n) stays (suc place) notes)
+        (part_after (staying_after waits (stays place) n) stays (suc place) notes)
     by true rest = ap (λ l. n ∷ l) rest
     by false rest = rest
 

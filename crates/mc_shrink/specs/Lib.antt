@@ -7,3 +7,5 @@ pub use Rattle.mc_timeline.specs.Restrictions
 pub use Rattle.mc_timeline.specs.Rules
 pub use Rattle.mc_timeline.specs.Timelines
 pub mod Parts
+-- What private contracts cite.
+pub mod Going

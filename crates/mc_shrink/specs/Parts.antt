@@ -1,5 +1,5 @@
 -- The parts of a timeline: it without requests that changed nothing.
-use Rattle.std.specs.Prelude.{◌≡◌, ℕ, suc, Bool, true, false, Option, Some, None, List, [], ◌∷◌, cond, get_or}
+use Rattle.std.specs.Prelude.{◌≡◌, ℕ, suc, Bool, true, false, not, Option, Some, None, List, [], ◌∷◌, cond, get_or}
 use Rattle.mc_protocol.specs.declared.reply.Reply.{Reply}
 use Rattle.mc_protocol.specs.declared.reply.Reply.TheVariants as reply
 use Rattle.mc_model.specs.declared.note.Note.TheVariants as note
@@ -30,29 +30,29 @@ is_unchanging (Some r) = says_unchanged r
 
 -- ---- the notes that stay
 
--- whether a note at this place stays, if these clients wait for a reply to a request that does
-abbrev pub note_stays : Waiting → (ℕ → Bool) → ℕ → ClientNote → Bool
-note_stays waits stays place (who, note.Begin request) = stays place
-note_stays waits stays place (who, note.Reply reply) = waits who
+-- whether a note stays, if these clients wait for a reply to a request that does: of a begin it is said whether its request does
+abbrev pub note_stays : Waiting → Bool → ClientNote → Bool
+note_stays waits stays (who, note.Begin request) = stays
+note_stays waits stays (who, note.Reply reply) = waits who
 
 -- the clients that, if they wait, wait for a reply to a request that stays, after one more note
-abbrev pub staying_after : Waiting → (ℕ → Bool) → ℕ → ClientNote → Waiting
-staying_after waits stays place (who, note.Begin request) = with_waiting waits who (stays place)
-staying_after waits stays place (who, note.Reply reply) = waits
+abbrev pub staying_after : Waiting → Bool → ClientNote → Waiting
+staying_after waits stays (who, note.Begin request) = with_waiting waits who stays
+staying_after waits stays (who, note.Reply reply) = waits
 
 abbrev pub part_after : Waiting → (ℕ → Bool) → ℕ → List ClientNote → List ClientNote
 part_after waits stays place [] = []
 part_after waits stays place (noted ∷ notes) =
-    let others = part_after (staying_after waits stays place noted) stays (suc place) notes in
-    cond (note_stays waits stays place noted) (noted ∷ others) others
+    let others = part_after (staying_after waits (stays place) noted) stays (suc place) notes in
+    cond (note_stays waits (stays place) noted) (noted ∷ others) others
 
 -- the notes of the requests that stay, in their order. Which ones stay is said by the places at which they begin
 abbrev pub part_of : (ℕ → Bool) → List ClientNote → List ClientNote
 part_of stays notes = part_after (λ client. false) stays 0 notes
 
--- the places that a list names: it says of each place whether the request that begins there stays
+-- the requests stay that a list doesn't tell to go, by the places at which they begin
 abbrev pub stays_by : List Bool → ℕ → Bool
-stays_by list place = get_or list place false
+stays_by goes place = not (get_or goes place false)
 
 -- ---- the law
 
@@ -66,3 +66,12 @@ abbrev pub PartsAreExplained : Type 0
 PartsAreExplained =
     (notes : List ClientNote) (stays : ℕ → Bool) → is_in_order notes ≡ true → MayGo stays (operations_of notes)
     → IsExplained (operations_of notes) → IsExplained (operations_of (part_of stays notes))
+
+-- ---- smaller evidence
+
+-- each of these operations that goes changed nothing, and the first one stays; what is left is this part
+pub record IsPartOf (notes part : List ClientNote) : Type 0 where
+  pub stays : ℕ → Bool
+  pub first : stays 0 ≡ true
+  pub may_go : MayGo stays (operations_of notes)
+  pub is : part ≡ part_of stays notes
