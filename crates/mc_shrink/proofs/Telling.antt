@@ -1,6 +1,6 @@
 -- What is told of places is so of the operations that begin there.
-use Rattle.std.proofs.Common.{◌≡◌, ◌+◌, ◌<◌, ◌⊎◌, inl, inr, ℕ, zero, suc, nat_lt, Bool, true, false, cond, not, ◌&&◌, eqb, get_or, length, drop, add-one, Some}
-use Rattle.std.proofs.Common.{List, [], ◌∷◌, ◌++◌, append_assoc, refl, ap, subst, sym, ◌∙◌, arith}
+use Rattle.std.proofs.Common.{◌≡◌, ◌+◌, ◌<◌, inl, inr, ℕ, suc, nat_lt, Bool, true, false, cond, not, ◌&&◌, eqb, get_or, length, drop, add-one, Some}
+use Rattle.std.proofs.Common.{List, [], ◌∷◌, ◌++◌, append_assoc, refl, ap, sym, ◌∙◌, arith}
 use Rattle.std.proofs.lemmas.Bool.{and_parts}
 use Rattle.std.proofs.lemmas.List.{drop_more}
 use Rattle.mc_protocol.specs.declared.reply.Reply.TheVariants as reply
@@ -73,25 +73,6 @@ first_stays notes goes tells = by notes (get_or goes 0 false) refl
     by l false e = refl
 
 -- ---- one place more
-
-at_end : (more : List Bool) (b : Bool) (place : ℕ) → get_or (more ++ b ∷ []) place false ≡ true
-    → (get_or more place false ≡ true) ⊎ ((place ≡ length more) × (b ≡ true))
-at_end [] b zero e = inr (refl, e)
-at_end [] b (suc place) e = inl e
-at_end (x ∷ more) b zero e = inl e
-at_end (x ∷ more) b (suc place) e = by (at_end more b place e)
-  where
-    by : (get_or more place false ≡ true) ⊎ ((place ≡ length more) × (b ≡ true))
-        → (get_or more place false ≡ true) ⊎ ((suc place ≡ suc (length more)) × (b ≡ true))
-    by (inl h) = inl h
-    by (inr h) = inr (ap suc h.0, h.1)
-
-pub tells_more : (may more : List Bool) (b : Bool) → Tells may more → (b ≡ true → get_or may (length more) false ≡ true) → Tells may (more ++ b ∷ [])
-tells_more may more b tells here place e = by (at_end more b place e)
-  where
-    by : (get_or more place false ≡ true) ⊎ ((place ≡ length more) × (b ≡ true)) → get_or may place false ≡ true
-    by (inl h) = tells place h
-    by (inr h) = ap (λ p. get_or may p false) h.0 ∙ here h.1
 
 -- what is said of one place more
 pub one_more : (may : List Bool) (place : ℕ) (notes : List ClientNote) (all : List Bool) (b : Bool) → place < length notes
