@@ -13,6 +13,7 @@ use itoa::Buffer;
 use mc_lane::{Lane, Stream};
 use mc_linearize::{KeyVerdict, TimelineVerdict, judge_key};
 use mc_protocol::{Bytes, Fault, OutOfMemory, append_all};
+use mc_shrink::smallest;
 use mc_timeline::{Timeline, print_timeline, restrict};
 use mc_timeline_why::{print_timeline_why, why_key_unexplained};
 use std::alloc::Global;
@@ -46,7 +47,7 @@ pub fn judge_round<S: Stream>(
     round: Round<S>,
     judging: Judging,
 ) -> Result<Option<Report>, OutOfMemory>
-    ensures judged { IfOk result (λ found. IfSome found (λ report. spec.IsJudged judging.whole round.played.items report.text.items)) }
+    ensures judged { IfOk result (λ found. IfSome found (λ report. spec.IsJudged judging round.played.items report.text.items)) }
     ensures evidence { IfOk result (λ found. IfSome found (λ report. IfSome report.evidence (spec.IsFound round.played.items))) }
 {
     let Round { notes, played } = round;
@@ -82,7 +83,7 @@ fn write_of(
     failed: Vec<(u8, Fault)>,
     judging: Judging,
 ) -> Result<Report, OutOfMemory>
-    ensures written { IfOk result (λ report. spec.IsWritten judging.whole timeline failed.items report.text.items) }
+    ensures written { IfOk result (λ report. spec.IsWritten judging timeline failed.items report.text.items) }
     ensures evidence { IfOk result (λ report. IfSome report.evidence (spec.IsEvidenceOf timeline)) }
 {
     let round = JudgedRound::new(alloc, timeline, failed, judging.limit)?;
@@ -118,7 +119,7 @@ fn print_round(
     judging: Judging,
     out: &mut Vec<u8>,
 ) -> Result<(), OutOfMemory>
-    ensures { OnOk result (spec.IsEvidence judging.whole round.now.timeline round.now.failed.items round.now.verdict
+    ensures { OnOk result (spec.IsEvidence judging round.now.timeline round.now.failed.items round.now.verdict
         out.old.items out.new.items) }
 {
     print_failed(round.failed.as_slice(), out)?;
@@ -129,8 +130,27 @@ fn print_round(
     if judging.whole {
         print_why_of(alloc, &round.timeline, key, judging, out)
     } else {
-        let restricted = restrict(alloc, &round.timeline, key)?;
-        print_why_of(alloc, &restricted, key, judging, out)
+        let alone = alone(alloc, &round.timeline, &round.verdict, key, judging)?;
+        print_why_of(alloc, &alone, key, judging, out)
+    }
+}
+
+// The requests on the key that are shown alone.
+fn alone(
+    alloc: Global,
+    timeline: &Timeline,
+    verdict: &TimelineVerdict,
+    key: &Bytes,
+    judging: Judging,
+) -> Result<Timeline, OutOfMemory>
+    ensures { IfOk result (spec.IsAlone judging.smallest verdict.now key.now timeline.now) }
+{
+    match verdict {
+        TimelineVerdict::Unexplained(_) if judging.smallest => {
+            let limit = judging.limit.unwrap_or(limit_for(timeline.notes()));
+            smallest(alloc, timeline, key, limit)
+        }
+        _ => restrict(alloc, timeline, key),
     }
 }
 

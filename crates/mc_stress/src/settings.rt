@@ -27,4 +27,6 @@ pub struct Judging {
     pub why: bool,
     /// Whether all keys are shown.
     pub whole: bool,
+    /// Whether a key that is unexplained is shown without requests that changed nothing, unless all keys are shown.
+    pub smallest: bool,
 }

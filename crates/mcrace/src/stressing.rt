@@ -308,6 +308,7 @@ fn stress_of<'a>(args: StressArgs<'a>) -> Stress<'a> {
         time,
         keep_going,
         whole,
+        smallest,
         limit,
         why,
         name,
@@ -328,7 +329,12 @@ fn stress_of<'a>(args: StressArgs<'a>) -> Stress<'a> {
         },
         time: time.map(Duration::from_millis),
         keep_going,
-        judging: Judging { limit, why, whole },
+        judging: Judging {
+            limit,
+            why,
+            whole,
+            smallest,
+        },
     }
 }
 

@@ -122,6 +122,7 @@ fn judged<R: Threads + Wait + Sync>(rt: &R, alloc: Global) -> Result<Option<Repo
         limit: None,
         why: true,
         whole: false,
+        smallest: false,
     };
     judge_round(alloc, round, judging)
 }

@@ -35,6 +35,7 @@ fn asked<'a>(clients: u8, rounds: u64) -> Stress<'a> {
             limit: None,
             why: false,
             whole: false,
+            smallest: false,
         },
     }
 }
