@@ -286,6 +286,7 @@ impl<R: Threads + Wait + Clock + Sync + Eprint, N: Network + Clients> Player<'_,
                 limit: Some(limit),
                 why: false,
                 whole: false,
+                smallest: false,
             },
         };
         let mut crowd = Crowd::new(self.alloc, self.target.timeout);
