@@ -156,6 +156,16 @@ fn leaves_out_what_it_is_told(rt: HostRuntime) -> Result<(), Fail> {
 }
 
 #[test]
+fn leaves_out_one_of_two_reads(rt: HostRuntime) -> Result<(), Fail> {
+    let timeline = short_timeline(rt.alloc())?;
+    let key = Bytes::new(again(|| Vec::from_slice(rt.alloc(), b"a"))?);
+    let left = again(|| smallest(rt.alloc(), &timeline, &key, u64::MAX))?;
+    let wanted = "1 begin delete a\n1 reply NOT_FOUND\n1 begin get a\n1 reply HIT 0 =\n";
+    assert!(rt; has_lines(rt.alloc(), &left, wanted)?);
+    Ok(())
+}
+
+#[test]
 fn a_get_begins_no_timeline(rt: HostRuntime) -> Result<(), Fail> {
     let timeline = short_timeline(rt.alloc())?;
     let part = again(|| without(rt.alloc(), &timeline, &[true]))?;

@@ -191,6 +191,34 @@ fn one_key_is_shown_or_all(rt: HostRuntime) {
     );
 }
 
+// How often the bytes stand in what was written.
+fn count_of(sheet: &Sheet, bytes: &[u8]) -> usize {
+    sheet
+        .text
+        .as_slice()
+        .windows(bytes.len().max(1))
+        .filter(|window| *window == bytes)
+        .count()
+}
+
+// No request deletes anything, so each reply that says that nothing is there is wrong by itself behind a set.
+#[test]
+fn the_smallest_evidence_has_one_wrong_reply(rt: HostRuntime) {
+    let mut stress = asked(2, 1);
+    stress.judging.smallest = true;
+    let came = play(&rt, rt.alloc(), Manner::Forgetful, None, &stress);
+    assert!(rt;
+        came.is_ok_and(|came| came.standing == Standing::Unexplained
+            && has(
+                &came.sheet,
+                b"history 3\n0 begin delete k1\n0 reply NOT_FOUND\n"
+            )
+            && count_of(&came.sheet, b" reply NOT_FOUND\n")
+                + count_of(&came.sheet, b" reply MISS\n")
+                == 2)
+    );
+}
+
 #[test]
 fn what_is_no_reply_ends_a_client(rt: HostRuntime) {
     let came = play(&rt, rt.alloc(), Manner::Garbling(1), None, &asked(3, 2));
