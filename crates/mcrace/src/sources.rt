@@ -2,4 +2,4 @@
 
 /// The SHA-256 of all sources, definitions and proofs but of this file.
 pub const SOURCES: &[u8] =
-    b"sources 0b63d9db8af4ad16fa3abf2545701c1cbd7ccb110cab234aa502a7e92acd3a8c\n";
+    b"sources 6639df3ec11c34abe1aadeee5be3cf3073fb2450bf49ef85c1512077abfbaa52\n";
