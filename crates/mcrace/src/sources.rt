@@ -2,4 +2,4 @@
 
 /// The SHA-256 of all sources, definitions and proofs but of this file.
 pub const SOURCES: &[u8] =
-    b"sources 6639df3ec11c34abe1aadeee5be3cf3073fb2450bf49ef85c1512077abfbaa52\n";
+    b"sources 5415cdec22d035eb805a74fc2bf0626603d0eec1c7cd9bf6cedbccabaee7e65d\n";
