@@ -10,14 +10,14 @@ import threading
 from xml.etree import ElementTree
 
 from . import servers, test_suite
-from .program import LiveTest, judged, on_processors, rows, run, three_times
+from .program import LiveTest, judged, rows, run, three_times
 from .test_scripts import ScriptTest
 
 # The scripts of the other races are left out, so that rounds come soon.
 RACE = "add-over-set"
 SKIPPED = ",".join(race for race in test_suite.BUGS if race != RACE)
-# A script has at most this many requests at once without a reply. On few processors it is alone.
-FEW, FEW_PROCESSORS = 2, 3
+# Scripts have at most this many requests at once without a reply.
+FEW = 2
 FOUND = re.compile(
     r"^found: stress - no order explains what 8 clients sent and received\n"
     r"  seen in [123] of [\d,]+ rounds\n\n"
@@ -61,8 +61,7 @@ class CrowdTest(LiveTest):
 
     def tested(self, changed, *options):
         """A test of a server with this race of many clients, and its port."""
-        with Crowded(self.enter(servers.serving()).port, changed) as proxy, \
-                on_processors(FEW_PROCESSORS):
+        with Crowded(self.enter(servers.serving()).port, changed) as proxy:
             return test_suite.tested(proxy.port, "--skip", SKIPPED, *options), proxy.port
 
 
@@ -73,8 +72,7 @@ class Races(ScriptTest, CrowdTest):
     def test_found(self):
         """A race that two branches never show is found, and found again by what is printed."""
         with Crowded(self.enter(servers.serving()).port, too_large) as proxy:
-            with on_processors(FEW_PROCESSORS):
-                found = test_suite.tested(proxy.port, "--for", "6s", "--skip", SKIPPED)
+            found = test_suite.tested(proxy.port, "--for", "6s", "--skip", SKIPPED)
             self.assertEqual((found.status, found.faults), (1, ""), found.text)
             told = FOUND.search(found.text)
             self.assertTrue(told, found.text)

@@ -1,4 +1,4 @@
-//! What is drawn from the seed, and played between the turns of the races or beside them: generated scripts, and rounds.
+//! What is drawn from the seed, and played between the turns of the races: generated scripts, and rounds.
 
 use crate::finding::{Finding, keep_new, tell_found};
 use crate::folder::Folder;
@@ -40,26 +40,6 @@ pub(crate) struct Generated {
     pub(crate) rounds: Rounds,
 }
 
-/// A generated script that was played.
-#[derive(Drop)]
-pub(crate) struct Tried {
-    script: Script,
-    job: u64,
-    tries: Tries,
-}
-
-impl Tried {
-    /// Whether there is something to tell of it.
-    pub(crate) fn is_news(&self) -> bool {
-        self.tries.seen.is_some() || self.tries.wrong.is_some()
-    }
-
-    /// Whether nothing explains a run of it.
-    pub(crate) fn is_unexplained(&self) -> bool {
-        self.tries.seen.is_some()
-    }
-}
-
 impl Generated {
     /// None was played.
     pub(crate) fn new(seed: u64, is_wanted: bool) -> Generated {
@@ -94,41 +74,40 @@ pub(crate) fn play_generated<
         }
         let told = report.book.told.len();
         player.target.reconnect = false;
-        if let Some(tried) = try_next(player, &report.book.unsupported, generated)? {
-            tell_tried(player, report, generated, turns, tried)?;
-        }
+        play_next(player, report, generated, turns)?;
         keep_new(player, report, turns.as_slice(), generated, told)?;
     }
     Ok(())
 }
 
-/// Plays the next generated script, if it is sound and the server knows its verbs.
-pub(crate) fn try_next<R: Threads + Wait + Clock + Sync + Eprint, N: Network>(
-    player: &mut Player<'_, R, N>,
-    unsupported: &Unsupported,
-    generated: &mut Generated,
-) -> Result<Option<Tried>, AllocError> {
-    let job = generated.job;
-    generated.job = generated.job.saturating_add(1);
-    let Some(script) = script_of(player.alloc, generated.seed, job)? else {
-        return Ok(None);
-    };
-    let Some(tries) = try_script(player, unsupported, &script)? else {
-        return Ok(None);
-    };
-    generated.count = generated.count.saturating_add(1);
-    Ok(Some(Tried { script, job, tries }))
-}
-
-/// Tells what a generated script showed.
-pub(crate) fn tell_tried<R: Threads + Wait + Clock + Sync + Eprint, N: Network, O: Sink, F: Folder>(
+// Plays the next generated script.
+fn play_next<R: Threads + Wait + Clock + Sync + Eprint, N: Network, O: Sink, F: Folder>(
     player: &mut Player<'_, R, N>,
     report: &mut Report<'_, O, F>,
     generated: &mut Generated,
     turns: &mut Vec<Turn>,
-    tried: Tried,
 ) -> Result<(), InputFault> {
-    let Tried { script, job, tries } = tried;
+    let job = generated.job;
+    generated.job = generated.job.saturating_add(1);
+    match script_of(player.alloc, generated.seed, job)? {
+        Some(script) => play_script(player, report, generated, turns, script, job),
+        None => Ok(()),
+    }
+}
+
+// Plays the script of this job, and tells what it showed.
+fn play_script<R: Threads + Wait + Clock + Sync + Eprint, N: Network, O: Sink, F: Folder>(
+    player: &mut Player<'_, R, N>,
+    report: &mut Report<'_, O, F>,
+    generated: &mut Generated,
+    turns: &mut Vec<Turn>,
+    script: Script,
+    job: u64,
+) -> Result<(), InputFault> {
+    let Some(tries) = try_script(player, &report.book.unsupported, &script)? else {
+        return Ok(());
+    };
+    generated.count = generated.count.saturating_add(1);
     let Tries { seen, runs, wrong } = tries;
     let name = format!(in player.alloc; "generated-{job}")?;
     let name = name.as_str();

@@ -8,7 +8,6 @@
 #![tactic(auto)]
 
 mod alone;
-mod beside;
 mod blame;
 mod book;
 mod clash;

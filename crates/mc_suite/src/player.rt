@@ -1,6 +1,5 @@
 //! Plays scripts against the server, one run after another.
 
-use crate::beside::Latest;
 use crate::clash::Clash;
 use crate::clocked::Slowest;
 use crate::crowd::{Crowd, Gathered};
@@ -37,17 +36,15 @@ pub(crate) struct Player<'a, R, N: Network> {
     pub(crate) target: RunArgs<'a>,
     network: &'a mut N,
     kept: Kept<N::Connection>,
-    pub(crate) slowest: &'a Slowest,
+    slowest: &'a Slowest,
     names: Names,
-    pub(crate) begun: Instant,
+    begun: Instant,
     /// How long the test may take.
     pub(crate) time: Duration,
     // How long one reply may take.
     limit: Duration,
     pub(crate) health: Health,
     tally: Tally,
-    // What the runs of the second thread came to.
-    beside: Tally,
     // How many races were found.
     found: u64,
     // How the first failed run did.
@@ -93,7 +90,6 @@ impl<'a, R: Threads + Wait + Clock + Sync + Eprint, N: Network> Player<'a, R, N>
             limit,
             health: Health::new(),
             tally: Tally::new(),
-            beside: Tally::new(),
             found: 0,
             first_failure: None,
             first_unconnected: None,
@@ -158,8 +154,7 @@ impl<'a, R: Threads + Wait + Clock + Sync + Eprint, N: Network> Player<'a, R, N>
     }
 
     fn tell_progress(&mut self, passed: Duration) {
-        let runs = self.tally.runs.saturating_add(self.beside.runs);
-        let found = self.found;
+        let (runs, found) = (self.tally.runs, self.found);
         if let Some(progress) = &mut self.progress {
             progress.tell(self.rt, self.alloc, passed, self.time, runs, found);
         }
@@ -171,26 +166,7 @@ impl<'a, R: Threads + Wait + Clock + Sync + Eprint, N: Network> Player<'a, R, N>
             passed: self.passed(),
             is_gone: self.health.is_gone(),
             slowest: self.slowest.time(),
-            ..self.tally.with(&self.beside)
-        }
-    }
-
-    /// Takes out how the first failed run did, and why the first connect failed.
-    pub(crate) fn take_first(&mut self) -> (Option<String>, Option<io::Error>) {
-        (self.first_failure.take(), self.first_unconnected.take())
-    }
-
-    /// Counts what the second thread played by now. If the server is gone for it, it is gone.
-    pub(crate) fn take_over(&mut self, latest: Latest) {
-        self.beside = latest.tally;
-        if latest.tally.is_gone {
-            self.health.give_up();
-        }
-        if self.first_failure.is_none() {
-            self.first_failure = latest.first_failure;
-        }
-        if self.first_unconnected.is_none() {
-            self.first_unconnected = latest.first_unconnected;
+            ..self.tally
         }
     }
 
@@ -198,12 +174,12 @@ impl<'a, R: Threads + Wait + Clock + Sync + Eprint, N: Network> Player<'a, R, N>
     pub(crate) fn failures(&self) -> Result<String, AllocError> {
         let mut text = String::new(self.alloc);
         if let Some(first) = &self.first_failure {
-            let failed = Grouped(self.tally().failed);
+            let failed = Grouped(self.tally.failed);
             write!(text, "failed runs: {failed}; the first:")?;
             push_lines(&mut text, COLUMNS, first.as_str())?;
         }
         if let Some(first) = &self.first_unconnected {
-            let failed = Grouped(self.tally().unconnected);
+            let failed = Grouped(self.tally.unconnected);
             write!(text, "failed connects: {failed}; the first: {first}\n")?;
         }
         Ok(text)

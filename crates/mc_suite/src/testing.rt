@@ -1,6 +1,5 @@
 //! The command `test`.
 
-use crate::beside::{Beside, has_processors, play_beside, tell_news};
 use crate::book::{Book, State};
 use crate::clocked::{ClockedNetwork, Slowest};
 use crate::finding::keep_reports;
@@ -25,7 +24,7 @@ use std::io::Eprint;
 use std::net::{Net, TcpStream};
 use std::rt::{Clock, Files};
 use std::sync::Wait;
-use std::thread::{self, Builder, Threads};
+use std::thread::Threads;
 use std::time::{Duration, Instant};
 
 // How long a test takes, if the line doesn't say, in milliseconds.
@@ -68,13 +67,11 @@ where
             let slowest = Slowest::new();
             let network = TcpNetwork::new(rt, servers_of(&target));
             let mut network = ClockedNetwork::new(rt, network, &slowest);
-            let second = second_of(rt, args, &slowest);
             run_test(
                 rt,
                 alloc,
                 target,
                 &mut network,
-                second,
                 &slowest,
                 columns,
                 &mut report,
@@ -194,31 +191,6 @@ fn target_of<'a>(args: &TestArgs<'a>) -> RunArgs<'a> {
     }
 }
 
-/// What a second thread plays generated scripts with.
-#[derive(Drop)]
-struct Second<'a, N> {
-    target: RunArgs<'a>,
-    network: N,
-}
-
-// The connections of a second thread, if there are processors for it.
-fn second_of<'a, R: Net<Stream = TcpStream> + Threads + Clock + Sync>(
-    rt: &'a R,
-    args: &TestArgs<'a>,
-    slowest: &'a Slowest,
-) -> Option<Second<'a, ClockedNetwork<'a, R>>> {
-    if !has_processors(rt) {
-        return None;
-    }
-    let mut target = target_of(args);
-    target.wait = None;
-    let network = TcpNetwork::new(rt, servers_of(&target));
-    Some(Second {
-        target,
-        network: ClockedNetwork::new(rt, network, slowest),
-    })
-}
-
 // Ends a test in which nothing was played.
 fn end_untested<O: Sink, F: Folder>(
     report: &mut Report<'_, O, F>,
@@ -242,17 +214,11 @@ fn generated_of(book: &Book<'_>) -> Generated {
     Generated::new(book.seed, book.selection.only.is_none())
 }
 
-fn run_test<
-    R: Threads + Wait + Clock + Sync + Eprint,
-    N: Network + Clients + Send + Drop,
-    O: Sink,
-    F: Folder,
->(
+fn run_test<R: Threads + Wait + Clock + Sync + Eprint, N: Network + Clients, O: Sink, F: Folder>(
     rt: &R,
     alloc: Global,
     target: RunArgs<'_>,
     network: &mut N,
-    second: Option<Second<'_, N>>,
     slowest: &Slowest,
     columns: Option<usize>,
     report: &mut Report<'_, O, F>,
@@ -262,25 +228,19 @@ fn run_test<
     };
     let time = report.book.time;
     let mut player = Player::new(rt, alloc, target, network, slowest, begun, time, columns);
-    let status = play_all(&mut player, second, report);
+    let status = play_all(&mut player, report);
     player.quit();
     status
 }
 
 // Plays all, tells what was found, and answers the exit status.
-fn play_all<
-    R: Threads + Wait + Clock + Sync + Eprint,
-    N: Network + Clients + Send + Drop,
-    O: Sink,
-    F: Folder,
->(
+fn play_all<R: Threads + Wait + Clock + Sync + Eprint, N: Network + Clients, O: Sink, F: Folder>(
     player: &mut Player<'_, R, N>,
-    second: Option<Second<'_, N>>,
     report: &mut Report<'_, O, F>,
 ) -> u8 {
     let mut generated = generated_of(&report.book);
     let mut turns = Vec::new(player.alloc);
-    let played = play_scripts(player, second, report, &mut turns, &mut generated);
+    let played = play_scripts(player, report, &mut turns, &mut generated);
     player.give_way();
     let state = State {
         tally: player.tally(),
@@ -298,12 +258,11 @@ fn play_all<
 // Asks each verb alone, and plays the scripts in turns. The first reports are kept at once, for whoever stops the test.
 fn play_scripts<
     R: Threads + Wait + Clock + Sync + Eprint,
-    N: Network + Clients + Send + Drop,
+    N: Network + Clients,
     O: Sink,
     F: Folder,
 >(
     player: &mut Player<'_, R, N>,
-    second: Option<Second<'_, N>>,
     report: &mut Report<'_, O, F>,
     turns: &mut Vec<Turn>,
     generated: &mut Generated,
@@ -316,61 +275,7 @@ fn play_scripts<
     }
     let book = &report.book;
     add_turns(player.alloc, book.selection, &book.unsupported, turns)?;
-    match second {
-        Some(second) if generated.is_wanted && !player.is_over() => {
-            play_both(player, second, report, turns, generated)
-        }
-        _ => take_turns(player, report, turns, generated, None),
-    }
-}
-
-// Plays the turns, while a second thread plays generated scripts; or both in turns if there is no such thread.
-fn play_both<
-    R: Threads + Wait + Clock + Sync + Eprint,
-    N: Network + Clients + Send + Drop,
-    O: Sink,
-    F: Folder,
->(
-    player: &mut Player<'_, R, N>,
-    second: Second<'_, N>,
-    report: &mut Report<'_, O, F>,
-    turns: &mut Vec<Turn>,
-    generated: &mut Generated,
-) -> Result<(), InputFault> {
-    let rt = player.rt;
-    let beside = Beside::new(player.alloc, *generated);
-    let unsupported = report.book.unsupported.copy(player.alloc)?;
-    let (first, beside, unsupported) = (*generated, &beside, &unsupported);
-    let (alloc, slowest) = (player.alloc, player.slowest);
-    let (begun, time) = (player.begun, player.time);
-    let played = thread::scope(
-        thread::scope_env(),
-        rt,
-        |scope| -> Result<bool, InputFault> {
-            let playing = move || {
-                let Second {
-                    target,
-                    mut network,
-                } = second;
-                let network = &mut network;
-                let mut player = Player::new(
-                    rt, alloc, target, network, slowest, begun, time, None,
-                );
-                play_beside(&mut player, unsupported, first, beside);
-                player.quit();
-            };
-            let is_beside = Builder::new().spawn_scoped(scope, playing).is_ok();
-            let its = if is_beside { Some(beside) } else { None };
-            let played = take_turns(player, report, turns, generated, its);
-            beside.close(rt);
-            played?;
-            Ok(is_beside)
-        },
-    );
-    if !played? {
-        return Ok(());
-    }
-    tell_news(player, report, generated, turns, beside)
+    take_turns(player, report, turns, generated)
 }
 
 fn finish<R: Threads + Wait + Clock + Sync + Eprint, N: Network, O: Sink, F: Folder>(

@@ -8,11 +8,10 @@ pub(crate) const COLUMNS: usize = 80;
 /// Appends these words, in lines of two spaces and what has room. A unit stays with its number. The line that stands there has this width.
 pub(crate) fn push_lines(text: &mut String, begun: usize, words: &str) -> Result<(), AllocError> {
     let mut width = begun;
-    let mut rest = words;
-    'words: for word in words.split(' ') {
-        rest = rest.get(word.len().saturating_add(1)..).unwrap_or("");
+    'words: for (index, word) in words.split(' ').enumerate() {
+        let next = words.split(' ').nth(index.saturating_add(1));
         width = width.saturating_add(word.len()).saturating_add(1);
-        if width.saturating_add(unit_width(rest)) > COLUMNS {
+        if width.saturating_add(unit_width(next)) > COLUMNS {
             width = word.len().saturating_add(2);
             text.push_str("\n  ")?;
         } else {
@@ -23,13 +22,12 @@ pub(crate) fn push_lines(text: &mut String, begun: usize, words: &str) -> Result
     text.push_str("\n")
 }
 
-// The columns of the unit that these words begin with, and of the space before it.
-fn unit_width(words: &str) -> usize {
-    let first = words.split(' ').next().unwrap_or("");
-    if matches!(first, "s" | "ms") {
-        first.len().saturating_add(1)
-    } else {
-        0
+// The columns of the word and of the space before it, if it is a unit.
+fn unit_width(word: Option<&str>) -> usize {
+    match word {
+        Some("s") => 2,
+        Some("ms") => 3,
+        _ => 0,
     }
 }
 

@@ -1,6 +1,5 @@
 //! Scripts of races and generated ones, played in turns until the time is over.
 
-use crate::beside::{Beside, tell_news};
 use crate::finding::{Finding, keep_new, tell_found};
 use crate::folder::Folder;
 use crate::generated::{Generated, play_generated};
@@ -22,16 +21,13 @@ use std::alloc::{AllocError, Global};
 use std::io::Eprint;
 use std::rt::Clock;
 use std::sync::Wait;
-use std::thread::{Threads, sleep};
+use std::thread::Threads;
 use std::time::Duration;
 
 // The longest slice, in milliseconds, and the shortest.
 const SLICE: u64 = 50;
 
 const LEAST_SLICE: u64 = 2;
-
-// The milliseconds between two looks at what a second thread found, if nothing else is to be played.
-const PAUSE: u64 = 5;
 
 // The slices in a turn of a script that asks for numbers. Another script has one.
 const SLICES_WITH_NUMBERS: u32 = 4;
@@ -135,8 +131,7 @@ fn has_numbers(script: &str) -> bool {
     script.contains("\ngets ") || script.contains("\ncas ")
 }
 
-/// Plays the turns, and after them for as long what is drawn from the seed, if that is wanted, until the time is over. If a second
-/// thread plays generated scripts, what it found is told between the turns.
+/// Plays the turns, and after them for as long what is drawn from the seed, if that is wanted, until the time is over.
 pub(crate) fn take_turns<
     R: Threads + Wait + Clock + Sync + Eprint,
     N: Network + Clients,
@@ -147,19 +142,18 @@ pub(crate) fn take_turns<
     report: &mut Report<'_, O, F>,
     turns: &mut Vec<Turn>,
     generated: &mut Generated,
-    beside: Option<&Beside>,
 ) -> Result<(), InputFault> {
     let slice = slice_for(player.time, turns.as_slice());
     'rounds: for _round in 0..u64::MAX {
         if player.is_over() {
             break;
         }
-        take_each(player, report, turns, generated, beside, slice)?;
+        take_each(player, report, turns, generated, slice)?;
         let left = slices_left(turns.as_slice());
         if generated.is_wanted {
             // A slice more, so that it is played once all races were found.
             let time = slice.saturating_mul(left.saturating_add(1));
-            play_drawn(player, report, turns, generated, beside, time)?;
+            play_drawn(player, report, turns, generated, time)?;
         } else if left == 0 {
             break;
         }
@@ -167,13 +161,12 @@ pub(crate) fn take_turns<
     Ok(())
 }
 
-// Plays generated scripts, and for a third of this time rounds of many clients. If a second thread plays the scripts, only rounds.
+// Plays generated scripts, and for a third of this time rounds of many clients.
 fn play_drawn<R: Threads + Wait + Clock + Sync + Eprint, N: Network + Clients, O: Sink, F: Folder>(
     player: &mut Player<'_, R, N>,
     report: &mut Report<'_, O, F>,
     turns: &mut Vec<Turn>,
     generated: &mut Generated,
-    beside: Option<&Beside>,
     time: Duration,
 ) -> Result<(), InputFault> {
     let of_rounds = if generated.rounds.is_found {
@@ -181,17 +174,9 @@ fn play_drawn<R: Threads + Wait + Clock + Sync + Eprint, N: Network + Clients, O
     } else {
         time / 3
     };
-    if beside.is_none() {
-        let of_scripts = time.saturating_sub(of_rounds);
-        play_generated(player, report, generated, turns, of_scripts)?;
-    }
-    let count = generated.rounds.count;
-    play_rounds(player, report, generated, turns, of_rounds)?;
-    if beside.is_some() && generated.rounds.count == count {
-        // There may be nothing left to play here.
-        sleep(player.rt, Duration::from_millis(PAUSE));
-    }
-    Ok(())
+    let of_scripts = time.saturating_sub(of_rounds);
+    play_generated(player, report, generated, turns, of_scripts)?;
+    play_rounds(player, report, generated, turns, of_rounds)
 }
 
 // How long a slice is, so that each turn comes twice at least.
@@ -217,17 +202,13 @@ fn take_each<R: Threads + Wait + Clock + Sync + Eprint, N: Network, O: Sink, F: 
     player: &mut Player<'_, R, N>,
     report: &mut Report<'_, O, F>,
     turns: &mut Vec<Turn>,
-    generated: &mut Generated,
-    beside: Option<&Beside>,
+    generated: &Generated,
     slice: Duration,
 ) -> Result<(), InputFault> {
     'turns: for index in 0..turns.len() {
         let told = report.book.told.len();
         take_turn(player, report, turns, index, slice)?;
         keep_new(player, report, turns.as_slice(), generated, told)?;
-        if let Some(beside) = beside {
-            tell_news(player, report, generated, turns, beside)?;
-        }
     }
     Ok(())
 }

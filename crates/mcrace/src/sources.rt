@@ -2,4 +2,4 @@
 
 /// The SHA-256 of all sources, definitions and proofs but of this file.
 pub const SOURCES: &[u8] =
-    b"sources 5415cdec22d035eb805a74fc2bf0626603d0eec1c7cd9bf6cedbccabaee7e65d\n";
+    b"sources f7a50d77fb1f98f0d70ac7f93992c91ec2762566c1fa09d5068e23ebfaebeeaf\n";
