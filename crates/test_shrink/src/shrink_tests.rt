@@ -51,10 +51,10 @@ static SMALLEST: [Row; 9] = [
     ),
     // A cas that found another version goes, and then the gets goes too.
     (
-        "0 begin set a 0 =1\n0 reply STORED\n1 begin gets a\n1 reply HIT 0 =1 7\n2 begin cas a 0 =2 7\n2 reply EXISTS\n3 begin get a\n\
-         3 reply HIT 0 =9\n",
+        "0 begin set a 0 =1\n0 reply STORED\n1 begin gets a\n1 reply HIT 0 =1 7\n1 begin set a 0 =3\n1 reply STORED\n\
+         2 begin cas a 0 =2 7\n2 reply EXISTS\n3 begin get a\n3 reply HIT 0 =9\n",
         u64::MAX,
-        "0 begin set a 0 =1\n0 reply STORED\n3 begin get a\n3 reply HIT 0 =9\n",
+        "0 begin set a 0 =1\n0 reply STORED\n1 begin set a 0 =3\n1 reply STORED\n3 begin get a\n3 reply HIT 0 =9\n",
     ),
     // The first request stays, and other keys aren't there.
     (
