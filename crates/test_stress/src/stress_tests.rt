@@ -129,7 +129,12 @@ fn others_follow_it_if_that_is_asked_for(rt: HostRuntime) {
 #[test]
 fn an_undecided_round_does_not_end_them(rt: HostRuntime) {
     let mut stress = asked(4, 3);
-    stress.judging.limit = Some(0);
+    stress.judging = Judging {
+        limit: Some(0),
+        why: false,
+        whole: false,
+        smallest: false,
+    };
     let came = play(&rt, rt.alloc(), Manner::Right, None, &stress);
     assert!(rt;
         came.is_ok_and(|came| came.standing == Standing::Undecided
@@ -201,6 +206,11 @@ fn count_of(sheet: &Sheet, bytes: &[u8]) -> usize {
         .count()
 }
 
+// How many replies say that nothing is there.
+fn nothing_found(sheet: &Sheet) -> usize {
+    count_of(sheet, b" reply NOT_FOUND\n").saturating_add(count_of(sheet, b" reply MISS\n"))
+}
+
 // No request deletes anything, so each reply that says that nothing is there is wrong by itself behind a set.
 #[test]
 fn the_smallest_evidence_has_one_wrong_reply(rt: HostRuntime) {
@@ -213,9 +223,7 @@ fn the_smallest_evidence_has_one_wrong_reply(rt: HostRuntime) {
                 &came.sheet,
                 b"history 3\n0 begin delete k1\n0 reply NOT_FOUND\n"
             )
-            && count_of(&came.sheet, b" reply NOT_FOUND\n")
-                + count_of(&came.sheet, b" reply MISS\n")
-                == 2)
+            && nothing_found(&came.sheet) == 2)
     );
 }
 
