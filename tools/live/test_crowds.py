@@ -59,7 +59,7 @@ class CrowdTest(LiveTest):
 
     seconds = 40
 
-    def tested(self, changed, *options):
+    def found(self, changed, *options):
         """A test of a server with this race of many clients, and its port."""
         with Crowded(self.enter(servers.serving()).port, changed) as proxy:
             return test_suite.tested(proxy.port, "--skip", SKIPPED, *options), proxy.port
@@ -139,7 +139,7 @@ class Folders(CrowdTest):
     @three_times
     def test_files(self):
         with tempfile.TemporaryDirectory() as made:
-            found, _ = self.tested(too_large, "--for", "6s", "--out", made)
+            found, _ = self.found(too_large, "--for", "6s", "--out", made)
             files = {it.name: it.read_text() for it in pathlib.Path(made).iterdir()}
         self.assertEqual((found.status, found.faults), (1, ""), found.text)
         names = {*(f"stress-1.{end}" for end in ("history", "svg", "txt"))}
@@ -181,7 +181,7 @@ class Failing(CrowdTest):
     ])
     @three_times
     def test_failing(self, changed, status, text):
-        found, _ = self.tested(changed, "--for", "4s", "--timeout", "300ms")
+        found, _ = self.found(changed, "--for", "4s", "--timeout", "300ms")
         self.assertEqual(found.status, status, found.text)
         self.assertRegex(re.sub(r"\s+", " ", found.text), text)
         self.assertIn("no race found in ", found.text)

@@ -103,11 +103,14 @@ class Right(ScriptTest):
 
     def test_wrapped(self):
         """Where the first line is too long, the time stays with its unit."""
-        port = self.enter(servers.serving()).port
-        head = lambda seed: tested(port, "--for", "1s", "--only", "add-twice", "--seed",
-                                   seed).text.split("\n\n")[0]
+        port = self.enter(servers.memcached()).port
+
+        def head(seed):
+            words = "--for", "1s", "--only", "add-twice", "--seed", seed
+            return tested(port, *words).text.split("\n\n")[0]
+
         short = head("1")
-        # With this seed the line would have 81 columns.
+        # With this seed the line would have 81 columns. The version makes it long enough for that.
         seed = "1" * (82 - len(short))
         self.assertEqual(head(seed), short.replace(" 1, 1.0 s", f" {seed},\n  1.0 s"))
 
