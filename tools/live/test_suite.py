@@ -57,7 +57,7 @@ class Races(ScriptTest):
     @three_times
     def check_first(self, bug, like):
         with self.faulty(bug, 120 if bug == "stale-get" else 2 * WINDOW) as (_, port):
-            found = tested(port, "--only", f"{like},{bug}", "--for", "5s")
+            found = tested(port, "--only", f"{like},{bug}", "--for", "10s")
         self.assertEqual(found.status, 1, found.text)
         self.assertEqual(re.search(r"^found: (\S+) -", found.text, re.M)[1], bug, found.text)
 
