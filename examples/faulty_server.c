@@ -30,6 +30,7 @@
 // which the replies then show; and how many microseconds after STORED of a late set the last get
 // came that showed the old value, or nan.
 #include "../bench/sockets.h"
+#include <errno.h>
 #include <getopt.h>
 #include <inttypes.h>
 #include <math.h>
@@ -141,7 +142,9 @@ static bool is_joining(int verb) {
 
 static bool is_number(const char *body) {
   size_t digits = strspn(body, "0123456789");
-  return digits && digits <= 20 && !body[digits];
+  errno = 0;
+  strtoull(body, 0, 10);
+  return digits && digits <= 20 && !body[digits] && errno != ERANGE;
 }
 
 // The reply of a command that writes nothing, with this item there; null if it reads or writes.

@@ -54,10 +54,12 @@ class Races(ScriptTest):
     def test_found(self):
         self.check_at_once(self.check_found, BUGS.items())
 
+    # Nine times, since a busy machine plays few runs, and another race may be seen in these first.
+    @three_times
     @three_times
     def check_first(self, bug, like):
         with self.faulty(bug, 120 if bug == "stale-get" else 2 * WINDOW) as (_, port):
-            found = tested(port, "--only", f"{like},{bug}", "--for", "10s")
+            found = tested(port, "--only", f"{like},{bug}", "--for", "5s")
         self.assertEqual(found.status, 1, found.text)
         self.assertEqual(re.search(r"^found: (\S+) -", found.text, re.M)[1], bug, found.text)
 
