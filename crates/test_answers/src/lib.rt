@@ -13,4 +13,6 @@ mod join_tests;
 #[cfg(test)]
 mod limit_tests;
 #[cfg(test)]
+mod option_tests;
+#[cfg(test)]
 mod status_tests;
