@@ -15,26 +15,14 @@ pub enum Note {
 
 impl Note {
     /// A copy, in memory of its own.
-    pub(crate) fn copy(&self, alloc: Global) -> Result<Note, OutOfMemory>
+    pub fn copy(&self, alloc: Global) -> Result<Note, OutOfMemory>
         ensures { IfOk result (λ copy. copy ≡ self.now) }
     {
         Ok(match self {
-            Note::Begin(request) => Note::Begin(copy_request(request, alloc)?),
+            Note::Begin(request) => Note::Begin(request.copy(alloc)?),
             Note::Reply(reply) => Note::Reply(copy_reply(reply, alloc)?),
         })
     }
-}
-
-fn copy_request(request: &Request, alloc: Global) -> Result<Request, OutOfMemory>
-    ensures { IfOk result (λ copy. copy ≡ request.now) }
-{
-    Ok(Request {
-        verb: request.verb,
-        key: request.key.copy(alloc)?,
-        flags: request.flags,
-        body: request.body.copy(alloc)?,
-        number: request.number,
-    })
 }
 
 /// A copy of a reply, in memory of its own.

@@ -1,5 +1,5 @@
 //! The bytes of requests and replies as they go over the wire (`protocol.txt`).
-ghost use Rattle.std.specs.Prelude.{◌≡◌, ◌++◌, ◌+◌, ◌^◌, ◌<◌, ◌≤◌, length, map, codes, decimal, OnOk, OnErr};
+ghost use Rattle.std.specs.Prelude.{◌≡◌, ◌++◌, ◌+◌, ◌^◌, ◌<◌, ◌≤◌, length, map, codes, decimal, take, vec_len, OnOk, OnErr};
 ghost use Rattle.std.specs.List.{concat};
 ghost use Rattle.mc_protocol.specs.Words.{verb_word};
 ghost use Rattle.mc_protocol.specs.Texts as text;
@@ -159,8 +159,33 @@ pub fn append_all(out: &mut Vec<u8>, pieces: &[&[u8]]) -> Result<(), OutOfMemory
     ensures ok { OnOk result (out.new.items ≡ out.old.items ++ concat (map (λ p. p.now) pieces.now)) }
     ensures err { OnErr result (out.new.items ≡ out.old.items) }
 {
-    let text = pieces.concat(*out.allocator())?;
-    out.extend_from_slice(text.as_slice())
+    let before = out.len();
+    let appended = append_each(out, pieces);
+    if appended.is_err() {
+        out.truncate(before);
+    }
+    appended
+}
+
+/// The same, but want of memory leaves in `out` the pieces for which there was room.
+fn append_each(out: &mut Vec<u8>, pieces: &[&[u8]]) -> Result<(), OutOfMemory>
+    ensures ok { OnOk result (out.new.items ≡ out.old.items ++ concat (map (λ p. p.now) pieces.now)) }
+    ensures err { OnErr result (take (vec_len out.old) out.new.items ≡ out.old.items) }
+{
+    out.reserve(total_len(pieces))?;
+    'pieces: for piece in pieces {
+        out.extend_from_slice(piece)?;
+    }
+    Ok(())
+}
+
+/// How many bytes the pieces have.
+fn total_len(pieces: &[&[u8]]) -> usize {
+    let mut total = 0usize;
+    'pieces: for piece in pieces {
+        total = total.saturating_add(piece.len());
+    }
+    total
 }
 
 /// How many bytes the text of a request has. The key has at most 250 bytes.

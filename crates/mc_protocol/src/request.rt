@@ -1,10 +1,11 @@
 //! Requests.
 
-ghost use Rattle.std.specs.Prelude.{◌≡◌};
+ghost use Rattle.std.specs.Prelude.{◌≡◌, IfOk};
 ghost use Rattle.mc_protocol.specs.Fields.{fields_of};
 ghost use Rattle.mc_protocol.specs.Words.{IsOfWord, verb_word, verb_of};
 
-use crate::Bytes;
+use crate::{Bytes, OutOfMemory};
+use std::alloc::Global;
 
 /// A command of the protocol.
 #[derive(Clone, Copy, Debug, PartialEq, Eq)]
@@ -130,4 +131,19 @@ pub struct Request {
     pub body: Bytes,
     /// The cas unique, or the amount of an increment.
     pub number: u64,
+}
+
+impl Request {
+    /// A copy, in memory of its own.
+    pub fn copy(&self, alloc: Global) -> Result<Self, OutOfMemory>
+        ensures { IfOk result (λ copy. copy ≡ self.now) }
+    {
+        Ok(Request {
+            verb: self.verb,
+            key: self.key.copy(alloc)?,
+            flags: self.flags,
+            body: self.body.copy(alloc)?,
+            number: self.number,
+        })
+    }
 }

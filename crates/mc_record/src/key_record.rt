@@ -215,22 +215,9 @@ fn started_with(
         notes ≡ (client, note.Begin request.now) ∷ (client, note.Reply reply.now) ∷ []) }
 {
     let mut builder = TimelineBuilder::new(alloc);
-    let begun = copy_request(alloc, request).ok()?;
+    let begun = request.copy(alloc).ok()?;
     builder.push(alloc, client, Note::Begin(begun)).ok()?;
     let answer = copy_reply(reply, alloc).ok()?;
     builder.push(alloc, client, Note::Reply(answer)).ok()?;
     Some(builder)
-}
-
-/// A copy, in memory of its own.
-fn copy_request(alloc: Global, request: &Request) -> Result<Request, OutOfMemory>
-    ensures { IfOk result (λ copy. copy ≡ request.now) }
-{
-    Ok(Request {
-        verb: request.verb,
-        key: request.key.copy(alloc)?,
-        flags: request.flags,
-        body: request.body.copy(alloc)?,
-        number: request.number,
-    })
 }

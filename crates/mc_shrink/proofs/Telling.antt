@@ -1,4 +1,4 @@
--- What is told of places is so of the operations that begin there.
+-- What holds of places holds of the operations that begin there.
 use Rattle.std.proofs.Common.{◌≡◌, ◌+◌, ◌<◌, inl, inr, ℕ, suc, nat_lt, Bool, true, false, cond, not, ◌&&◌, eqb, get_or, length, drop, add-one, Some}
 use Rattle.std.proofs.Common.{List, [], ◌∷◌, ◌++◌, append_assoc, refl, ap, sym, ◌∙◌, arith}
 use Rattle.std.proofs.lemmas.Bool.{and_parts}

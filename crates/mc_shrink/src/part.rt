@@ -4,8 +4,8 @@ ghost use Rattle.mc_timeline.specs.Restrictions.{waiting_in};
 ghost use Rattle.mc_timeline.specs.Rules as rule;
 ghost use Rattle.mc_shrink.specs.Parts as spec;
 
-use mc_model::{HistoryKind, Note, copy_reply};
-use mc_protocol::{OutOfMemory, Request};
+use mc_model::{HistoryKind, Note};
+use mc_protocol::OutOfMemory;
 use mc_timeline::{Timeline, TimelineBuilder};
 use std::alloc::{AllocError, Global};
 
@@ -77,34 +77,11 @@ fn add(
     ensures added { IfOk result (λ done. done ≡ true → builder.new ≡ builder.old ++ (client, note.now) ∷ []) }
     ensures refused { IfOk result (λ done. done ≡ false → rule.fault_of builder.old (client, note.now) ≢ None) }
 {
-    match builder.push(alloc, client, copy(alloc, note)?) {
+    match builder.push(alloc, client, note.copy(alloc)?) {
         Ok(()) => Ok(true),
         Err(kind) => match kind {
             HistoryKind::OutOfMemory => Err(AllocError),
             _ => Ok(false),
         },
     }
-}
-
-// A copy, in memory of its own.
-fn copy(alloc: Global, note: &Note) -> Result<Note, OutOfMemory>
-    ensures { IfOk result (λ copy. copy ≡ note.now) }
-{
-    Ok(match note {
-        Note::Begin(request) => Note::Begin(copy_request(alloc, request)?),
-        Note::Reply(reply) => Note::Reply(copy_reply(reply, alloc)?),
-    })
-}
-
-// A copy, in memory of its own.
-fn copy_request(alloc: Global, request: &Request) -> Result<Request, OutOfMemory>
-    ensures { IfOk result (λ copy. copy ≡ request.now) }
-{
-    Ok(Request {
-        verb: request.verb,
-        key: request.key.copy(alloc)?,
-        flags: request.flags,
-        body: request.body.copy(alloc)?,
-        number: request.number,
-    })
 }

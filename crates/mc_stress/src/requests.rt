@@ -4,7 +4,7 @@ ghost use Rattle.mc_stress.specs.Agreement as spec;
 ghost use Rattle.mc_stress.specs.SentFrom as from;
 
 use mc_model::{Note, Sent, copy_reply};
-use mc_protocol::{OutOfMemory, Reply, Request};
+use mc_protocol::{OutOfMemory, Reply};
 use std::alloc::Global;
 
 /// The requests of the client in a timeline, in their order, each with its reply if one came. They are copies.
@@ -30,7 +30,7 @@ fn sent_from(alloc: Global, client: u8, notes: &[(u8, Note)]) -> Result<Vec<Sent
         if let Note::Begin(request) = note {
             if *who == client {
                 sent.push(Sent {
-                    request: copy_request(alloc, request)?,
+                    request: request.copy(alloc)?,
                     reply: reply_to(alloc, client, &notes[place..])?,
                 })?;
             }
@@ -51,17 +51,4 @@ fn reply_to(alloc: Global, client: u8, notes: &[(u8, Note)]) -> Result<Option<Re
         }
     }
     Ok(None)
-}
-
-// A copy, in memory of its own.
-fn copy_request(alloc: Global, request: &Request) -> Result<Request, OutOfMemory>
-    ensures { IfOk result (λ copy. copy ≡ request.now) }
-{
-    Ok(Request {
-        verb: request.verb,
-        key: request.key.copy(alloc)?,
-        flags: request.flags,
-        body: request.body.copy(alloc)?,
-        number: request.number,
-    })
 }

@@ -2,8 +2,8 @@
 ghost use Rattle.std.specs.Prelude.{◌≡◌, IfOk, take};
 ghost use Rattle.mc_timeline.specs.Rules.{IsTimeline};
 
-use mc_model::{HistoryKind, Note, copy_reply};
-use mc_protocol::{OutOfMemory, Request};
+use mc_model::{HistoryKind, Note};
+use mc_protocol::OutOfMemory;
 use mc_timeline::{Timeline, TimelineBuilder};
 use std::alloc::{AllocError, Global};
 
@@ -29,7 +29,7 @@ fn timeline_of(alloc: Global, notes: &[(u8, Note)]) -> Result<Timeline, OutOfMem
 {
     let mut builder = TimelineBuilder::new(alloc);
     'notes: for (client, note) in notes {
-        let copy = copy_note(alloc, note)?;
+        let copy = note.copy(alloc)?;
         if let Err(kind) = builder.push(alloc, *client, copy) {
             return Err(want_of_memory(kind));
         }
@@ -50,27 +50,4 @@ fn want_of_memory(kind: HistoryKind) -> OutOfMemory
 {
     let _kind = kind;
     AllocError
-}
-
-// A copy, in memory of its own.
-fn copy_note(alloc: Global, note: &Note) -> Result<Note, OutOfMemory>
-    ensures { IfOk result (λ copy. copy ≡ note.now) }
-{
-    Ok(match note {
-        Note::Begin(request) => Note::Begin(copy_request(alloc, request)?),
-        Note::Reply(reply) => Note::Reply(copy_reply(reply, alloc)?),
-    })
-}
-
-// A copy, in memory of its own.
-fn copy_request(alloc: Global, request: &Request) -> Result<Request, OutOfMemory>
-    ensures { IfOk result (λ copy. copy ≡ request.now) }
-{
-    Ok(Request {
-        verb: request.verb,
-        key: request.key.copy(alloc)?,
-        flags: request.flags,
-        body: request.body.copy(alloc)?,
-        number: request.number,
-    })
 }

@@ -5,7 +5,7 @@ ghost use Rattle.mc_model.specs.Notes.{is_record, with_notes, without_notes};
 ghost use Rattle.mc_why.specs.Cuts as cuts;
 
 use mc_model::{History, HistoryKind, Note, Sent, copy_reply};
-use mc_protocol::{Actor, OutOfMemory, Request};
+use mc_protocol::{Actor, OutOfMemory};
 use std::alloc::{AllocError, Global};
 
 /// The history of the first `count` notes, or, where the history keeps none, of its first `count` requests: P's, then A's, then
@@ -88,19 +88,10 @@ pub(crate) fn copy_notes(
 {
     let mut copies = Vec::with_capacity(alloc, notes.len())?;
     'copying: for (actor, note) in notes {
-        let copy = copy_note(alloc, note)?;
+        let copy = note.copy(alloc)?;
         copies.push((*actor, copy))?;
     }
     Ok(copies)
-}
-
-fn copy_note(alloc: Global, note: &Note) -> Result<Note, OutOfMemory>
-    ensures { IfOk result (λ copy. copy ≡ note.now) }
-{
-    Ok(match note {
-        Note::Begin(request) => Note::Begin(copy_request(alloc, request)?),
-        Note::Reply(reply) => Note::Reply(copy_reply(reply, alloc)?),
-    })
 }
 
 /// A copy, in memory of its own.
@@ -123,20 +114,7 @@ fn copy_sent(alloc: Global, sent: &Sent) -> Result<Sent, OutOfMemory>
         None => None,
     };
     Ok(Sent {
-        request: copy_request(alloc, &sent.request)?,
+        request: sent.request.copy(alloc)?,
         reply,
-    })
-}
-
-/// A copy, in memory of its own.
-pub(crate) fn copy_request(alloc: Global, request: &Request) -> Result<Request, OutOfMemory>
-    ensures { IfOk result (λ copy. copy ≡ request.now) }
-{
-    Ok(Request {
-        verb: request.verb,
-        key: request.key.copy(alloc)?,
-        flags: request.flags,
-        body: request.body.copy(alloc)?,
-        number: request.number,
     })
 }

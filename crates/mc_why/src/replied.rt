@@ -5,7 +5,7 @@ ghost use Rattle.mc_model.specs.Notes.{with_notes, without_notes};
 ghost use Rattle.mc_model.specs.Sections.{with_sent};
 ghost use Rattle.mc_why.specs.Forms as forms;
 
-use crate::cutting::{copy_notes, copy_request, copy_requests, cut_sections, first};
+use crate::cutting::{copy_notes, copy_requests, cut_sections, first};
 use crate::report::request_place;
 use mc_model::{History, HistoryKind, Note, Sent};
 use mc_protocol::{Actor, OutOfMemory, Reply};
@@ -62,7 +62,7 @@ fn replied_request(
         return Ok(None);
     };
     let answered = Sent {
-        request: copy_request(alloc, &sent.request)?,
+        request: sent.request.copy(alloc)?,
         reply: Some(reply),
     };
     let before = cut_sections(alloc, history, place)?;
