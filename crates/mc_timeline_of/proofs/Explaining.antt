@@ -22,7 +22,8 @@ use Rattle.mc_linearize.specs.Claims.{ExplainsTimeline, move_of}
 use Rattle.mc_timeline_of.specs.SameNotes.{client_of, of_clients}
 use Rattle.mc_timeline_of.specs.SameExplanations.{AreExplainedAlike, by_client, by_clients, ExplanationsAreTheSame, ExplainedAlike}
 use Rattle.mc_timeline_of.proofs.ClientQueues.{section_by, section_is, low_clients}
-use Rattle.mc_timeline_of.proofs.Orders.{turn_of, linearized, is_allowed}
+use Rattle.mc_timeline_of.proofs.Acting.{turn_of}
+use Rattle.mc_timeline_of.proofs.Orders.{linearized, is_allowed}
 
 -- ---- numbers
 

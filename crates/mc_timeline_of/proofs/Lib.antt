@@ -5,6 +5,7 @@ pub mod Leading
 pub mod Tests
 pub mod Keeping
 pub mod NextActs
+pub mod Acting
 pub mod Orders
 pub mod Explaining
 pub mod Faultless

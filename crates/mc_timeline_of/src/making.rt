@@ -6,8 +6,8 @@ ghost use Rattle.mc_timeline.specs.Rules as rule;
 ghost use Rattle.mc_timeline_of.specs.SameNotes.{client_of, of_clients};
 ghost use Rattle.mc_timeline_of.specs.SameExplanations.{AreExplainedAlike};
 
-use mc_model::{History, HistoryKind, Note, copy_reply};
-use mc_protocol::{Actor, OutOfMemory, Request};
+use mc_model::{History, HistoryKind, Note};
+use mc_protocol::{Actor, OutOfMemory};
 use mc_timeline::{Timeline, TimelineBuilder};
 use std::alloc::{AllocError, Global};
 
@@ -30,7 +30,7 @@ fn timeline_of_notes(alloc: Global, notes: &[(Actor, Note)]) -> Result<Timeline,
 {
     let mut builder = TimelineBuilder::new(alloc);
     'noting: for (actor, note) in notes {
-        add(alloc, &mut builder, client_of(*actor), copy(alloc, note)?)?;
+        add(alloc, &mut builder, client_of(*actor), note.copy(alloc)?)?;
     }
     Ok(builder.finish())
 }
@@ -63,27 +63,4 @@ fn client_of(actor: Actor) -> u8
         Actor::A => 1,
         Actor::B => 2,
     }
-}
-
-// A copy, in memory of its own.
-fn copy(alloc: Global, note: &Note) -> Result<Note, OutOfMemory>
-    ensures { IfOk result (λ copy. copy ≡ note.now) }
-{
-    Ok(match note {
-        Note::Begin(request) => Note::Begin(copy_request(alloc, request)?),
-        Note::Reply(reply) => Note::Reply(copy_reply(reply, alloc)?),
-    })
-}
-
-// A copy, in memory of its own.
-fn copy_request(alloc: Global, request: &Request) -> Result<Request, OutOfMemory>
-    ensures { IfOk result (λ copy. copy ≡ request.now) }
-{
-    Ok(Request {
-        verb: request.verb,
-        key: request.key.copy(alloc)?,
-        flags: request.flags,
-        body: request.body.copy(alloc)?,
-        number: request.number,
-    })
 }
