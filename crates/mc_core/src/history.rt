@@ -42,9 +42,9 @@ impl World {
     {
         know_code(checked);
         let code = checked.code();
-        let mut recorded = Vec::new(alloc);
-        let mut begun = Sections { p: 0, a: 0, b: 0 };
         let notes = self.notes.as_slice();
+        let mut recorded = Vec::with_capacity(alloc, notes.len())?;
+        let mut begun = Sections { p: 0, a: 0, b: 0 };
         'recording: for (actor, event) in notes {
             let section = self.sections.get(*actor);
             let note = note_of(alloc, code, section, *begun.get(*actor), event)?;

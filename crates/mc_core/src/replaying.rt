@@ -74,7 +74,7 @@ fn is_same_fault(fault: Option<Fault>, other: Option<Fault>) -> bool
 fn copy_notes(alloc: Global, notes: &[(Actor, Event)]) -> Result<Vec<(Actor, Event)>, OutOfMemory>
     ensures { IfOk result (λ copies. copies.items ≡ notes.now) }
 {
-    let mut copies = Vec::new(alloc);
+    let mut copies = Vec::with_capacity(alloc, notes.len())?;
     'copying: for (actor, event) in notes {
         copies.push((*actor, copy_event(alloc, event)?))?;
     }

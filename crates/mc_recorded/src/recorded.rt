@@ -35,7 +35,8 @@ pub fn is_recorded<S: Stream>(
     }
 }
 
-/// Whether the requests were sent: all of them, or less of the last one where a fault ended the section.
+/// Whether the requests were sent: all of them, or less of the last one where a fault ended the section. Requests that were sent whole
+/// are as long as what was sent, so that is the room that their texts take.
 fn were_sent(
     alloc: Global,
     requests: &[Sent],
@@ -44,10 +45,13 @@ fn were_sent(
 ) -> Result<bool, OutOfMemory>
     ensures { IfOk result (λ answer. (answer ≡ true) ↔ spec.WereSent requests.now ended sent.now) }
 {
-    let (all, answered) = join_texts(alloc, requests)?;
+    let all = join_texts(alloc, requests, sent.len())?;
     match ended {
         None => Ok(sent == all.as_slice()),
-        Some(_) => Ok(is_between(answered.as_slice(), sent, all.as_slice())),
+        Some(_) => {
+            let answered = join_answered(alloc, requests, sent.len())?;
+            Ok(is_between(answered.as_slice(), sent, all.as_slice()))
+        }
     }
 }
 
@@ -65,20 +69,28 @@ fn is_prefix(bytes: &[u8], text: &[u8]) -> bool
     text.starts_with(bytes)
 }
 
-/// The texts of the requests, one after the other, and the same of those that have replies.
-fn join_texts(alloc: Global, requests: &[Sent]) -> Result<(Vec<u8>, Vec<u8>), OutOfMemory>
-    ensures all { IfOk result (λ texts. texts.0.items ≡ spec.joined_text requests.now) }
-    ensures answered { IfOk result (λ texts. texts.1.items ≡ spec.joined_text (spec.answered_of requests.now)) }
+/// The texts of the requests, one after the other, where `room` bytes are expected.
+fn join_texts(alloc: Global, requests: &[Sent], room: usize) -> Result<Vec<u8>, OutOfMemory>
+    ensures { IfOk result (λ text. text.items ≡ spec.joined_text requests.now) }
 {
-    let mut all = Vec::new(alloc);
-    let mut answered = Vec::new(alloc);
+    let mut text = Vec::with_capacity(alloc, room)?;
     'joining: for sent in requests {
-        render_request(&sent.request, &mut all)?;
+        render_request(&sent.request, &mut text)?;
+    }
+    Ok(text)
+}
+
+/// The same of the requests that have replies.
+fn join_answered(alloc: Global, requests: &[Sent], room: usize) -> Result<Vec<u8>, OutOfMemory>
+    ensures { IfOk result (λ text. text.items ≡ spec.joined_text (spec.answered_of requests.now)) }
+{
+    let mut text = Vec::with_capacity(alloc, room)?;
+    'joining: for sent in requests {
         if sent.reply.is_some() {
-            render_request(&sent.request, &mut answered)?;
+            render_request(&sent.request, &mut text)?;
         }
     }
-    Ok((all, answered))
+    Ok(text)
 }
 
 /// Whether the lane's fault ended the section, and the bytes after the replies show it.

@@ -4,10 +4,11 @@ use Rattle.mc_protocol.specs.Sections.{section_of}
 use Rattle.mc_protocol.specs.declared.actor.Actor.{Actor}
 use Rattle.mc_protocol.specs.declared.sections.Sections.{Sections}
 use Rattle.mc_code.specs.Code.{Code}
+use Rattle.mc_model.specs.Notes.{History}
 use Rattle.mc_model.specs.declared.sent.Sent.{Sent}
 use Rattle.mc_core.specs.declared.ending.Ending.TheVariants as ending
 use Rattle.mc_core.specs.Held.{Held, IsHeldBy}
-use Rattle.mc_core.specs.Histories.{sent_in}
+use Rattle.mc_core.specs.Histories.{sent_in, history_of}
 use Rattle.mc_core.specs.Steps.{IsWorldOf}
 use Rattle.mc_core.specs.Worlds.{World, log_of, IsEnding}
 use Rattle.mc_lane.specs.Lanes.{LaneRecord}
@@ -28,10 +29,11 @@ pub record Agree (c : Code) (w : World) (lanes : LaneRecords) : Type 0 where
   pub over : (who : Actor) → IsEnding c w who ending.Running → ⊥
   pub recorded : AreRecorded c w lanes
 
--- the fold of the notes where they agree, and none where they don't
-abbrev pub FindsAgreed : Code → World → LaneRecords → Option Held → Type 0
+-- the fold of the notes with its history where they agree, and none where they don't
+abbrev pub FindsAgreed : Code → World → LaneRecords → Option (Held × History) → Type 0
 FindsAgreed c w lanes None = Agree c w lanes → ⊥
-FindsAgreed c w lanes (Some held) = Agree c w lanes × (held.world ≡ w) × IsHeldBy c held
+FindsAgreed c w lanes (Some found) =
+    Agree c w lanes × (found.0.world ≡ w) × IsHeldBy c found.0 × (found.1 ≡ history_of c found.0.world)
 
 -- the section doesn't go on, and these are its requests, which its lane recorded
 abbrev pub AgreesIn : Held → Sections (List Sent) → LaneRecords → Actor → Type 0

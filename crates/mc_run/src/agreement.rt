@@ -29,13 +29,14 @@ pub fn agrees<S: Stream>(
     Ok(find_agreed(alloc, checked, world, lanes)?.is_some())
 }
 
-/// The world that the notes lead to, where world, notes and lanes agree. It is the same world, and is held by the code.
+/// The world that the notes lead to, with its history, where world, notes and lanes agree. It is the same world, and is held by the
+/// code. The history is the one that was compared with the lanes, so that who judges the run needn't make it once more.
 pub(crate) fn find_agreed<S: Stream>(
     alloc: Global,
     checked: &Checked,
     world: &World,
     lanes: &Lanes<S>,
-) -> Result<Option<World>, OutOfMemory>
+) -> Result<Option<(World, History)>, OutOfMemory>
     ensures { IfOk result (spec.FindsAgreed checked.now.code world.now.world lanes.now) }
 {
     let Some(replayed) = world.replay(alloc, checked)? else {
@@ -43,7 +44,7 @@ pub(crate) fn find_agreed<S: Stream>(
     };
     let history = replayed.history(alloc, checked)?;
     if agree_in_sections(alloc, &replayed, &history, lanes)? {
-        Ok(Some(replayed))
+        Ok(Some((replayed, history)))
     } else {
         Ok(None)
     }

@@ -32,8 +32,8 @@ pub(crate) struct Meeting {
     /// How far each branch is; the greatest number once it has no more requests.
     a_at: AtomicU64,
     b_at: AtomicU64,
-    /// Who waits for a first request looks at these numbers while it holds the lock, and who changes one takes the lock before it
-    /// notifies, so that nobody waits for what has come.
+    /// Who sleeps until a first request comes looks at these numbers while it holds the lock, and who changes one under which another
+    /// may sleep takes the lock before it notifies, so that nobody sleeps through what has come.
     lock: Mutex<()>,
     came: Condvar,
 }
@@ -75,11 +75,13 @@ impl Seat<'_> {
             (Manner::First | Manner::Each, 0) => {
                 self.wait(rt);
                 // The kernel needs some time to wake the branch that came first, and the other one would go ahead meanwhile.
-                self.look(AWAKE);
+                let _ = self.look(AWAKE);
                 self.wait_late(rt);
             }
             (Manner::First, _) => {}
-            (Manner::Each, _) => self.look(AWAKE + u64::from(index)),
+            (Manner::Each, _) => {
+                let _ = self.look(AWAKE + u64::from(index));
+            }
         }
     }
 
@@ -96,25 +98,38 @@ impl Seat<'_> {
     /// Says that the branch has no more requests, so that the other one doesn't wait for it.
     pub(crate) fn leave<R: Wait>(&self, rt: &R) {
         self.mine().store(u64::MAX, Ordering::SeqCst);
-        drop(self.meeting.lock.lock(rt));
-        self.meeting.came.notify_one();
+        self.wake(rt);
     }
 
-    /// Waits until the other branch has come.
+    /// Waits until the other branch has come: it looks for a while, and sleeps only then. Within that time a new thread comes if a
+    /// processor is free for it, and to wake a branch that sleeps would take as long again. If none is free, the look costs a run 50
+    /// microseconds at most.
     fn wait<R: Wait>(&self, rt: &R) {
-        self.touch_stack();
-        let other = self.other();
+        self.touch_new_stack();
         self.mine().store(READY, Ordering::SeqCst);
-        let locked = self.meeting.lock.lock(rt);
-        if other.load(Ordering::SeqCst) >= READY {
-            drop(locked);
-            self.meeting.came.notify_one();
-        } else {
-            let _ = self
-                .meeting
-                .came
-                .wait_while(rt, locked, |_| other.load(Ordering::SeqCst) < READY);
+        if self.other().load(Ordering::SeqCst) >= READY {
+            self.wake(rt);
+        } else if !self.look(READY) {
+            // The other branch came after this one had said that it did, if it came, and so it wakes it.
+            self.sleep(rt);
         }
+    }
+
+    /// Sleeps until the other branch has come.
+    fn sleep<R: Wait>(&self, rt: &R) {
+        let other = self.other();
+        let locked = self.meeting.lock.lock(rt);
+        let _ = self
+            .meeting
+            .came
+            .wait_while(rt, locked, |_| other.load(Ordering::SeqCst) < READY);
+    }
+
+    /// Wakes the other branch if it sleeps: this one has said that it came. A branch that is about to sleep holds the lock from its
+    /// last look until it sleeps.
+    fn wake<R: Wait>(&self, rt: &R) {
+        drop(self.meeting.lock.lock(rt));
+        self.meeting.came.notify_one();
     }
 
     /// Waits, where this branch is the late one, as long as it is late. The other one goes on meanwhile, so that its request arrives
@@ -143,17 +158,25 @@ impl Seat<'_> {
         }
     }
 
-    /// Is this far, and looks for a while whether the other branch is too.
-    fn look(&self, far: u64) {
+    /// Is this far, looks for a while whether the other branch is too, and answers whether it saw that.
+    fn look(&self, far: u64) -> bool {
         let other = self.other();
         self.mine().store(far, Ordering::SeqCst);
         let turns = AtomicU64::new(0);
         'turns: for _ in 0..TURNS {
             if other.load(Ordering::SeqCst) >= far {
-                break;
+                return true;
             }
             // what makes a turn take some 7 nanoseconds
             turns.fetch_add(1, Ordering::SeqCst);
+        }
+        false
+    }
+
+    /// Writes to the stack of a branch that runs on a new thread. The calls of P, or those of a run before, wrote to that of the caller.
+    fn touch_new_stack(&self) {
+        if self.meeting.meet.apart == self.branch {
+            self.touch_stack();
         }
     }
 

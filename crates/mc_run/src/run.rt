@@ -7,7 +7,8 @@ ghost use Rattle.mc_run.specs.Headline.{IsTrial};
 ghost use Rattle.mc_run.specs.Judged.{IsJudged};
 ghost use Rattle.mc_run.specs.Running.{AllGrew, AreNew};
 
-use crate::{Gate, Lanes, Meet, run_lanes_with};
+use crate::running::run_agreed;
+use crate::{Gate, Lanes, Meet};
 use core::thread::Stack;
 use mc_core::{World, folds_are_safe};
 use mc_explain::{Verdict, judge};
@@ -76,15 +77,33 @@ impl<S: Stream> Run<S> {
         ensures states { IfOk result (λ judged. IsStated (history_of checked.now.code self.now.world.world) judged.1) }
         ensures turns { IfOk result (λ judged. IsWithin limit judged.1 judged.2) }
     {
-        // These three calls are here for what they promise, and the headline rests on: folds are safe, the code is sound, and the
-        // notes are small.
-        folds_are_safe();
-        let _code = checked.code();
-        let _notes = self.world.notes();
         let history = self.world.history(alloc, checked)?;
-        let (verdict, turns) = judge(alloc, &history, limit)?;
+        let (verdict, turns) = judge_history(alloc, checked, &self.world, &history, limit)?;
         Ok((history, verdict, turns))
     }
+}
+
+/// The verdict on the history of a world, and the number of turns that the search for an explanation used.
+fn judge_history(
+    alloc: Global,
+    checked: &Checked,
+    world: &World,
+    history: &History,
+    limit: u64,
+) -> Result<(Verdict, u64), OutOfMemory>
+    requires held { IsHeldBy checked.now.code world.now }
+    requires history { history.now ≡ history_of checked.now.code world.now.world }
+    ensures headline { IfOk result (λ judged. IsTrial checked.now.code world.now.world.notes world.now.world 0 judged.0) }
+    ensures states { IfOk result (λ judged. IsStated (history_of checked.now.code world.now.world) judged.0) }
+    ensures turns { IfOk result (λ judged. IsWithin limit judged.0 judged.1) }
+{
+    // These three calls are here for what they promise, and the headline rests on: folds are safe, the code is sound, and the notes
+    // are small.
+    folds_are_safe();
+    let _code = checked.code();
+    let _notes = world.notes();
+    let (verdict, turns) = judge(alloc, history, limit)?;
+    Ok((verdict, turns))
 }
 
 /// A run, its history, and the verdict on it.
@@ -97,8 +116,8 @@ pub struct Judged<S: Stream> {
     pub turns: u64,
 }
 
-/// Runs sound code over three new lanes, as [`run_lanes_with`], and judges what came of it in at most `limit` turns. The lanes are as
-/// the run left them, and those that no fault closed are open.
+/// Runs sound code over three new lanes, as [`run_lanes_with`](crate::run_lanes_with), and judges what came of it in at most `limit`
+/// turns. The lanes are as the run left them, and those that no fault closed are open.
 ///
 /// # Errors
 ///
@@ -118,8 +137,8 @@ pub fn play<S: Stream + Send, G: Gate, R: Threads + Wait + Sync>(
     ensures grew { IfOk result (λ j. AllGrew lanes j.run.lanes) }
     ensures turns { IfOk result (λ j. IsWithin limit j.verdict j.turns) }
 {
-    let run = run_lanes_with(rt, alloc, checked, lanes, gate, stack, meet)?;
-    let (history, verdict, turns) = run.judge(alloc, checked, limit)?;
+    let (run, history) = run_agreed(rt, alloc, checked, lanes, gate, stack, meet)?;
+    let (verdict, turns) = judge_history(alloc, checked, &run.world, &history, limit)?;
     Ok(Judged {
         run,
         history,

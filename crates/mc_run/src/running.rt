@@ -1,6 +1,7 @@
 //! The threads of a run.
-ghost use Rattle.std.specs.Prelude.{IfOk, IfSome};
+ghost use Rattle.std.specs.Prelude.{◌≡◌, IfOk, IfSome};
 ghost use Rattle.mc_core.specs.Held.{IsHeldBy};
+ghost use Rattle.mc_core.specs.Histories.{history_of};
 ghost use Rattle.mc_run.specs.Agreement.{Agree};
 ghost use Rattle.mc_run.specs.Running.{AllGrew, AreNew, Grew};
 
@@ -11,6 +12,7 @@ use crate::section::{Part, run_section};
 use crate::{Book, Branch, Gate, Lanes, Manner, Meet, Run, RunError};
 use core::thread::Stack;
 use mc_lane::{Lane, Stream};
+use mc_model::History;
 use mc_protocol::Actor;
 use mc_verify::Checked;
 use std::alloc::Global;
@@ -68,6 +70,26 @@ pub fn run_lanes_with<S: Stream + Send, G: Gate, R: Threads + Wait + Sync>(
     ensures grew { IfOk result (λ run. AllGrew lanes run.lanes) }
     ensures held { IfOk result (λ run. IsHeldBy checked.now.code run.world) }
 {
+    let (run, _) = run_agreed(rt, alloc, checked, lanes, gate, stack, meet)?;
+    Ok(run)
+}
+
+/// The same with the run's history, which was made to compare the notes with the lanes.
+pub(crate) fn run_agreed<S: Stream + Send, G: Gate, R: Threads + Wait + Sync>(
+    rt: &R,
+    alloc: Global,
+    checked: &Checked,
+    lanes: Lanes<S>,
+    gate: &G,
+    stack: Stack,
+    meet: Meet,
+) -> Result<(Run<S>, History), RunError>
+    requires new { AreNew lanes }
+    ensures agrees { IfOk result (λ found. Agree checked.now.code found.0.world.world found.0.lanes) }
+    ensures grew { IfOk result (λ found. AllGrew lanes found.0.lanes) }
+    ensures held { IfOk result (λ found. IsHeldBy checked.now.code found.0.world) }
+    ensures history { IfOk result (λ found. found.1 ≡ history_of checked.now.code found.0.world.world) }
+{
     let book = Mutex::new(Notebook::new(Book::new(alloc, checked)?));
     let Lanes { p, a, b } = lanes;
     let p = run_section(rt, alloc, &book, gate, Part::new(Actor::P, p));
@@ -77,7 +99,7 @@ pub fn run_lanes_with<S: Stream + Send, G: Gate, R: Threads + Wait + Sync>(
     let noted = book.into_inner().into_world();
     let lanes = Lanes { p, a, b };
     match find_agreed(alloc, checked, &noted, &lanes)? {
-        Some(world) => Ok(Run { world, lanes }),
+        Some((world, history)) => Ok((Run { world, lanes }, history)),
         None => Err(RunError::BookMismatch),
     }
 }

@@ -105,8 +105,8 @@ fn prepare_next<S: Stream, R: Wait>(
 }
 
 /// Makes a call that is ready, and answers whether the section may go on. It meets the other branch, if it has a seat. The book is
-/// locked for one note at a time, and never while the lane or the gate is called. What the call was made of is freed by the caller,
-/// after the reply is noted.
+/// locked for one note at a time, and never while the lane or the gate is called; where the other branch holds the lock, this one looks
+/// for longer than a note takes before it sleeps. What the call was made of is freed by the caller, after the reply is noted.
 fn run_call<S: Stream, G: Gate, R: Wait>(
     rt: &R,
     book: &Mutex<Notebook<'_>>,

@@ -12,6 +12,7 @@ returns-then-branch g c =
           c.in_ok-history.ensures.sections (c.in_ok-agree_in_sections.ensures.0 c.if-branch.true),
       replayed.0,
       replayed.1,
+      c.in_ok-history.ensures.same,
     )
 
 pub returns-else-branch : goal.returns-else-branch
