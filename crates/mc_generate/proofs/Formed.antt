@@ -1,10 +1,8 @@
 -- What the outputs of a generator say is a script.
-use Rattle.std.proofs.Common.{◌≡◌, ℕ, ◌+◌, ◌<◌, ◌≤◌, ◌==◌, Option, Some, None, List, [], length}
+use Rattle.std.proofs.Common.{ℕ, ◌+◌, ◌<◌, ◌≤◌, ◌==◌, Option, Some, None, List, [], length}
 use Rattle.std.proofs.Common.{refl, arith}
-use Rattle.std.proofs.lemmas.Bool.{le-leb, cond_both}
+use Rattle.std.proofs.lemmas.Bool.{cond_both}
 use Rattle.mc_protocol.specs.Decimals.{MAX_64}
-use Rattle.mc_script.specs.declared.version.Version.TheVariants as version
-use Rattle.mc_script.specs.Script.{longest, version_of}
 use Rattle.mc_script.specs.WellFormed.{IsSection, IsScript}
 use Rattle.mc_generate.specs.declared.piece.Piece.{Piece}
 use Rattle.mc_generate.specs.Outputs.{Outputs, rest, draw, outputs_for}
@@ -21,12 +19,12 @@ IsBody None = Unit {0}
 IsBody (Some body) = body < 100
 
 -- pieces that a branch may have
-pub record IsBranch (pieces : List Piece) : Type 0 where
+record IsBranch (pieces : List Piece) : Type 0 where
   pub are : ArePieces pieces
   pub few : length pieces ≤ 3
 
 -- what a script may be made of
-pub record IsPlan (plan : Plan) : Type 0 where
+record IsPlan (plan : Plan) : Type 0 where
   pub first : plan.first < 100
   pub second : IsBody plan.second
   pub a : IsBranch plan.a
@@ -44,7 +42,7 @@ branch-in outputs =
     let size = length-pieces (1 + draw 3 outputs) (rest outputs) in
     record { are = are-pieces (1 + draw 3 outputs) (rest outputs); few = omega arith }
 
-pub plan-in : (outputs : Outputs) → IsPlan (plan_in outputs)
+plan-in : (outputs : Outputs) → IsPlan (plan_in outputs)
 plan-in outputs =
     let second = second_in (draw 2 (rest outputs)) (rest (rest outputs)) in
     let a = branch_in second.1 in record {
@@ -93,22 +91,6 @@ formed job plan small is = record {
   a = branch-formed job plan.a is.a;
   b = branch-formed job plan.b is.b;
 }
-
--- ---- its version
-
-prefix-short : (first : ℕ) (second : Option ℕ) → length (prefix_of first second).steps ≤ 2
-prefix-short first None = omega arith
-prefix-short first (Some body) = omega arith
-
-pub first-version : (job : ℕ) (plan : Plan) → IsPlan plan → version_of (script_of job plan) ≡ version.One
-first-version job plan is =
-    let p = prefix-short plan.first plan.second in
-    let a = few-steps 0 plan.a in
-    let b = few-steps 0 plan.b in
-    let few-a = is.a.few in
-    let few-b = is.b.few in
-    let short : longest (script_of job plan) ≤ 64 = omega arith in
-    rw (le-leb (longest (script_of job plan)) 64 short) refl
 
 pub generated-formed : (seed job : ℕ) → job ≤ MAX_64 → IsScript (generated seed job)
 unfolding generated

@@ -1,9 +1,8 @@
 pub mod PieceFacts
 pub mod NameFacts
-pub mod BranchLines
 pub mod BranchSteps
 pub mod Formed
-pub mod Texts
+pub mod Drawn
 pub mod RefusalFacts
 pub mod Less
 pub mod KeysUnder

@@ -1,5 +1,5 @@
 -- The names of a generated script are names, and differ; the decimal of a small number is a body.
-use Rattle.std.proofs.Common.{◌≡◌, ℕ, zero, suc, ◌+◌, ◌<◌, ◌≤◌, ◌==◌, nat_le, Bool, true, false, not, ◌&&◌, ◌||◌, List, [], ◌∷◌, ◌++◌}
+use Rattle.std.proofs.Common.{◌≡◌, ℕ, ◌+◌, ◌<◌, ◌≤◌, ◌==◌, nat_le, Bool, true, false, not, ◌&&◌, ◌||◌, List, [], ◌∷◌, ◌++◌}
 use Rattle.std.proofs.Common.{length, codes, decimal, refl, ap, subst, ◌∙◌, arith, length-append}
 use Rattle.std.specs.List.{list_all}
 use Rattle.std.specs.Str.{bytes_eq}
@@ -13,7 +13,6 @@ use Rattle.mc_protocol.proofs.Decimals.{decimal-spells, one_number}
 use Rattle.mc_protocol.specs.Decimals.{SpellsNumber, is_digit, are_digits, MAX_64}
 use Rattle.mc_protocol.specs.Lines.{Word}
 use Rattle.mc_protocol.specs.Names.{is_name_byte, are_name_bytes, is_name, are_distinct}
-use Rattle.mc_script_text.specs.PrintedScript.{name_at}
 use Rattle.mc_script.specs.Script.{AreDeclared}
 use Rattle.mc_script.specs.ScriptWords.{is_label_name, is_body_byte, are_body_bytes, is_body}
 use Rattle.mc_settings.specs.JobKeys.{key_name}
@@ -52,9 +51,6 @@ decimal-body n small =
     let short = s.short in
     and_from (nat_le (length (decimal n)) 64) (are_body_bytes (decimal n)) (le-leb (length (decimal n)) 64 (omega arith))
     (digits-body (decimal n) s.digits)
-
-pub decimal-zero : decimal 0 ≡ codes "0"
-decimal-zero = decimal_digit 0 (omega arith)
 
 -- ---- names
 
@@ -114,11 +110,6 @@ declared job small = record {
   flags = refl;
   vars = refl;
 }
-
-pub key-name : (job key : ℕ) → key < 2 → name_at (names_of job).keys key ≡ key_name job key
-key-name job zero k = refl
-key-name job (suc zero) k = refl
-key-name job (suc (suc key)) k = absurd (omega arith)
 
 -- ---- labels
 

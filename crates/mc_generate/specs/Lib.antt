@@ -7,6 +7,6 @@ pub mod CodesUnder
 pub mod JobCodes
 pub mod Shrunk
 -- What private contracts cite.
-pub mod GeneratedLines
+pub mod Branches
 pub mod ImageFronts
 pub mod Shrinking

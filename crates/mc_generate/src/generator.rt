@@ -1,37 +1,15 @@
-//! The generator of scripts.
+//! The code of generated scripts.
 ghost use Rattle.std.specs.Prelude.{◌≡◌, IfErr, IfOk};
 ghost use Rattle.mc_code.specs.Layout.{code_of};
 ghost use Rattle.mc_generate.specs.Generated.{generated};
 ghost use Rattle.mc_generate.specs.Refusals.{HasFault, IsRefused, IsTooLarge};
 
 use crate::GenFault;
-use crate::script_text::text_of;
+use crate::script::generate_script;
 use mc_code::{AsmFault, Code, assemble};
-use mc_protocol::OutOfMemory;
 use mc_script::Script;
-use mc_script_text::{
-    ScriptKind, parse, printed_scripts_are_read_again, printed_scripts_are_spelled,
-};
 use mc_verify::{Checked, RefusalKind, verify};
-use rand_pcg::Lcg64Xsh32;
-use std::alloc::{AllocError, Global};
-
-/// The script of a job. Its two keys have the job's number in their names, so that scripts of other jobs leave them alone.
-pub fn generate_script(alloc: Global, seed: u64, job: u64) -> Result<Script, OutOfMemory>
-    ensures { IfOk result (λ script. script ≡ generated seed job) }
-{
-    let text = text_of(alloc, job, &mut Lcg64Xsh32::new(seed, job))?;
-    // The text that is printed of a script is read as that script.
-    printed_scripts_are_spelled();
-    printed_scripts_are_read_again();
-    match parse(alloc, &text) {
-        Ok(script) => Ok(script),
-        Err(fault) => match fault.kind {
-            ScriptKind::OutOfMemory => Err(AllocError),
-            _ => unreachable!(),
-        },
-    }
-}
+use std::alloc::Global;
 
 /// The code of a job's script.
 ///
