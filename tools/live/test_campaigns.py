@@ -8,7 +8,7 @@ import time
 
 from . import servers
 from .campaigns import MOST_IN_REPORT, CampaignTest, campaign, steps_of
-from .program import LiveTest, rows, run, three_times
+from .program import SECONDS, LiveTest, begun, rows, run, three_times
 from .servers import Carrying, Listening, Replying, Step, answers, free_port, reset_at_close
 
 # By how many seconds a campaign for a time may end late at a quick server, as the machine may.
@@ -52,14 +52,16 @@ class RightServers(servers.ServedTest, CampaignTest):
         self.assertEqual(parts[1].faults, "mcrace: seed 1, jobs 10 to 29, 4 workers\n")
         self.assertEqual((brief.jobs, brief.totals, brief.status), ([], whole.totals, 0))
 
-    def test_ports(self):
-        """It keeps no ports after it closed its connections. A server may be late now and then."""
-        found = campaign(self.port, "--jobs 200")
+    # How many connections of this side a server may be late to close, now and then.
+    @rows([("600 connections", "--reconnect", 60), ("some that are kept", "", 6)])
+    def test_ports(self, options, late):
+        """It keeps no ports after it closed its connections."""
+        found = campaign(self.port, f"--jobs 200 {options}")
         lines = pathlib.Path("/proc/net/tcp").read_text(encoding="ascii").splitlines()[1:]
         peers = [fields[2] for fields in map(str.split, lines) if fields[3] == TIME_WAIT]
         kept = sum(int(peer.partition(":")[2], 16) == self.port for peer in peers)
         self.assertEqual(found.status, 0, found)
-        self.assertLessEqual(kept, 60, "of 600 connections")
+        self.assertLessEqual(kept, late)
 
 
 class Times(servers.ServedTest, CampaignTest):
@@ -167,12 +169,26 @@ class NoServers(CampaignTest):
     def test_server_goes_away(self):
         """`serve` ends after 30 connections, and later ones are refused."""
         port = self.enter(servers.serving("--connections", 30)).port
-        found = campaign(port, "--for 1h --workers 1")
+        found = campaign(port, "--for 1h --workers 1 --reconnect")
         self.assertEqual(found.jobs[:10], [f"{job} explained" for job in range(10)])
         late = 0 if "no connection" in found.jobs[10] else 1
         jobs = range(10 + late, 10 + late + MOST_IN_A_ROW)
         self.assertEqual(found.jobs[10 + late :], [f"{job} no connection P" for job in jobs])
         self.assertEqual((found.status, found.told.count(GAVE_UP)), (4, 1), found.faults)
+
+    def test_server_ends(self):
+        """With all connections that were kept. It gives up as if there were none."""
+        server = self.enter(servers.serving())
+        words = ["campaign", f"127.0.0.1:{server.port}", "--for", "1h"]
+        with begun(words, b"") as process:
+            process.stderr.readline()
+            time.sleep(0.5)
+            server.process.terminate()
+            with self.assert_takes(0, 5):
+                output, told = process.communicate(timeout=SECONDS)
+        self.assertEqual(process.returncode, 4, told)
+        self.assertEqual(told.decode().splitlines().count(GAVE_UP), 1, told)
+        self.assertRegex(output, rb"\A0 explained\n")
 
     def test_waits(self):
         """Each wait for a server is one connect, so it doesn't give up while it waits."""
@@ -200,7 +216,7 @@ class WrongServers(CampaignTest):
     def test_server_goes_away(self):
         """`serve` ends after 30 connections, and later ones are refused."""
         port = self.enter(servers.serving("--connections", 30)).port
-        found = campaign(port, "--jobs 40 --workers 1")
+        found = campaign(port, "--jobs 40 --workers 1 --reconnect")
         self.assertEqual([line.split()[1] for line in found.jobs[:10]], 10 * ["explained"])
         self.assertEqual(found.status, 4)
         for line in found.jobs[11:]:

@@ -1,5 +1,5 @@
-"""Servers that close connections: between the runs that these serve, and after a request on which
-they act a moment later. Nothing that a later run receives may be taken for a fault."""
+"""Servers that close connections: between the runs or jobs that these serve, and after a request on
+which they act a moment later. Nothing that a later run receives may be taken for a fault."""
 
 import contextlib
 import itertools
@@ -18,6 +18,12 @@ TOTALS = re.compile(rf"runs {RUNS} explained (\d+) unexplained 0 other 0 overlap
                     r"failed (\d+)")
 # A job whose only number is A's, so that the run is unexplained if that is wrong.
 JOB = 2
+# How many jobs a campaign has, each with two keys.
+JOBS, KEYS = 40, 2
+# What begins each job: P deletes its keys.
+FIRST = re.compile(rb"delete r(\d+)-0\r\n")
+OF_JOB = re.compile(rb"[a-z]+ r(\d+)-")
+MORE = b"STORED\r\n"
 
 
 class Exchanging(servers.Carrying):
@@ -88,6 +94,111 @@ class Late(Exchanging):
         return not is_lost
 
 
+class Parting(Exchanging):
+    """With the reply to the last request of each job's P it also does what a subclass says."""
+
+    def __init__(self, port):
+        super().__init__(port)
+        scripts = (run(["generate", "--job", str(job)]).text for job in range(JOBS))
+        self.left = [KEYS + script.partition("\nP\n")[2].partition("\nA\n")[0].count("\n") + 1
+                     for script in scripts]
+        # The client of each job's P, by the number of the connection, and the job.
+        self.of_p = {}
+
+    def goes_on(self, client, server, request, number, _):
+        job = int(OF_JOB.match(request)[1])
+        first = FIRST.fullmatch(request)
+        if first and job not in self.of_p:
+            self.of_p[job] = client, number
+        self.before(job, number)
+        server.sendall(request)
+        reply = server.recv(65_536)
+        if self.of_p[job][1] == number and self.left[job]:
+            self.left[job] -= 1
+            if not self.left[job]:
+                return self.part(client, reply)
+        client.sendall(reply)
+        return True
+
+    def before(self, job, number):
+        """Before a request of the job is handed on."""
+
+    def part(self, client, reply):
+        """Answers P's last request, and whether the connection goes on."""
+        client.sendall(reply)
+        return True
+
+
+class Ending(Parting):
+    """It ends the connection, in one packet."""
+
+    def part(self, client, reply):
+        client.send(reply, socket.MSG_MORE)
+        client.shutdown(socket.SHUT_WR)
+        client.recv(65_536)
+        return False
+
+
+class Doubling(Parting):
+    """It sends another line, in one packet."""
+
+    def part(self, client, reply):
+        client.sendall(reply + MORE)
+        return True
+
+
+class Repeating(Parting):
+    """It sends another line once P is over: before a branch's first request is answered."""
+
+    def __init__(self, port):
+        super().__init__(port)
+        self.lock, self.said = threading.Lock(), set()
+
+    def before(self, job, number):
+        with self.lock:
+            if self.of_p[job][1] != number and job not in self.said:
+                self.said.add(job)
+                self.of_p[job][0].sendall(MORE)
+
+
+class KeptByCampaigns(servers.ServedTest):
+    """Connections serve later jobs; those of which a proxy ends one, or sends more, are replaced
+    before anything is sent."""
+
+    seconds = 10
+    TOLD = re.compile(r'mcrace: job \d+: P: after its last reply came 8 bytes more: "STORED\\r\\n"')
+
+    @rows([("one worker", "--workers 1", 3, 3), ("four", "--workers 4", 6, 12),
+           ("sixteen", "--workers 16", 6, 48), ("new ones", "--reconnect", 3 * JOBS, 3 * JOBS)])
+    def test_kept(self, options, least, most):
+        with servers.Carrying(self.port) as server:
+            found = campaign(server.port, f"--jobs {JOBS} {options}")
+        self.assert_right(found)
+        self.assertTrue(least <= server.taken <= most, server.taken)
+
+    def test_own_servers(self):
+        """A branch with a server of its own has one connection, and the others share two."""
+        with servers.Carrying(self.port) as server, servers.Carrying(self.port) as of_a:
+            own = f"--a 127.0.0.1:{of_a.port}"
+            found = campaign(server.port, f"--jobs {JOBS} --workers 1 {own}")
+        self.assert_right(found)
+        self.assertEqual((server.taken, of_a.taken), (2, 1))
+
+    @rows([("ended", Ending, 0), ("in one packet", Doubling, 10), ("a later one", Repeating, 0)])
+    def test_replaced(self, kind, told):
+        """After each job that of its P is, and no other."""
+        with kind(self.port) as server:
+            found = campaign(server.port, f"--jobs {JOBS} --workers 1")
+        self.assert_right(found, told)
+        self.assertEqual(server.taken, 3 + JOBS - 1)
+
+    def assert_right(self, found, told=0):
+        """All jobs are explained, and of so many it is told that more came."""
+        self.assertEqual(found.jobs, [f"{job} explained" for job in range(JOBS)], found)
+        are_told = [bool(self.TOLD.fullmatch(line)) for line in found.told]
+        self.assertEqual((found.status, are_told), (0, told * [True]), found)
+
+
 class ClosingServers(servers.ServedTest):
     """At proxies before `mcrace serve`, which is right."""
 
@@ -118,7 +229,7 @@ class ClosingServers(servers.ServedTest):
     def test_shrinking(self):
         """Only the first number of the job is made wrong, so no step is left out."""
         with Late(self.port, wrong=True) as server:
-            options = f"--seed 1 --from {JOB} --jobs 1 --workers 1 --tries {RUNS // 10}"
+            options = f"--from {JOB} --jobs 1 --workers 1 --reconnect --tries {RUNS // 10}"
             found = campaign(server.port, options)
         self.assertEqual(found.unexplained, [str(JOB)], found)
         whole = run(["generate", "--seed", "1", "--job", str(JOB)]).text

@@ -9,11 +9,11 @@ use mc_protocol::{Actor, Sections};
 pub trait Connector<S: Stream>: Sync {
     ghost use Rattle.mc_lane.specs.Streams.{CanFail};
 
-    /// A new connection for a section of a job, or nothing where there is none. One more failure of it can be counted.
+    /// A connection for a section of a job, or nothing where there is none. One more failure of it can be counted.
     fn connect(&self, job: u64, actor: Actor) -> Option<S>
         ensures { IfSome result (λ stream. CanFail (S.state stream)) };
 
-    /// Takes back the connections of a job that was judged, but for those that a fault ended. Nothing of what it does with them
-    /// is recorded. Where it isn't given, they are dropped.
+    /// Takes back the connections of a job that was judged, but for those that a fault ended, or on which more was received than
+    /// the replies to its requests. Nothing of what it does with them is recorded. Where it isn't given, they are dropped.
     fn release(&self, _streams: Sections<Option<S>>) {}
 }

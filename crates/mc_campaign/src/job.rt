@@ -1,6 +1,6 @@
 //! The run of one job.
 
-ghost use Rattle.std.specs.Prelude.{◌≡◌, IfOk, None};
+ghost use Rattle.std.specs.Prelude.{◌≡◌, length, IfOk, IfSome, None};
 ghost use Rattle.std.specs.Option.{option_copied};
 ghost use Rattle.mc_run.specs.Running.{AreNew, IsNew};
 ghost use Rattle.mc_campaign.specs.Outcomes.{IsJudgedWithin, IsOutcome, IsOutcomeOf, closed_lanes};
@@ -103,13 +103,14 @@ fn close_lanes<S: Stream, C: Connector<S>>(connector: &C, lanes: Lanes<S>) -> La
     Lanes { p, a, b }
 }
 
-/// Closes the lane, and hands out its stream, if no fault has closed it.
+/// Closes the lane, and hands out its stream, if no fault has closed it, and nothing was received but the replies that it answered.
 fn close_lane<S: Stream>(lane: &mut Lane<S>) -> Option<S>
-    ensures { lane.new ≡ record lane.old { stream = None } }
+    ensures closed { lane.new ≡ record lane.old { stream = None } }
+    ensures clean { IfSome result (λ _. (lane.old.fault ≡ None) × (lane.old.taken ≡ length lane.old.got)) }
 {
-    let fault = lane.fault();
+    let is_clean = lane.fault().is_none() && lane.taken() == lane.got().len();
     let stream = lane.close();
-    if fault.is_none() { stream } else { None }
+    if is_clean { stream } else { None }
 }
 
 /// A new lane of each section, connected in the order P, A, B.

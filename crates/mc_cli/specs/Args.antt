@@ -217,6 +217,7 @@ pub record IsCampaignArgs (value : Text → Option Text) (args : CampaignArgs) :
   pub name : MayBeName (value (codes "name")) args.name
   pub timeout : MayBeValue kind.Time (value (codes "timeout")) (option_map (λ time. time.milliseconds) args.timeout)
   pub wait : MayBeValue kind.Time (value (codes "wait")) (option_map (λ time. time.milliseconds) args.wait)
+  pub reconnect : args.reconnect ≡ is_set (value (codes "reconnect"))
   pub quiet : args.quiet ≡ is_set (value (codes "quiet"))
   pub stats : args.stats ≡ is_set (value (codes "stats"))
   pub spread : IsValue (number 10000) (Some 64) (value (codes "spread")) args.spread

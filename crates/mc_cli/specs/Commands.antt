@@ -62,7 +62,8 @@ campaign_rules =
     valued (codes "jobs") ∷ valued (codes "workers") ∷ valued (codes "limit") ∷ valued (codes "meet") ∷ valued (codes "a") ∷
     valued (codes "b") ∷ valued (codes "name") ∷ valued (codes "timeout") ∷ valued (codes "wait") ∷ switch (codes "brief") ∷
     switch (codes "json") ∷ switch (codes "junit") ∷ switch (codes "show") ∷ switch (codes "why") ∷ valued (codes "tries") ∷
-    switch (codes "quiet") ∷ valued (codes "spread") ∷ switch (codes "stats") ∷ valued (codes "for") ∷ valued (codes "stop-after") ∷ []
+    switch (codes "reconnect") ∷ switch (codes "quiet") ∷ valued (codes "spread") ∷ switch (codes "stats") ∷ valued (codes "for") ∷
+    valued (codes "stop-after") ∷ []
 
 -- the program without its subcommands
 abbrev pub bare_app : App

@@ -373,6 +373,8 @@ pub struct CampaignArgs<'a> {
     pub timeout: Option<Seconds<'a>>,
     /// How long a connect to each server may be tried again, if it may.
     pub wait: Option<Seconds<'a>>,
+    /// Whether each job has connections of its own.
+    pub reconnect: bool,
     /// Whether standard error doesn't say how far the campaign is.
     pub quiet: bool,
     /// Whether standard error says at the end how requests were answered.

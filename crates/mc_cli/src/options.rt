@@ -77,6 +77,8 @@ pub const KEEP_GOING: Row =
 
 pub const RECONNECT: Row = row!(Rare "reconnect", "Make new connections for each run");
 
+pub const RECONNECT_OF_CAMPAIGN: Row = row!(Rare "reconnect", "Make new connections for each job");
+
 pub const QUIET: Row = row!(Rare "quiet", "Show no progress on a terminal");
 
 pub const SPREAD: Row =

@@ -41,6 +41,7 @@ pub fn read_campaign<'a>(options: &ArgMatches<'a>) -> Result<CampaignArgs<'a>, O
         name,
         timeout,
         wait,
+        reconnect: value::is_set(options, &rows::RECONNECT_OF_CAMPAIGN),
         quiet: value::is_set(options, &rows::QUIET),
         stats: value::is_set(options, &rows::STATS),
         spread,

@@ -135,6 +135,7 @@ const CAMPAIGN_ROWS: &[Row] = &[
     rows::SHOW,
     rows::WHY_OF_SHOWN,
     rows::TRIES,
+    rows::RECONNECT_OF_CAMPAIGN,
     rows::QUIET,
     rows::SPREAD_OF_CAMPAIGN,
     rows::STATS,

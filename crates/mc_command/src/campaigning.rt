@@ -55,11 +55,12 @@ where
 {
     tell_start(rt, target.plan);
     let columns = if target.quiet { None } else { columns };
-    let dialer = Dialer::new(rt, alloc, campaign_servers(target), lead(columns));
+    let servers = campaign_servers(target);
+    let dialer = Dialer::new(rt, alloc, servers, target.reconnect, lead(columns));
     let connector = JobConnector { dialer: &dialer };
     let mut teller = Teller::new(rt, alloc, &*target, columns, &dialer);
     let answer = target_answer(rt, alloc, target, &connector, &mut teller, output);
-    dialer.wait_for_the_last();
+    dialer.quit();
     teller.end_report();
     teller.tell_totals();
     match answer {

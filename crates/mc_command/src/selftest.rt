@@ -178,7 +178,8 @@ where
     ensures { result ≡ true → answers.IsHonestSeen }
 {
     let timeout = Some(TIMEOUT.duration());
-    let dialer = Dialer::new(rt, alloc, Servers::one(server, timeout, None), "");
+    // The server counts the connections, and ends with the last one.
+    let dialer = Dialer::new(rt, alloc, Servers::one(server, timeout, None), true, "");
     match run_jobs(
         rt,
         alloc,

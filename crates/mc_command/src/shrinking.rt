@@ -20,8 +20,8 @@ use std::thread::Threads;
 const ROUNDS: u32 = 200;
 
 /// What is left of the script of a job whose run was unexplained, without the campaign's name. Each smaller script is run up to `tries`
-/// times, under that name, over new connections, until it is unexplained. Each of these runs has keys of its own, since the server may
-/// still act on a request of an earlier one. Where they have no room for that, none is run, and the whole script is left.
+/// times, under that name, until it is unexplained. Each of these runs has keys of its own, since the server may still act on a request
+/// of an earlier one. Where they have no room for that, none is run, and the whole script is left.
 pub fn shrunk_script<S: Stream + Send, C: Connector<S>, R: Threads + Wait + Sync>(
     rt: &R,
     alloc: Global,

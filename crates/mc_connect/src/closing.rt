@@ -47,6 +47,20 @@ impl Closing {
     }
 }
 
+/// Asks the server to close all these connections, and waits until it has, but no longer than 10 ms in all.
+pub(crate) fn close_all<R: Clock>(rt: &R, mut streams: Vec<TcpStream>) {
+    'streams: for stream in streams.iter_mut() {
+        // Where this fails, no end of the connection is waited for either.
+        let _ = stream.write_all(QUIT);
+    }
+    let Ok(begun) = Instant::now(rt) else {
+        return;
+    };
+    'streams: for stream in streams {
+        wait_for_end(rt, begun, Some(stream));
+    }
+}
+
 // The connection, if the server could be asked to close it.
 fn ask_to_close(stream: Option<TcpStream>) -> Option<TcpStream> {
     let mut stream = stream?;

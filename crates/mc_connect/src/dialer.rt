@@ -1,8 +1,9 @@
 //! What connects the jobs of a campaign to their servers.
 use crate::call_errors::CallErrors;
-use crate::closing::Closing;
+use crate::closing::{Closing, close_all};
 use crate::dial::{connect, dial};
 use crate::failures::Failures;
+use crate::pool::Pool;
 use crate::servers::Servers;
 use crate::socket::JobSocket;
 use mc_protocol::{Actor, Sections};
@@ -14,15 +15,18 @@ use std::rt::Clock;
 use std::sync::{Mutex, Wait};
 
 /// Connects the sections of all jobs to their servers, from any thread. The name of P's server is looked up until one of its addresses
-/// takes a connection; from then on all connections to it go to that one. That of a branch's own server is looked up for each job. A
-/// server is asked to close the connections of a job that has ended, and does so while another one runs. The dialer knows which jobs had
-/// no connection, and why calls failed.
+/// takes a connection; from then on all connections to it go to that one. That of a branch's own server is looked up for each new
+/// connection. The connections of a job that has ended serve later ones; or else the server is asked to close them, and does so while
+/// another job runs. The dialer knows which jobs had no connection, and why calls failed.
 #[derive(Drop)]
 pub struct Dialer<'a, R> {
     rt: &'a R,
     servers: Servers<'a>,
     address: Mutex<Option<SocketAddr>>,
-    // The connections of the job that has ended last.
+    // Whether no connection serves a second job.
+    reconnects: bool,
+    pool: Pool<'a, R>,
+    // The connections of the job that has ended last, if they serve no other.
     closing: Mutex<Option<Closing>>,
     failures: Failures<'a, R>,
     call_errors: CallErrors<'a, R>,
@@ -32,25 +36,37 @@ impl<'a, R> Dialer<'a, R>
 where
     R: Net<Listener = TcpListener, Stream = TcpStream> + Clock + Wait + Eprint,
 {
-    /// What connects to these servers. Of each server and reason, the first connection that isn't made is written to standard error at
-    /// once, in a line that begins with `lead`.
-    pub fn new(rt: &'a R, alloc: Global, servers: Servers<'a>, lead: &'static str) -> Self {
+    /// What connects to these servers; with `reconnects` each job has connections of its own. Of each server and reason, the first
+    /// connection that isn't made is written to standard error at once, in a line that begins with `lead`.
+    pub fn new(
+        rt: &'a R,
+        alloc: Global,
+        servers: Servers<'a>,
+        reconnects: bool,
+        lead: &'static str,
+    ) -> Self {
         Dialer {
             rt,
             servers,
             address: Mutex::new(None),
+            reconnects,
+            pool: Pool::new(rt, alloc, servers),
             closing: Mutex::new(None),
             failures: Failures::new(rt, alloc, servers, lead),
             call_errors: CallErrors::new(rt, alloc),
         }
     }
 
-    /// Waits until the server has closed the connections of the last job, but not for long.
-    pub fn wait_for_the_last(&self) {
+    /// Has the servers close the connections that no job has, and waits until they have, but not for long.
+    pub fn quit(&self) {
         let last = self.closing.lock(self.rt).take();
         if let Some(last) = last {
             last.wait(self.rt);
         }
+        let Sections { p, a, b } = self.pool.take_all();
+        close_all(self.rt, p);
+        close_all(self.rt, a);
+        close_all(self.rt, b);
     }
 
     /// Whether it connects no more, as 64 connects in a row failed: of all jobs, in the order in which they ended. All tries of a server
@@ -59,12 +75,13 @@ where
         self.failures.are_too_many()
     }
 
-    /// A new connection of a job's section, or nothing where there is none or it has given up, which is noted.
+    /// A connection of a job's section, which an earlier job has left or which is new; or nothing where there is none or it has given
+    /// up, which is noted.
     pub fn connect(&self, job: u64, section: Actor) -> Option<JobSocket> {
         if self.failures.end_with(job) {
             return None;
         }
-        match self.dial(section) {
+        match self.kept_or_new(section) {
             Ok(stream) => {
                 self.failures.end_row();
                 Some(self.watched(job, section, stream))
@@ -76,17 +93,43 @@ where
         }
     }
 
-    /// Takes back the connections of a job that has ended, and waits until the server has closed those of the job before.
+    /// Takes back the connections of a job that has ended. They are kept for later jobs; or else the server is asked to close them, and
+    /// this waits until it has closed those of the job before.
     pub fn release(&self, connections: Sections<Option<JobSocket>>) {
         let Sections { p, a, b } = connections;
-        let closing = Closing::ask(Sections {
+        let streams = Sections {
             p: p.map(JobSocket::into_stream),
             a: a.map(JobSocket::into_stream),
             b: b.map(JobSocket::into_stream),
-        });
+        };
+        if self.reconnects {
+            self.close(streams);
+        } else {
+            self.keep(streams);
+        }
+    }
+
+    // Sections that share a server take turns with its connections: where it hands each to a thread, the branches of later jobs meet at
+    // other ones.
+    fn keep(&self, streams: Sections<Option<TcpStream>>) {
+        let Sections { p, a, b } = streams;
+        self.pool.keep(Actor::A, a);
+        self.pool.keep(Actor::B, b);
+        self.pool.keep(Actor::P, p);
+    }
+
+    fn close(&self, streams: Sections<Option<TcpStream>>) {
+        let closing = Closing::ask(streams);
         let earlier = self.closing.lock(self.rt).replace(closing);
         if let Some(earlier) = earlier {
             earlier.wait(self.rt);
+        }
+    }
+
+    fn kept_or_new(&self, section: Actor) -> io::Result<TcpStream> {
+        match self.pool.take(section) {
+            Some(stream) => Ok(stream),
+            None => self.dial(section),
         }
     }
 

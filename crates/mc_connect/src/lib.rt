@@ -14,6 +14,8 @@ mod dialer;
 mod failures;
 mod kept;
 mod network;
+mod pool;
+mod quiet;
 mod servers;
 mod socket;
 mod tcp_network;

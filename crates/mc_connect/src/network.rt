@@ -22,6 +22,12 @@ pub trait Connection: Sync + Drop {
     fn send(&self, bytes: &[u8]) -> io::Result<usize>
         ensures { IfOk result (λ count. count ≤ length bytes.now) };
 
+    /// Whether nothing is there that a read would find, neither a byte nor the end nor an error. Where that can't be told without a read,
+    /// it is `false`.
+    fn is_quiet(&self) -> bool {
+        false
+    }
+
     /// From now on a read waits until something has come, or with `nonblocking` it doesn't.
     ///
     /// # Errors

@@ -180,9 +180,9 @@ impl Waiting {
     pub fn on<C: Connection>(alloc: Global, stream: &C) -> Waiting {
         let mut waiting = Waiting {
             bytes: Vec::new(alloc),
-            is_open: false,
+            is_open: stream.is_quiet(),
         };
-        if stream.set_nonblocking(true).is_err() {
+        if waiting.is_open || stream.set_nonblocking(true).is_err() {
             return waiting;
         }
         waiting.take(stream);

@@ -2,6 +2,7 @@
 ghost use Rattle.std.specs.Prelude.{◌≤◌, IfOk, length};
 
 use crate::network::Connection;
+use crate::quiet::is_quiet;
 use std::io;
 use std::io::{ErrorKind, Read, Write};
 use std::net::TcpStream;
@@ -77,6 +78,10 @@ impl<'a, R: Clock + Sync> Connection for TimedStream<'a, R> {
             self.stream.set_write_timeout(Some(left))?;
         }
         Err(io::Error::from(ErrorKind::Interrupted))
+    }
+
+    fn is_quiet(&self) -> bool {
+        is_quiet(&self.stream)
     }
 
     fn set_nonblocking(&self, nonblocking: bool) -> io::Result<()> {

@@ -94,6 +94,7 @@ where
         name: None,
         timeout: None,
         wait: None,
+        reconnect: false,
         quiet: false,
         stats: false,
         spread: 0,

@@ -12,9 +12,11 @@ Each job runs the script that `mcrace generate` prints for the seed and the
 job's number. `mcrace run --help` describes how a script runs, what its verdict
 means, how times are written, and what `--a`, `--b`, `--meet`, `--name`,
 `--timeout`, `--wait` and `--spread` do. As many jobs run at once as there are
-workers, each over three connections of its own. When a job has ended, mcrace
-sends `quit` on those that are still open and gives the server 10 ms to close
-them, so that this side doesn't run out of ports.
+workers, each over three connections. One on which all went well serves a later
+job; `--reconnect` opens new ones for each job: use it to exercise servers that
+pin a connection to a thread. When a connection serves no further job, mcrace
+sends `quit` on it and gives the server 10 ms to close it, so that this side
+doesn't run out of ports.
 
 No two jobs share a key. But they use the keys rJOB-0 and rJOB-1, which nobody
 else may use at that time: give each campaign a server of its own, or a name.

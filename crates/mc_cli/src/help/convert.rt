@@ -17,6 +17,6 @@ Read on: mcrace convert --help, mcrace help history",
     statuses: "Exit status:
   0  converted, whatever the verdict is
   2  the command line is wrong
-  3  refused: the input has no history, or more than 1,048,576 bytes
+  3  refused: the input has no history, or is too long
   4  out of memory; or input or output failed",
 };
