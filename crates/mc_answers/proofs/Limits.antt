@@ -4,7 +4,7 @@ use Rattle.mc_cli.specs.declared.question.Question.{Question}
 use Rattle.mc_cli.specs.declared.question.Question.TheVariants as question
 use Rattle.mc_cli.specs.declared.request.Request.TheVariants as request
 use Rattle.mc_answers.specs.Answers.{IsAnswerTo, most_read}
-use Rattle.mc_answers.specs.Command.{judges}
+use Rattle.mc_answers.specs.Command.{reads_history}
 use Rattle.mc_answers.specs.Streams.{TakesAtMost}
 use Rattle.mc_answers.proofs.Right.{MayLackMemory}
 
@@ -29,13 +29,13 @@ most_is_small (question.Draw how) = omega arith
 most_is_small (question.Convert args) = omega arith
 most_is_small question.Join = omega arith
 
--- of what isn't judged few bytes are taken
-pub takes_few : (asked : Question) (old new : Option (List ℕ)) → judges (request.Question asked) ≡ false
+-- of what isn't read as a history few bytes are taken
+pub takes_few : (asked : Question) (old new : Option (List ℕ)) → reads_history (request.Question asked) ≡ false
     → TakesAtMost (most_read asked) old new → TakesAtMost 1048577 old new
 takes_few (question.Judge args) old new is takes = absurd (cc (is))
 takes_few (question.Check args) old new is takes = takes
 takes_few (question.Asm why) old new is takes = takes
 takes_few (question.Drive how) old new is takes = takes
-takes_few (question.Draw how) old new is takes = takes
-takes_few (question.Convert args) old new is takes = takes
+takes_few (question.Draw how) old new is takes = absurd (cc (is))
+takes_few (question.Convert args) old new is takes = absurd (cc (is))
 takes_few question.Join old new is takes = takes

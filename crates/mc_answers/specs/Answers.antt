@@ -44,9 +44,11 @@ IsAnswerBy does text output ended = ((length text ≤ INPUT_LIMIT) × does text 
     ⊎ (((INPUT_LIMIT < length text) × (output ≡ too_long_text) × (ended ≡ status.Refused))
     ⊎ ((output ≡ out_of_memory_text) × (ended ≡ status.NoAnswer)))
 
--- a text about which this is asked may be longer: it is judged, and the bytes that any input may have begin as a timeline
+-- a text that is judged, drawn or converted may be longer, if the bytes that any input may have begin as a timeline
 abbrev pub MayBeLong : Question → List ℕ → Type 0
 MayBeLong (question.Judge args) text = BeginsTimeline (take INPUT_LIMIT text)
+MayBeLong (question.Draw how) text = BeginsTimeline (take INPUT_LIMIT text)
+MayBeLong (question.Convert args) text = BeginsTimeline (take INPUT_LIMIT text)
 MayBeLong _ text = ⊥
 
 -- it has no more bytes than it may have, or more
@@ -65,6 +67,8 @@ IsAnswerTo asked text output ended = (IsInLimit asked text × Does asked text ou
 -- how many bytes are read at most
 abbrev pub most_read : Question → ℕ
 most_read (question.Judge args) = 67108865
+most_read (question.Draw how) = 67108865
+most_read (question.Convert args) = 67108865
 most_read _ = 1048577
 
 -- ---- inputs

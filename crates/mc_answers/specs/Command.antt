@@ -9,10 +9,12 @@ abbrev pub reads_input : Request → Bool
 reads_input (request.Question question) = true
 reads_input _ = false
 
--- a history is judged, whose text may be longer than another input
-abbrev pub judges : Request → Bool
-judges (request.Question (question.Judge args)) = true
-judges _ = false
+-- a history is judged, drawn or converted, whose text may be longer than another input
+abbrev pub reads_history : Request → Bool
+reads_history (request.Question (question.Judge args)) = true
+reads_history (request.Question (question.Draw how)) = true
+reads_history (request.Question (question.Convert args)) = true
+reads_history _ = false
 
 -- what is asked for needs a network: lines of `test`, `run`, `campaign`, `stress`, `record`, `serve` and `selftest` do
 abbrev pub needs_network : Request → Bool

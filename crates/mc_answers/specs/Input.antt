@@ -24,9 +24,9 @@ TakesPiece old new before after most result = MatchResult result
 abbrev pub Adds : Option (List ℕ) → Option (List ℕ) → List ℕ → List ℕ → Type 0
 Adds old new before after = (taken : List ℕ) × (after ≡ before ++ taken) × Loses old new taken
 
--- of what is judged: a text that has no more bytes than it may have, and one that has more
-abbrev pub MayBeJudged : List ℕ → Type 0
-MayBeJudged text = (length text ≤ INPUT_LIMIT) ⊎ (BeginsTimeline (take INPUT_LIMIT text) × (length text ≤ TIMELINE_LIMIT))
+-- of what is read as a history: a text that has no more bytes than it may have, and one that has more
+abbrev pub IsHistoryInLimit : List ℕ → Type 0
+IsHistoryInLimit text = (length text ≤ INPUT_LIMIT) ⊎ (BeginsTimeline (take INPUT_LIMIT text) × (length text ≤ TIMELINE_LIMIT))
 
-abbrev pub IsTooLongToJudge : List ℕ → Type 0
-IsTooLongToJudge text = (INPUT_LIMIT < length text) × (BeginsTimeline (take INPUT_LIMIT text) → TIMELINE_LIMIT < length text)
+abbrev pub IsTooLongHistory : List ℕ → Type 0
+IsTooLongHistory text = (INPUT_LIMIT < length text) × (BeginsTimeline (take INPUT_LIMIT text) → TIMELINE_LIMIT < length text)

@@ -14,7 +14,7 @@ use std::alloc::{AllocError, Global};
 /// The most bytes of an input.
 pub const INPUT_LIMIT: usize = 1_048_576;
 
-/// The most bytes of one that is judged, and begins as a timeline.
+/// The most bytes of one that is judged, drawn or converted, and begins as a timeline.
 const TIMELINE_LIMIT: usize = 67_108_864;
 
 const TOO_LONG: &[u8] = b"refused input too long\n";
@@ -63,25 +63,24 @@ pub fn read_asked<I: Source>(
     ensures taken { TakesAtMost (answers.most_read asked.now) (I.left input.old) (I.left input.new) }
 {
     match asked {
-        Question::Judge(_) => read_judged(alloc, input),
-        Question::Check(_)
-        | Question::Asm(_)
-        | Question::Drive(_)
-        | Question::Draw(_)
-        | Question::Convert(_)
-        | Question::Join => read_text(alloc, input),
+        Question::Judge(_) => read_history(alloc, input),
+        Question::Draw(_) => read_history(alloc, input),
+        Question::Convert(_) => read_history(alloc, input),
+        Question::Check(_) | Question::Asm(_) | Question::Drive(_) | Question::Join => {
+            read_text(alloc, input)
+        }
     }
 }
 
-// The same of an input that is judged.
-fn read_judged<I: Source>(
+// The same of an input that is a history.
+fn read_history<I: Source>(
     alloc: Global,
     input: &mut I,
 ) -> Result<Result<Vec<u8>, Answer>, InputFault>
-    ensures text { IfOk result (λ read. IfOk read (λ text. input_rule.MayBeJudged text.items
+    ensures text { IfOk result (λ read. IfOk read (λ text. input_rule.IsHistoryInLimit text.items
         × answers.IsWhole (I.left input.old) text.items)) }
     ensures too_long { IfOk result (λ read. IfErr read (λ answer. (text : List ℕ) × answers.IsWhole (I.left input.old) text
-        × input_rule.IsTooLongToJudge text × (answer.output.items ≡ answers.too_long_text) × (answer.status ≡ Status.Refused))) }
+        × input_rule.IsTooLongHistory text × (answer.output.items ≡ answers.too_long_text) × (answer.status ≡ Status.Refused))) }
     ensures fails { input_rule.Fails (I.has_failed input.old) (I.has_failed input.new) result }
     ensures taken { TakesAtMost 67108865 (I.left input.old) (I.left input.new) }
 {

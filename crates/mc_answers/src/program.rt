@@ -3,7 +3,7 @@ ghost use Rattle.std.specs.Prelude.{◌≡◌, ◌≢◌, ◌⊎◌, ℕ, List, 
 ghost use Rattle.std.specs.Global.{Global};
 ghost use Rattle.mc_cli.specs.Asking.{AsksFor, IsFaulty, MayShow, MayTell};
 ghost use Rattle.mc_answers.specs.Answers.{AnswersBy, AnswersQuestion, IsAnswerTo, IsWhole, most_read, not_utf8_text};
-ghost use Rattle.mc_answers.specs.Command.{judges, needs_network, reads_input};
+ghost use Rattle.mc_answers.specs.Command.{needs_network, reads_history, reads_input};
 ghost use Rattle.mc_answers.specs.GenerateAnswers.{Generates};
 ghost use Rattle.mc_answers.specs.Input as input_rule;
 ghost use Rattle.mc_answers.specs.Statuses.{status_number};
@@ -69,7 +69,7 @@ pub fn command<I: Source, O: Sink, F: Sink>(
     ensures broken_output { O.has_failed output.old ≡ false → O.has_failed output.new ≡ true → result ≡ 4 }
     ensures broken_faults { F.has_failed faults.old ≡ false → F.has_failed faults.new ≡ true → result ≡ 4 }
     ensures taken { TakesAtMost 67108865 (I.left input.old) (I.left input.new) }
-    ensures few { (wanted : Request) → AsksFor (map string_bytes line.now) wanted → judges wanted ≡ false
+    ensures few { (wanted : Request) → AsksFor (map string_bytes line.now) wanted → reads_history wanted ≡ false
         → TakesAtMost 1048577 (I.left input.old) (I.left input.new) }
 {
     match read_request(alloc, line) {

@@ -5,7 +5,7 @@ use Rattle.mc_answers.proofs.Questions.{same_question}
 use Rattle.mc_answers.proofs.Right.{out_of_memory_by}
 use Rattle.mc_cli.specs.declared.request.Request.TheVariants as request
 use Rattle.mc_answers.specs.Answers.{IsAnswerTo, most_read}
-use Rattle.mc_answers.specs.Command.{judges}
+use Rattle.mc_answers.specs.Command.{reads_history}
 use Rattle.mc_answers.specs.Statuses.{status_number}
 use Rattle.mc_answers.proofs.program.command.Goals as goal
 
@@ -59,4 +59,4 @@ pub returns-in-Ok-Question-clause-few : goal.returns-in-Ok-Question-clause-few
 returns-in-Ok-Question-clause-few g c wanted asks is =
     let asked = c.in-Ok-Question.question in
     let asked_is = rw c.in-Ok-Question.field-0-is at (c.in-Ok-Question.ensures.only wanted asks) in
-    takes_few asked _ _ (ap judges asked_is ∙ is) c.answer_question.ensures.taken
+    takes_few asked _ _ (ap reads_history asked_is ∙ is) c.answer_question.ensures.taken

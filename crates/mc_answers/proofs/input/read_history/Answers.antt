@@ -3,7 +3,7 @@ use Rattle.std.proofs.lemmas.List.{take-append-le}
 use Rattle.mc_answers.specs.Answers.{INPUT_LIMIT, TIMELINE_LIMIT}
 use Rattle.mc_answers.specs.TimelineAnswers.{BeginsTimeline}
 use Rattle.mc_answers.proofs.Lengths.{longer_by, loses_added, takes_added, whole_at_end}
-use Rattle.mc_answers.proofs.input.read_judged.Goals as goal
+use Rattle.mc_answers.proofs.input.read_history.Goals as goal
 
 pub returns-then-not-branch-clause-too_long : goal.returns-then-not-branch-clause-too_long
 returns-then-not-branch-clause-too_long g c =
