@@ -10,14 +10,16 @@ import threading
 from xml.etree import ElementTree
 
 from . import servers, test_suite
-from .program import LiveTest, judged, rows, run, three_times
+from .program import ROOT, LiveTest, judged, on_processors, rows, run, three_times
 from .test_scripts import ScriptTest
 
-# The scripts of the other races are left out, so that rounds come soon.
+# The scripts of the other races are left out, so that rounds come often.
 RACE = "add-over-set"
 SKIPPED = ",".join(race for race in test_suite.BUGS if race != RACE)
-# Scripts have at most this many requests at once without a reply.
-FEW = 2
+# A script has at most this many requests at once without a reply. On few processors it is alone.
+FEW, FEW_PROCESSORS = 2, 3
+# More than the requests of all verbs alone, since each has a line.
+ALONE = sum(len(it.read_text().splitlines()) for it in (ROOT / "examples/alone").iterdir())
 FOUND = re.compile(
     r"^found: stress - no order explains what 8 clients sent and received\n"
     r"  seen in [123] of [\d,]+ rounds\n\n"
@@ -32,6 +34,8 @@ class Crowded(servers.Carrying):
     def __init__(self, port, changed):
         super().__init__(port)
         self.changed, self.waiting, self.lock = changed, 0, threading.Lock()
+        # How many replies came before so many requests first waited.
+        self.before, self.is_met = 0, False
 
     def request(self, piece):
         if piece != b"quit\r\n":
@@ -42,6 +46,8 @@ class Crowded(servers.Carrying):
     def reply(self, piece):
         with self.lock:
             is_crowd, self.waiting = self.waiting > FEW, self.waiting - 1
+            self.is_met = self.is_met or is_crowd
+            self.before += not self.is_met
         return self.changed(piece) if is_crowd else piece
 
 
@@ -61,7 +67,8 @@ class CrowdTest(LiveTest):
 
     def found(self, changed, *options):
         """A test of a server with this race of many clients, and its port."""
-        with Crowded(self.enter(servers.serving()).port, changed) as proxy:
+        with Crowded(self.enter(servers.serving()).port, changed) as proxy, \
+                on_processors(FEW_PROCESSORS):
             return test_suite.tested(proxy.port, "--skip", SKIPPED, *options), proxy.port
 
 
@@ -72,7 +79,8 @@ class Races(ScriptTest, CrowdTest):
     def test_found(self):
         """A race that two branches never show is found, and found again by what is printed."""
         with Crowded(self.enter(servers.serving()).port, too_large) as proxy:
-            found = test_suite.tested(proxy.port, "--for", "6s", "--skip", SKIPPED)
+            with on_processors(FEW_PROCESSORS):
+                found = test_suite.tested(proxy.port, "--for", "6s", "--skip", SKIPPED)
             self.assertEqual((found.status, found.faults), (1, ""), found.text)
             told = FOUND.search(found.text)
             self.assertTrue(told, found.text)
@@ -89,11 +97,12 @@ class Races(ScriptTest, CrowdTest):
 
     @three_times
     def test_faulty(self):
-        """Of a race that scripts show too, both are told."""
+        """Of a race that scripts show too, both are told, and the script's own name first."""
         with self.faulty("lost-increment", test_suite.WIDE_WINDOW) as (_, port):
             found = test_suite.tested(port, "--for", "10s")
         self.assertEqual(found.status, 1, found.text)
-        self.assertIn("found: lost-increment - ", found.text)
+        told = re.findall(r"^found: (\S+) -", found.text, re.M)
+        self.assertEqual(told[:2], ["lost-increment", "stress"], found.text)
         self.assertTrue(FOUND.search(found.text), found.text)
 
 
@@ -110,6 +119,14 @@ class Right(CrowdTest):
         port = self.enter(servers.memcached()).port
         found = test_suite.tested(port, "--for", "3s", "--seed", seed, "--skip", SKIPPED)
         self.assert_nothing(found)
+
+    @three_times
+    def test_first(self):
+        """Rounds come after each verb alone, and before the scripts of any race."""
+        with Crowded(self.enter(servers.serving()).port, lambda piece: piece) as proxy:
+            self.assert_nothing(test_suite.tested(proxy.port, "--for", "5s"))
+        self.assertTrue(proxy.is_met)
+        self.assertLess(proxy.before, ALONE)
 
     def test_carried(self):
         """A proxy of each branch, before the same server."""

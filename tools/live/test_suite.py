@@ -2,6 +2,7 @@
 fail are told."""
 
 import json
+import os
 import pathlib
 import re
 import tempfile
@@ -9,7 +10,7 @@ import unittest
 from xml.etree import ElementTree
 
 from . import servers
-from .program import LiveTest, rows, run, three_times
+from .program import LiveTest, on_processors, rows, run, three_times
 from .test_scripts import RACES, SCRIPTS, ScriptTest, race_of
 
 # Each race, with the bug of examples/faulty_server.c that it finds.
@@ -27,6 +28,12 @@ LIKE = {
 # In microseconds. Where each script has few runs, only a wide window is sure to be met.
 WINDOW = 20
 WIDE_WINDOW = 300
+# Where a container says how much of the processors it may have.
+QUOTAS = [pathlib.Path("/sys/fs/cgroup", it) for it in ("cpu.max", "cpu/cpu.cfs_quota_us")]
+
+
+def is_limited(quota):
+    return quota.exists() and quota.read_text().split()[0] not in ("max", "-1")
 
 
 def tested(port, *options):
@@ -121,6 +128,40 @@ class Right(ScriptTest):
         found = tested(port, "--for", "1s", "--skip", "lost-increment,torn-gets")
         self.assert_nothing(found)
         self.assertIn(f"races tried: {len(BUGS) - 2} of {len(BUGS) - 2},", found.text)
+
+
+class Naming(servers.Carrying):
+    """A proxy that notes the names before keys."""
+
+    def __init__(self, port):
+        super().__init__(port)
+        self.names = set()
+
+    def request(self, piece):
+        self.names.update(re.findall(rb" ([a-z2-7]{13})-", piece))
+        return piece
+
+
+class AtOnce(LiveTest):
+    """Each thread that plays scripts has a name of its own."""
+
+    seconds = 20
+
+    def names_on(self, processors):
+        proxy = self.enter(Naming(self.enter(servers.serving()).port))
+        with on_processors(processors):
+            found = tested(proxy.port, "--for", "2s")
+        self.assertEqual(found.status, 0, found.text)
+        self.assertRegex(found.text, r"generated scripts: [1-9]")
+        return len(proxy.names)
+
+    def test_one(self):
+        self.assertEqual(self.names_on(1), 1)
+
+    def test_two(self):
+        if len(os.sched_getaffinity(0)) < 4 or any(map(is_limited, QUOTAS)):
+            self.skipTest("less than four processors")
+        self.assertEqual(self.names_on(4), 2)
 
 
 class Folders(ScriptTest):

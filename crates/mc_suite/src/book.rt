@@ -43,6 +43,13 @@ impl Book<'_> {
         races
     }
 
+    /// Whether a race was found that a script shows.
+    pub(crate) fn has_script(&self) -> bool {
+        self.told
+            .iter()
+            .any(|told| matches!(told.kind, Kind::Race | Kind::Generated))
+    }
+
     /// What was told under this name.
     pub(crate) fn told_of(&self, kind: Kind, name: &str) -> Option<&Told> {
         'told: for told in &self.told {

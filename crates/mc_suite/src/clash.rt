@@ -9,7 +9,7 @@ use mc_timeline::Timeline;
 use mc_timeline_why::why_key_unexplained;
 use std::alloc::Global;
 
-/// The requests of a round on a key, which nothing explains. Nothing else of rounds is told as a race.
+/// The requests of a round on a key, which nothing explains. Of rounds, nothing else is told as a race.
 pub(crate) struct Clash {
     pub(crate) key: Bytes,
     pub(crate) timeline: Timeline,
@@ -31,7 +31,7 @@ impl Drop for Clash {
 
 impl Clash {
     /// What a round shows, if a search of at most `limit` turns shows that nothing explains the requests on its key. They are judged once
-    /// more, since this is what is told.
+    /// more, because this is what is told.
     pub(crate) fn of(
         alloc: Global,
         evidence: Evidence,

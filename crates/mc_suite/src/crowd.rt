@@ -13,7 +13,7 @@ use std::io;
 use std::io::ErrorKind;
 use std::time::Duration;
 
-/// What is told of rounds while they are played.
+/// What is gathered while rounds are played.
 pub(crate) struct Crowd<'a> {
     alloc: Global,
     timeout: Option<Seconds<'a>>,
@@ -59,6 +59,8 @@ pub(crate) struct Gathered {
     pub(crate) clash: Option<Clash>,
     /// What first came that is no reply, or more than replies.
     pub(crate) wrong: Option<String>,
+    /// Whether a client failed or got no connection, or there was no thread.
+    pub(crate) has_failed: bool,
 }
 
 impl<'a> Crowd<'a> {

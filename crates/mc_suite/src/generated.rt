@@ -1,4 +1,4 @@
-//! What is drawn from the seed, and played between the turns of the races: generated scripts, and rounds.
+//! What is drawn from the seed, and played between the turns of the races or beside them: generated scripts, and rounds.
 
 use crate::finding::{Finding, keep_new, tell_found};
 use crate::folder::Folder;
@@ -40,6 +40,26 @@ pub(crate) struct Generated {
     pub(crate) rounds: Rounds,
 }
 
+/// A generated script that was played.
+#[derive(Drop)]
+pub(crate) struct Tried {
+    script: Script,
+    job: u64,
+    tries: Tries,
+}
+
+impl Tried {
+    /// Whether there is something to tell of it.
+    pub(crate) fn is_news(&self) -> bool {
+        self.tries.seen.is_some() || self.tries.wrong.is_some()
+    }
+
+    /// Whether nothing explains a run of it.
+    pub(crate) fn is_unexplained(&self) -> bool {
+        self.tries.seen.is_some()
+    }
+}
+
 impl Generated {
     /// None was played.
     pub(crate) fn new(seed: u64, is_wanted: bool) -> Generated {
@@ -74,40 +94,41 @@ pub(crate) fn play_generated<
         }
         let told = report.book.told.len();
         player.target.reconnect = false;
-        play_next(player, report, generated, turns)?;
+        if let Some(tried) = try_next(player, &report.book.unsupported, generated)? {
+            tell_tried(player, report, generated, turns, tried)?;
+        }
         keep_new(player, report, turns.as_slice(), generated, told)?;
     }
     Ok(())
 }
 
-// Plays the next generated script.
-fn play_next<R: Threads + Wait + Clock + Sync + Eprint, N: Network, O: Sink, F: Folder>(
+/// Plays the next generated script, if it is sound and the server knows its verbs.
+pub(crate) fn try_next<R: Threads + Wait + Clock + Sync + Eprint, N: Network>(
     player: &mut Player<'_, R, N>,
-    report: &mut Report<'_, O, F>,
+    unsupported: &Unsupported,
     generated: &mut Generated,
-    turns: &mut Vec<Turn>,
-) -> Result<(), InputFault> {
+) -> Result<Option<Tried>, AllocError> {
     let job = generated.job;
     generated.job = generated.job.saturating_add(1);
-    match script_of(player.alloc, generated.seed, job)? {
-        Some(script) => play_script(player, report, generated, turns, script, job),
-        None => Ok(()),
-    }
+    let Some(script) = script_of(player.alloc, generated.seed, job)? else {
+        return Ok(None);
+    };
+    let Some(tries) = try_script(player, unsupported, &script)? else {
+        return Ok(None);
+    };
+    generated.count = generated.count.saturating_add(1);
+    Ok(Some(Tried { script, job, tries }))
 }
 
-// Plays the script of this job, and tells what it showed.
-fn play_script<R: Threads + Wait + Clock + Sync + Eprint, N: Network, O: Sink, F: Folder>(
+/// Tells what a generated script showed.
+pub(crate) fn tell_tried<R: Threads + Wait + Clock + Sync + Eprint, N: Network, O: Sink, F: Folder>(
     player: &mut Player<'_, R, N>,
     report: &mut Report<'_, O, F>,
     generated: &mut Generated,
     turns: &mut Vec<Turn>,
-    script: Script,
-    job: u64,
+    tried: Tried,
 ) -> Result<(), InputFault> {
-    let Some(tries) = try_script(player, &report.book.unsupported, &script)? else {
-        return Ok(());
-    };
-    generated.count = generated.count.saturating_add(1);
+    let Tried { script, job, tries } = tried;
     let Tries { seen, runs, wrong } = tries;
     let name = format!(in player.alloc; "generated-{job}")?;
     let name = name.as_str();
@@ -154,7 +175,8 @@ fn tell_first<R: Threads + Wait + Clock + Sync + Eprint, N: Network, O: Sink, F:
     if generated.unexplained > 1 {
         return Ok(());
     }
-    tell_plain(player, report, turns, None)?;
+    let time = report.time_for_evidence();
+    tell_plain(player, report, turns, None, time)?;
     player.target.reconnect = false;
     tell_found(player, report, finding)
 }

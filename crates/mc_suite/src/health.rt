@@ -41,6 +41,11 @@ impl Health {
         self.is_gone
     }
 
+    /// The server is gone.
+    pub(crate) fn give_up(&mut self) {
+        self.is_gone = true;
+    }
+
     /// A run took this time, in which one reply may take `limit`. After a failed connect it waits a little.
     pub(crate) fn note<R: Clock>(
         &mut self,

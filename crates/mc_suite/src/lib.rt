@@ -8,6 +8,7 @@
 #![tactic(auto)]
 
 mod alone;
+mod beside;
 mod blame;
 mod book;
 mod clash;
@@ -34,10 +35,12 @@ mod report;
 mod report_json;
 mod rounds;
 mod rounds_text;
+mod second;
 mod seen;
 mod selection;
 mod shortened;
 mod tally;
+mod target;
 mod testing;
 mod text;
 mod told;

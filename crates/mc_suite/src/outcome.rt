@@ -69,7 +69,7 @@ pub(crate) fn outcome_of(
     }
 }
 
-// What a run came to that no order is to explain. Its history is judged once more, since this is what is told.
+// What a run came to that no order is to explain. Its history is judged once more, because this is what is told.
 fn unexplained(alloc: Global, history: History, limit: u64) -> Result<Outcome, AllocError> {
     match Seen::of(alloc, history, limit)? {
         Some(seen) => Ok(Outcome::Unexplained(seen)),

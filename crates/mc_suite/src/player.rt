@@ -1,5 +1,6 @@
 //! Plays scripts against the server, one run after another.
 
+use crate::beside::Latest;
 use crate::clash::Clash;
 use crate::clocked::Slowest;
 use crate::crowd::{Crowd, Gathered};
@@ -38,13 +39,16 @@ pub(crate) struct Player<'a, R, N: Network> {
     kept: Kept<N::Connection>,
     slowest: &'a Slowest,
     names: Names,
-    begun: Instant,
+    /// When the test began.
+    pub(crate) begun: Instant,
     /// How long the test may take.
     pub(crate) time: Duration,
     // How long one reply may take.
     limit: Duration,
     pub(crate) health: Health,
     tally: Tally,
+    // What the runs of the second thread came to.
+    beside: Tally,
     // How many races were found.
     found: u64,
     // How the first failed run did.
@@ -90,6 +94,7 @@ impl<'a, R: Threads + Wait + Clock + Sync + Eprint, N: Network> Player<'a, R, N>
             limit,
             health: Health::new(),
             tally: Tally::new(),
+            beside: Tally::new(),
             found: 0,
             first_failure: None,
             first_unconnected: None,
@@ -154,7 +159,8 @@ impl<'a, R: Threads + Wait + Clock + Sync + Eprint, N: Network> Player<'a, R, N>
     }
 
     fn tell_progress(&mut self, passed: Duration) {
-        let (runs, found) = (self.tally.runs, self.found);
+        let runs = self.tally.runs.saturating_add(self.beside.runs);
+        let found = self.found;
         if let Some(progress) = &mut self.progress {
             progress.tell(self.rt, self.alloc, passed, self.time, runs, found);
         }
@@ -166,7 +172,32 @@ impl<'a, R: Threads + Wait + Clock + Sync + Eprint, N: Network> Player<'a, R, N>
             passed: self.passed(),
             is_gone: self.health.is_gone(),
             slowest: self.slowest.time(),
-            ..self.tally
+            ..self.tally.with(&self.beside)
+        }
+    }
+
+    /// Takes out how the first failed run did, and why the first connect failed.
+    pub(crate) fn take_first(&mut self) -> (Option<String>, Option<io::Error>) {
+        (self.first_failure.take(), self.first_unconnected.take())
+    }
+
+    /// Counts what the second thread played by now. If the server is gone for it, it is gone.
+    pub(crate) fn take_over(&mut self, latest: Latest) {
+        let Latest {
+            tally,
+            first_failure,
+            first_unconnected,
+            ..
+        } = latest;
+        self.beside = tally;
+        if tally.is_gone {
+            self.health.give_up();
+        }
+        if self.first_failure.is_none() {
+            self.first_failure = first_failure;
+        }
+        if self.first_unconnected.is_none() {
+            self.first_unconnected = first_unconnected;
         }
     }
 
@@ -174,12 +205,12 @@ impl<'a, R: Threads + Wait + Clock + Sync + Eprint, N: Network> Player<'a, R, N>
     pub(crate) fn failures(&self) -> Result<String, AllocError> {
         let mut text = String::new(self.alloc);
         if let Some(first) = &self.first_failure {
-            let failed = Grouped(self.tally.failed);
+            let failed = Grouped(self.tally().failed);
             write!(text, "failed runs: {failed}; the first:")?;
             push_lines(&mut text, COLUMNS, first.as_str())?;
         }
         if let Some(first) = &self.first_unconnected {
-            let failed = Grouped(self.tally.unconnected);
+            let failed = Grouped(self.tally().unconnected);
             write!(text, "failed connects: {failed}; the first: {first}\n")?;
         }
         Ok(text)
@@ -273,10 +304,12 @@ impl<R: Threads + Wait + Clock + Sync + Eprint, N: Network + Clients> Player<'_,
             Some(evidence) => Clash::of(self.alloc, evidence, limit)?,
             None => None,
         };
+        let has_failed = !matches!(outcome, Outcome::Explained | Outcome::Undecided);
         Ok(Gathered {
             rounds: crowd.rounds,
             clash,
             wrong: outcome.into_wrong(),
+            has_failed,
         })
     }
 

@@ -1,4 +1,5 @@
-//! Rounds of many clients at once, played after generated scripts. One bug may need more requests at once than a script has.
+//! Rounds of many clients at once, played before the first turns and after generated scripts. One bug may need more requests at once than
+//! a script has, and most bugs show in rounds soonest.
 
 use crate::clash::Clash;
 use crate::crowd::Gathered;
@@ -39,6 +40,11 @@ const KEYS_OF_BODIES: u8 = 4;
 // The milliseconds for which rounds of one seed are played.
 const SLICE: u64 = 250;
 
+// The part of the time that rounds have before the first turns, and the most milliseconds: a slice for each mix.
+const FIRST: u32 = 10;
+
+const FIRST_MOST: u64 = 2_000;
+
 // The mixes in turn. Numbers and counters tell most: each reply of theirs differs from the others, so an order has little choice.
 const MIX_COUNT: usize = 8;
 
@@ -52,6 +58,9 @@ static MIXES: [Mix; MIX_COUNT] = [
     Mix::Counters,
     Mix::Presence,
 ];
+
+// The most milliseconds for which plain races are tried before a race is told. In a long test they are tried for longer after it.
+const NAMING: u64 = 3_000;
 
 // The generator's sequence of the first seed.
 const SEQUENCE: u64 = 118;
@@ -69,6 +78,8 @@ pub(crate) struct Rounds {
     pub(crate) count: u64,
     /// Whether nothing explains one of them. Then no other is played.
     pub(crate) is_found: bool,
+    // How long rounds were played before the first turns. They have less time after generated scripts until this is made up for.
+    ahead: Duration,
 }
 
 /// What was found of rounds: how often, and the smallest.
@@ -81,6 +92,16 @@ pub(crate) struct FoundRounds {
     pub(crate) rounds: u64,
 }
 
+// How rounds of a plan ended.
+#[derive(Clone, Copy)]
+enum End {
+    Whole,
+    // A client failed or got no connection, or there was no thread.
+    Failed,
+    // There was no time, no plan, or nothing left to find.
+    NotPlayed,
+}
+
 impl Rounds {
     /// None was played.
     pub(crate) fn new(seed: u64) -> Rounds {
@@ -89,7 +110,15 @@ impl Rounds {
             number: 0,
             count: 0,
             is_found: false,
+            ahead: Duration::ZERO,
         }
+    }
+
+    /// What is left of a share of the time, without what was played before the first turns.
+    pub(crate) fn take_time(&mut self, share: Duration) -> Duration {
+        let left = share.saturating_sub(self.ahead);
+        self.ahead = self.ahead.saturating_sub(share);
+        left
     }
 
     // The next plan whose verbs the server knows.
@@ -153,6 +182,34 @@ fn allows_mix(unsupported: &Unsupported, mix: Mix) -> bool {
     verbs.split(' ').all(|verb| unsupported.knows(verb))
 }
 
+/// Plays rounds of each mix for a short while, before any script had its turn. Rounds that fail end this, so that scripts have their turns
+/// at a server that only fails with many clients.
+pub(crate) fn play_first_rounds<
+    R: Threads + Wait + Clock + Sync + Eprint,
+    N: Network + Clients,
+    O: Sink,
+    F: Folder,
+>(
+    player: &mut Player<'_, R, N>,
+    report: &mut Report<'_, O, F>,
+    generated: &mut Generated,
+    turns: &mut Vec<Turn>,
+) -> Result<(), InputFault> {
+    let begun = player.passed();
+    let time = (player.time / FIRST).min(Duration::from_millis(FIRST_MOST));
+    let end = begun.saturating_add(time);
+    'plans: for _plan in 0..MIX_COUNT {
+        // A round may take longer than its share.
+        let until = player.passed().saturating_add(time / 8).min(end);
+        match play_next(player, report, generated, turns, until)? {
+            End::Whole => {}
+            End::Failed | End::NotPlayed => break,
+        }
+    }
+    generated.rounds.ahead = player.passed().saturating_sub(begun);
+    Ok(())
+}
+
 /// Plays rounds for this long, and tells the first that nothing explains.
 pub(crate) fn play_rounds<
     R: Threads + Wait + Clock + Sync + Eprint,
@@ -168,17 +225,32 @@ pub(crate) fn play_rounds<
 ) -> Result<(), InputFault> {
     let until = player.passed().saturating_add(time);
     'plans: for _plan in 0..u64::MAX {
-        if generated.rounds.is_found || player.is_over() || player.passed() >= until {
-            break;
+        match play_next(player, report, generated, turns, until)? {
+            End::Whole | End::Failed => {}
+            End::NotPlayed => break,
         }
-        let Some(plan) = generated.rounds.next(&report.book.unsupported) else {
-            break;
-        };
-        let told = report.book.told.len();
-        play_plan(player, report, generated, turns, &plan, until)?;
-        keep_new(player, report, turns.as_slice(), generated, told)?;
     }
     Ok(())
+}
+
+// Plays rounds of the next plan until this time, if it hasn't come and nothing was found, and keeps the reports of what was told.
+fn play_next<R: Threads + Wait + Clock + Sync + Eprint, N: Network + Clients, O: Sink, F: Folder>(
+    player: &mut Player<'_, R, N>,
+    report: &mut Report<'_, O, F>,
+    generated: &mut Generated,
+    turns: &mut Vec<Turn>,
+    until: Duration,
+) -> Result<End, InputFault> {
+    if generated.rounds.is_found || player.is_over() || player.passed() >= until {
+        return Ok(End::NotPlayed);
+    }
+    let Some(plan) = generated.rounds.next(&report.book.unsupported) else {
+        return Ok(End::NotPlayed);
+    };
+    let told = report.book.told.len();
+    let end = play_plan(player, report, generated, turns, &plan, until)?;
+    keep_new(player, report, turns.as_slice(), generated, told)?;
+    Ok(end)
 }
 
 // Plays rounds of this plan until this time, but not for long, and tells what they showed.
@@ -189,24 +261,41 @@ fn play_plan<R: Threads + Wait + Clock + Sync + Eprint, N: Network + Clients, O:
     turns: &mut Vec<Turn>,
     plan: &Plan,
     until: Duration,
-) -> Result<(), InputFault> {
+) -> Result<End, InputFault> {
     let left = until.saturating_sub(player.passed());
     let time = left.min(Duration::from_millis(SLICE));
     let Gathered {
         rounds,
         clash,
         wrong,
+        has_failed,
     } = player.play_rounds(plan, time)?;
     generated.rounds.count = generated.rounds.count.saturating_add(rounds);
     if let Some(wrong) = &wrong {
         player.give_way();
         report.tell_wrong(STRESS, wrong.as_str())?;
     }
-    let Some(clash) = clash else {
-        return Ok(());
-    };
+    if let Some(clash) = clash {
+        tell_clash(player, report, generated, turns, plan, clash, rounds)?;
+    }
+    Ok(if has_failed { End::Failed } else { End::Whole })
+}
+
+// Tells the race that nothing explains. Before it, a plain race is told if its script shows it.
+fn tell_clash<R: Threads + Wait + Clock + Sync + Eprint, N: Network + Clients, O: Sink, F: Folder>(
+    player: &mut Player<'_, R, N>,
+    report: &mut Report<'_, O, F>,
+    generated: &mut Generated,
+    turns: &mut Vec<Turn>,
+    plan: &Plan,
+    clash: Clash,
+    rounds: u64,
+) -> Result<(), InputFault> {
     generated.rounds.is_found = true;
-    tell_plain(player, report, turns, None)?;
+    let time = report
+        .time_for_evidence()
+        .min(Duration::from_millis(NAMING));
+    tell_plain(player, report, turns, None, time)?;
     let first = FoundRounds {
         plan: *plan,
         clash,
@@ -253,6 +342,7 @@ fn see_again<R: Threads + Wait + Clock + Sync + Eprint, N: Network + Clients>(
             rounds,
             clash,
             wrong: _wrong,
+            has_failed: _has_failed,
         } = player.play_rounds(&plan, left)?;
         found.rounds = found.rounds.saturating_add(rounds);
         let Some(clash) = clash else {

@@ -73,6 +73,20 @@ impl Tally {
         }
     }
 
+    /// The sums of both. All else is that of this one.
+    pub(crate) fn with(&self, other: &Tally) -> Tally {
+        Tally {
+            runs: self.runs.saturating_add(other.runs),
+            answered: self.answered.saturating_add(other.answered),
+            failed: self.failed.saturating_add(other.failed),
+            unconnected: self.unconnected.saturating_add(other.unconnected),
+            not_run: self.not_run.saturating_add(other.not_run),
+            undecided: self.undecided.saturating_add(other.undecided),
+            wrong: self.wrong.saturating_add(other.wrong),
+            ..*self
+        }
+    }
+
     /// Whether what is there answers no requests as a cache does, and isn't to be asked further.
     pub(crate) fn is_strange(&self) -> bool {
         let left_out = self.unconnected.saturating_add(self.not_run);

@@ -1,5 +1,6 @@
 //! The command `test`.
 
+use crate::beside::{Beside, tell_news};
 use crate::book::{Book, State};
 use crate::clocked::{ClockedNetwork, Slowest};
 use crate::finding::keep_reports;
@@ -7,37 +8,30 @@ use crate::folder::{DiskFolder, Folder};
 use crate::generated::Generated;
 use crate::player::Player;
 use crate::report::Report;
+use crate::rounds::play_first_rounds;
+use crate::second::{Orders, Second, start_second};
 use crate::selection::Selection;
 use crate::tally::Tally;
+use crate::target::target_of;
 use crate::turns::{Turn, add_turns, take_turns};
 use crate::verbs::{Unsupported, ask_verbs};
 use crate::version::version_of;
 use mc_answers::{InputFault, Sink};
-use mc_cli::{Repeat, RunArgs, Seconds, TestArgs};
+use mc_cli::{RunArgs, TestArgs};
 use mc_command::{seed_by, servers_of};
 use mc_connect::{Network, TcpNetwork, Unconnected, Unreached};
 use mc_protocol::Actor;
-use mc_settings::Namespace;
 use mc_stress::Network as Clients;
 use std::alloc::{AllocError, Global};
 use std::io::Eprint;
-use std::net::{Net, TcpStream};
+use std::net::{Net, TcpListener, TcpStream};
 use std::rt::{Clock, Files};
 use std::sync::Wait;
-use std::thread::Threads;
+use std::thread::{self, Scope, Threads};
 use std::time::{Duration, Instant};
 
 // How long a test takes, if the line doesn't say, in milliseconds.
 const TIME: u64 = 30_000;
-
-// The longest that a connect, a read or a write may take, if it doesn't say.
-const TIMEOUT: Seconds<'static> = Seconds {
-    word: "5",
-    milliseconds: 5_000,
-};
-
-// The maximum delay of a branch after the branches met, in microseconds.
-const SPREAD: u16 = 64;
 
 /// Tests the server that the line names, tells what is found as it comes, and answers the exit status: 0 if nothing was found; 1 if a race
 /// or a wrong answer was; 4 if it couldn't be tested, a search was left undecided, or what is told couldn't be written, and nothing else
@@ -53,8 +47,46 @@ pub fn test_server<R, O: Sink>(
     output: &mut O,
 ) -> u8
 where
-    R: Net<Stream = TcpStream> + Threads + Wait + Clock + Sync + Eprint + Files,
+    R: Net<Listener = TcpListener, Stream = TcpStream>
+        + Threads
+        + Wait
+        + Clock
+        + Sync
+        + Eprint
+        + Files,
 {
+    let slowest = Slowest::new();
+    let beside = Beside::new(alloc);
+    thread::scope(thread::scope_env(), rt, |scope| {
+        let second = Second {
+            rt,
+            args,
+            slowest: &slowest,
+            beside: &beside,
+        };
+        test_in(alloc, version, columns, output, &second, scope)
+    })
+}
+
+// The same, if a second thread is of this scope.
+fn test_in<'s, E, R, O: Sink>(
+    alloc: Global,
+    version: &'static str,
+    columns: Option<usize>,
+    output: &mut O,
+    second: &Second<'s, R>,
+    scope: &Scope<'s, E>,
+) -> u8
+where
+    R: Net<Listener = TcpListener, Stream = TcpStream>
+        + Threads
+        + Wait
+        + Clock
+        + Sync
+        + Eprint
+        + Files,
+{
+    let (rt, args) = (second.rt, second.args);
     let mut target = target_of(args);
     let mut book = book_of(rt, alloc, version, args);
     let reached = reach(rt, alloc, &target, &mut book);
@@ -64,17 +96,16 @@ where
     let mut report = Report::new(alloc, output, args.run.json, folder, book);
     match reached {
         Ok(true) => {
-            let slowest = Slowest::new();
             let network = TcpNetwork::new(rt, servers_of(&target));
-            let mut network = ClockedNetwork::new(rt, network, &slowest);
+            let mut network = ClockedNetwork::new(rt, network, second.slowest);
             run_test(
-                rt,
                 alloc,
                 target,
                 &mut network,
-                &slowest,
                 columns,
                 &mut report,
+                second,
+                scope,
             )
         }
         Ok(false) => end_untested(&mut report, Ok(())),
@@ -169,28 +200,6 @@ fn time_of(args: &TestArgs<'_>) -> Duration {
     Duration::from_millis(time.unwrap_or(TIME))
 }
 
-// How its scripts are run: over connections that are kept, and with 5 seconds for a reply if the line doesn't say.
-fn target_of<'a>(args: &TestArgs<'a>) -> RunArgs<'a> {
-    let run = &args.run;
-    RunArgs {
-        a: run.a,
-        b: run.b,
-        name: run
-            .name
-            .as_ref()
-            .and_then(|name| Namespace::new(name.as_slice())),
-        timeout: Some(run.timeout.unwrap_or(TIMEOUT)),
-        wait: run.wait,
-        repeat: Some(Repeat {
-            times: None,
-            time: None,
-            keep_going: true,
-        }),
-        spread: SPREAD,
-        ..RunArgs::at(run.server, run.how)
-    }
-}
-
 // Ends a test in which nothing was played.
 fn end_untested<O: Sink, F: Folder>(
     report: &mut Report<'_, O, F>,
@@ -214,33 +223,42 @@ fn generated_of(book: &Book<'_>) -> Generated {
     Generated::new(book.seed, book.selection.only.is_none())
 }
 
-fn run_test<R: Threads + Wait + Clock + Sync + Eprint, N: Network + Clients, O: Sink, F: Folder>(
-    rt: &R,
+fn run_test<'s, E, R, N: Network + Clients, O: Sink, F: Folder>(
     alloc: Global,
     target: RunArgs<'_>,
     network: &mut N,
-    slowest: &Slowest,
     columns: Option<usize>,
     report: &mut Report<'_, O, F>,
-) -> u8 {
+    second: &Second<'s, R>,
+    scope: &Scope<'s, E>,
+) -> u8
+where
+    R: Net<Listener = TcpListener, Stream = TcpStream> + Threads + Wait + Clock + Sync + Eprint,
+{
+    let (rt, slowest) = (second.rt, second.slowest);
     let Ok(begun) = Instant::now(rt) else {
         return end_untested(report, Ok(()));
     };
     let time = report.book.time;
     let mut player = Player::new(rt, alloc, target, network, slowest, begun, time, columns);
-    let status = play_all(&mut player, report);
+    let status = play_all(&mut player, report, second, scope);
     player.quit();
     status
 }
 
 // Plays all, tells what was found, and answers the exit status.
-fn play_all<R: Threads + Wait + Clock + Sync + Eprint, N: Network + Clients, O: Sink, F: Folder>(
+fn play_all<'s, E, R, N: Network + Clients, O: Sink, F: Folder>(
     player: &mut Player<'_, R, N>,
     report: &mut Report<'_, O, F>,
-) -> u8 {
+    second: &Second<'s, R>,
+    scope: &Scope<'s, E>,
+) -> u8
+where
+    R: Net<Listener = TcpListener, Stream = TcpStream> + Threads + Wait + Clock + Sync + Eprint,
+{
     let mut generated = generated_of(&report.book);
     let mut turns = Vec::new(player.alloc);
-    let played = play_scripts(player, report, &mut turns, &mut generated);
+    let played = play_scripts(player, report, &mut turns, &mut generated, second, scope);
     player.give_way();
     let state = State {
         tally: player.tally(),
@@ -255,18 +273,18 @@ fn play_all<R: Threads + Wait + Clock + Sync + Eprint, N: Network + Clients, O: 
     report.end(&state, ended)
 }
 
-// Asks each verb alone, and plays the scripts in turns. The first reports are kept at once, for whoever stops the test.
-fn play_scripts<
-    R: Threads + Wait + Clock + Sync + Eprint,
-    N: Network + Clients,
-    O: Sink,
-    F: Folder,
->(
+// Asks each verb alone, and plays rounds and then the scripts in turns. The first reports are kept at once, for whoever stops the test.
+fn play_scripts<'s, E, R, N: Network + Clients, O: Sink, F: Folder>(
     player: &mut Player<'_, R, N>,
     report: &mut Report<'_, O, F>,
     turns: &mut Vec<Turn>,
     generated: &mut Generated,
-) -> Result<(), InputFault> {
+    second: &Second<'s, R>,
+    scope: &Scope<'s, E>,
+) -> Result<(), InputFault>
+where
+    R: Net<Listener = TcpListener, Stream = TcpStream> + Threads + Wait + Clock + Sync + Eprint,
+{
     report.say_begin()?;
     keep_reports(player, report, &[], generated)?;
     ask_verbs(player, report, generated)?;
@@ -275,7 +293,39 @@ fn play_scripts<
     }
     let book = &report.book;
     add_turns(player.alloc, book.selection, &book.unsupported, turns)?;
-    take_turns(player, report, turns, generated)
+    if !generated.is_wanted {
+        return take_turns(player, report, turns, generated, None);
+    }
+    play_first_rounds(player, report, generated, turns)?;
+    play_both(player, report, turns, generated, second, scope)
+}
+
+// Plays the turns, while a second thread plays generated scripts; or both in turns if there is no such thread.
+fn play_both<'s, E, R, N: Network + Clients, O: Sink, F: Folder>(
+    player: &mut Player<'_, R, N>,
+    report: &mut Report<'_, O, F>,
+    turns: &mut Vec<Turn>,
+    generated: &mut Generated,
+    second: &Second<'s, R>,
+    scope: &Scope<'s, E>,
+) -> Result<(), InputFault>
+where
+    R: Net<Listener = TcpListener, Stream = TcpStream> + Threads + Wait + Clock + Sync + Eprint,
+{
+    let orders = Orders {
+        unsupported: report.book.unsupported.copy(player.alloc)?,
+        generated: *generated,
+        begun: player.begun,
+        time: player.time,
+    };
+    let Some(started) = start_second(player.alloc, second, orders, scope) else {
+        return take_turns(player, report, turns, generated, None);
+    };
+    let played = take_turns(player, report, turns, generated, Some(second.beside));
+    second.beside.close(player.rt);
+    started.join(player.rt);
+    played?;
+    tell_news(player, report, generated, turns, second.beside)
 }
 
 fn finish<R: Threads + Wait + Clock + Sync + Eprint, N: Network, O: Sink, F: Folder>(

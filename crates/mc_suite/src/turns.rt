@@ -1,5 +1,6 @@
 //! Scripts of races and generated ones, played in turns until the time is over.
 
+use crate::beside::{Beside, tell_news};
 use crate::finding::{Finding, keep_new, tell_found};
 use crate::folder::Folder;
 use crate::generated::{Generated, play_generated};
@@ -21,13 +22,16 @@ use std::alloc::{AllocError, Global};
 use std::io::Eprint;
 use std::rt::Clock;
 use std::sync::Wait;
-use std::thread::Threads;
+use std::thread::{Threads, sleep};
 use std::time::Duration;
 
 // The longest slice, in milliseconds, and the shortest.
 const SLICE: u64 = 50;
 
 const LEAST_SLICE: u64 = 2;
+
+// The milliseconds between two looks at what a second thread found, if nothing else is to be played.
+const PAUSE: u64 = 5;
 
 // The slices in a turn of a script that asks for numbers. Another script has one.
 const SLICES_WITH_NUMBERS: u32 = 4;
@@ -131,7 +135,8 @@ fn has_numbers(script: &str) -> bool {
     script.contains("\ngets ") || script.contains("\ncas ")
 }
 
-/// Plays the turns, and after them for as long what is drawn from the seed, if that is wanted, until the time is over.
+/// Plays the turns, and after them for as long what is drawn from the seed, if that is wanted, until the time is over. If a second
+/// thread plays generated scripts, what it found is told between the turns.
 pub(crate) fn take_turns<
     R: Threads + Wait + Clock + Sync + Eprint,
     N: Network + Clients,
@@ -142,18 +147,19 @@ pub(crate) fn take_turns<
     report: &mut Report<'_, O, F>,
     turns: &mut Vec<Turn>,
     generated: &mut Generated,
+    beside: Option<&Beside>,
 ) -> Result<(), InputFault> {
     let slice = slice_for(player.time, turns.as_slice());
     'rounds: for _round in 0..u64::MAX {
         if player.is_over() {
             break;
         }
-        take_each(player, report, turns, generated, slice)?;
+        take_each(player, report, turns, generated, beside, slice)?;
         let left = slices_left(turns.as_slice());
         if generated.is_wanted {
             // A slice more, so that it is played once all races were found.
             let time = slice.saturating_mul(left.saturating_add(1));
-            play_drawn(player, report, turns, generated, time)?;
+            play_drawn(player, report, turns, generated, beside, time)?;
         } else if left == 0 {
             break;
         }
@@ -161,22 +167,32 @@ pub(crate) fn take_turns<
     Ok(())
 }
 
-// Plays generated scripts, and for a third of this time rounds of many clients.
+// Plays generated scripts, and for a third of this time rounds of many clients. If a second thread plays the scripts, only rounds.
 fn play_drawn<R: Threads + Wait + Clock + Sync + Eprint, N: Network + Clients, O: Sink, F: Folder>(
     player: &mut Player<'_, R, N>,
     report: &mut Report<'_, O, F>,
     turns: &mut Vec<Turn>,
     generated: &mut Generated,
+    beside: Option<&Beside>,
     time: Duration,
 ) -> Result<(), InputFault> {
-    let of_rounds = if generated.rounds.is_found {
+    let share = if generated.rounds.is_found {
         Duration::ZERO
     } else {
         time / 3
     };
-    let of_scripts = time.saturating_sub(of_rounds);
-    play_generated(player, report, generated, turns, of_scripts)?;
-    play_rounds(player, report, generated, turns, of_rounds)
+    if beside.is_none() {
+        let of_scripts = time.saturating_sub(share);
+        play_generated(player, report, generated, turns, of_scripts)?;
+    }
+    let of_rounds = generated.rounds.take_time(share);
+    let count = generated.rounds.count;
+    play_rounds(player, report, generated, turns, of_rounds)?;
+    if beside.is_some() && generated.rounds.count == count {
+        // There may be nothing left to play here.
+        sleep(player.rt, Duration::from_millis(PAUSE));
+    }
+    Ok(())
 }
 
 // How long a slice is, so that each turn comes twice at least.
@@ -202,13 +218,17 @@ fn take_each<R: Threads + Wait + Clock + Sync + Eprint, N: Network, O: Sink, F: 
     player: &mut Player<'_, R, N>,
     report: &mut Report<'_, O, F>,
     turns: &mut Vec<Turn>,
-    generated: &Generated,
+    generated: &mut Generated,
+    beside: Option<&Beside>,
     slice: Duration,
 ) -> Result<(), InputFault> {
     'turns: for index in 0..turns.len() {
         let told = report.book.told.len();
         take_turn(player, report, turns, index, slice)?;
         keep_new(player, report, turns.as_slice(), generated, told)?;
+        if let Some(beside) = beside {
+            tell_news(player, report, generated, turns, beside)?;
+        }
     }
     Ok(())
 }
@@ -223,25 +243,28 @@ fn take_turn<R: Threads + Wait + Clock + Sync + Eprint, N: Network, O: Sink, F: 
 ) -> Result<(), InputFault> {
     match see(player, report, turns, index, slice)? {
         Some(seen) => {
-            tell_plain(player, report, turns, Some(index))?;
+            let time = report.time_for_evidence();
+            tell_plain(player, report, turns, Some(index), time)?;
             tell_race(player, report, turns, index, seen)
         }
         None => Ok(()),
     }
 }
 
-/// Before the first race is told, or that a generated script shows one, plays the scripts that tell the plain races apart, and tells the
-/// first that is seen. What was seen is of the turn with this index, if it is of a turn.
+/// Before the first race of a script is told, or one of rounds, plays the scripts that tell the plain races apart for this long, and tells
+/// the first that is seen. What was seen is of the turn with this index, if it is of a turn. A race of rounds has no name, so after it a
+/// plain race is still to be told first.
 pub(crate) fn tell_plain<R: Threads + Wait + Clock + Sync + Eprint, N: Network, O: Sink, F: Folder>(
     player: &mut Player<'_, R, N>,
     report: &mut Report<'_, O, F>,
     turns: &mut Vec<Turn>,
     of: Option<usize>,
+    time: Duration,
 ) -> Result<(), InputFault> {
-    let slice = report.time_for_evidence() / plain_slices(turns.as_slice()).max(1);
+    let slice = time / plain_slices(turns.as_slice()).max(1);
     'races: for name in plain_races() {
         let plain = plain_turn(turns.as_slice(), name);
-        if report.book.races() > 0 || of.is_some() && plain == of {
+        if report.book.has_script() || of.is_some() && plain == of {
             break;
         }
         tell_if_seen(player, report, turns, plain, slice)?;

@@ -44,6 +44,13 @@ impl Unsupported {
         }
     }
 
+    /// The same once more.
+    pub(crate) fn copy(&self, alloc: Global) -> Result<Unsupported, AllocError> {
+        Ok(Unsupported {
+            verbs: Vec::from_slice(alloc, self.verbs.as_slice())?,
+        })
+    }
+
     /// Whether it knows this verb.
     pub(crate) fn knows(&self, verb: &str) -> bool {
         !self.verbs.iter().any(|unknown| unknown.verb == verb)

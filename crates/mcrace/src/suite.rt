@@ -5,7 +5,7 @@ use mc_cli::{LineFault, TestArgs, VERSION, unknown_race_text};
 use mc_suite::{LONGEST_NAME, list_text, scripts_text, test_server, unknown_race};
 use std::alloc::{AllocError, Global};
 use std::io::Eprint;
-use std::net::{Net, TcpStream};
+use std::net::{Net, TcpListener, TcpStream};
 use std::rt::{Clock, Files};
 use std::sync::Wait;
 use std::thread::Threads;
@@ -80,7 +80,14 @@ pub fn test_races<R, O: Sink, F: Sink>(
     faults: &mut F,
 ) -> u8
 where
-    R: Net<Stream = TcpStream> + Threads + Wait + Clock + Sync + Eprint + Files + AllocGlobal,
+    R: Net<Listener = TcpListener, Stream = TcpStream>
+        + Threads
+        + Wait
+        + Clock
+        + Sync
+        + Eprint
+        + Files
+        + AllocGlobal,
 {
     let alloc = rt.alloc();
     if let Some(names) = args.only
