@@ -4,10 +4,9 @@
 usage: generate_scripts.py [--seed N] [--job N]
        generate_scripts.py --sum JOBS [--seed N]
 
-With --sum it prints a checksum of the texts of the jobs from 0 on, one after the other: FNV-1a of
-64 bits, which a test of `crates/test_generate` compares with that of the program's texts. It was
-written from the rules in docs/FORMATS.md (`generate`) alone, and checks its numbers against those
-of PCG's C code.
+With --sum it prints a checksum of the texts of the jobs from 0 on, which a test of
+`crates/test_generate` compares with that of the program's texts. It was written from the rules in
+docs/FORMATS.md (`generate`) alone, and checks its numbers against those of PCG's C code.
 """
 
 from comparing import options
@@ -60,15 +59,20 @@ def script(seed, job):
     return "\n".join(lines + ["end", ""])
 
 
+def checksum(texts):
+    """FNV-1a of 64 bits, over the texts one after the other."""
+    total = 0xCBF29CE484222325
+    for byte in "".join(texts).encode():
+        total = ((total ^ byte) * 0x100000001B3) & MASK
+    return hex(total)
+
+
 def main():
     given = options.parser_of(__doc__, seed=1, job=0, sum=0).parse_args()
     drawn = outputs(42, 54)
     assert [next(drawn) for _ in REFERENCE] == REFERENCE
     if given.sum:
-        total = 0xCBF29CE484222325
-        for byte in "".join(script(given.seed, job) for job in range(given.sum)).encode():
-            total = ((total ^ byte) * 0x100000001B3) & MASK
-        print(hex(total))
+        print(checksum(script(given.seed, job) for job in range(given.sum)))
     else:
         print(script(given.seed, given.job), end="")
 

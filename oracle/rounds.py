@@ -11,7 +11,7 @@ rounds, as a test of `crates/test_rounds` does. Written from docs/FORMATS.md (`s
 import itertools
 
 from comparing import options
-from generate_scripts import MASK, outputs
+from generate_scripts import MASK, checksum, outputs
 
 LETTERS = "abcdefghijklmnopqrstuvwxyz"
 MIXES = {"all": "set add replace append prepend cas get gets incr decr delete touch",
@@ -68,12 +68,9 @@ def main():
     given = vars(options.parser_of(__doc__, **begun, sum=False).parse_args())
     if not given["sum"]:
         return print(sent(*(given[it] for it in begun)), end="")
-    total = 0xCBF29CE484222325
     rounds = itertools.product(MIXES, (1, 2**64 - 1), (1, 2, 2**57 + 1), (0, 1, 63, 64))
-    for mix, seed, number, client in rounds:
-        for byte in sent(seed, number, client, mix, 300, 1 + client % 16).encode():
-            total = ((total ^ byte) * 0x100000001B3) & MASK
-    return print(hex(total))
+    return print(checksum(sent(seed, number, client, mix, 300, 1 + client % 16)
+                          for mix, seed, number, client in rounds))
 
 
 if __name__ == "__main__":
