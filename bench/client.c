@@ -1,7 +1,7 @@
 // What a run or a campaign costs without mcrace, and what it finds: the same bytes over three
 // connections to 127.0.0.1, by threads that neither note nor judge.
 //
-// usage: client PORT WORKERS REPEATS [one] [thread] [meet] [keep] [quit] < JOBS
+// usage: client PORT WORKERS REPEATS [one] [thread] [meet] [spin] [keep] [quit] < JOBS
 //
 // A line of JOBS is a section's letter, a blank and a request, in which | stands for the end of a
 // line and $ for the cas number that the section's reply before showed; the line `end` ends a job.
@@ -12,25 +12,37 @@
 //   one      one thread writes a request of both branches before it reads either reply
 //   thread   the second thread is started for each job; else it lives as long as the worker
 //   meet     both branches wait for each other before their first requests, in a barrier
+//   spin     where two threads wait for each other, the first one looks for a while, then sleeps
 //   keep     a worker's connections serve all its jobs
 //   quit     the server is asked to close the connections, and does so before they are closed here
 #include "sockets.h"
+#include <linux/futex.h>
 #include <stdatomic.h>
+#include <sys/syscall.h>
 
 enum { MOST_JOBS = 10000, MOST_REQUESTS = 16, LONGEST = 256, MOST_WORKERS = 16 };
 // The words of the command line, by their first letters.
-enum { ONE = 'o', THREAD = 't', MEET = 'm', KEEP = 'k', QUIT = 'q', LETTERS = 128 };
+enum { ONE = 'o', THREAD = 't', MEET = 'm', SPIN = 's', KEEP = 'k', QUIT = 'q', LETTERS = 128 };
+// The microseconds for which who comes first looks for the other one.
+static const double LOOKS = 100;
 
 struct job {
   int counts[SECTIONS];
   char requests[SECTIONS][MOST_REQUESTS][LONGEST];
 };
 
+// Where two threads wait for each other; if they spin, how many have come, how often both had, and
+// how many sleep.
+struct place {
+  pthread_barrier_t barrier;
+  atomic_int come, round, asleep;
+};
+
 // A worker, the job that it plays, and the last reply to each section.
 struct worker {
   pthread_t thread, second;
   // where both threads meet: before and after a job, and before their first requests
-  pthread_barrier_t turn, meeting;
+  struct place turn, meeting;
   const struct job *job;
   bool is_open;
   int connections[SECTIONS];
@@ -65,6 +77,25 @@ static void read_jobs(void) {
   }
 }
 
+static void wait_at(struct place *it) {
+  int round = it->round;
+  if (!is_on[SPIN]) {
+    pthread_barrier_wait(&it->barrier);
+  } else if (it->come++) {
+    it->come = 0;
+    it->round++;
+    if (it->asleep)
+      syscall(SYS_futex, &it->round, FUTEX_WAKE_PRIVATE, 1, 0, 0, 0);
+  } else {
+    for (double until = microseconds() + LOOKS; it->round == round && microseconds() < until;)
+      ;
+    it->asleep++;
+    while (it->round == round)
+      syscall(SYS_futex, &it->round, FUTEX_WAIT_PRIVATE, round, 0, 0, 0);
+    it->asleep--;
+  }
+}
+
 // Sends a request, with the number that the reply before showed.
 static void ask(struct worker *it, int section, int at) {
   const char *pattern = it->job->requests[section][at];
@@ -94,7 +125,7 @@ static void hear(struct worker *it, int section) {
 
 static void play(struct worker *it, int section) {
   if (is_on[MEET] && section != P)
-    pthread_barrier_wait(&it->meeting);
+    wait_at(&it->meeting);
   for (int at = 0; at < it->job->counts[section]; at++) {
     ask(it, section, at);
     hear(it, section);
@@ -121,9 +152,9 @@ static void *play_a(void *worker) {
 // The second thread of a worker, until it is given no job.
 static void *serve_worker(void *worker) {
   struct worker *it = worker;
-  while (pthread_barrier_wait(&it->turn), it->job) {
+  while (wait_at(&it->turn), it->job) {
     play(it, A);
-    pthread_barrier_wait(&it->turn);
+    wait_at(&it->turn);
   }
   return 0;
 }
@@ -136,9 +167,9 @@ static void play_branches(struct worker *it) {
     play(it, B);
     pthread_join(of_a, 0);
   } else {
-    pthread_barrier_wait(&it->turn);
+    wait_at(&it->turn);
     play(it, B);
-    pthread_barrier_wait(&it->turn);
+    wait_at(&it->turn);
   }
 }
 
@@ -172,8 +203,8 @@ static void play_job(struct worker *it) {
 
 static void *work(void *worker) {
   struct worker *it = worker;
-  pthread_barrier_init(&it->turn, 0, 2);
-  pthread_barrier_init(&it->meeting, 0, 2);
+  pthread_barrier_init(&it->turn.barrier, 0, 2);
+  pthread_barrier_init(&it->meeting.barrier, 0, 2);
   it->second = started(serve_worker, it);
   for (int number; (number = atomic_fetch_add(&next_job, 1)) < job_count;)
     for (int repeat = 0; repeat < repeats; repeat++) {
@@ -183,7 +214,7 @@ static void *work(void *worker) {
   if (it->is_open)
     close_all(it);
   it->job = 0;
-  pthread_barrier_wait(&it->turn);
+  wait_at(&it->turn);
   pthread_join(it->second, 0);
   return 0;
 }

@@ -11,6 +11,7 @@ import os
 import pathlib
 import re
 import resource
+import statistics
 import subprocess
 import sys
 import tempfile
@@ -19,6 +20,10 @@ import time
 ROOT = pathlib.Path(__file__).resolve().parents[1]
 BENCH = ROOT / "bench"
 NOT_MET = 3
+# The busy processes beside which some benches measure again: one for every two processors.
+LOAD = max(1, os.cpu_count() // 2)
+# What --first asks for, with all that a bench starts.
+REAL_TIME = os.SCHED_FIFO, os.sched_param(10)
 # It stands in Python's `fcntl` since 3.10.
 F_GETPIPE_SZ = 1032
 
@@ -30,10 +35,15 @@ from options import parser_of
 
 def bench(measure, **numbers):
     """Runs a bench: what its command line asks for and its targets are given to `measure`. The
-    numbers are options, each with what it is if left out, and what with --short."""
+    numbers are options, each with what it is if left out, and what with --short. With --first all
+    is in a real-time class."""
     asked, targets = parser_of(sys.modules["__main__"].__doc__, program=ROOT / "release/mcrace",
-                               short=False, **dict.fromkeys(numbers, 0)).parse_args(), Targets()
+                               short=False, first=False,
+                               **{name: type(its[0])() for name, its in numbers.items()}
+                               ).parse_args(), Targets()
     asked.program = str(asked.program.resolve())
+    if asked.first:
+        os.sched_setscheduler(0, *REAL_TIME)
     for name, (number, short) in numbers.items():
         setattr(asked, name, getattr(asked, name) or (short if asked.short else number))
     measure(asked, targets)
@@ -80,6 +90,35 @@ def in_turns(rounds, plays):
         for name in list(plays)[:: -1 if number % 2 else 1]:
             found[name].append(plays[name]())
     return found
+
+
+@contextlib.contextmanager
+def busy(count):
+    """So many processes of the normal class that do nothing but compute."""
+    with contextlib.ExitStack() as processes:
+        for _ in range(count):
+            process = subprocess.Popen([sys.executable, "-c", "while True: pass"])
+            processes.enter_context(process)
+            processes.callback(process.kill)
+            os.sched_setscheduler(process.pid, os.SCHED_OTHER, os.sched_param(0))
+        yield
+
+
+def beside_each(load):
+    """Says what is beside, for a measurement of its own: nothing, and so many busy processes."""
+    for count in (0, load):
+        beside = f"beside {count} busy processes" if count else "nothing beside"
+        print(f"{beside.capitalize()}:\n")
+        with busy(count):
+            yield beside
+        print()
+
+
+def medians_in_turns(rounds, plays):
+    """The medians of the numbers that each of the plays answers, in rounds in which they take
+    turns."""
+    return {name: [statistics.median(it) for it in zip(*found)]
+            for name, found in in_turns(rounds, plays).items()}
 
 
 def ran(words, text="", statuses=(0,), seconds=600):

@@ -7,7 +7,7 @@ import math
 import re
 import subprocess
 import time
-from statistics import fmean
+from statistics import fmean, median
 
 from common import in_turns, ran, servers, stop  # which finds the model
 from model import STORES
@@ -17,6 +17,9 @@ ROUND = 100
 # If a get that showed the old value came so long after STORED, in µs, a client can know it.
 CLEARLY = 20
 TOTALS = re.compile(r"runs (\d+) explained \d+ unexplained (\d+) other 0 overlapped \d+ failed 0")
+# A run as mcrace tells it: whether the race is found, and if the first reply to B had been noted
+# before A's last request began.
+Told = collections.namedtuple("Told", "is_found is_after")
 # A run as the server saw it (faulty_server.c); `late` is in µs, or nan.
 Visit = collections.namedtuple("Visit", "is_a_first overlapped shown late")
 # The server's bug, what P sends, what A and B send again and again, and how many of these show the
@@ -109,13 +112,18 @@ def run_of(program, port, script, *options):
 def mcrace(program, *options):
     """`mcrace run`, started for each run; a race is found if the verdict is `unexplained`."""
     def play(port, script, runs):
-        outputs = [run_of(program, port, script, *options)[:4] for _ in range(runs)]
-        for *endings, verdict in outputs:
+        outputs = [run_of(program, port, script, *options) for _ in range(runs)]
+        for *endings, verdict in (it[:4] for it in outputs):
             if endings != ["P done", "A done", "B done"] or not verdict.endswith("explained"):
                 stop(options, endings, verdict)
-        return [it[3] == "unexplained" for it in outputs]
+        return [Told(it[3] == "unexplained", is_after(it)) for it in outputs]
 
     return play
+
+
+def is_after(lines):
+    kinds = [line[:7] for line in lines]
+    return "B reply" in kinds[: max(at for at, it in enumerate(kinds) if it == "A begin")]
 
 
 def repeated(program, *options):
@@ -137,31 +145,48 @@ def seen(name, play, server, race, runs):
     found, visits = play(port, SHORT[race], runs), visits_of()
     if len(visits) != runs:
         stop(f"{name}, {race}: {len(visits)} runs came to the server of {runs}")
-    for is_found, it in zip(found or [], visits):
-        is_late = race.startswith("late") and not (is_found and math.isnan(it.late))
-        if is_found != bool(it.shown) and not is_late:
-            stop(f"{name}, {race}: found {is_found}, but the server saw {it}")
-    return list(zip(found or [it.shown > 0 for it in visits], visits))
+    for told, it in zip(found or [], visits):
+        is_late = race.startswith("late") and not (told.is_found and math.isnan(it.late))
+        if told.is_found != bool(it.shown) and not is_late:
+            stop(f"{name}, {race}: {told}, but the server saw {it}")
+    return list(zip(found or [Told(it.shown > 0, False) for it in visits], visits))
 
 
 def series(program, race, window, delay, players, runs):
-    """The shares of each player by its name, of about so many runs, in which they take turns."""
+    """What `seen` answers of each player by its name, of about so many runs, in which they take
+    turns."""
     rounds = -(-runs // ROUND)
     bug = RACES[race.split("-")[0]].bug
     with faulty_server(program, bug, window, delay) as server:
         plays = {name: functools.partial(seen, name, play, server, race, -(-runs // rounds))
                  for name, play in players.items()}
         found = in_turns(rounds, plays)
-    return {name: shares_of(sum(its, [])) for name, its in found.items()}
+    return {name: sum(its, []) for name, its in found.items()}
 
 
 def shares_of(runs):
     """The shares of the runs that found the race, in which the requests overlapped, and in which A
-    came first; and of those that clearly broke the recorded order, the share that found it."""
-    found, visits = zip(*runs)
-    clear = [is_found for is_found, it in runs if it.late >= CLEARLY]
-    return {"found": fmean(found), "overlapped": fmean(it.overlapped for it in visits),
-            "A first": fmean(it.is_a_first for it in visits), "clear": fmean(clear or [0])}
+    came first; and the share that found it of those that broke the recorded order visibly, of those
+    that clearly did, and of those in whose history the get comes after the set."""
+    def found_of(chosen):
+        return fmean([told.is_found for told, _ in chosen] or [0])
+
+    visible = [it for it in runs if it[1].late > 0]
+    return {"found": found_of(runs), "overlapped": fmean(it.overlapped for _, it in runs),
+            "A first": fmean(it.is_a_first for _, it in runs), "visible": found_of(visible),
+            "clear": found_of([it for it in visible if it[1].late >= CLEARLY]),
+            "known": found_of([it for it in visible if it[0].is_after])}
+
+
+def medians_of(count, *asked):
+    """The medians of the shares in so many series, by the player's name; but those of late sets,
+    which are rare, are of all series at once."""
+    found, medians = [series(*asked) for _ in range(count)], {}
+    for name in found[0]:
+        each = [shares_of(it[name]) for it in found]
+        medians[name] = shares_of(sum((it[name] for it in found), [])) | {
+            share: median(it[share] for it in each) for share in ("found", "overlapped", "A first")}
+    return medians
 
 
 def by_seed(command, stream, says, program, port, attempt, limit):
