@@ -9,6 +9,7 @@ import pathlib
 import os
 import random
 import re
+import select
 import socket
 import subprocess
 import sys
@@ -177,6 +178,7 @@ class Faults(RecordTest):
 class Races(LiveTest):
     """A server with a race."""
 
+    @three_times
     def test_found(self):
         """What a racy server answers is found at once, by clients that know nothing of it."""
         with servers.serving("--racy") as (_, port), Recorder(port, "--judge") as recorder:
@@ -195,6 +197,8 @@ class Races(LiveTest):
             # a timeline of many requests is cut at a later start, and judged then
             streams[0].sendall(b"set n 0 0 1\r\n1\r\n")
             self.assertEqual(streams[0].recv(100), b"STORED\r\n")
+            told, _, _ = select.select([recorder.process.stderr], [], [], SECONDS)
+            self.assertTrue(told, "no race is told")
             self.assertEqual(recorder.process.stderr.readline(),
                              b"mcrace: no order explains a key:\n")
             lines = [recorder.process.stderr.readline() for _ in range(3)]
