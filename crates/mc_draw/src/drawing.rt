@@ -10,7 +10,7 @@ use std::alloc::Global;
 
 /// The picture of a text's first history, or with `job` of the first one after the line `job N` of this number. A search for what explains
 /// it takes at most `limit` turns. What stands before and after the history isn't looked at. In a text that has no such history, the fault
-/// is that of its first line; behind its last line, if a job is asked for. The fault is that of `parse_history`.
+/// is that of its first line; or the one after its last line, if a job is asked for. The fault is that of `parse_history`.
 ///
 /// # Errors
 ///

@@ -2,7 +2,7 @@
 use Rattle.std.specs.Prelude.{ℕ, zero, suc, ◌+◌, Option, Some, None, List, [], ◌∷◌, ◌++◌, codes, decimal}
 use Rattle.mc_settings.specs.Namespaces.{key_under}
 
--- `k<number>`, behind the name and a dash if there is a name
+-- `k<number>`, after the name and a dash if there is a name
 abbrev pub key_of : Option (List ℕ) → ℕ → List ℕ
 key_of None number = codes "k" ++ decimal number
 key_of (Some name) number = key_under name (codes "k" ++ decimal number)
