@@ -164,12 +164,12 @@ where
     }
     dialer.release(sockets);
     dialer.release(connected(dialer, 1));
+    let Sections { p, a, b } = dialer.take_errors(1);
+    let others = usize::from(p.is_some()) + usize::from(a.is_some()) + usize::from(b.is_some());
     let is_late = match dialer.take_errors(0).p {
         Some(error) => error.kind() == ErrorKind::WouldBlock,
         None => false,
     };
-    let Sections { p, a, b } = dialer.take_errors(1);
-    let others = usize::from(p.is_some()) + usize::from(a.is_some()) + usize::from(b.is_some());
     Some([usize::from(is_late), others, 0])
 }
 
